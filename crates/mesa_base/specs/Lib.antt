@@ -1,0 +1,4 @@
+pub mod formers
+pub mod Name
+pub mod Outside
+pub mod Status
