@@ -1,4 +1,5 @@
 pub mod formers
+pub mod Decimal
 pub mod Name
 pub mod Outside
 pub mod Status

@@ -1,0 +1,3 @@
+pub mod Plain
+pub mod Sound
+pub mod Typed
