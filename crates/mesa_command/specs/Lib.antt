@@ -1,0 +1,3 @@
+pub mod SmallGrammar
+pub mod SmallTokens
+pub mod SmallWords
