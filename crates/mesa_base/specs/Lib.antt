@@ -1,3 +1,4 @@
+pub mod Decimal
 pub mod formers
 pub mod Name
 pub mod Outside
