@@ -1,3 +1,4 @@
+pub mod Decimal
 pub mod formers
 pub mod Decimal
 pub mod Name
