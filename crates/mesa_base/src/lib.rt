@@ -19,7 +19,7 @@ pub use decimal::{Decimal, decimal_value};
 pub use failed::{Failed, FolderError};
 pub use list::List;
 pub use memory::OutOfMemory;
-pub use name::Name;
+pub use name::{Name, begins_with_letter, is_letter, is_letter_or_digit};
 pub use outside::{Folder, Sink, Source};
 pub use place::Place;
 pub use stamp::Stamp;

@@ -69,8 +69,8 @@ mutual
         IsStmt host names depth (Named (codes "WriteDecimal") ∷ Marked LeftBracket ∷ ts) (call t.WriteDecimal e) rest
     write_char : (depth : ℕ) (c : ℕ) (rest : Tokens) → host ≡ true →
         IsStmt host names depth
-          (Named (codes "WriteChar") ∷ Marked LeftBracket ∷ Char c ∷ Marked RightBracket ∷ rest)
-          (call t.WriteChar (t.Number c)) rest
+        (Named (codes "WriteChar") ∷ Marked LeftBracket ∷ Char c ∷ Marked RightBracket ∷ rest)
+        (call t.WriteChar (t.Number c)) rest
     repeat : (depth : ℕ) (ts mid body rest : Tokens) (d e : t.Expr) (n m : ℕ) (sign : Sign) (r : t.Relation) (ss : t.Stmts) →
         IsSum names ts d n (Marked sign ∷ mid) → IsRelation sign r →
         IsSum names mid e m (Named (codes "DO") ∷ body) → n + m ≤ 1000 →
@@ -96,12 +96,12 @@ pub data IsDeclared : Names → Tokens → t.Stmts → Names → Tokens → Type
   plain : (names after : Names) (x : List ℕ) (ts rest : Tokens) (ss : t.Stmts) → IsFresh names x →
       IsDeclared (names ++ x ∷ []) ts ss after rest →
       IsDeclared names (Named x ∷ Marked Colon ∷ Named (codes "INTEGER") ∷ Marked Semicolon ∷ ts)
-        (t.AndStmt (t.Declare (t.Global (length names))) ss) after rest
+      (t.AndStmt (t.Declare (t.Global (length names))) ss) after rest
   valued : (names after : Names) (x : List ℕ) (ts mid rest : Tokens) (e : t.Expr) (n : ℕ) (ss : t.Stmts) →
       IsFresh names x → IsSum names ts e n (Marked Semicolon ∷ mid) → n ≤ 1000 →
       IsDeclared (names ++ x ∷ []) mid ss after rest →
       IsDeclared names (Named x ∷ Marked Colon ∷ Named (codes "INTEGER") ∷ Marked Arrow ∷ ts)
-        (t.AndStmt (t.DeclareAs (t.Global (length names)) e) ss) after rest
+      (t.AndStmt (t.DeclareAs (t.Global (length names)) e) ss) after rest
 
 abbrev pub join : t.Stmts → t.Stmts → t.Stmts
 join t.NoStmts ss = ss
@@ -111,11 +111,11 @@ join (t.AndStmt s rest) ss = t.AndStmt s (join rest ss)
 pub data IsHead : Tokens → Bool → List ℕ → Tokens → Type 0 where
   with_host : (x : List ℕ) (ts : Tokens) → is_word x ≡ false →
       IsHead
-        (Named (codes "DIRECTORY") ∷ Named (codes "IODefs") ∷ Marked Colon ∷ Named (codes "FROM") ∷ HostText ∷
-         Marked Semicolon ∷ Named x ∷ Marked Colon ∷ Named (codes "PROGRAM") ∷ Named (codes "IMPORTS") ∷
-         Named (codes "IODefs") ∷ Marked Equal ∷ Named (codes "BEGIN") ∷ Named (codes "OPEN") ∷
-         Named (codes "IODefs") ∷ Marked Semicolon ∷ ts)
-        true x ts
+      (Named (codes "DIRECTORY") ∷ Named (codes "IODefs") ∷ Marked Colon ∷ Named (codes "FROM") ∷ HostText ∷
+      Marked Semicolon ∷ Named x ∷ Marked Colon ∷ Named (codes "PROGRAM") ∷ Named (codes "IMPORTS") ∷
+      Named (codes "IODefs") ∷ Marked Equal ∷ Named (codes "BEGIN") ∷ Named (codes "OPEN") ∷
+      Named (codes "IODefs") ∷ Marked Semicolon ∷ ts)
+      true x ts
   without : (x : List ℕ) (ts : Tokens) → is_word x ≡ false →
       IsHead (Named x ∷ Marked Colon ∷ Named (codes "PROGRAM") ∷ Marked Equal ∷ Named (codes "BEGIN") ∷ ts) false x ts
 
