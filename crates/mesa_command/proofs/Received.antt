@@ -21,19 +21,22 @@ pub received-both : (old mid new : Option (List ℕ)) (a b : List ℕ) (n k m : 
 received-both None mid new a b n k m whole stays rest = tt
 received-both (Some bytes) mid new a b n k m whole stays rest =
     elim (rw whole at rest) as (λ _. Received (a ++ b) (Some bytes) n new m) [
-      inl all ↦ inl (all ∙ ap Some (append_assoc bytes a b))
-    | inr cut ↦ inr (rose-after n k m stays cut.0, prefix-past bytes a b new cut.1)
+      | inl all ↦ inl (all ∙ ap Some (append_assoc bytes a b))
+      | inr cut ↦ inr (rose-after n k m stays cut.0, prefix-past bytes a b new cut.1)
     ]
 
 -- the first piece was cut: so is the line
 pub received-cut : (old new : Option (List ℕ)) (a b : List ℕ) (n m : ℕ) → IfSome old (λ bytes. AppendsPrefix bytes a new) →
     Rose n m → Received (a ++ b) old n new m
 received-cut None new a b n m part rose = tt
-received-cut (Some bytes) new a b n m part rose = inr (rose, record {
-  count = part.count;
-  within = rw length-append (let h = part.within in omega arith);
-  told = part.told ∙ ap (λ x. Some (bytes ++ x)) (sym (take-append-le part.count a b part.within));
-})
+received-cut (Some bytes) new a b n m part rose = inr (
+  rose,
+  record {
+    count = part.count;
+    within = rw length-append (let h = part.within in omega arith);
+    told = part.told ∙ ap (λ x. Some (bytes ++ x)) (sym (take-append-le part.count a b part.within));
+  },
+)
 
 -- one piece, taken whole or cut
 pub received-one : (old new : Option (List ℕ)) (a : List ℕ) (n m : ℕ) →
