@@ -1,8 +1,7 @@
-ghost use Rattle.std.specs.Prelude.{◌≡◌, ◌++◌, ◌≤◌, IsTrue, IfSome, false};
-ghost use Rattle.mesa_base.specs.Outside.{AppendsPrefix, Rose};
+ghost use Rattle.std.specs.Prelude.{◌≡◌, ◌++◌, ◌≤◌, IsTrue, false};
 ghost use Rattle.mesa_command.specs.Case.{status_of, line_of};
 ghost use Rattle.mesa_command.specs.Reply.{reply_case};
-ghost use Rattle.mesa_command.specs.Comes.{Received};
+ghost use Rattle.mesa_command.specs.Outputs.{stream, PrintsAll, PrintsPrefix, HasFaulted, Receives};
 
 use mesa_base::{Sink, Status};
 
@@ -37,29 +36,48 @@ impl Reply<'_> {
 
     /// Writes the line. A fault of `err` cuts it short and changes nothing else.
     pub fn tell<E: Sink>(&self, err: &mut E)
-        ensures received { Received (line_of (reply_case self.now)) (E.written err.old) (E.faults err.old) (E.written err.new) (E.faults err.new) }
+        ensures received { Receives (line_of (reply_case self.now)) (stream (E.written err.old) (E.faults err.old)) (stream (E.written err.new) (E.faults err.new)) }
         ensures faults_stay { E.faults err.old ≤ E.faults err.new }
     {
+        let line = self.line();
+        say(line.file, line.text, err);
+    }
+
+    fn line(&self) -> Line<'_>
+        ensures { line_of (reply_case self.now) ≡ result.file.now ++ result.text.now }
+    {
         match self {
-            Reply::Done => (),
-            Reply::Spent => say("", "turns spent\n", err),
-            Reply::NotBuilt(file) => say(file, ": NotBuilt\n", err),
-            Reply::Absent(file) => say(file, ": absent\n", err),
-            Reply::WriteFault => say("", "output failed\n", err),
-            Reply::FolderFault(file) => say(file, ": folder failed\n", err),
-            Reply::Memory => say("", "out of memory\n", err),
-            Reply::Usage => say(
-                "",
-                "usage: mesa compile, bind, list, run, go or exercise\n",
-                err,
-            ),
+            Reply::Done => Line::of("", ""),
+            Reply::Spent => Line::of("", "turns spent\n"),
+            Reply::NotBuilt(file) => Line::of(file, ": NotBuilt\n"),
+            Reply::Absent(file) => Line::of(file, ": absent\n"),
+            Reply::WriteFault => Line::of("", "output failed\n"),
+            Reply::FolderFault(file) => Line::of(file, ": folder failed\n"),
+            Reply::Memory => Line::of("", "out of memory\n"),
+            Reply::Usage => Line::of("", "usage: mesa compile, bind, list, run, go or exercise\n"),
         }
+    }
+}
+
+/// A line: what it says of a file begins with the file's name.
+#[derive(Clone, Copy)]
+struct Line<'a> {
+    file: &'a str,
+    text: &'a str,
+}
+
+impl<'a> Line<'a> {
+    fn of(file: &'a str, text: &'a str) -> Line<'a>
+        ensures file { result.file.now ≡ file.now }
+        ensures text { result.text.now ≡ text.now }
+    {
+        Line { file, text }
     }
 }
 
 /// Two pieces, the second only where the first was taken.
 fn say<E: Sink>(file: &str, text: &str, err: &mut E)
-    ensures received { Received (file.now ++ text.now) (E.written err.old) (E.faults err.old) (E.written err.new) (E.faults err.new) }
+    ensures received { Receives (file.now ++ text.now) (stream (E.written err.old) (E.faults err.old)) (stream (E.written err.new) (E.faults err.new)) }
     ensures faults_stay { E.faults err.old ≤ E.faults err.new }
 {
     if send(file.as_bytes(), err) {
@@ -69,10 +87,9 @@ fn say<E: Sink>(file: &str, text: &str, err: &mut E)
 
 /// Whether the whole piece was taken.
 fn send<E: Sink>(piece: &[u8], err: &mut E) -> bool
-    ensures whole { IsTrue result → IfSome (E.written err.old) (λ bytes. E.written err.new ≡ Some (bytes ++ piece.now)) }
-    ensures cut { result ≡ false → IfSome (E.written err.old) (λ bytes. AppendsPrefix bytes piece.now (E.written err.new)) }
-    ensures received { Received piece.now (E.written err.old) (E.faults err.old) (E.written err.new) (E.faults err.new) }
-    ensures fault { result ≡ false → Rose (E.faults err.old) (E.faults err.new) }
+    ensures whole { IsTrue result → PrintsAll piece.now (stream (E.written err.old) (E.faults err.old)) (stream (E.written err.new) (E.faults err.new)) }
+    ensures cut { result ≡ false → PrintsPrefix piece.now (stream (E.written err.old) (E.faults err.old)) (stream (E.written err.new) (E.faults err.new)) }
+    ensures fault { result ≡ false → HasFaulted (stream (E.written err.old) (E.faults err.old)) (stream (E.written err.new) (E.faults err.new)) }
     ensures faults_stay { E.faults err.old ≤ E.faults err.new }
 {
     err.put(piece).is_ok()
