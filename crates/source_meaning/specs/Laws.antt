@@ -2,7 +2,7 @@
 use Rattle.std.specs.Prelude.{◌≡◌, ◌≢◌, ℕ, ◌+◌, ◌<◌, ◌≤◌, ◌⊎◌, List, ◌++◌}
 use Rattle.mesa_types.specs.Typed.{Stmt}
 use Rattle.source_meaning.specs.Program.{Program}
-use Rattle.source_meaning.specs.State.{State, Ending, Answer, Normal, Spent, FrameLimit, Result}
+use Rattle.source_meaning.specs.State.{State, Ending, Normal, Spent, FrameLimit, Result}
 use Rattle.source_meaning.specs.Calls.{Where}
 use Rattle.source_meaning.specs.Meaning.{meaning}
 use Rattle.source_meaning.specs.Means.{outcome}
@@ -32,3 +32,11 @@ BoundsAreCuts = (P : Program) (input : List ℕ) (e : Ending) (turns d : ℕ) �
 abbrev pub AlwaysEnds : Type 0
 AlwaysEnds = (P : Program) (input : List ℕ) (e : Ending) (turns : ℕ) →
     let end = (outcome P input e turns).answer in (end ≡ Normal) ⊎ (end ≡ Spent) ⊎ (end ≡ FrameLimit)
+
+-- the same result with another input left, and what follows it
+unfoldable pub with_input : List ℕ → Ending → Result → Result
+with_input input e r = record { answer = r.answer; state = record r.state { input = input; ending = e } }
+
+-- nothing of the input is read: it is left as it was given, and nothing else depends on it
+abbrev pub InputIsNotRead : Type 0
+InputIsNotRead = (P : Program) (input other : List ℕ) (e f : Ending) (turns : ℕ) → outcome P other f turns ≡ with_input other f (outcome P input e turns)
