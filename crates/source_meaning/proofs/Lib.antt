@@ -5,4 +5,5 @@ pub mod Fuel
 pub mod Input
 pub mod Kept
 pub mod Laws
+mod Rows
 pub mod Whole
