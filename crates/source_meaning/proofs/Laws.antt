@@ -1,11 +1,12 @@
 -- The laws, of statements and of whole programs.
-use Rattle.std.specs.Prelude.{◌≡◌, ℕ, suc, ◌+◌, ◌<◌, List}
+use Rattle.std.specs.Prelude.{◌≡◌, refl, ℕ, suc, ◌+◌, ◌-◌, ◌<◌, List, length}
+use mathlib.Core.Path.{sym}
 use native.Mathlib.Omega.{arith}
 use Rattle.source_meaning.specs.Program.{Program}
 use Rattle.source_meaning.specs.State.{Ending}
 use Rattle.source_meaning.specs.Meaning.{meaning}
 use Rattle.source_meaning.specs.Means.{outcome, control, first_state}
-use Rattle.source_meaning.specs.Laws.{ActivationsAsFound, FuelNeverShows, BoundsAreCuts, InputIsNotRead}
+use Rattle.source_meaning.specs.Laws.{ActivationsAsFound, FuelNeverShows, BoundsAreCuts, InputIsNotRead, HasOneResult}
 use Rattle.source_meaning.proofs.Whole.{control_kept}
 use Rattle.source_meaning.proofs.Activations.{Leaves, leaves_kept, meaning_leaves}
 use Rattle.source_meaning.proofs.Fuel.{Alike, alike_kept, meaning_alike}
@@ -41,3 +42,13 @@ pub outcome_by_fuel : (P : Program) (input : List ℕ) (e : Ending) (turns k : �
 unfolding outcome first_state
 outcome_by_fuel P input e turns k lt =
     (control_kept (Alike (suc turns)) (Alike (suc (suc turns))) (alike_kept (suc turns)) (meaning (suc turns)) (meaning k) (meaning_alike (suc turns) k lt) P P.control).same (first_state P input e turns) (omega arith)
+
+pub one_result : HasOneResult
+one_result P input e turns = record {
+  output = (outcome P input e turns).state.output;
+  end = (outcome P input e turns).answer;
+  left = (outcome P input e turns).state.turns;
+  taken = length input - length (outcome P input e turns).state.input;
+  is_meant = record { its_output = refl; its_end = refl; its_turns = refl; its_input = refl };
+  no_other = λ o a l t m. (sym m.its_output, sym m.its_end, sym m.its_turns, sym m.its_input);
+}

@@ -5,5 +5,6 @@ pub mod Fuel
 pub mod Input
 pub mod Kept
 pub mod Laws
+pub mod Room
 mod Rows
 pub mod Whole

@@ -14,7 +14,7 @@ module _ (L T : Pairs) (kept : Kept L T) (next next' : Next) (later : (s : Stmt)
   unfolding call
   call_kept h vs = kept.its_spend (kept.its_put _ (kept.loose.its_give _))
 
-  start_kept : (P : Program) (j : ℕ) (c : List Enabled) → L (start P next j c) (start P next' j c)
+  pub start_kept : (P : Program) (j : ℕ) (c : List Enabled) → L (start P next j c) (start P next' j c)
   unfolding start
   start_kept P j c = kept.loose.its_change (mark_started j) (kept.loosen (kept.its_spend (kept.its_enter (in_frame_kept L kept.loose _ λ h. later _ _))))
 

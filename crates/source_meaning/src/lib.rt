@@ -1,7 +1,12 @@
 //! What a program means, and the laws of it. No call of the program is here.
 #![tactic(auto)]
 
-ghost use Rattle.source_meaning.specs.Laws.{ActivationsAsFound, AlwaysEnds, BoundsAreCuts, FuelNeverShows, InputIsNotRead};
+ghost use Rattle.source_meaning.specs.Laws.{ActivationsAsFound, AlwaysEnds, BoundsAreCuts, FramesAreNeverFull, FuelNeverShows, HasOneResult, InputIsNotRead};
+
+/// A program has one result for each input and each number of turns, and no other.
+pub fn one_result()
+    ensures { HasOneResult }
+{}
 
 /// A statement leaves as many activations as it found (rule of this project).
 #[tactic(auto, using(crate::proofs::Laws::activations_as_found))]
@@ -31,4 +36,10 @@ pub fn input_is_not_read()
 #[tactic(auto, using(crate::proofs::Ends::always_ends))]
 pub fn always_ends()
     ensures { AlwaysEnds }
+{}
+
+/// The frames are never full: what starts is the only activation.
+#[tactic(auto, using(crate::proofs::Room::never_full))]
+pub fn frames_are_never_full()
+    ensures { FramesAreNeverFull }
 {}
