@@ -4,7 +4,7 @@ use Rattle.std.specs.Fmt.{digits}
 use Rattle.mesa_types.specs.Typed.{Global, Signed, Plus, Minus, Relation, Equal, Differs, Less, AtMost, More, AtLeast, WriteChar, WriteDecimal, Expr, Number, Variable, Operate, Relate, Call, NoExprs, AndExpr, NoOperation, Then, Stmt, Declare, DeclareAs, Assign, Perform, Block, While, Stmts, NoStmts, AndStmt}
 use Rattle.source_meaning.specs.Value.{word, nth, with_nth, one, copies, wrap, shifted, operated, related, truth, is_true}
 use Rattle.source_meaning.specs.Program.{Program, or_else, no_module, module_of, single}
-use Rattle.source_meaning.specs.State.{End, Answer, Normal, Spent, Result, give, carry, after, look, change, spend_of, spend, leave, enter_if, enter, put, branch, value_then, on_values, on_value, on_word, give_value, normal_then, on_normal, dropped_of, dropped}
+use Rattle.source_meaning.specs.State.{End, Answer, Normal, Spent, FrameLimit, Result, give, carry, after, look, change, spend_of, spend, leave, enter_if, enter, put, branch, value_then, on_values, on_value, on_word, give_value, normal_then, on_normal, dropped_of, dropped}
 use Rattle.source_meaning.specs.Calls.{globals, set_globals, fetch, store, push, tail_of, pop, in_frame, written, call, is_started, mark_started, start}
 use Rattle.source_meaning.specs.Meaning.{value, values, operations, does, sequence, meaning}
 use Rattle.source_meaning.specs.Means.{control, first_state, outcome}
@@ -155,3 +155,57 @@ unfolding entered seen
 1_and_1 : entered (Number 1) (Number 1) ≡ yes ∷ no ∷ no ∷ yes ∷ no ∷ yes ∷ []
 unfolding entered seen
 1_and_1 = refl
+
+-- i: INTEGER ← 2; WHILE i > 0 DO BEGIN k: INTEGER; l: INTEGER ← l + 1; WriteDecimal[k]; WriteDecimal[l]; k ← 7;
+-- i ← i - 1 END ENDLOOP;
+zeroed : Program
+unfolding single
+zeroed = alone 3 (
+    DeclareAs (Global 0) (Number 2)
+    ∷ While (Relate Signed More i (Number 0)) (Block (stmts (
+    Declare (Global 1)
+    ∷ DeclareAs (Global 2) (plus (Variable (Global 2)) (Number 1))
+    ∷ say_number (Variable (Global 1))
+    ∷ say_number (Variable (Global 2))
+    ∷ Assign (Global 1) (Number 7)
+    ∷ set_i (minus i (Number 1)) ∷ [])))
+    ∷ [])
+
+zeroed_with_7 : seen zeroed 7 ≡ Saw (codes "0101") Normal 0
+unfolding seen zeroed
+zeroed_with_7 = refl
+
+zeroed_with_6 : seen zeroed 6 ≡ Saw (codes "0101") Spent 0
+unfolding seen zeroed
+zeroed_with_6 = refl
+
+-- each instance has its own variables; one that is started, or that is not there, is passed over
+two_instances : Program
+two_instances = record {
+  instances =
+      record { name = codes "Zero"; globals = 1; body = say_number i }
+      ∷ record { name = codes "Seven"; globals = 1; body = Block (stmts (set_i (Number 7) ∷ say_number i ∷ [])) }
+      ∷ [];
+  control = 1 ∷ 0 ∷ 1 ∷ 2 ∷ [];
+}
+
+two_instances_with_4 : seen two_instances 4 ≡ Saw (codes "70") Normal 0
+unfolding seen two_instances
+two_instances_with_4 = refl
+
+two_instances_with_3 : seen two_instances 3 ≡ Saw (codes "7") Spent 0
+unfolding seen two_instances
+two_instances_with_3 = refl
+
+-- 8,192 activations may stand
+entering_at : ℕ → Answer
+unfolding enter enter_if leave give first_state nothing single
+entering_at standing = (enter (give Normal) (record (first_state nothing [] End 0) { standing = standing })).answer
+
+entering_at_8191 : entering_at 8191 ≡ Normal
+unfolding entering_at
+entering_at_8191 = refl
+
+entering_at_8192 : entering_at 8192 ≡ FrameLimit
+unfolding entering_at
+entering_at_8192 = refl
