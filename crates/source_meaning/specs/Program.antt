@@ -1,6 +1,6 @@
 -- A program: its instances, each with its typed module, and the instances to start (rule of this project).
 use Rattle.std.specs.Prelude.{ℕ, List, [], ◌∷◌, Option, Some, None, slice_get}
-use Rattle.mesa_types.specs.Typed.{Stmt, Block, NoStmts, Module}
+use Rattle.mesa_types.specs.Typed.{Block, NoStmts, Module}
 
 pub record Program : Type 0 where
   pub instances : List Module
