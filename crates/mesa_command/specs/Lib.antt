@@ -8,3 +8,4 @@ pub mod Running
 pub mod SmallGrammar
 pub mod SmallTokens
 pub mod SmallWords
+pub mod Whole

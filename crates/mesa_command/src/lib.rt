@@ -2,6 +2,7 @@
 #![tactic(auto)]
 
 mod forms;
+mod laws;
 mod reply;
 mod running;
 mod small_reader;
@@ -9,6 +10,7 @@ mod small_token;
 mod top;
 
 pub use forms::{Go, go_form};
+pub use laws::one_case;
 pub use reply::Reply;
 pub use small_token::{Sign, SmallToken};
 pub use top::mesa;
