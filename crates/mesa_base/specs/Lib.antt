@@ -1,5 +1,8 @@
+pub mod Calls
 pub mod Decimal
 pub mod formers
+pub mod MemorySink
+pub mod MemorySource
 pub mod Name
 pub mod Outside
 pub mod Status

@@ -2,10 +2,13 @@
 #![tactic(auto)]
 
 mod boxed;
+mod calls;
 mod decimal;
 mod failed;
 mod list;
 mod memory;
+mod memory_sink;
+mod memory_source;
 mod name;
 mod outside;
 mod place;
@@ -19,6 +22,8 @@ pub use decimal::{Decimal, decimal_value};
 pub use failed::{Failed, FolderError};
 pub use list::List;
 pub use memory::OutOfMemory;
+pub use memory_sink::MemorySink;
+pub use memory_source::MemorySource;
 pub use name::Name;
 pub use outside::{Folder, Sink, Source};
 pub use place::Place;
