@@ -1,6 +1,7 @@
 pub mod Calls
 pub mod Decimal
 pub mod formers
+pub mod MemoryFolder
 pub mod MemorySink
 pub mod MemorySource
 pub mod Name
