@@ -1,5 +1,6 @@
 pub mod Calls
 pub mod Decimal
+pub mod DirFolder
 pub mod formers
 pub mod MemoryFolder
 pub mod MemorySink
@@ -7,3 +8,4 @@ pub mod MemorySource
 pub mod Name
 pub mod Outside
 pub mod Status
+pub mod Streams
