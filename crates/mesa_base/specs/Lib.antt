@@ -7,5 +7,6 @@ pub mod MemorySink
 pub mod MemorySource
 pub mod Name
 pub mod Outside
+pub mod Stamp
 pub mod Status
 pub mod Streams
