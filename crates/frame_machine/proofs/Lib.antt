@@ -1,2 +1,3 @@
-pub mod Words
 pub mod Effects
+pub mod Running
+pub mod Words
