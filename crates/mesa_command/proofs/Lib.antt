@@ -1,6 +1,14 @@
 pub mod Ascii
 pub mod Coming
+pub mod Exprs
+pub mod Lies
 pub mod OneCase
+pub mod Patch
 pub mod Received
+pub mod Results
 pub mod SmallOne
+pub mod Stmts
+pub mod Stores
 pub mod Three
+pub mod Whole
+pub mod Worth

@@ -1,11 +1,13 @@
 pub mod Case
+pub mod Code
 pub mod Comes
+pub mod Complete
 pub mod FirstProgram
 pub mod Forms
 pub mod Outputs
 pub mod Reply
 pub mod Running
+pub mod Simulation
 pub mod SmallGrammar
 pub mod SmallTokens
 pub mod SmallWords
-pub mod Whole

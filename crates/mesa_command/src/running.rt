@@ -5,7 +5,8 @@ ghost use Rattle.mesa_types.specs.Sound.{Sound};
 ghost use Rattle.mesa_command.specs.FirstProgram.{FirstProgram};
 ghost use Rattle.mesa_command.specs.Running.{Ran, CutOff};
 
-use frame_machine::{Outcome, RunFault};
+use crate::translator::translate;
+use frame_machine::{Outcome, RunFault, ready, run};
 use mesa_base::{Sink, Source, Steps};
 use mesa_types::TypedModule;
 use std::alloc::Global;
@@ -30,5 +31,11 @@ pub fn run_module<S: Source, K: Sink, L: Ledger>(
     ensures faults_stay { K.faults out.old ≤ K.faults out.new }
     ensures steps_stay { steps.old ≤ steps.new }
 {
-    Err(RunFault::Memory)
+    let Ok(image) = translate(alloc, module) else {
+        return Err(RunFault::Memory);
+    };
+    let Ok(mut machine) = ready(alloc, image) else {
+        return Err(RunFault::Memory);
+    };
+    run(&mut machine, turns, input, out, steps)
 }
