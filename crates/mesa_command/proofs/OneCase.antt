@@ -1,5 +1,5 @@
 -- For words and files that are told one case comes, and a text that is there is run.
-use Rattle.std.proofs.Common.{◌≡◌, ◌≢◌, ℕ, ◌^◌, ◌<◌, ◌⊎◌, List, [], ◌∷◌, ◌++◌, Option, Some, None, IfSome, refl, sym, ◌∙◌, ap, subst, inl, inr, codes, decimal}
+use Rattle.std.proofs.Common.{◌≡◌, ◌≢◌, ℕ, ◌^◌, ◌<◌, ◌⊎◌, ◌↔◌, List, [], ◌∷◌, ◌++◌, Option, Some, None, IfSome, refl, sym, ◌∙◌, ap, subst, inl, inr, codes, decimal}
 use Rattle.std.proofs.lemmas.Fmt.{decimal_injective}
 use Rattle.std.proofs.lemmas.List.{append_cancel_right}
 use Rattle.mesa_base.specs.Outside.{Files, Rose}
@@ -116,7 +116,7 @@ clean words folder folder' old new files case e calm (of_text base text turns _ 
 clean words folder folder' old new files (Absent _) e calm (absent base turns go rose none) =
     no_file base turns go (told folder.files files (λ all. all (file_of base) ≡ None) e none)
 clean words folder folder' old new files (FolderFault _) e calm (folder_fault base turns go rose) = absurd (calm.no_folder_fault rose)
-clean words folder folder' old new files Memory e calm (memory same) = no_memory
+clean words folder folder' old new files Memory e calm (memory base turns go same) = no_memory
 clean words folder folder' old new files Usage e calm (usage none) = no_form none
 
 there-and-not : (words : List (List ℕ)) (files : Files) (b : List ℕ) (n : ℕ) (text : List ℕ) (turns : ℕ) → IsGo words b n →
@@ -204,3 +204,37 @@ pub one-case : OneCaseComes
 one-case words folder folder' folder'' old new new' files c c' e calm calm' comes comes' m m' =
     agree words files c c' (clean words folder folder' old new files c e calm comes)
     (clean words folder folder'' old new' files c' e calm' comes') m m'
+
+uses : (words : List (List ℕ)) (folder folder' : Shelf) (old new : Stream) (case : Case) → HasNoForm words →
+    Comes words folder folder' old new case → case ≡ Usage
+uses words folder folder' old new case none (of_text base text turns _ go there comes) = absurd (none base turns go)
+uses words folder folder' old new (Absent _) none (absent base turns go rose gone) = absurd (none base turns go)
+uses words folder folder' old new (FolderFault _) none (folder_fault base turns go rose) = absurd (none base turns go)
+uses words folder folder' old new Memory none (memory base turns go same) = absurd (none base turns go)
+uses words folder folder' old new Usage none (usage none') = refl
+
+used-text : (file text : List ℕ) (turns : ℕ) (old new : Stream) (case : Case) → OfText file text turns old new case →
+    status_of case ≢ status.Usage
+used-text file text turns old new Done c e = cc
+used-text file text turns old new Spent c e = cc
+used-text file text turns old new (NotBuilt _) c e = cc
+used-text file text turns old new (Absent _) c e = cc
+used-text file text turns old new WriteFault c e = cc
+used-text file text turns old new (FolderFault _) c e = cc
+used-text file text turns old new Memory c e = cc
+used-text file text turns old new Usage c e = elim c [ ]
+
+pub usage-only : (words : List (List ℕ)) (folder folder' : Shelf) (old new : Stream) (case : Case) →
+    Comes words folder folder' old new case → status_of case ≡ status.Usage → HasNoForm words
+usage-only words folder folder' old new case (of_text base text turns _ go there comes) e =
+    absurd (used-text (file_of base) text turns old new case comes e)
+usage-only words folder folder' old new (Absent _) (absent base turns go rose gone) e = cc
+usage-only words folder folder' old new (FolderFault _) (folder_fault base turns go rose) e = cc
+usage-only words folder folder' old new Memory (memory base turns go same) e = cc
+usage-only words folder folder' old new Usage (usage none) e = none
+
+-- the words have no form exactly where the answer is Usage
+pub usage-exact : (words : List (List ℕ)) (folder folder' : Shelf) (old new : Stream) (case : Case) →
+    Comes words folder folder' old new case → (status_of case ≡ status.Usage) ↔ HasNoForm words
+usage-exact words folder folder' old new case comes =
+    (usage-only words folder folder' old new case comes, λ none. ap status_of (uses words folder folder' old new case none comes))

@@ -18,7 +18,8 @@ returns-in-Err-Failed-clause-comes g c =
     failed-comes _ form.0 _ _ _ _ _ form.2 form.1 (c.in-Err-Failed.ensures.fault (ap Err c.in-Err-Failed.field-0-is))
 
 pub returns-in-Err-Memory-clause-comes : goal.returns-in-Err-Memory-clause-comes
-returns-in-Err-Memory-clause-comes g c = memory refl
+returns-in-Err-Memory-clause-comes g c =
+    let form = c.in-Some.ensures.form in memory form.0 _ form.1 refl
 
 pub returns-in-Ok-clause-comes : goal.returns-in-Ok-clause-comes
 returns-in-Ok-clause-comes g c =
