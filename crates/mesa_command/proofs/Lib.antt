@@ -7,6 +7,7 @@ pub mod Patch
 pub mod Received
 pub mod Results
 pub mod SmallOne
+pub mod SmallSound
 pub mod Stmts
 pub mod Stores
 pub mod Three
