@@ -20,6 +20,8 @@ mod place;
 mod stamp;
 mod status;
 mod steps;
+#[cfg(test)]
+mod tests;
 mod whole;
 mod words;
 
