@@ -36,7 +36,6 @@ pub use memory_folder::MemoryFolder;
 pub use memory_sink::MemorySink;
 pub use memory_source::MemorySource;
 pub use name::Name;
-pub use named_file::NamedFile;
 pub use out_sink::OutSink;
 pub use outside::{Folder, Sink, Source};
 pub use place::Place;
