@@ -20,6 +20,8 @@ mod place;
 mod stamp;
 mod status;
 mod steps;
+#[cfg(test)]
+mod tests;
 mod whole;
 mod words;
 
@@ -34,7 +36,6 @@ pub use memory_folder::MemoryFolder;
 pub use memory_sink::MemorySink;
 pub use memory_source::MemorySource;
 pub use name::{Name, begins_with_letter, is_letter, is_letter_or_digit};
-pub use named_file::NamedFile;
 pub use out_sink::OutSink;
 pub use outside::{Folder, Sink, Source};
 pub use place::Place;
