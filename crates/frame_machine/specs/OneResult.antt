@@ -8,6 +8,7 @@ use Rattle.frame_machine.specs.declared.image.Instruction.TheVariants.{Lit, Load
 use Rattle.frame_machine.specs.declared.outcome.End.{End}
 use Rattle.frame_machine.specs.Steps.{State, Stepped, Goes, Stops, Ends, stops, goes, Steps, push, spend, write, step_of, fetched, step, start}
 
+-- some output, end and turns left are the run's, and every run's are these
 pub record HasOneResult (image : Image) (turns : ℕ) : Type 0 where
   pub output : List ℕ
   pub end : End
@@ -15,6 +16,7 @@ pub record HasOneResult (image : Image) (turns : ℕ) : Type 0 where
   pub runs : Steps image turns output end left
   pub alone : (output' : List ℕ) (end' : End) (left' : ℕ) → Steps image turns output' end' left' → (output' ≡ output) × (end' ≡ end) × (left' ≡ left)
 
+-- never stuck: each image has one result with each bound of turns
 abbrev pub NeverStuck : Type 0
 NeverStuck = (image : Image) (turns : ℕ) → HasOneResult image turns
 
@@ -23,6 +25,7 @@ pub ends_alike : (code : List Instruction) (x : Stepped) (end end' : End) (t t' 
 ends_alike code _ _ _ _ _ (stops end s) (stops _ _) = (refl, refl)
 ends_alike code _ _ _ _ _ (goes s end t e) (goes _ end' t' e') = ends_alike code (step code s) end end' t t' e e'
 
+-- one output, one end and as many turns left
 pub results_alike : (image : Image) (turns : ℕ) (output output' : List ℕ) (end end' : End) (left left' : ℕ) → Steps image turns output end left → Steps image turns output' end' left' → (output' ≡ output) × (end' ≡ end) × (left' ≡ left)
 results_alike image turns output output' end end' left left' r r' =
     let same = ends_alike image.code (start image turns) end end' r.last r'.last r.ends r'.ends in
@@ -86,6 +89,7 @@ abbrev pub NearerOrStops : List Instruction → State → Stepped → Type 0
 NearerOrStops code s (Goes t) = Nearer code s t
 NearerOrStops code s (Stops end t) = t.output ≡ s.output
 
+-- a turn outweighs the whole code
 distance_falls : (len at at' turns turns' : ℕ) → at < len → (turns' + 1 ≡ turns) ⊎ ((turns' ≡ turns) × (at < at')) → turns' * (len + 1) + (len - at') < turns * (len + 1) + (len - at)
 distance_falls len at at' turns turns' within (inl e) = rw (← e) (grind arith)
 distance_falls len at at' turns turns' within (inr e) = rw e.0 (let l : at < at' = e.1 in omega arith)
@@ -111,6 +115,7 @@ pub record Ended (code : List Instruction) (x : Stepped) (output : List ℕ) : T
   pub rest : List ℕ
   pub appends : last.output ≡ output ++ rest
 
+-- one step, and the rest of the run
 go_on : (code : List Instruction) (s : State) (n : ℕ) → distance_left code s < n + 1 → ((t : State) → distance_left code t < n → Ended code (Goes t) t.output) → (x : Stepped) → step code s ≡ x → NearerOrStops code s x → Ended code (Goes s) s.output
 go_on code s n less ih (Stops end t) e out = record {
   end = end;
@@ -140,18 +145,21 @@ ended_below code (suc n) s less =
 pub comes_to_end : (code : List Instruction) (s : State) → Ended code (Goes s) s.output
 comes_to_end code s = ended_below code (distance_left code s + 1) s (omega arith)
 
-pub record Result (image : Image) (turns : ℕ) : Type 0 where
+-- some run from the start
+pub record SomeRun (image : Image) (turns : ℕ) : Type 0 where
   pub output : List ℕ
   pub end : End
   pub left : ℕ
   pub runs : Steps image turns output end left
 
+-- the start's turn is there, or the run ends as spent
 starts : (code : List Instruction) (n : ℕ) (fresh : State) (k : ℕ → State) → (end : End) × (last : State) × Ends code (spend n fresh (λ left. Goes (k left))) end last
 unfolding spend
 starts code zero fresh k = (_, fresh, stops _ fresh)
 starts code (suc n) fresh k = let r = comes_to_end code (k n) in (r.end, r.last, r.ends)
 
-pub has_result : (image : Image) (turns : ℕ) → Result image turns
+-- there is a run
+pub has_result : (image : Image) (turns : ℕ) → SomeRun image turns
 unfolding start
 has_result image turns =
     let r = starts image.code turns _ _ in

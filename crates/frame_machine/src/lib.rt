@@ -17,3 +17,6 @@ pub use interpreter::run;
 pub use law::one_result;
 pub use machine::{Machine, ready};
 pub use outcome::{End, Outcome, ReadyFault, RunFault};
+
+#[cfg(test)]
+mod tests;

@@ -8,9 +8,6 @@ use crate::image::Instruction;
 use crate::operands::Operands;
 use mesa_base::OutOfMemory;
 
-/// The sign of a word. Added to both sides, it makes the order of signed words that of unsigned ones.
-const SIGN: u16 = 1 << 15;
-
 /// Sets the words as the instruction does, and gives what else it does.
 pub fn perform(
     instruction: Instruction,
@@ -98,7 +95,7 @@ fn flag(holds: bool) -> u16
 fn is_less(left: u16, right: u16) -> bool
     ensures { result ≡ nat_lt (shifted left) (shifted right) }
 {
-    left.wrapping_add(SIGN) < right.wrapping_add(SIGN)
+    left.cast_signed() < right.cast_signed()
 }
 
 fn low_byte(word: u16) -> u8
