@@ -6,8 +6,11 @@ pub mod OneCase
 pub mod Patch
 pub mod Received
 pub mod Results
+pub mod SmallNamed
 pub mod SmallOne
 pub mod SmallSound
+pub mod SmallSteps
+pub mod SmallTurns
 pub mod Stmts
 pub mod Stores
 pub mod Three

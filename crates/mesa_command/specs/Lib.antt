@@ -9,5 +9,6 @@ pub mod Reply
 pub mod Running
 pub mod Simulation
 pub mod SmallGrammar
+pub mod SmallParser
 pub mod SmallTokens
 pub mod SmallWords

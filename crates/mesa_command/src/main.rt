@@ -7,6 +7,7 @@ mod forms;
 mod laws;
 mod reply;
 mod running;
+mod small_fault;
 mod small_reader;
 mod small_token;
 #[cfg(test)]

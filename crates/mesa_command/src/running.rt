@@ -12,7 +12,9 @@ use mesa_types::TypedModule;
 use std::alloc::Global;
 use std::sync::ledger::Ledger;
 
-/// Runs a module with a bound of so many turns. What it writes goes to `out`; it takes nothing from `input`.
+/// Runs a module that may spend so many turns, and gives its end and the turns that are left. What it writes goes to
+/// `out`, and nothing is taken from `input`. It answers `WriteFault` where `out` failed and `Memory` where memory ran
+/// out; then `out` has received the output up to there.
 pub fn run_module<S: Source, K: Sink, L: Ledger>(
     alloc: Global,
     module: &TypedModule,

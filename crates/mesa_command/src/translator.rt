@@ -153,7 +153,8 @@ fn put_stmts(code: &mut Code, ss: &[TypedStmt]) -> Result<(), OutOfMemory>
     Ok(())
 }
 
-/// The image of a module.
+/// The image of a module: the code of its body, which stands at offset 0. Nothing is refused but for want of memory.
+/// The recursion is as deep as the tree.
 pub fn translate(alloc: Global, module: &TypedModule) -> Result<Image, OutOfMemory>
     ensures { IfOk result (λ image. image ≡ image_of (plain «module».now)) }
 {
