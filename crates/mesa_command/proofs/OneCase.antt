@@ -15,7 +15,7 @@ use Rattle.mesa_command.specs.Outputs.{Stream, HasFaulted}
 use Rattle.mesa_command.specs.Comes.{MeansAtAnyInput, OfText, done, spent, write_fault, not_built, memory_before, memory_in_run, Does, IsNoText, Comes, of_text, absent, folder_fault, memory, usage, Shelf}
 use Rattle.mesa_command.specs.Case.{Case, Done, Spent, NotBuilt, Absent, WriteFault, FolderFault, Memory, Usage, status_of}
 use Rattle.mesa_command.specs.Complete.{NoFault, Asks, IsStatusOf, IsComplete, OneCaseComes}
-use Rattle.mesa_command.proofs.SmallOne.{one_module}
+use Rattle.mesa_command.proofs.SmallModule.{one_module}
 
 -- words are `go` of one file and one number of turns
 

@@ -1,5 +1,6 @@
 -- Loops of the reader: a turn that goes on takes a token, so that a loop is one turn and the loop again.
 use Rattle.std.proofs.Common.{◌≡◌, ◌≢◌, ℕ, zero, suc, ◌-◌, ◌<◌, ◌≤◌, length, List, [], ◌∷◌, ◌++◌, Option, Some, None, Bool, true, false, cond, ltb, leb, ◌&&◌, ◌+◌, bytes_eq, refl, sym, ap, subst, ◌∙◌, arith, codes}
+use Rattle.std.proofs.lemmas.Bool.{le-ltb}
 use Rattle.mesa_command.specs.SmallParser as p
 use Rattle.mesa_command.specs.SmallParser.{Tokens, Parser, and_then, ◌>>=◌, ◌>>◌, take_token, pure, refuse, next, skip, Step, Go, Done, go_on, turns, repeat, Find, Declared}
 use Rattle.mesa_command.specs.declared.small_token.Sign.{Sign}
@@ -349,3 +350,20 @@ declarations_turning state ts = unroll p.declarations_turn declarations_eats sta
 
 pub declarations_falls : (a b : Declared) (ts rest : Tokens) → p.declarations_turn a ts ≡ Some (Go b, rest) → length rest < length ts
 declarations_falls a b ts rest e = declarations_eats.eats a b ts rest e
+
+-- a declaration leaves fewer tokens than there were before its name
+pub declaration_falls : (find : Find) (k : ℕ) (t : SmallToken) (ts : Tokens) (new : TypedStmt) (rest : Tokens) → next ts ≡ Some t → p.declaration find k (skip ts) ≡ Some (new, rest) → length rest < length ts
+unfolding next skip
+declaration_falls find k t [] new rest e d = absurd (none_some t e)
+declaration_falls find k t (u ∷ ts) new rest e d = let h = (declaration_shrinks find k).shrinks ts new rest d in omega arith
+
+-- one variable more than there may be
+full_by : (state : Declared) (x : List ℕ) (ts : Tokens) → p.is_fresh state.find x ≡ true → ltb state.count 16384 ≡ false → and_then (p.declarations_by state (Some (t.Named x)) ts) (go_on (repeat p.declarations_turn)) ≡ None
+full_by state x ts fresh full =
+    ap (λ c. and_then (cond c (p.declare state x) (pure (Done state)) ts) (go_on (repeat p.declarations_turn))) fresh ∙
+    ap (λ c. and_then (cond c (take_token >> (p.declaration state.find state.count >>= go_declared state x)) refuse ts) (go_on (repeat p.declarations_turn))) full
+
+pub declarations_full : (state : Declared) (x : List ℕ) (ts : Tokens) → next ts ≡ Some (t.Named x) → p.is_fresh state.find x ≡ true → 16384 ≤ state.count → repeat p.declarations_turn state ts ≡ None
+unfolding p.declarations_turn
+declarations_full state x ts e fresh full =
+    declarations_turning state ts ∙ ap (λ u. and_then (p.declarations_by state u ts) (go_on (repeat p.declarations_turn))) e ∙ full_by state x ts fresh (le-ltb state.count 16384 full)

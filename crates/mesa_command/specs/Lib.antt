@@ -9,6 +9,8 @@ pub mod Reply
 pub mod Running
 pub mod Simulation
 pub mod SmallGrammar
+pub mod SmallNames
 pub mod SmallParser
+pub mod SmallScan
 pub mod SmallTokens
 pub mod SmallWords

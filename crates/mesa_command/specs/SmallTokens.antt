@@ -1,9 +1,8 @@
 -- The tokens of the small language: a text is a list of blanks, comments and tokens, each token the longest form at its
 -- place (Language Manual, chapter 2; the small language takes fewer forms).
-use Rattle.std.specs.Prelude.{◌≡◌, ◌≤◌, ℕ, ◌+◌, ◌*◌, ◌-◌, Bool, true, false, not, ◌&&◌, ◌||◌, List, [], ◌∷◌, ◌++◌, length, nat_eq, nat_le, codes, bytes_eq}
+use Rattle.std.specs.Prelude.{◌≡◌, ◌≤◌, ℕ, ◌+◌, ◌*◌, ◌-◌, Bool, true, false, ◌&&◌, ◌||◌, List, [], ◌∷◌, ◌++◌, nat_eq, codes}
 use Rattle.std.specs.List.{list_all}
 use Rattle.mesa_base.specs.Name.{is_digit, is_letter_or_digit, is_name}
-use Rattle.mesa_command.specs.declared.small_token.Sign.{Sign}
 use Rattle.mesa_command.specs.declared.small_token.Sign.TheVariants.{Arrow, Colon, Semicolon, Dot, LeftBracket, RightBracket, Equal, Sharp, Less, Greater, AtMost, AtLeast, Plus, Minus}
 use Rattle.mesa_command.specs.declared.small_token.SmallToken.{SmallToken}
 use Rattle.mesa_command.specs.declared.small_token.SmallToken.TheVariants.{Named, Number, Char, HostText, Marked}

@@ -32,5 +32,8 @@ built_in =
 abbrev pub is_word : List ℕ → Bool
 is_word name = list_any (λ w. bytes_eq w name) words
 
+abbrev pub is_built_in : List ℕ → Bool
+is_built_in name = list_any (λ w. bytes_eq w name) built_in
+
 abbrev pub is_taken : List ℕ → Bool
-is_taken name = is_word name || list_any (λ w. bytes_eq w name) built_in
+is_taken name = is_word name || is_built_in name

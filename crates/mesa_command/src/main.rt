@@ -7,9 +7,16 @@ mod forms;
 mod laws;
 mod reply;
 mod running;
+mod small_cursor;
+mod small_declarations;
 mod small_fault;
+mod small_names;
 mod small_reader;
+mod small_scan;
+mod small_statements;
+mod small_sums;
 mod small_token;
+mod small_words;
 #[cfg(test)]
 mod tests;
 mod top;

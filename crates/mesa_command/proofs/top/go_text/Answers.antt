@@ -1,6 +1,5 @@
 use Rattle.std.proofs.Common.{refl, ap, Err}
 use Rattle.mesa_command.specs.Comes.{not_built, memory_before}
-use Rattle.mesa_command.proofs.SmallSteps.{name-sound}
 use Rattle.mesa_command.proofs.SmallSound.{small-sound}
 use Rattle.mesa_command.proofs.top.go_text.Goals as goal
 
