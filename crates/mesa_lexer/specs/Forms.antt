@@ -44,7 +44,8 @@ pub data Inside : List ℕ → List ℕ → Type 0 where
   empty : Inside [] []
   more : {item bytes value : List ℕ} {b : ℕ} → Writes item b → Inside bytes value → Inside (item ++ bytes) (b ∷ value)
 
--- a token, or the beginning of a string up to some place inside it
+-- a token, or the beginning of a string up to some place inside it. Such beginnings count for the longest form, so that a
+-- string that two quotes carry on is one string, also where the text's end then cuts it
 pub data Lexeme : Type 0 where
   Whole : Kind → Lexeme
   Begun : Lexeme

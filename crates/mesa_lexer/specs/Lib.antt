@@ -4,3 +4,7 @@ pub mod Marks
 pub mod Forms
 pub mod Places
 pub mod Tokens
+pub mod Pieces
+pub mod Positions
+pub mod Steps
+pub mod Answer

@@ -6,7 +6,7 @@ use Rattle.mesa_lexer.specs.Forms.{Whole, Begun, Longest, NothingBegins, IsTooLa
 use Rattle.mesa_lexer.specs.Places.{place_after}
 use Rattle.mesa_lexer.specs.declared.token.Kind.{Kind}
 use Rattle.mesa_lexer.specs.declared.token.Token.{Token}
-use Rattle.mesa_lexer.specs.declared.tokens.Tokens.{Tokens}
+use Rattle.mesa_lexer.specs.declared.token.Tokens.{Tokens}
 use Rattle.mesa_lexer.specs.declared.fault.LexFault.{LexFault}
 use Rattle.mesa_lexer.specs.declared.fault.LexFault.TheVariants as f
 

@@ -1,12 +1,14 @@
 -- The words of the language: names that no declaration may take (Language Manual, appendix on reserved words).
-use Rattle.std.specs.Prelude.{ℕ, List, [], ◌∷◌, Option, Some, None, if◌then◌else◌, codes, bytes_eq}
+use Rattle.std.specs.Prelude.{ℕ, List, [], ◌∷◌, Option, Some, None, if◌then◌else◌, codes, bytes_eq, filter}
+use Rattle.std.specs.Borrow.{Bor}
+use Rattle.mesa_lexer.specs.Blanks.{begins_with}
 use Rattle.mesa_lexer.specs.declared.word.Word.{Word}
 use Rattle.mesa_lexer.specs.declared.word.Word.TheVariants.{AndWord, AnyWord, ArrayWord, BeginWord, BooleanWord, CardinalWord, CharacterWord, CodeWord, ConfigurationWord, ContinueWord, ControlWord, DecreasingWord, DefinitionsWord, DirectoryWord, DoWord, ElseWord, EnableWord, EndWord, EndcaseWord, EndloopWord, ErrorWord, ExitWord, ExitsWord, ExportsWord, FalseWord, FinishedWord, ForWord, FromWord, GoWord, GotoWord, IfWord, ImportsWord, InWord, IntegerWord, LoopWord, ModWord, NotWord, NullWord, OfWord, OpenWord, OrWord, PrivateWord, ProcWord, ProcedureWord, ProgramWord, PublicWord, RecordWord, RejectWord, RepeatWord, ResumeWord, RetryWord, ReturnWord, ReturnsWord, SelectWord, SignalWord, StringWord, ThenWord, ThroughWord, ToWord, TrueWord, TypeWord, UntilWord, UnwindWord, UsingWord, WhileWord, AbsWord, BaseWord, BroadcastWord, DependentWord, DescriptorWord, EntryWord, FirstWord, ForkWord, InlineWord, InternalWord, JoinWord, LastWord, LengthWord, LinksWord, LongWord, LoopholeWord, MachineWord, MaxWord, MinWord, MonitorWord, NewWord, NotifyWord, PackWord, PackedWord, PlusWord, PointerWord, PortWord, ProcessWord, RealWord, RelativeWord, RestartWord, SharesWord, SizeWord, StartWord, StateWord, StopWord, TransferWord, WaitWord, WithWord}
 
 -- the value beside this spelling in a table, if there is one
 abbrev pub spelled : {A : Type 0} → List (List ℕ × A) → List ℕ → Option A
 spelled [] bytes = None
-spelled (row ∷ rows) bytes = if bytes_eq row.0 bytes then Some row.1 else spelled rows bytes
+spelled (row ∷ rows) bytes = if bytes_eq bytes row.0 then Some row.1 else spelled rows bytes
 
 -- the reserved words, each with its spelling, and after them the words that the language reserves and this project leaves out
 unfoldable pub words : List (List ℕ × Word)
@@ -119,3 +121,11 @@ words = (codes "AND", AndWord)
 -- the word with this spelling, if there is one
 unfoldable pub word_of : List ℕ → Option Word
 word_of bytes = spelled words bytes
+
+-- the words that begin with this letter
+unfoldable pub words_from : ℕ → List (List ℕ × Word)
+words_from letter = filter (λ row. begins_with letter row.0) words
+
+-- a row of a program's table
+abbrev pub row_of : Bor (List ℕ) × Word → List ℕ × Word
+row_of row = (row.0.now, row.1)
