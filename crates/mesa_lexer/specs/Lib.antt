@@ -1,0 +1,10 @@
+pub mod Blanks
+pub mod Words
+pub mod Marks
+pub mod Forms
+pub mod Places
+pub mod Tokens
+pub mod Pieces
+pub mod Positions
+pub mod Steps
+pub mod Answer

@@ -1,0 +1,90 @@
+ghost use Rattle.std.specs.Prelude.{◌≡◌};
+
+use mesa_base::{OutOfMemory, Place};
+use std::alloc::{AllocError, AllocFailed};
+
+/// Why a text has no list of tokens: the first fault in the text, at its place.
+#[derive(Clone, Copy, Debug, PartialEq, Eq)]
+pub enum LexFault {
+    /// No token begins with this byte, or it may not stand in the string that holds it.
+    BadByte(Place),
+    /// The text ends inside this string.
+    OpenString(Place),
+    /// The number is above 65,535, or the character's code above 255.
+    NumberTooLarge(Place),
+    /// The identifier has more than 255 bytes, or the string's value more than 32,767.
+    TokenTooLong(Place),
+    /// The text has more than 1,048,576 bytes.
+    TextTooLong,
+    Memory,
+}
+
+/// Why the tokens of a text are none of a grammar.
+#[derive(Clone, Copy, Debug, PartialEq, Eq)]
+pub enum SyntaxFault {
+    /// The tokens up to this one begin no text of the grammar, or at the text's end they are none.
+    Unexpected(Place),
+    /// Here begins what stands inside too many others of its sort.
+    TooDeep(Place),
+    Memory,
+}
+
+impl From<OutOfMemory> for LexFault {
+    ghost use Rattle.mesa_lexer.specs.declared.fault.LexFault.TheVariants.{Memory};
+
+    ghost from_gives = { λ _ fault. fault ≡ Memory };
+
+    fn from(_: OutOfMemory) -> LexFault {
+        LexFault::Memory
+    }
+}
+
+impl From<AllocError> for LexFault {
+    ghost use Rattle.mesa_lexer.specs.declared.fault.LexFault.TheVariants.{Memory};
+
+    ghost from_gives = { λ _ fault. fault ≡ Memory };
+
+    fn from(_: AllocError) -> LexFault {
+        LexFault::Memory
+    }
+}
+
+impl<T: Drop> From<AllocFailed<T>> for LexFault {
+    ghost use Rattle.mesa_lexer.specs.declared.fault.LexFault.TheVariants.{Memory};
+
+    ghost from_gives = { λ _ fault. fault ≡ Memory };
+
+    fn from(_: AllocFailed<T>) -> LexFault {
+        LexFault::Memory
+    }
+}
+
+impl From<OutOfMemory> for SyntaxFault {
+    ghost use Rattle.mesa_lexer.specs.declared.fault.SyntaxFault.TheVariants.{Memory};
+
+    ghost from_gives = { λ _ fault. fault ≡ Memory };
+
+    fn from(_: OutOfMemory) -> SyntaxFault {
+        SyntaxFault::Memory
+    }
+}
+
+impl From<AllocError> for SyntaxFault {
+    ghost use Rattle.mesa_lexer.specs.declared.fault.SyntaxFault.TheVariants.{Memory};
+
+    ghost from_gives = { λ _ fault. fault ≡ Memory };
+
+    fn from(_: AllocError) -> SyntaxFault {
+        SyntaxFault::Memory
+    }
+}
+
+impl<T: Drop> From<AllocFailed<T>> for SyntaxFault {
+    ghost use Rattle.mesa_lexer.specs.declared.fault.SyntaxFault.TheVariants.{Memory};
+
+    ghost from_gives = { λ _ fault. fault ≡ Memory };
+
+    fn from(_: AllocFailed<T>) -> SyntaxFault {
+        SyntaxFault::Memory
+    }
+}
