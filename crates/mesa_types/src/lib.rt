@@ -2,9 +2,13 @@
 #![tactic(auto)]
 
 mod faces;
+mod sameness;
+mod sizes;
 mod types;
 
 pub use faces::{
     Export, Exports, Face, Import, Imports, Item, ItemKind, Items, Pair, Pairs, Shape,
 };
+pub use sameness::{base, conforms, same_type};
+pub use sizes::{elements, fields_words, size_words};
 pub use types::{FieldType, Fields, Names, Origin, TypeTree};
