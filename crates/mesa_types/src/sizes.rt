@@ -30,7 +30,10 @@ pub fn size_words(t: &TypeTree) -> u32
 {
     match t {
         TypeTree::String => 2,
-        TypeTree::Array(index, element) => product(elements(index.get()), size_words(element.get())),
+        TypeTree::Array(index, element) => product(
+            elements(index.get()),
+            size_words(element.get()),
+        ),
         TypeTree::Record(_, fields) => fields_words(fields.as_slice()),
         _ => 1,
     }
