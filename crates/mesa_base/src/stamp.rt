@@ -1,4 +1,4 @@
-ghost use Rattle.std.specs.Prelude.{◌≡◌};
+ghost use Rattle.std.specs.Prelude.{◌≡◌, ◌<◌, ◌^◌};
 
 use std::alloc::AllocError;
 use std::marker::Model;
@@ -30,6 +30,13 @@ impl Clone for Stamp {
 impl Copy for Stamp {}
 
 impl Stamp {
+    pub fn new(number: u64) -> Stamp
+        requires { number < 2 ^ 48 }
+        ensures { result ≡ number }
+    {
+        Stamp { number }
+    }
+
     pub fn number(&self) -> u64
         ensures { result ≡ self.now }
     {
