@@ -9,6 +9,6 @@ mod types;
 pub use faces::{
     Export, Exports, Face, Import, Imports, Item, ItemKind, Items, Pair, Pairs, Shape,
 };
-pub use sameness::{base, conforms, same_type};
+pub use sameness::{base, conforms, same_fields, same_name, same_type};
 pub use sizes::{elements, fields_words, size_words};
 pub use types::{FieldType, Fields, Names, Origin, TypeTree};

@@ -5,7 +5,8 @@ ghost use Rattle.mesa_types.specs.Types.{SameType, Conforms, IsOneBase, IsNumber
 use crate::types::{FieldType, Origin, TypeTree};
 use mesa_base::{Name, Stamp};
 
-fn same_name(a: &Name, b: &Name) -> bool
+/// Whether two names are spelled alike.
+pub fn same_name(a: &Name, b: &Name) -> bool
     ensures { IsTrue result ↔ (a.now ≡ b.now) }
 {
     a.bytes() == b.bytes()
@@ -78,8 +79,9 @@ pub fn same_type(a: &TypeTree, b: &TypeTree) -> bool
     }
 }
 
+/// Whether two lists of fields, parameters or results are equal: their names, and their types by `same_type`.
 #[cycle(same_type)]
-fn same_fields(a: &[FieldType], b: &[FieldType]) -> bool
+pub fn same_fields(a: &[FieldType], b: &[FieldType]) -> bool
     ensures { IsTrue result ↔ (a.now ≡ b.now) }
 {
     if a.len() != b.len() {
