@@ -12,3 +12,6 @@ pub use faces::{
 pub use sameness::{base, conforms, same_fields, same_name, same_type};
 pub use sizes::{elements, fields_words, size_words};
 pub use types::{FieldType, Fields, Names, Origin, TypeTree};
+
+#[cfg(test)]
+mod tests;
