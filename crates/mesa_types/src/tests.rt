@@ -1,13 +1,14 @@
 use crate::{
-    Export, Face, FieldType, Fields, Import, Item, ItemKind, Names, Origin, Shape, TypeTree, base,
-    conforms, elements, same_type, size_words,
+    Export, Face, FieldType, Fields, Import, Item, ItemKind, Names, Origin, Shape, TypeTree,
+    conforms, same_type, size_words,
 };
 use mesa_base::{Boxed, List, Name, Stamp};
 use std::alloc::Global;
+use std::process::Abort;
 use std::test::Fail;
 
 fn name(alloc: Global, text: &[u8]) -> Result<Name, Fail> {
-    let name = Name::new(alloc, text)?.ok_or("a name")?;
+    let name = Name::new(alloc, text)?.ok_or("some name")?;
     Ok(name)
 }
 
@@ -53,50 +54,59 @@ fn record(alloc: Global, number: u32, text: &[u8], kind: TypeTree) -> Result<Typ
     Ok(TypeTree::Record(origin(alloc, number)?, field(alloc, text, kind)?))
 }
 
+fn texts_of(alloc: Global, index: TypeTree) -> Result<TypeTree, Fail> {
+    array(alloc, index, TypeTree::String)
+}
+
 #[test]
-fn sizes(rt: HostRuntime) -> Result<(), Fail> {
-    let alloc = rt.alloc();
-    let digits = subrange(alloc, TypeTree::Integer, 65533, 3)?;
-    assert_eq!(rt; elements(&digits), 7);
-    assert_eq!(rt; size_words(&digits), 1);
-    assert_eq!(rt; size_words(&TypeTree::String), 2);
-    let texts = array(alloc, digits, TypeTree::String)?;
+fn size_of_arrays(rt: HostRuntime) -> Result<(), Fail> {
+    let digits = subrange(rt.alloc(), TypeTree::Integer, 65533, 3)?;
+    let texts = texts_of(rt.alloc(), digits)?;
     assert_eq!(rt; size_words(&texts), 14);
-    let holder = record(alloc, 0, b"texts", texts)?;
-    let grid = array(alloc, TypeTree::Character, holder)?;
-    assert_eq!(rt; size_words(&grid), 3584);
-    assert_eq!(rt; elements(&color(alloc, 0)?), 3);
-    let wide = array(
-        alloc,
-        TypeTree::Character,
-        array(alloc, TypeTree::Character, grid)?,
-    )?;
-    assert_eq!(rt; size_words(&wide), 234881024);
-    let huge = array(alloc, TypeTree::Character, wide)?;
-    assert_eq!(rt; size_words(&huge), 4294967295);
     Ok(())
 }
 
 #[test]
-fn sameness(rt: HostRuntime) -> Result<(), Fail> {
-    let alloc = rt.alloc();
-    let red = color(alloc, 0)?;
-    assert!(rt; same_type(&red, &color(alloc, 0)?));
-    assert!(rt; !same_type(&red, &color(alloc, 1)?));
-    let x = record(alloc, 2, b"x", TypeTree::Integer)?;
-    assert!(rt; same_type(&x, &x.copy(alloc)?));
-    assert!(rt; !same_type(&x, &record(alloc, 2, b"y", TypeTree::Integer)?));
-    assert!(rt; !same_type(&x, &record(alloc, 2, b"x", TypeTree::Cardinal)?));
-    let few = subrange(alloc, TypeTree::Integer, 0, 9)?;
-    assert!(rt; !same_type(&few, &subrange(alloc, TypeTree::Integer, 0, 8)?));
-    assert!(rt; conforms(&few, &TypeTree::Cardinal));
-    assert!(rt; !conforms(&few, &TypeTree::Character));
-    assert!(rt; conforms(&subrange(alloc, color(alloc, 0)?, 0, 1)?, &red));
-    assert!(rt; !conforms(&red, &color(alloc, 1)?));
-    assert!(rt; conforms(&x, &x));
-    assert!(rt; conforms(&TypeTree::String, &TypeTree::String));
-    assert!(rt; base(&x).is_none());
+fn size_of_records(rt: HostRuntime) -> Result<(), Fail> {
+    let texts = texts_of(rt.alloc(), color(rt.alloc(), 0)?)?;
+    let holder = record(rt.alloc(), 1, b"texts", texts)?;
+    assert_eq!(rt; size_words(&holder), 6);
     Ok(())
+}
+
+/// Checks two types that are not the same, where the second conforms to the first or not.
+fn differ(
+    rt: &(impl Abort + AllocGlobal),
+    to: TypeTree,
+    from: TypeTree,
+    fits: bool,
+) -> Result<(), Fail> {
+    assert!(rt; !same_type(&from, &to));
+    assert_eq!(rt; conforms(&from, &to), fits);
+    assert!(rt; same_type(&to, &to.copy(rt.alloc())?));
+    Ok(())
+}
+
+#[test]
+fn ordinals(rt: HostRuntime) -> Result<(), Fail> {
+    differ(&rt, TypeTree::Integer, TypeTree::Cardinal, true)?;
+    differ(&rt, TypeTree::Integer, TypeTree::Character, false)?;
+    let few = subrange(rt.alloc(), TypeTree::Integer, 0, 9)?;
+    differ(&rt, few, TypeTree::Cardinal, true)
+}
+
+#[test]
+fn enumerations(rt: HostRuntime) -> Result<(), Fail> {
+    let some = subrange(rt.alloc(), color(rt.alloc(), 0)?, 0, 1)?;
+    differ(&rt, color(rt.alloc(), 0)?, some, true)?;
+    differ(&rt, color(rt.alloc(), 0)?, color(rt.alloc(), 1)?, false)
+}
+
+#[test]
+fn records(rt: HostRuntime) -> Result<(), Fail> {
+    let x = record(rt.alloc(), 2, b"x", TypeTree::Integer)?;
+    let y = record(rt.alloc(), 2, b"y", TypeTree::Integer)?;
+    differ(&rt, x, y, false)
 }
 
 fn face(alloc: Global) -> Result<Face, Fail> {
