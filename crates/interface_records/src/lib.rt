@@ -10,3 +10,6 @@ pub use built_in::iodefs;
 pub use interface::{Constant, Constants, Interface, Interfaces, NamedType, NamedTypes};
 pub use sameness::same_face;
 pub use wanted::{Wanted, WantedItem, Wanteds};
+
+#[cfg(test)]
+mod tests;
