@@ -2,6 +2,7 @@
 #![tactic(auto)]
 
 mod boxed;
+mod decimal;
 mod failed;
 mod list;
 mod memory;
@@ -10,17 +11,20 @@ mod outside;
 mod place;
 mod stamp;
 mod status;
+mod steps;
 mod words;
 
 pub use boxed::Boxed;
+pub use decimal::{Decimal, decimal_value};
 pub use failed::{Failed, FolderError};
 pub use list::List;
 pub use memory::OutOfMemory;
-pub use name::Name;
+pub use name::{Name, begins_with_letter, is_letter, is_letter_or_digit};
 pub use outside::{Folder, Sink, Source};
 pub use place::Place;
 pub use stamp::Stamp;
 pub use status::Status;
+pub use steps::Steps;
 pub use words::Words;
 
 /// Bytes, as of a file or a text.

@@ -1,1 +1,5 @@
+pub mod Plain
+pub mod Sound
+pub mod Tree
+pub mod Typed
 pub mod Types

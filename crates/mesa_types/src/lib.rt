@@ -1,9 +1,10 @@
-//! Types and faces.
+//! The trees of modules: their types and faces, and the typed tree.
 #![tactic(auto)]
 
 mod faces;
 mod sameness;
 mod sizes;
+mod typed;
 mod types;
 
 pub use faces::{
@@ -11,6 +12,7 @@ pub use faces::{
 };
 pub use sameness::{base, conforms, same_fields, same_name, same_type};
 pub use sizes::{elements, fields_words, size_words};
+pub use typed::{Host, Operation, Operator, Relation, TypedExpr, TypedModule, TypedStmt};
 pub use types::{FieldType, Fields, Names, Origin, TypeTree};
 
 #[cfg(test)]

@@ -1,0 +1,10 @@
+-- A list of three.
+use Rattle.std.proofs.Common.{◌≡◌, ℕ, suc, List, [], ◌∷◌, length, Some, slice_get, refl, arith}
+
+pub three : {A : Type 0} (xs : List A) (a b c : A) → length xs ≡ 3 → slice_get xs 0 ≡ Some a → slice_get xs 1 ≡ Some b →
+    slice_get xs 2 ≡ Some c → xs ≡ a ∷ b ∷ c ∷ []
+three [] a b c l p q r = cc
+three (x ∷ []) a b c l p q r = cc
+three (x ∷ y ∷ []) a b c l p q r = cc
+three (x ∷ y ∷ z ∷ []) a b c l p q r = cc
+three (x ∷ y ∷ z ∷ w ∷ ws) a b c l p q r = absurd (omega arith)

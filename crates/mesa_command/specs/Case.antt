@@ -1,0 +1,39 @@
+-- The answers of a call, with the status and the line of each (rule of this project).
+use Rattle.std.specs.Prelude.{ℕ, List, [], ◌∷◌, ◌++◌, codes}
+use Rattle.mesa_base.specs.declared.status.Status.{Status}
+use Rattle.mesa_base.specs.declared.status.Status.TheVariants as status
+
+pub data Case : Type 0 where
+  Done : Case
+  Spent : Case
+  NotBuilt : (file : List ℕ) → Case
+  Absent : (file : List ℕ) → Case
+  WriteFault : Case
+  FolderFault : (file : List ℕ) → Case
+  Memory : Case
+  Usage : Case
+
+abbrev pub status_of : Case → Status
+status_of Done = status.Done
+status_of Spent = status.Spent
+status_of (NotBuilt file) = status.Refused
+status_of (Absent file) = status.Absent
+status_of WriteFault = status.WriteFault
+status_of (FolderFault file) = status.FolderFault
+status_of Memory = status.Memory
+status_of Usage = status.Usage
+
+-- what the line says of a file
+abbrev pub of_file : List ℕ → List ℕ → List ℕ
+of_file file text = file ++ codes ": " ++ text
+
+-- the line on `err`, ended by a line feed; there is none where the run is done
+abbrev pub line_of : Case → List ℕ
+line_of Done = []
+line_of Spent = codes "turns spent\n"
+line_of (NotBuilt file) = of_file file (codes "NotBuilt\n")
+line_of (Absent file) = of_file file (codes "absent\n")
+line_of WriteFault = codes "output failed\n"
+line_of (FolderFault file) = of_file file (codes "folder failed\n")
+line_of Memory = codes "out of memory\n"
+line_of Usage = codes "usage: mesa compile, bind, list, run, go or exercise\n"

@@ -1,0 +1,10 @@
+pub mod Case
+pub mod Comes
+pub mod FirstProgram
+pub mod Forms
+pub mod Outputs
+pub mod Reply
+pub mod Running
+pub mod SmallGrammar
+pub mod SmallTokens
+pub mod SmallWords

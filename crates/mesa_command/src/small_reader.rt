@@ -1,0 +1,20 @@
+ghost use Rattle.std.specs.Prelude.{IfOk, IsErrOf};
+ghost use Rattle.mesa_types.specs.Plain.{plain};
+ghost use Rattle.mesa_command.specs.SmallGrammar.{Reads};
+ghost use Rattle.mesa_command.specs.Comes.{IsNoText};
+
+use mesa_types::TypedModule;
+use std::alloc::Global;
+
+#[derive(Clone, Copy, Debug, PartialEq, Eq)]
+pub enum SmallFault {
+    NotBuilt,
+    Memory,
+}
+
+pub fn read_small(_alloc: Global, _text: &[u8]) -> Result<TypedModule, SmallFault>
+    ensures found { IfOk result (λ module_. Reads _text.now (plain module_)) }
+    ensures refused { IsErrOf result SmallFault.NotBuilt → IsNoText _text.now }
+{
+    Err(SmallFault::Memory)
+}

@@ -1,0 +1,115 @@
+ghost use Rattle.std.specs.Prelude.{◌≡◌, List, ℕ};
+ghost use Rattle.mesa_command.specs.Case.{Case, status_of, line_of};
+ghost use Rattle.mesa_command.specs.Comes.{Comes, OfText, shelf};
+ghost use Rattle.mesa_command.specs.Outputs.{stream, Receives};
+ghost use Rattle.mesa_command.specs.Reply.{reply_case, case_of_end};
+ghost use Rattle.mesa_command.specs.FirstProgram.{FirstProgram};
+ghost use Rattle.mesa_command.specs.SmallGrammar.{Reads};
+ghost use Rattle.mesa_types.specs.Plain.{plain};
+ghost use Rattle.mesa_types.specs.Sound.{Sound};
+
+use crate::forms::{Go, go_form};
+use crate::reply::Reply;
+use crate::running::run_module;
+use crate::small_reader::{SmallFault, read_small};
+use frame_machine::{End, RunFault};
+use mesa_base::{Folder, FolderError, Sink, Source, Status, Steps, Words};
+use mesa_types::TypedModule;
+use std::alloc::Global;
+use std::sync::ledger::Ledger;
+
+/// The most bytes of a text.
+const TEXT_LIMIT: usize = 1_048_576;
+
+/// What the program does with its words. The form so far is `go NAME.mesa TURNS`: the module's text in NAME.mesa is run
+/// with a bound of so many turns. The line of the answer goes to `err`.
+pub fn mesa<F: Folder, S: Source, K: Sink, E: Sink, L: Ledger>(
+    alloc: Global,
+    words: &Words,
+    folder: &mut F,
+    input: &mut S,
+    out: &mut K,
+    err: &mut E,
+    steps: &mut Steps<L>,
+) -> Status
+    // The status is that of a case that comes of the words, the folder and `out`, and `err` receives its line.
+    ensures case { (case : Case) × (result ≡ status_of case) × Comes words.now (shelf (F.files folder.old) (F.faults folder.old) (F.misses folder.old)) (shelf (F.files folder.new) (F.faults folder.new) (F.misses folder.new)) (stream (K.written out.old) (K.faults out.old)) (stream (K.written out.new) (K.faults out.new)) case × Receives (line_of case) (stream (E.written err.old) (E.faults err.old)) (stream (E.written err.new) (E.faults err.new)) }
+    // No file is changed, and nothing of the input is taken.
+    ensures files { F.files folder.new ≡ F.files folder.old }
+    ensures input { input.new ≡ input.old }
+{
+    let reply = answer(alloc, words, folder, input, out, steps);
+    reply.tell(err);
+    reply.status()
+}
+
+fn answer<'a, F: Folder, S: Source, K: Sink, L: Ledger>(
+    alloc: Global,
+    words: &'a Words,
+    folder: &mut F,
+    input: &mut S,
+    out: &mut K,
+    steps: &mut Steps<L>,
+) -> Reply<'a>
+    ensures comes { Comes words.now (shelf (F.files folder.old) (F.faults folder.old) (F.misses folder.old)) (shelf (F.files folder.new) (F.faults folder.new) (F.misses folder.new)) (stream (K.written out.old) (K.faults out.old)) (stream (K.written out.new) (K.faults out.new)) (reply_case result) }
+    ensures files { F.files folder.new ≡ F.files folder.old }
+    ensures input { input.new ≡ input.old }
+{
+    let Some(go) = go_form(words) else {
+        return Reply::Usage;
+    };
+    match folder.read(alloc, go.file, TEXT_LIMIT) {
+        Err(FolderError::Absent) => Reply::Absent(go.file),
+        Err(FolderError::Failed) => Reply::FolderFault(go.file),
+        Err(FolderError::Memory) => Reply::Memory,
+        Ok(text) => go_text(alloc, go, text.as_slice(), input, out, steps),
+    }
+}
+
+fn go_text<'a, S: Source, K: Sink, L: Ledger>(
+    alloc: Global,
+    go: Go<'a>,
+    text: &[u8],
+    input: &mut S,
+    out: &mut K,
+    steps: &mut Steps<L>,
+) -> Reply<'a>
+    ensures comes { OfText go.entry.file.now text.now go.entry.turns (stream (K.written out.old) (K.faults out.old)) (stream (K.written out.new) (K.faults out.new)) (reply_case result) }
+    ensures input { input.new ≡ input.old }
+{
+    match read_small(alloc, text) {
+        Err(SmallFault::NotBuilt) => Reply::NotBuilt(go.file),
+        Err(SmallFault::Memory) => Reply::Memory,
+        Ok(tree) => go_tree(alloc, go, &tree, input, out, steps),
+    }
+}
+
+fn go_tree<'a, S: Source, K: Sink, L: Ledger>(
+    alloc: Global,
+    go: Go<'a>,
+    tree: &TypedModule,
+    input: &mut S,
+    out: &mut K,
+    steps: &mut Steps<L>,
+) -> Reply<'a>
+    requires sound { Sound (plain tree.now) }
+    requires first { FirstProgram (plain tree.now) }
+    ensures comes { (text : List ℕ) → Reads text (plain tree.now) → OfText go.entry.file.now text go.entry.turns (stream (K.written out.old) (K.faults out.old)) (stream (K.written out.new) (K.faults out.new)) (reply_case result) }
+    ensures input { input.new ≡ input.old }
+{
+    match run_module(alloc, tree, go.turns, input, out, steps) {
+        Ok(outcome) => ended(outcome.end),
+        Err(RunFault::WriteFault) => Reply::WriteFault,
+        Err(RunFault::Memory) => Reply::Memory,
+        Err(RunFault::ReadFault) => unreachable!(),
+    }
+}
+
+fn ended<'a>(end: End) -> Reply<'a>
+    ensures { reply_case result ≡ case_of_end end }
+{
+    match end {
+        End::Done => Reply::Done,
+        End::Spent => Reply::Spent,
+    }
+}

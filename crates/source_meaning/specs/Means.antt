@@ -1,0 +1,40 @@
+-- What a whole program means: its output, its end, the turns left and the bytes of the input taken.
+use Rattle.std.specs.Prelude.{◌≡◌, ℕ, suc, ◌-◌, List, [], ◌∷◌, map, false, length}
+use Rattle.mesa_types.specs.Typed.{Module}
+use Rattle.source_meaning.specs.Value.{Word, copies}
+use Rattle.source_meaning.specs.Program.{Program}
+use Rattle.source_meaning.specs.State.{State, Ending, Answer, Normal, Result, Run, give, look, branch, on_normal}
+use Rattle.source_meaning.specs.Calls.{Next, is_started, start}
+use Rattle.source_meaning.specs.Meaning.{meaning}
+
+-- the instances to start, in order; a started one is passed over
+unfoldable pub control : Program → Next → List ℕ → Run
+control P next [] = give Normal
+control P next (j ∷ js) =
+    look λ s. branch (is_started j s) (control P next js) (on_normal (start P next j []) (control P next js))
+
+-- zero globals, nothing started, an empty output
+unfoldable pub first_state : Program → List ℕ → Ending → ℕ → State
+first_state P input ending turns = record {
+  store = record {
+    globals = map (λ (m : Module). copies m.globals (Word 0)) P.instances;
+    frames = [];
+    started = map (λ (m : Module). false) P.instances;
+    fresh = 0;
+  };
+  input = input;
+  ending = ending;
+  output = [];
+  turns = turns;
+  standing = 0;
+}
+
+-- the answer is Normal where the end is Done
+unfoldable pub outcome : Program → List ℕ → Ending → ℕ → Result
+outcome P input ending turns = control P (meaning (suc turns)) P.control (first_state P input ending turns)
+
+pub record Means (P : Program) (input : List ℕ) (ending : Ending) (turns : ℕ) (output : List ℕ) (end : Answer) (left taken : ℕ) : Type 0 where
+  pub its_output : (outcome P input ending turns).state.output ≡ output
+  pub its_end : (outcome P input ending turns).answer ≡ end
+  pub its_turns : (outcome P input ending turns).state.turns ≡ left
+  pub its_input : length input - length (outcome P input ending turns).state.input ≡ taken
