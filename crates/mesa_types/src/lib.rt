@@ -5,6 +5,8 @@ mod faces;
 mod sameness;
 mod sizes;
 mod typed;
+pub mod typed_parts;
+pub mod typed_tree;
 mod types;
 
 pub use faces::{
