@@ -5,38 +5,27 @@ use Rattle.mesa_types.specs.declared.faces.Import.{Import}
 use Rattle.mesa_types.specs.declared.faces.Export.{Export}
 use Rattle.mesa_types.specs.declared.faces.Item.{Item}
 
--- a variable of the instance, or of the frame: first the parameters, then the results, then those of the blocks and arms
-pub data Home : Type 0 where
-  Global : ℕ → Home
-  Local : ℕ → Home
-
--- how a word is read as a number
-pub data Base : Type 0 where
-  Signed : Base
-  Unsigned : Base
-
--- the words that a target takes: all, or those from the first to the last number, as the value's base reads them
-pub data Range : Type 0 where
-  Every : Range
-  From : Base → (first last : ℕ) → Range
-
--- CharPlus and CharMinus take a character and a number of this base
-pub data Operator : Type 0 where
-  Plus : Operator
-  Minus : Operator
-  Times : Operator
-  Over : Base → Operator
-  Modulo : Base → Operator
-  CharPlus : Base → Operator
-  CharMinus : Base → Operator
-
-pub data Relation : Type 0 where
-  Equal : Relation
-  Differs : Relation
-  Less : Relation
-  AtMost : Relation
-  More : Relation
-  AtLeast : Relation
+-- variables, bases, ranges, operators, points, callees, signals and labels are those of the code, plain data already
+pub use Rattle.mesa_types.specs.declared.typed_parts.Home.{Home}
+pub use Rattle.mesa_types.specs.declared.typed_parts.Home.TheVariants.{Global, Local}
+pub use Rattle.mesa_types.specs.declared.typed_parts.Base.{Base}
+pub use Rattle.mesa_types.specs.declared.typed_parts.Base.TheVariants.{Signed, Unsigned}
+pub use Rattle.mesa_types.specs.declared.typed_parts.Range.{Range}
+pub use Rattle.mesa_types.specs.declared.typed_parts.Range.TheVariants.{Every, From}
+pub use Rattle.mesa_types.specs.declared.typed_parts.Operator.{Operator}
+pub use Rattle.mesa_types.specs.declared.typed_parts.Operator.TheVariants.{Plus, Minus, Times, Over, Modulo, CharPlus, CharMinus}
+pub use Rattle.mesa_types.specs.declared.typed_parts.Relation.{Relation}
+pub use Rattle.mesa_types.specs.declared.typed_parts.Relation.TheVariants.{Equal, Differs, Less, AtMost, More, AtLeast}
+pub use Rattle.mesa_types.specs.declared.typed_parts.Point.{Point}
+pub use Rattle.mesa_types.specs.declared.typed_parts.Point.TheVariants.{Start, After, At, Leave}
+pub use Rattle.mesa_types.specs.declared.typed_parts.Callee.{Callee}
+pub use Rattle.mesa_types.specs.declared.typed_parts.Callee.TheVariants.{OwnProcedure, LinkedProcedure}
+pub use Rattle.mesa_types.specs.declared.typed_parts.Raised.{Raised}
+pub use Rattle.mesa_types.specs.declared.typed_parts.Raised.TheVariants.{OwnSignal, LinkedSignal, TheUnnamed}
+pub use Rattle.mesa_types.specs.declared.typed_parts.Label.{Label}
+pub use Rattle.mesa_types.specs.declared.typed_parts.Label.TheVariants.{OnAny, OnUnwind, OnOwn, OnLinked, OnBounds, OnZero}
+pub use Rattle.mesa_types.specs.declared.typed_parts.Given.{Given}
+pub use Rattle.mesa_types.specs.declared.typed_parts.Given.TheVariants.{NoVariable, GivenTo}
 
 -- the shape of a type, as far as a value shows it
 mutual
@@ -49,38 +38,6 @@ mutual
   pub data Kinds : Type 0 where
     NoKinds : Kinds
     AndKind : Kind → Kinds → Kinds
-
--- the points of a procedure: each statement that can be a target has a number of its own, and so has each label of an
--- EXITS or REPEAT; a loop's round ends after its body
-pub data Point : Type 0 where
-  Start : (statement : ℕ) → Point
-  After : (statement : ℕ) → Point
-  At : (label : ℕ) → Point
-  Leave : Point
-
--- procedures count from 1, since 0 is the module's body; links are the used items of all imports in order, from 0
-pub data Callee : Type 0 where
-  OwnProcedure : ℕ → Callee
-  LinkedProcedure : ℕ → Callee
-
-pub data Raised : Type 0 where
-  OwnSignal : ℕ → Raised
-  LinkedSignal : ℕ → Raised
-  TheUnnamed : Raised
-
--- what an arm is for
-pub data Label : Type 0 where
-  OnAny : Label
-  OnUnwind : Label
-  OnOwn : ℕ → Label
-  OnLinked : ℕ → Label
-  OnBounds : Label
-  OnZero : Label
-
--- the variable that a counted loop gives its numbers to
-pub data Given : Type 0 where
-  NoVariable : Given
-  GivenTo : Home → Range → Given
 
 -- where a loop stands: without a count, or with so many rounds left and the next number; a tree of a text has Endless
 pub data Count : Type 0 where
