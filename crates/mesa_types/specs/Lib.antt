@@ -1,6 +1,8 @@
 pub mod Nodes
 pub mod Plain
+pub mod Shapes
 pub mod Sound
+pub mod SoundTree
 pub mod Tree
 pub mod TreeOf
 pub mod Typed
