@@ -4,7 +4,9 @@
 use Rattle.std.specs.Prelude.{◌≡◌, ℕ, zero, suc, ◌+◌, ◌*◌, ◌<◌, ◌≤◌, ◌⊎◌, List, [], ◌∷◌, ◌++◌, length, map, All, Contains, Bool, true, false, Option, Some, None, slice_get}
 use Rattle.mesa_types.specs.Tree.{Home, Global, Local, Base, Range, Every, From, Kind, Ordinal, Texts, Array, Record, Kinds, NoKinds, AndKind, Point, Start, After, At, Leave, Callee, OwnProcedure, LinkedProcedure, Raised, OwnSignal, LinkedSignal, TheUnnamed, Label, OnAny, OnUnwind, OnOwn, OnLinked, OnBounds, OnZero, Given, NoVariable, GivenTo, Count, Endless, Counting, Expr, Number, Literal, Variable, FieldOf, LengthOf, ByteOf, Checked, Operate, Negate, Relate, Within, Not, AllOf, SomeOf, Construct, Call, Raise, Exprs, NoExprs, AndExpr, Suffixes, NoSuffix, Field, Index, Operations, NoOperation, Then, Interval, Between, Phrase, NoPhrase, Catch, Arms, NoArms, AndArm, Stmt, Null, Marked, Declare, DeclareAs, Assign, Extract, Perform, If, Select, Block, Repeat, For, Jump, ReturnWith, Resume, Reject, Retry, Continue, Stmts, NoStmts, AndStmt, Targets, NoTargets, AndTarget, Cases, Otherwise, AndCase, Tests, NoTests, IfRelated, IfWithin, Exits, NoExits, AndExit, Loop, LoopOf, Condition, Always, While, Until, Body, Procedure, Module}
 use Rattle.mesa_types.specs.TreeOf.{kinds_of}
+use Rattle.mesa_types.specs.Counts.{hidden, operands_of_stmt}
 use Rattle.mesa_types.specs.Shapes.{words_in, words_in_all, count_in, join, one, copies, KindAt, PartOf}
+use Rattle.mesa_types.specs.declared.types.FieldType.{FieldType}
 use Rattle.mesa_types.specs.declared.faces.Item.{Item}
 use Rattle.mesa_types.specs.declared.faces.Import.{Import}
 use Rattle.mesa_types.specs.declared.faces.ItemKind.TheVariants as item
@@ -128,6 +130,10 @@ unfoldable pub CountIn : Count → Type 0
 CountIn Endless = Unit {0}
 CountIn (Counting g down left next) = ⊥
 
+-- the words of a statement's operands
+unfoldable pub Fits : Stmt → Type 0
+Fits s = operands_of_stmt s ≤ 16384
+
 unfoldable pub a_word : Kinds
 a_word = one Ordinal
 
@@ -200,19 +206,19 @@ unfoldable mutual
   StmtIn Γ Null = Unit {0}
   StmtIn Γ (Marked n s) = (Γ.statements ≤ n) × StmtIn (in_marked n Γ) s
   StmtIn Γ (Declare hs words) = (k : Kind) × All (λ h. VariableIn Γ h k) hs × (words ≡ words_in k)
-  StmtIn Γ (DeclareAs hs e) = (k : Kind) × All (λ h. VariableIn Γ h k) hs × ExprIn Γ e (one k)
-  StmtIn Γ (Assign h s e) = (j : Kind) × (k : Kind) × VariableIn Γ h j × SuffixesIn Γ s j k × ExprIn Γ e (one k)
-  StmtIn Γ (Extract true ts e) = (ks : Kinds) × ExprIn Γ e (one (Record ks)) × TargetsIn Γ ts ks
-  StmtIn Γ (Extract false ts e) = (ks : Kinds) × ExprIn Γ e ks × TargetsIn Γ ts ks
-  StmtIn Γ (Perform e) = (ks : Kinds) × ExprIn Γ e ks
-  StmtIn Γ (If e s t) = ExprIn Γ e a_word × StmtIn Γ s × StmtIn Γ t
-  StmtIn Γ (Select e cs) = ExprIn Γ e a_word × CasesIn Γ cs
+  StmtIn Γ (DeclareAs hs e) = Fits (DeclareAs hs e) × (k : Kind) × All (λ h. VariableIn Γ h k) hs × ExprIn Γ e (one k)
+  StmtIn Γ (Assign h s e) = Fits (Assign h s e) × (j : Kind) × (k : Kind) × VariableIn Γ h j × SuffixesIn Γ s j k × ExprIn Γ e (one k)
+  StmtIn Γ (Extract true ts e) = Fits (Extract true ts e) × (ks : Kinds) × ExprIn Γ e (one (Record ks)) × TargetsIn Γ ts ks
+  StmtIn Γ (Extract false ts e) = Fits (Extract false ts e) × (ks : Kinds) × ExprIn Γ e ks × TargetsIn Γ ts ks
+  StmtIn Γ (Perform e) = Fits (Perform e) × (ks : Kinds) × ExprIn Γ e ks
+  StmtIn Γ (If e s t) = Fits (If e s t) × ExprIn Γ e a_word × StmtIn Γ s × StmtIn Γ t
+  StmtIn Γ (Select e cs) = Fits (Select e cs) × ExprIn Γ e a_word × CasesIn Γ cs
   StmtIn Γ (Block ph ss es) = (past : ℕ) × LabelsIn Γ past es × PhraseIn (in_labelled past es Γ) ph × StmtsIn (in_labelled past es Γ) ss × ExitsIn Γ es
-  StmtIn Γ (Repeat c l) = CountIn c × LoopIn Γ l
-  StmtIn Γ (For g down i l) = GivenIn Γ g × IntervalIn Γ i × LoopIn Γ l
+  StmtIn Γ (Repeat c l) = Fits (Repeat c l) × CountIn c × LoopIn Γ l
+  StmtIn Γ (For g down i l) = Fits (For g down i l) × GivenIn Γ g × IntervalIn Γ i × LoopIn Γ l
   StmtIn Γ (Jump arms p) = Reaches Γ arms p
-  StmtIn Γ (ReturnWith arms first places es) = (js : Kinds) × Reaches Γ arms Leave × (first ≡ Γ.takes) × ExprsIn Γ es js × Arranged places js Γ.gives
-  StmtIn Γ (Resume places es) = (js : Kinds) × (all : Kinds) × IsForRaises Γ.arm × All (LabelGives Γ all) Γ.arm × ExprsIn Γ es js × Arranged places js all
+  StmtIn Γ (ReturnWith arms first places es) = Fits (ReturnWith arms first places es) × (js : Kinds) × Reaches Γ arms Leave × (first ≡ Γ.takes) × ExprsIn Γ es js × Arranged places js Γ.gives
+  StmtIn Γ (Resume places es) = Fits (Resume places es) × (js : Kinds) × (all : Kinds) × IsForRaises Γ.arm × All (LabelGives Γ all) Γ.arm × ExprsIn Γ es js × Arranged places js all
   StmtIn Γ Reject = 0 < Γ.depth
   StmtIn Γ (Retry n) = IsForRaises Γ.arm × (n ≡ Γ.statement)
   StmtIn Γ (Continue n) = IsForRaises Γ.arm × (n ≡ Γ.statement)
@@ -245,3 +251,54 @@ unfoldable mutual
   ConditionIn Γ Always = Unit {0}
   ConditionIn Γ (While e) = ExprIn Γ e a_word
   ConditionIn Γ (Until e) = ExprIn Γ e a_word
+
+-- the used items of imports, in order
+unfoldable pub items_used : List Item → List ℕ → List Item
+items_used items [] = []
+items_used items (n ∷ ns) = put (slice_get items n) (items_used items ns)
+  where
+    put : Option Item → List Item → List Item
+    put None is = is
+    put (Some i) is = i ∷ is
+
+unfoldable pub links_of : List Import → List Item
+links_of [] = []
+links_of (m ∷ ms) = items_used m.face.items m.used ++ links_of ms
+
+-- where a body stands: no point is visible but the return, and no arm is around
+unfoldable pub scope_of : Module → List FieldType → List FieldType → Body → Scope
+scope_of m takes gives body = record {
+  globals = m.globals;
+  locals = join (kinds_of takes) (join (kinds_of gives) body.variables);
+  takes = length takes;
+  gives = kinds_of gives;
+  procedures = map (λ (p : Procedure). p.head) m.procedures;
+  signals = m.signals;
+  links = links_of m.imports;
+  strings = length m.strings;
+  points = record { point = Leave; depth = 0 } ∷ [];
+  statements = 0;
+  labels = 0;
+  depth = 0;
+  arm = [];
+  statement = 0;
+}
+
+-- a body within the limit of words of a frame
+pub record BodyIn (m : Module) (takes gives : List FieldType) (body : Body) : Type 0 where
+  pub does : StmtIn (scope_of m takes gives body) body.does
+  pub small : words_in_all (scope_of m takes gives body).locals + hidden body.does ≤ 1024
+
+unfoldable pub ProcedureIn : Module → Procedure → Type 0
+ProcedureIn m p = (p.head.kind ≡ item.Procedure) × BodyIn m p.head.takes p.head.gives p.body
+
+-- a signal or error takes and gives at most so many words; an error gives none
+unfoldable pub SignalIn : Item → Type 0
+SignalIn i = IsSignal i × (words_in_all (kinds_of i.takes) + words_in_all (kinds_of i.gives) ≤ 2048) × (i.kind ≡ item.Error → i.gives ≡ [])
+
+pub record Sound (m : Module) : Type 0 where
+  pub globals : words_in_all m.globals ≤ 16384
+  pub strings : length m.strings ≤ 65535
+  pub signals : All SignalIn m.signals
+  pub procedures : All (ProcedureIn m) m.procedures
+  pub body : BodyIn m [] [] m.body
