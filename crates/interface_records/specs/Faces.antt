@@ -1,5 +1,6 @@
 -- Faces of interfaces, and the built-in interface (rules of this project).
 use Rattle.std.specs.Prelude.{◌≡◌, ℕ, List, [], ◌∷◌, Some, None, codes}
+use Rattle.mesa_types.specs.Types.{types_in}
 use Rattle.mesa_types.specs.declared.types.TypeTree.{TypeTree}
 use Rattle.mesa_types.specs.declared.types.TypeTree.TheVariants.{Integer, Boolean, Character, String}
 use Rattle.mesa_types.specs.declared.types.FieldType.{FieldType, roll-FieldType}
@@ -12,6 +13,10 @@ use Rattle.interface_records.specs.declared.interface.Interface.{Interface}
 -- names and types of what it takes and gives
 abbrev pub SameFace : Face → Face → Type 0
 SameFace a b = a ≡ b
+
+-- two items have the same kind, and the same types of what they take and of what they give; the names are free
+abbrev pub SameSignature : Item → Item → Type 0
+SameSignature a b = (a.kind ≡ b.kind) × (types_in a.takes ≡ types_in b.takes) × (types_in a.gives ≡ types_in b.gives)
 
 abbrev pub parameter : List ℕ → TypeTree → List FieldType
 parameter name kind = roll-FieldType (record { name = Some name; kind = kind }) ∷ []

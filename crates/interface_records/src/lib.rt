@@ -8,7 +8,7 @@ mod wanted;
 
 pub use built_in::iodefs;
 pub use interface::{Constant, Constants, Interface, Interfaces, NamedType, NamedTypes};
-pub use sameness::same_face;
+pub use sameness::{same_face, same_signature};
 pub use wanted::{Wanted, WantedItem, Wanteds};
 
 #[cfg(test)]

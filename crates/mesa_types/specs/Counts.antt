@@ -1,7 +1,7 @@
 -- What a procedure's frame and a statement hold besides declared variables: the hidden words of loops and SELECTs, and the
 -- words of a statement's operands (rule of this project).
-use Rattle.std.specs.Prelude.{ℕ, ◌+◌, true, false}
-use Rattle.mesa_types.specs.Tree.{Kind, Expr, Number, Literal, Variable, FieldOf, LengthOf, ByteOf, Checked, Operate, Negate, Relate, Within, Not, AllOf, SomeOf, Construct, Call, Raise, Exprs, NoExprs, AndExpr, Suffixes, NoSuffix, Field, Index, Operations, NoOperation, Then, Interval, Between, Phrase, NoPhrase, Catch, Arms, NoArms, AndArm, Stmt, Null, Marked, Declare, DeclareAs, Assign, Extract, Perform, If, Select, Block, Repeat, For, Jump, ReturnWith, Resume, Reject, Retry, Continue, Stmts, NoStmts, AndStmt, Targets, NoTargets, AndTarget, Cases, Otherwise, AndCase, Tests, NoTests, IfRelated, IfWithin, Exits, NoExits, AndExit, Loop, LoopOf, Condition, Always, While, Until}
+use Rattle.std.specs.Prelude.{ℕ, ◌+◌}
+use Rattle.mesa_types.specs.Tree.{Expr, Number, Literal, Variable, FieldOf, LengthOf, ByteOf, Checked, Operate, Negate, Relate, Within, Not, AllOf, SomeOf, Construct, Call, Raise, Exprs, NoExprs, AndExpr, Suffixes, NoSuffix, Field, Index, Operations, NoOperation, Then, Interval, Between, Phrase, NoPhrase, Catch, Arms, NoArms, AndArm, Stmt, Marked, DeclareAs, Assign, Extract, Perform, If, Select, Block, Repeat, For, ReturnWith, Resume, Stmts, NoStmts, AndStmt, Targets, NoTargets, AndTarget, Cases, Otherwise, AndCase, Tests, NoTests, IfRelated, IfWithin, Exits, NoExits, AndExit, Loop, LoopOf, Condition, Always, While, Until}
 
 -- three words for each FOR or THROUGH and one for each SELECT, nothing shared
 unfoldable mutual

@@ -1,8 +1,8 @@
 -- What a checked module keeps: its numbers are in range, its kinds and sizes agree, its jumps name points that are
 -- visible at their place and count the arms that they leave, what belongs to arms stands in arms, and its limits hold
 -- (rule of this project).
-use Rattle.std.specs.Prelude.{◌≡◌, ℕ, zero, suc, ◌+◌, ◌*◌, ◌<◌, ◌≤◌, ◌⊎◌, List, [], ◌∷◌, ◌++◌, length, map, All, Contains, Bool, true, false, Option, Some, None, slice_get}
-use Rattle.mesa_types.specs.Tree.{Home, Global, Local, Base, Range, Every, From, Kind, Ordinal, Texts, Array, Record, Kinds, NoKinds, AndKind, Point, Start, After, At, Leave, Callee, OwnProcedure, LinkedProcedure, Raised, OwnSignal, LinkedSignal, TheUnnamed, Label, OnAny, OnUnwind, OnOwn, OnLinked, OnBounds, OnZero, Given, NoVariable, GivenTo, Count, Endless, Counting, Expr, Number, Literal, Variable, FieldOf, LengthOf, ByteOf, Checked, Operate, Negate, Relate, Within, Not, AllOf, SomeOf, Construct, Call, Raise, Exprs, NoExprs, AndExpr, Suffixes, NoSuffix, Field, Index, Operations, NoOperation, Then, Interval, Between, Phrase, NoPhrase, Catch, Arms, NoArms, AndArm, Stmt, Null, Marked, Declare, DeclareAs, Assign, Extract, Perform, If, Select, Block, Repeat, For, Jump, ReturnWith, Resume, Reject, Retry, Continue, Stmts, NoStmts, AndStmt, Targets, NoTargets, AndTarget, Cases, Otherwise, AndCase, Tests, NoTests, IfRelated, IfWithin, Exits, NoExits, AndExit, Loop, LoopOf, Condition, Always, While, Until, Body, Procedure, Module}
+use Rattle.std.specs.Prelude.{◌≡◌, ℕ, suc, ◌+◌, ◌<◌, ◌≤◌, ◌⊎◌, List, [], ◌∷◌, ◌++◌, length, map, All, Contains, true, false, Option, Some, None, slice_get}
+use Rattle.mesa_types.specs.Tree.{Home, Global, Local, Range, Every, From, Kind, Ordinal, Texts, Array, Record, Kinds, NoKinds, AndKind, Point, Start, After, At, Leave, Callee, OwnProcedure, LinkedProcedure, Raised, OwnSignal, LinkedSignal, TheUnnamed, Label, OnUnwind, OnOwn, OnLinked, Given, NoVariable, GivenTo, Count, Endless, Counting, Expr, Number, Literal, Variable, FieldOf, LengthOf, ByteOf, Checked, Operate, Negate, Relate, Within, Not, AllOf, SomeOf, Construct, Call, Raise, Exprs, NoExprs, AndExpr, Suffixes, NoSuffix, Field, Index, Operations, NoOperation, Then, Interval, Between, Phrase, NoPhrase, Catch, Arms, NoArms, AndArm, Stmt, Null, Marked, Declare, DeclareAs, Assign, Extract, Perform, If, Select, Block, Repeat, For, Jump, ReturnWith, Resume, Reject, Retry, Continue, Stmts, NoStmts, AndStmt, Targets, NoTargets, AndTarget, Cases, Otherwise, AndCase, Tests, NoTests, IfRelated, IfWithin, Exits, NoExits, AndExit, Loop, LoopOf, Condition, Always, While, Until, Body, Procedure, Module}
 use Rattle.mesa_types.specs.TreeOf.{kinds_of}
 use Rattle.mesa_types.specs.Counts.{hidden, operands_of_stmt}
 use Rattle.mesa_types.specs.Shapes.{words_in, words_in_all, count_in, join, one, copies, KindAt, PartOf}

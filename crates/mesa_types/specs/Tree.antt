@@ -4,7 +4,6 @@ use Rattle.std.specs.Prelude.{ℕ, Bool, List}
 use Rattle.mesa_types.specs.declared.faces.Import.{Import}
 use Rattle.mesa_types.specs.declared.faces.Export.{Export}
 use Rattle.mesa_types.specs.declared.faces.Item.{Item}
-
 -- variables, bases, ranges, operators, points, callees, signals and labels are those of the code, plain data already
 pub use Rattle.mesa_types.specs.declared.typed_parts.Home.{Home}
 pub use Rattle.mesa_types.specs.declared.typed_parts.Home.TheVariants.{Global, Local}

@@ -1,5 +1,5 @@
 -- Types (Language Manual, chapter 3): when two are the same, which conforms to which, and how many words one takes.
-use Rattle.std.specs.Prelude.{◌≡◌, ℕ, ◌+◌, ◌-◌, ◌*◌, ◌%◌, ◌⊎◌, List, length, sum, map, Option, Some, None, IsSomeAnd}
+use Rattle.std.specs.Prelude.{◌≡◌, ℕ, ◌+◌, ◌-◌, ◌*◌, ◌%◌, ◌⊎◌, ◌≤◌, List, length, sum, map, fold, max, Option, Some, None, IsSomeAnd}
 use Rattle.mesa_types.specs.declared.types.TypeTree.{TypeTree}
 use Rattle.mesa_types.specs.declared.types.FieldType.{FieldType}
 use Rattle.mesa_types.specs.declared.types.TypeTree.TheVariants as v
@@ -9,6 +9,10 @@ use Rattle.mesa_types.specs.declared.types.TypeTree.TheFolds.{fold-TypeTree, fol
 -- two types are the same where their trees are equal: shapes, origins, names, fields and bounds
 abbrev pub SameType : TypeTree → TypeTree → Type 0
 SameType a b = a ≡ b
+
+-- the types of fields, parameters or results, without their names
+abbrev pub types_in : List FieldType → List TypeTree
+types_in fields = map (λ (field : FieldType). field.kind) fields
 
 -- of an ordinal type: the type itself, and for a subrange the base of the type whose values it has
 abbrev pub base_step : TypeTree-F (Option TypeTree) (Option TypeTree) → Option TypeTree
@@ -78,3 +82,28 @@ elements_of t = (measure_of t).elements
 -- the words of parameters, results or fields together
 abbrev pub words_of_fields : List FieldType → ℕ
 words_of_fields fields = sum (map (fold-FieldType Measure ℕ measure_step field_step) fields)
+
+-- how many types stand around each other, that type included; the base of a subrange is one inside it
+abbrev pub depth_step : TypeTree-F ℕ ℕ → ℕ
+depth_step TypeTree-F.Integer = 1
+depth_step TypeTree-F.Cardinal = 1
+depth_step TypeTree-F.Boolean = 1
+depth_step TypeTree-F.Character = 1
+depth_step TypeTree-F.String = 1
+depth_step (TypeTree-F.Enumeration origin names) = 1
+depth_step (TypeTree-F.Subrange base first last) = base + 1
+depth_step (TypeTree-F.Array index element) = max index element + 1
+depth_step (TypeTree-F.Record origin fields) = fold max 0 fields + 1
+
+abbrev pub field_depth_step : FieldType-F ℕ ℕ → ℕ
+field_depth_step field = field.kind
+
+abbrev pub depth_of : TypeTree → ℕ
+depth_of = fold-TypeTree ℕ ℕ depth_step field_depth_step
+
+abbrev pub depth_of_fields : List FieldType → ℕ
+depth_of_fields fields = fold max 0 (map (fold-FieldType ℕ ℕ depth_step field_depth_step) fields)
+
+-- the limits of a type: 16,384 words, 64 deep, 65,536 elements
+abbrev pub IsWithinLimits : TypeTree → Type 0
+IsWithinLimits t = (words_of t ≤ 16384) × (depth_of t ≤ 64) × (elements_of t ≤ 65536)

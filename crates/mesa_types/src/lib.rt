@@ -12,8 +12,8 @@ mod types;
 pub use faces::{
     Export, Exports, Face, Import, Imports, Item, ItemKind, Items, Pair, Pairs, Shape,
 };
-pub use sameness::{base, conforms, same_fields, same_name, same_type};
-pub use sizes::{elements, fields_words, size_words};
+pub use sameness::{base, conforms, same_fields, same_name, same_type, same_types};
+pub use sizes::{depth, elements, fields_words, is_within_limits, size_words};
 pub use typed::{Host, Operation, Operator, Relation, TypedExpr, TypedModule, TypedStmt};
 pub use types::{FieldType, Fields, Names, Origin, TypeTree};
 

@@ -71,6 +71,8 @@ fn size_of_records(rt: HostRuntime) -> Result<(), Fail> {
     let texts = texts_of(rt.alloc(), color(rt.alloc(), 0)?)?;
     let holder = record(rt.alloc(), 1, b"texts", texts)?;
     assert_eq!(rt; size_words(&holder), 6);
+    assert_eq!(rt; depth(&holder), 3);
+    assert!(rt; is_within_limits(&holder));
     Ok(())
 }
 
