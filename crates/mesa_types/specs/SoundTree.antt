@@ -2,14 +2,19 @@
 -- visible at their place and count the arms that they leave, what belongs to arms stands in arms, and its limits hold
 -- (rule of this project).
 use Rattle.std.specs.Prelude.{◌≡◌, ℕ, suc, ◌+◌, ◌<◌, ◌≤◌, ◌⊎◌, List, [], ◌∷◌, ◌++◌, length, map, All, Contains, true, false, Option, Some, None, slice_get}
-use Rattle.mesa_types.specs.Tree.{Home, Global, Local, Range, Every, From, Kind, Ordinal, Texts, Array, Record, Kinds, NoKinds, AndKind, Point, Start, After, At, Leave, Callee, OwnProcedure, LinkedProcedure, Raised, OwnSignal, LinkedSignal, TheUnnamed, Label, OnUnwind, OnOwn, OnLinked, Given, NoVariable, GivenTo, Count, Endless, Counting, Expr, Number, Literal, Variable, FieldOf, LengthOf, ByteOf, Checked, Operate, Negate, Relate, Within, Not, AllOf, SomeOf, Construct, Call, Raise, Exprs, NoExprs, AndExpr, Suffixes, NoSuffix, Field, Index, Operations, NoOperation, Then, Interval, Between, Phrase, NoPhrase, Catch, Arms, NoArms, AndArm, Stmt, Null, Marked, Declare, DeclareAs, Assign, Extract, Perform, If, Select, Block, Repeat, For, Jump, ReturnWith, Resume, Reject, Retry, Continue, Stmts, NoStmts, AndStmt, Targets, NoTargets, AndTarget, Cases, Otherwise, AndCase, Tests, NoTests, IfRelated, IfWithin, Exits, NoExits, AndExit, Loop, LoopOf, Condition, Always, While, Until, Body, Procedure, Module}
+use Rattle.mesa_types.specs.Tree.{Home, Global, Local, Range, Every, From, Kind, Ordinal, Texts, Array, Record, Kinds, NoKinds, AndKind, Point, Start, After, At, Leave, Callee, OwnProcedure, LinkedProcedure, Raised, OwnSignal, LinkedSignal, Label, OnUnwind, OnOwn, OnLinked, Given, NoVariable, GivenTo, Count, Endless, Counting, Expr, Number, Literal, Variable, FieldOf, LengthOf, ByteOf, Checked, Operate, Negate, Relate, Within, Not, AllOf, SomeOf, Construct, Call, Raise, Exprs, NoExprs, AndExpr, Suffixes, NoSuffix, Field, Index, Operations, NoOperation, Then, Interval, Between, Phrase, NoPhrase, Catch, Arms, NoArms, AndArm, Stmt, Null, Marked, Declare, DeclareAs, Assign, Extract, Perform, If, Select, Block, Repeat, For, Jump, ReturnWith, Resume, Reject, Retry, Continue, Stmts, NoStmts, AndStmt, Targets, NoTargets, AndTarget, Cases, Otherwise, AndCase, Tests, NoTests, IfRelated, IfWithin, Exits, NoExits, AndExit, Loop, LoopOf, Condition, Always, While, Until, Body, Procedure, Module}
 use Rattle.mesa_types.specs.TreeOf.{kinds_of}
 use Rattle.mesa_types.specs.Counts.{hidden, operands_of_stmt}
 use Rattle.mesa_types.specs.Shapes.{words_in, words_in_all, count_in, join, one, copies, KindAt, PartOf}
 use Rattle.mesa_types.specs.declared.types.FieldType.{FieldType}
 use Rattle.mesa_types.specs.declared.faces.Item.{Item}
 use Rattle.mesa_types.specs.declared.faces.Import.{Import}
+use Rattle.mesa_types.specs.declared.faces.Export.{Export}
+use Rattle.mesa_types.specs.declared.faces.Face.{Face}
+use Rattle.mesa_types.specs.declared.faces.Pair.{Pair}
+use Rattle.mesa_types.specs.declared.faces.ItemKind.{ItemKind}
 use Rattle.mesa_types.specs.declared.faces.ItemKind.TheVariants as item
+use Rattle.mesa_types.specs.Types.{types_in}
 
 -- a point that is visible, with the number of arms around it
 pub record Seen : Type 0 where
@@ -79,7 +84,7 @@ IsSignal i = (i.kind ≡ item.Signal) ⊎ (i.kind ≡ item.Error)
 unfoldable pub RaisedIs : Scope → Raised → Kinds → Kinds → Type 0
 RaisedIs Γ (OwnSignal n) ks js = (i : Item) × (slice_get Γ.signals n ≡ Some i) × (ks ≡ kinds_of i.takes) × (js ≡ kinds_of i.gives)
 RaisedIs Γ (LinkedSignal k) ks js = (i : Item) × (slice_get Γ.links k ≡ Some i) × IsSignal i × (ks ≡ kinds_of i.takes) × (js ≡ kinds_of i.gives)
-RaisedIs Γ TheUnnamed ks js = (ks ≡ NoKinds) × (js ≡ NoKinds)
+RaisedIs Γ _ ks js = (ks ≡ NoKinds) × (js ≡ NoKinds)
 
 -- what a label's signal takes
 unfoldable pub LabelTakes : Scope → Label → Kinds → Type 0
@@ -133,6 +138,11 @@ CountIn (Counting g down left next) = ⊥
 -- the words of a statement's operands
 unfoldable pub Fits : Stmt → Type 0
 Fits s = operands_of_stmt s ≤ 16384
+
+-- tests are made of a word alone; without tests the selector may be any value
+unfoldable pub Selects : Kind → Cases → Type 0
+Selects k (Otherwise s) = Unit {0}
+Selects k (AndCase ts s cs) = k ≡ Ordinal
 
 unfoldable pub a_word : Kinds
 a_word = one Ordinal
@@ -212,7 +222,7 @@ unfoldable mutual
   StmtIn Γ (Extract false ts e) = Fits (Extract false ts e) × (ks : Kinds) × ExprIn Γ e ks × TargetsIn Γ ts ks
   StmtIn Γ (Perform e) = Fits (Perform e) × (ks : Kinds) × ExprIn Γ e ks
   StmtIn Γ (If e s t) = Fits (If e s t) × ExprIn Γ e a_word × StmtIn Γ s × StmtIn Γ t
-  StmtIn Γ (Select e cs) = Fits (Select e cs) × ExprIn Γ e a_word × CasesIn Γ cs
+  StmtIn Γ (Select e cs) = (k : Kind) × Fits (Select e cs) × ExprIn Γ e (one k) × Selects k cs × CasesIn Γ cs
   StmtIn Γ (Block ph ss es) = (past : ℕ) × LabelsIn Γ past es × PhraseIn (in_labelled past es Γ) ph × StmtsIn (in_labelled past es Γ) ss × ExitsIn Γ es
   StmtIn Γ (Repeat c l) = Fits (Repeat c l) × CountIn c × LoopIn Γ l
   StmtIn Γ (For g down i l) = Fits (For g down i l) × GivenIn Γ g × IntervalIn Γ i × LoopIn Γ l
@@ -296,9 +306,32 @@ ProcedureIn m p = (p.head.kind ≡ item.Procedure) × BodyIn m p.head.takes p.he
 unfoldable pub SignalIn : Item → Type 0
 SignalIn i = IsSignal i × (words_in_all (kinds_of i.takes) + words_in_all (kinds_of i.gives) ≤ 2048) × (i.kind ≡ item.Error → i.gives ≡ [])
 
+-- each used item is one of the face's
+unfoldable pub ImportIn : Import → Type 0
+ImportIn i = All (λ n. n < length i.face.items) i.used
+
+-- what a module gives under a number for an item of this kind
+unfoldable pub IsGiven : Module → ItemKind → ℕ → Item → Type 0
+IsGiven m item.Procedure n i = (k : ℕ) × (n ≡ suc k) × (slice_get (map (λ (p : Procedure). p.head) m.procedures) k ≡ Some i)
+IsGiven m kind n i = (slice_get m.signals n ≡ Some i) × (i.kind ≡ kind)
+
+-- a procedure, signal or error for an item, with its kind and types
+pub record PairIn (m : Module) (face : Face) (p : Pair) : Type 0 where
+  pub wanted : Item
+  pub given : Item
+  pub is_wanted : slice_get face.items p.item ≡ Some wanted
+  pub is_given : IsGiven m wanted.kind p.number given
+  pub takes : types_in given.takes ≡ types_in wanted.takes
+  pub gives : types_in given.gives ≡ types_in wanted.gives
+
+unfoldable pub ExportIn : Module → Export → Type 0
+ExportIn m e = All (PairIn m e.face) e.given
+
 pub record Sound (m : Module) : Type 0 where
   pub globals : words_in_all m.globals ≤ 16384
   pub strings : length m.strings ≤ 65535
+  pub imports : All ImportIn m.imports
+  pub exports : All (ExportIn m) m.exports
   pub signals : All SignalIn m.signals
   pub procedures : All (ProcedureIn m) m.procedures
   pub body : BodyIn m [] [] m.body

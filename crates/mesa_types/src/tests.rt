@@ -1,6 +1,6 @@
 use crate::{
     Export, Face, FieldType, Fields, Import, Item, ItemKind, Names, Origin, Shape, TypeTree,
-    conforms, same_type, size_words,
+    conforms, depth, is_within_limits, same_type, size_words,
 };
 use mesa_base::{Boxed, List, Name, Stamp};
 use std::alloc::Global;
