@@ -1,9 +1,9 @@
 -- The shape of a type takes as many words as the type.
-use Rattle.std.proofs.Common.{◌≡◌, ℕ, ◌+◌, ◌*◌, List, [], ◌∷◌, map, sum, length, refl, sym, ◌∙◌, subst, zero-add, arith}
+use Rattle.std.proofs.Common.{◌≡◌, ℕ, ◌+◌, List, [], ◌∷◌, map, sum, refl, sym, ◌∙◌, subst, zero-add, arith}
 use Rattle.std.specs.List.{fold}
-use Rattle.mesa_types.specs.Types.{Measure, measure_step, field_step, measure_of, words_of, words_of_fields, words_between}
+use Rattle.mesa_types.specs.Types.{Measure, measure_step, field_step, measure_of, words_of}
 use Rattle.mesa_types.specs.Tree as t
-use Rattle.mesa_types.specs.TreeOf.{Shaped, shape_step, field_kind_step, kinds, kind_of, field_kind, kinds_of}
+use Rattle.mesa_types.specs.TreeOf.{Shaped, shape_step, field_kind_step, kinds, kind_of, field_kind}
 use Rattle.mesa_types.specs.Shapes.{words_in, words_in_all}
 use Rattle.mesa_types.specs.declared.types.TypeTree.{TypeTree, roll-TypeTree}
 use Rattle.mesa_types.specs.declared.types.TypeTree.TheOpen.{TypeTree-F, FieldType-F}
@@ -41,18 +41,18 @@ all_fields ys = sym (zero-add _) ∙ fields_from 0 ys
 
 here_type : (y : TypeTree-F Such-Type Such-Field) → Type-law (roll-TypeTree (map-TypeTree Such-Type Such-Field TypeTree FieldType (λ e. e.0) (λ e. e.0) y))
 unfolding words_in
-here_type TypeTree-F.Integer = rw (fold-roll-TypeTree, fold-roll-TypeTree) (refl, refl)
-here_type TypeTree-F.Cardinal = rw (fold-roll-TypeTree, fold-roll-TypeTree) (refl, refl)
-here_type TypeTree-F.Boolean = rw (fold-roll-TypeTree, fold-roll-TypeTree) (refl, refl)
-here_type TypeTree-F.Character = rw (fold-roll-TypeTree, fold-roll-TypeTree) (refl, refl)
-here_type TypeTree-F.String = rw (fold-roll-TypeTree, fold-roll-TypeTree) (refl, refl)
-here_type (TypeTree-F.Enumeration origin names) = rw (fold-roll-TypeTree, fold-roll-TypeTree) (refl, refl)
-here_type (TypeTree-F.Subrange base first last) = rw (fold-roll-TypeTree, fold-roll-TypeTree) (refl, refl)
-here_type (TypeTree-F.Array i e) = rw (fold-roll-TypeTree, fold-roll-TypeTree) (rw (i.1.1, e.1.0) refl, refl)
-here_type (TypeTree-F.Record origin fields) = rw (fold-roll-TypeTree, fold-roll-TypeTree) (all_fields fields, refl)
+here_type TypeTree-F.Integer = simp fold-roll-TypeTree (refl, refl)
+here_type TypeTree-F.Cardinal = simp fold-roll-TypeTree (refl, refl)
+here_type TypeTree-F.Boolean = simp fold-roll-TypeTree (refl, refl)
+here_type TypeTree-F.Character = simp fold-roll-TypeTree (refl, refl)
+here_type TypeTree-F.String = simp fold-roll-TypeTree (refl, refl)
+here_type (TypeTree-F.Enumeration origin names) = simp fold-roll-TypeTree (refl, refl)
+here_type (TypeTree-F.Subrange base first last) = simp fold-roll-TypeTree (refl, refl)
+here_type (TypeTree-F.Array i e) = simp fold-roll-TypeTree (rw (i.1.1, e.1.0) refl, refl)
+here_type (TypeTree-F.Record origin fields) = simp fold-roll-TypeTree (all_fields fields, refl)
 
 here_field : (y : FieldType-F Such-Type Such-Field) → Field-law (roll-FieldType (map-FieldType Such-Type Such-Field TypeTree FieldType (λ e. e.0) (λ e. e.0) y))
-here_field y = rw (fold-roll-FieldType, fold-roll-FieldType) y.kind.1.0
+here_field y = simp fold-roll-FieldType y.kind.1.0
 
 pub kind_words : (x : TypeTree) → words_in (kind_of x) ≡ words_of x
 kind_words x =
