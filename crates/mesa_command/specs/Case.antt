@@ -37,3 +37,17 @@ line_of WriteFault = codes "output failed\n"
 line_of (FolderFault file) = of_file file (codes "folder failed\n")
 line_of Memory = codes "out of memory\n"
 line_of Usage = codes "usage: mesa compile, bind, list, run, go or exercise\n"
+
+-- the answers that come before a run begins
+abbrev pub IsBeforeRun : Status → Type 0
+IsBeforeRun status.Usage = Unit {0}
+IsBeforeRun status.Refused = Unit {0}
+IsBeforeRun status.Absent = Unit {0}
+IsBeforeRun status.FolderFault = Unit {0}
+IsBeforeRun status.Done = ⊥
+IsBeforeRun status.Uncaught = ⊥
+IsBeforeRun status.Spent = ⊥
+IsBeforeRun status.FrameLimit = ⊥
+IsBeforeRun status.ReadFault = ⊥
+IsBeforeRun status.WriteFault = ⊥
+IsBeforeRun status.Memory = ⊥

@@ -56,5 +56,5 @@ pub data Comes (words : List (List ℕ)) (folder folder' : Shelf) (old new : Str
       Comes words folder folder' old new (Absent (file_of base))
   folder_fault : (base : List ℕ) (turns : ℕ) → IsGo words base turns → Rose folder.faults folder'.faults →
       Comes words folder folder' old new (FolderFault (file_of base))
-  memory : new ≡ old → Comes words folder folder' old new Memory
+  memory : (base : List ℕ) (turns : ℕ) → IsGo words base turns → new ≡ old → Comes words folder folder' old new Memory
   usage : HasNoForm words → Comes words folder folder' old new Usage

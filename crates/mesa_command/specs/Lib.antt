@@ -1,10 +1,14 @@
 pub mod Case
+pub mod Code
 pub mod Comes
+pub mod Complete
 pub mod FirstProgram
 pub mod Forms
 pub mod Outputs
 pub mod Reply
 pub mod Running
+pub mod Simulation
 pub mod SmallGrammar
+pub mod SmallParser
 pub mod SmallTokens
 pub mod SmallWords

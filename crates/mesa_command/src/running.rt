@@ -5,13 +5,16 @@ ghost use Rattle.mesa_types.specs.Sound.{Sound};
 ghost use Rattle.mesa_command.specs.FirstProgram.{FirstProgram};
 ghost use Rattle.mesa_command.specs.Running.{Ran, CutOff};
 
-use frame_machine::{Outcome, RunFault};
+use crate::translator::translate;
+use frame_machine::{Outcome, RunFault, ready, run};
 use mesa_base::{Sink, Source, Steps};
 use mesa_types::TypedModule;
 use std::alloc::Global;
 use std::sync::ledger::Ledger;
 
-/// Runs a module with a bound of so many turns. What it writes goes to `out`; it takes nothing from `input`.
+/// Runs a module that may spend so many turns, and gives its end and the turns that are left. What it writes goes to
+/// `out`, and nothing is taken from `input`. It answers `WriteFault` where `out` failed and `Memory` where memory ran
+/// out; then `out` has received the output up to there.
 pub fn run_module<S: Source, K: Sink, L: Ledger>(
     alloc: Global,
     module: &TypedModule,
@@ -30,5 +33,11 @@ pub fn run_module<S: Source, K: Sink, L: Ledger>(
     ensures faults_stay { K.faults out.old ≤ K.faults out.new }
     ensures steps_stay { steps.old ≤ steps.new }
 {
-    Err(RunFault::Memory)
+    let Ok(image) = translate(alloc, module) else {
+        return Err(RunFault::Memory);
+    };
+    let Ok(mut machine) = ready(alloc, image) else {
+        return Err(RunFault::Memory);
+    };
+    run(&mut machine, turns, input, out, steps)
 }

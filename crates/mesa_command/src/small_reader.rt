@@ -3,14 +3,9 @@ ghost use Rattle.mesa_types.specs.Plain.{plain};
 ghost use Rattle.mesa_command.specs.SmallGrammar.{Reads};
 ghost use Rattle.mesa_command.specs.Comes.{IsNoText};
 
+use crate::small_fault::SmallFault;
 use mesa_types::TypedModule;
 use std::alloc::Global;
-
-#[derive(Clone, Copy, Debug, PartialEq, Eq)]
-pub enum SmallFault {
-    NotBuilt,
-    Memory,
-}
 
 pub fn read_small(_alloc: Global, _text: &[u8]) -> Result<TypedModule, SmallFault>
     ensures found { IfOk result (λ module_. Reads _text.now (plain module_)) }

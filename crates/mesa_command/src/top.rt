@@ -1,5 +1,7 @@
-ghost use Rattle.std.specs.Prelude.{◌≡◌, List, ℕ};
-ghost use Rattle.mesa_command.specs.Case.{Case, status_of, line_of};
+ghost use Rattle.std.specs.Prelude.{◌≡◌, ◌↔◌, List, ℕ};
+ghost use Rattle.mesa_command.specs.Case.{Case, status_of, line_of, IsBeforeRun};
+ghost use Rattle.mesa_command.specs.Forms.{HasNoForm};
+ghost use Rattle.mesa_command.specs.Complete.{IsComplete};
 ghost use Rattle.mesa_command.specs.Comes.{Comes, OfText, shelf};
 ghost use Rattle.mesa_command.specs.Outputs.{stream, Receives};
 ghost use Rattle.mesa_command.specs.Reply.{reply_case, case_of_end};
@@ -11,7 +13,8 @@ ghost use Rattle.mesa_types.specs.Sound.{Sound};
 use crate::forms::{Go, go_form};
 use crate::reply::Reply;
 use crate::running::run_module;
-use crate::small_reader::{SmallFault, read_small};
+use crate::small_fault::SmallFault;
+use crate::small_reader::read_small;
 use frame_machine::{End, RunFault};
 use mesa_base::{Folder, FolderError, Sink, Source, Status, Steps, Words};
 use mesa_types::TypedModule;
@@ -33,7 +36,17 @@ pub fn mesa<F: Folder, S: Source, K: Sink, E: Sink, L: Ledger>(
     steps: &mut Steps<L>,
 ) -> Status
     // The status is that of a case that comes of the words, the folder and `out`, and `err` receives its line.
-    ensures case { (case : Case) × (result ≡ status_of case) × Comes words.now (shelf (F.files folder.old) (F.faults folder.old) (F.misses folder.old)) (shelf (F.files folder.new) (F.faults folder.new) (F.misses folder.new)) (stream (K.written out.old) (K.faults out.old)) (stream (K.written out.new) (K.faults out.new)) case × Receives (line_of case) (stream (E.written err.old) (E.faults err.old)) (stream (E.written err.new) (E.faults err.new)) }
+    ensures case { (case : Case) × (result ≡ status_of case)
+        × Comes words.now (shelf (F.files folder.old) (F.faults folder.old) (F.misses folder.old))
+        (shelf (F.files folder.new) (F.faults folder.new) (F.misses folder.new))
+        (stream (K.written out.old) (K.faults out.old)) (stream (K.written out.new) (K.faults out.new)) case
+        × Receives (line_of case) (stream (E.written err.old) (E.faults err.old)) (stream (E.written err.new) (E.faults err.new)) }
+    ensures usage { (result ≡ Status.Usage) ↔ HasNoForm words.now }
+    // A text of the small language that is there is run to the end that its module means, where nothing fails.
+    ensures complete { IsComplete words.now (shelf (F.files folder.old) (F.faults folder.old) (F.misses folder.old))
+        (shelf (F.files folder.new) (F.faults folder.new) (F.misses folder.new))
+        (stream (K.written out.old) (K.faults out.old)) (stream (K.written out.new) (K.faults out.new)) result }
+    ensures before_run { IsBeforeRun result → out.new ≡ out.old }
     // No file is changed, and nothing of the input is taken.
     ensures files { F.files folder.new ≡ F.files folder.old }
     ensures input { input.new ≡ input.old }
@@ -51,7 +64,10 @@ fn answer<'a, F: Folder, S: Source, K: Sink, L: Ledger>(
     out: &mut K,
     steps: &mut Steps<L>,
 ) -> Reply<'a>
-    ensures comes { Comes words.now (shelf (F.files folder.old) (F.faults folder.old) (F.misses folder.old)) (shelf (F.files folder.new) (F.faults folder.new) (F.misses folder.new)) (stream (K.written out.old) (K.faults out.old)) (stream (K.written out.new) (K.faults out.new)) (reply_case result) }
+    ensures comes { Comes words.now (shelf (F.files folder.old) (F.faults folder.old) (F.misses folder.old))
+        (shelf (F.files folder.new) (F.faults folder.new) (F.misses folder.new))
+        (stream (K.written out.old) (K.faults out.old)) (stream (K.written out.new) (K.faults out.new)) (reply_case result) }
+    ensures before_run { IsBeforeRun (status_of (reply_case result)) → out.new ≡ out.old }
     ensures files { F.files folder.new ≡ F.files folder.old }
     ensures input { input.new ≡ input.old }
 {
@@ -75,6 +91,7 @@ fn go_text<'a, S: Source, K: Sink, L: Ledger>(
     steps: &mut Steps<L>,
 ) -> Reply<'a>
     ensures comes { OfText go.entry.file.now text.now go.entry.turns (stream (K.written out.old) (K.faults out.old)) (stream (K.written out.new) (K.faults out.new)) (reply_case result) }
+    ensures before_run { IsBeforeRun (status_of (reply_case result)) → out.new ≡ out.old }
     ensures input { input.new ≡ input.old }
 {
     match read_small(alloc, text) {
@@ -95,6 +112,7 @@ fn go_tree<'a, S: Source, K: Sink, L: Ledger>(
     requires sound { Sound (plain tree.now) }
     requires first { FirstProgram (plain tree.now) }
     ensures comes { (text : List ℕ) → Reads text (plain tree.now) → OfText go.entry.file.now text go.entry.turns (stream (K.written out.old) (K.faults out.old)) (stream (K.written out.new) (K.faults out.new)) (reply_case result) }
+    ensures in_run { ¬ (IsBeforeRun (status_of (reply_case result))) }
     ensures input { input.new ≡ input.old }
 {
     match run_module(alloc, tree, go.turns, input, out, steps) {

@@ -1,0 +1,8 @@
+use Rattle.mesa_command.proofs.OneCase.{complete, usage-exact}
+use Rattle.mesa_command.proofs.top.mesa.Goals as goal
+
+pub returns-clause-usage : goal.returns-clause-usage
+returns-clause-usage g c = rw c.status.ensures (usage-exact _ _ _ _ _ _ c.answer-reply.ensures.comes)
+
+pub returns-clause-complete : goal.returns-clause-complete
+returns-clause-complete g c = rw c.status.ensures (complete _ _ _ _ _ _ c.answer-reply.ensures.comes)

@@ -1,0 +1,227 @@
+//! Worked rows of the first program, through `mesa` over objects in memory.
+ghost use Rattle.std.specs.Prelude.{◌≡◌, ◌<◌};
+
+use crate::top::mesa;
+use mesa_base::{
+    Bytes, List, MemoryFolder, MemorySink, MemorySource, Numbers, OutOfMemory, Steps, Words,
+};
+use std::alloc::Global;
+use std::marker::Brand;
+use std::sync::ledger::{Blank, Ledger};
+use std::test::Fail;
+
+const NOTHING: &str = "Nothing: PROGRAM = BEGIN END.";
+
+const COUNT: &str =
+    "DIRECTORY IODefs: FROM \"IODefs\"; M: PROGRAM IMPORTS IODefs = BEGIN OPEN IODefs; \
+    i: INTEGER ← 3; WHILE i > 0 DO WriteDecimal[i]; i ← i - 1; ENDLOOP; WriteChar['x]; END.";
+
+const WRAP: &str =
+    "DIRECTORY IODefs: FROM \"IODefs\"; M: PROGRAM IMPORTS IODefs = BEGIN OPEN IODefs; \
+    i: INTEGER ← 32767; i ← i + 1; WriteDecimal[i]; END.";
+
+const USAGE: &str = "usage: mesa compile, bind, list, run, go or exercise\n";
+
+/// What a call is made on: its words with blanks between, the one text in the folder, and the calls that fail.
+struct Call<'a> {
+    words: &'a str,
+    text: &'a [u8],
+    folder: &'a [u32],
+    out: &'a [u32],
+    err: &'a [u32],
+}
+
+/// What a call left: its exit status, and what `out` and `err` received.
+#[derive(Debug, Drop)]
+struct Left {
+    status: u8,
+    out: Bytes,
+    err: Bytes,
+}
+
+fn numbers(alloc: Global, all: &[u32]) -> Result<Numbers, OutOfMemory> {
+    List::from_slice(alloc, all)
+}
+
+fn words_of(alloc: Global, line: &str) -> Result<Words, OutOfMemory> {
+    let mut words = Words::new(alloc);
+    for word in line.split(' ') {
+        if !word.is_empty() {
+            words.push(word.as_bytes())?;
+        }
+    }
+    Ok(words)
+}
+
+fn call(alloc: Global, call: &Call<'_>) -> Result<Left, OutOfMemory> {
+    counted::<Brand>(alloc, Blank::new(1), call)
+}
+
+fn counted<L: Ledger>(alloc: Global, blank: Blank, call: &Call<'_>) -> Result<Left, OutOfMemory>
+    requires name { blank.name ≡ L.name }
+    requires parts { blank.parts ≡ L.parts }
+    requires some { 0 < blank.parts }
+{
+    let mut steps = Steps::<L>::new(blank);
+    let words = words_of(alloc, call.words)?;
+    let mut folder = MemoryFolder::new(alloc, numbers(alloc, call.folder)?);
+    folder.insert("M.mesa", call.text)?;
+    let mut input = MemorySource::new(alloc, b"input", numbers(alloc, &[])?)?;
+    let mut out = MemorySink::new(alloc, 4096, numbers(alloc, call.out)?)?;
+    let mut err = MemorySink::new(alloc, 4096, numbers(alloc, call.err)?)?;
+    let status = mesa(
+        alloc,
+        &words,
+        &mut folder,
+        &mut input,
+        &mut out,
+        &mut err,
+        &mut steps,
+    );
+    Ok(Left {
+        status: status.code(),
+        out: List::from_slice(alloc, out.bytes())?,
+        err: List::from_slice(alloc, err.bytes())?,
+    })
+}
+
+fn left(rt: &HostRuntime, words: &str, text: &str) -> Result<Left, OutOfMemory> {
+    let made = Call {
+        words,
+        text: text.as_bytes(),
+        folder: &[],
+        out: &[],
+        err: &[],
+    };
+    call(rt.alloc(), &made)
+}
+
+fn is_left(left: &Left, status: u8, out: &str, err: &str) -> bool {
+    left.status == status
+        && left.out.as_slice() == out.as_bytes()
+        && left.err.as_slice() == err.as_bytes()
+}
+
+#[test]
+fn worked_rows(rt: HostRuntime) -> Result<(), Fail> {
+    let rows = [
+        ("go M.mesa 1", NOTHING, 0, "", ""),
+        ("go M.mesa 0", NOTHING, 2, "", "turns spent\n"),
+        ("go M.mesa 2", WRAP, 0, "-32768", ""),
+        ("go M.mesa 1", WRAP, 2, "", "turns spent\n"),
+        ("go M.mesa 8", COUNT, 0, "321x", ""),
+        ("go M.mesa 7", COUNT, 2, "321", "turns spent\n"),
+        ("go M.mesa 18446744073709551615", COUNT, 0, "321x", ""),
+        (
+            "go M.mesa 1",
+            "Nothing: PROGRAM = BEGIN x ← 1 END.",
+            4,
+            "",
+            "M.mesa: NotBuilt\n",
+        ),
+    ];
+    for (words, text, status, out, err) in rows {
+        let left = left(&rt, words, text)?;
+        assert!(rt;
+            is_left(&left, status, out, err),
+            "{words} of {text} left {left:?}"
+        );
+    }
+    Ok(())
+}
+
+#[test]
+fn words_without_a_form(rt: HostRuntime) -> Result<(), Fail> {
+    let rows = [
+        "",
+        "go",
+        "go M.mesa",
+        "go M.mesa 01",
+        "go M.mesa +1",
+        "go M.mesa 18446744073709551616",
+        "go M.mesa 1 1",
+        "go M 1",
+        "go .mesa 1",
+        "go 1M.mesa 1",
+        "Go M.mesa 1",
+        "go A2345678901234567890123456789012345678901234567890123456789012345.mesa 1",
+        "list M.mob",
+    ];
+    for words in rows {
+        let left = left(&rt, words, NOTHING)?;
+        assert!(rt; is_left(&left, 10, "", USAGE), "{words} left {left:?}");
+    }
+    Ok(())
+}
+
+#[test]
+fn files_that_are_not_there(rt: HostRuntime) -> Result<(), Fail> {
+    let name = "A234567890123456789012345678901234567890123456789012345678901-_z.mesa";
+    let words = format!(in rt.alloc(); "go {name} 1")?;
+    let err = format!(in rt.alloc(); "{name}: absent\n")?;
+    let left = left(&rt, words.as_str(), NOTHING)?;
+    assert!(rt; is_left(&left, 5, "", err.as_str()), "left {left:?}");
+    Ok(())
+}
+
+#[test]
+fn calls_that_fail(rt: HostRuntime) -> Result<(), Fail> {
+    let rows: [(&[u32], &[u32], &[u32], u8, &str, &str); 5] = [
+        (&[0], &[], &[], 8, "", "M.mesa: folder failed\n"),
+        (&[1], &[], &[], 0, "321x", ""),
+        (&[], &[1], &[], 7, "3", "output failed\n"),
+        (&[], &[3], &[], 7, "321", "output failed\n"),
+        (&[], &[0], &[0], 7, "", "output "),
+    ];
+    for (folder, out, err, status, printed, said) in rows {
+        let made = Call {
+            words: "go M.mesa 8",
+            text: COUNT.as_bytes(),
+            folder,
+            out,
+            err,
+        };
+        let left = call(rt.alloc(), &made)?;
+        assert!(rt;
+            is_left(&left, status, printed, said),
+            "{folder:?} {out:?} {err:?} left {left:?}"
+        );
+    }
+    Ok(())
+}
+
+/// Texts of the small language, and texts that are none.
+#[test]
+fn texts(rt: HostRuntime) -> Result<(), Fail> {
+    let rows = [
+        ("a: INTEGER; a _ a -- none -- + 1", true),
+        ("a: INTEGER ← 17; a ← a;", true),
+        ("a: INTEGER ← 19B", false),
+        ("a: INTEGER ← 17B;", false),
+        ("a: INTEGER ← 17D;", false),
+        ("a: INTEGER ← 32768;", false),
+        ("a: INTEGER ← 007;", true),
+        ("a: INTEGER ← a;", false),
+        ("a: INTEGER; a: INTEGER;", false),
+        ("b ← 1; a: INTEGER;", false),
+        ("IODefs: INTEGER;", false),
+        ("WriteChar: INTEGER;", false),
+        ("BoundsFault: INTEGER;", false),
+        ("LONG: INTEGER;", false),
+        ("WriteDecimal[1];", false),
+        ("a: INTEGER; WHILE a # 0 DO ENDLOOP", true),
+        (
+            "a: INTEGER; WHILE a <= 0 DO a ← a - 1 + 2; ENDLOOP; a ← 1;",
+            true,
+        ),
+        ("a: INTEGER; WHILE a < = 0 DO ENDLOOP", false),
+        ("a: INTEGER;; a ← 1", false),
+        ("a: INTEGER; IF a = 1 THEN a ← 2", false),
+    ];
+    for (inner, is_text) in rows {
+        let text = format!(in rt.alloc(); "M: PROGRAM = BEGIN {inner} END.")?;
+        let left = left(&rt, "go M.mesa 9", text.as_str())?;
+        assert_eq!(rt; left.status != 4, is_text, "{inner} left {left:?}");
+    }
+    Ok(())
+}
