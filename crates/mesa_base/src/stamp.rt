@@ -33,6 +33,13 @@ impl Clone for Stamp {
 impl Copy for Stamp {}
 
 impl Stamp {
+    pub fn new(number: u64) -> Stamp
+        requires { number < 2 ^ 48 }
+        ensures { result ≡ number }
+    {
+        Stamp { number }
+    }
+
     /// None exactly where the text is not 12 hexadecimal digits, upper or lower case.
     pub fn parse(text: &[u8]) -> Option<Stamp>
         ensures { result ≡ stamp_of text.now }

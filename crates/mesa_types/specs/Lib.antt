@@ -1,3 +1,10 @@
+pub mod Counts
+pub mod Nodes
 pub mod Plain
+pub mod Shapes
 pub mod Sound
+pub mod SoundTree
+pub mod Tree
+pub mod TreeOf
 pub mod Typed
+pub mod Types

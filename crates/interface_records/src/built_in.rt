@@ -1,0 +1,105 @@
+ghost use Rattle.std.specs.Prelude.{◌≡◌, [], IfOk};
+ghost use Rattle.mesa_base.specs.Name.{IsName};
+ghost use Rattle.interface_records.specs.Faces.{parameter, unnamed, procedure, error, io_items, iodefs as built_in};
+
+use crate::interface::Interface;
+use mesa_base::{List, Name, OutOfMemory, Stamp};
+use mesa_types::{Face, FieldType, Fields, Item, ItemKind, Items, TypeTree};
+use std::alloc::Global;
+
+fn name(alloc: Global, text: &[u8]) -> Result<Name, OutOfMemory>
+    requires { IsName text.now }
+    ensures { IfOk result (λ name. name ≡ text.now) }
+{
+    match Name::new(alloc, text)? {
+        Some(name) => Ok(name),
+        None => unreachable!(),
+    }
+}
+
+fn parameter(alloc: Global, text: &[u8], kind: TypeTree) -> Result<Fields, OutOfMemory>
+    requires { IsName text.now }
+    ensures { IfOk result (λ fields. fields ≡ parameter text.now kind) }
+{
+    let name = Some(name(alloc, text)?);
+    let mut fields = List::new(alloc);
+    fields.push(FieldType { name, kind })?;
+    Ok(fields)
+}
+
+fn unnamed(alloc: Global, kind: TypeTree) -> Result<Fields, OutOfMemory>
+    ensures { IfOk result (λ fields. fields ≡ unnamed kind) }
+{
+    let mut fields = List::new(alloc);
+    fields.push(FieldType { name: None, kind })?;
+    Ok(fields)
+}
+
+fn procedure(alloc: Global, text: &[u8], takes: Fields, gives: Fields) -> Result<Item, OutOfMemory>
+    requires { IsName text.now }
+    ensures { IfOk result (λ item. item ≡ procedure text.now takes gives) }
+{
+    Ok(Item {
+        kind: ItemKind::Procedure,
+        name: name(alloc, text)?,
+        takes,
+        gives,
+    })
+}
+
+fn writer(alloc: Global, text: &[u8], of: &[u8], kind: TypeTree) -> Result<Item, OutOfMemory>
+    requires named { IsName text.now }
+    requires parameter_named { IsName of.now }
+    ensures { IfOk result (λ item. item ≡ procedure text.now (parameter of.now kind) []) }
+{
+    let takes = parameter(alloc, of, kind)?;
+    procedure(alloc, text, takes, List::new(alloc))
+}
+
+fn reader(alloc: Global, text: &[u8], kind: TypeTree) -> Result<Item, OutOfMemory>
+    requires { IsName text.now }
+    ensures { IfOk result (λ item. item ≡ procedure text.now [] (unnamed kind)) }
+{
+    let gives = unnamed(alloc, kind)?;
+    procedure(alloc, text, List::new(alloc), gives)
+}
+
+fn error(alloc: Global, text: &[u8]) -> Result<Item, OutOfMemory>
+    requires { IsName text.now }
+    ensures { IfOk result (λ item. item ≡ error text.now) }
+{
+    Ok(Item {
+        kind: ItemKind::Error,
+        name: name(alloc, text)?,
+        takes: List::new(alloc),
+        gives: List::new(alloc),
+    })
+}
+
+fn items(alloc: Global) -> Result<Items, OutOfMemory>
+    ensures { IfOk result (λ items. items ≡ io_items) }
+{
+    let mut items = List::new(alloc);
+    items.push(writer(alloc, b"WriteChar", b"c", TypeTree::Character)?)?;
+    items.push(writer(alloc, b"WriteString", b"s", TypeTree::String)?)?;
+    items.push(writer(alloc, b"WriteDecimal", b"n", TypeTree::Integer)?)?;
+    items.push(reader(alloc, b"ReadChar", TypeTree::Character)?)?;
+    items.push(reader(alloc, b"EndOfInput", TypeTree::Boolean)?)?;
+    items.push(error(alloc, b"NoInput")?)?;
+    Ok(items)
+}
+
+/// The built-in interface IODefs, stamp 000000000001 (rule of this project).
+pub fn iodefs(alloc: Global) -> Result<Interface, OutOfMemory>
+    ensures { IfOk result (λ interface. interface ≡ built_in) }
+{
+    Ok(Interface {
+        face: Face {
+            name: name(alloc, b"IODefs")?,
+            stamp: Stamp::new(1),
+            items: items(alloc)?,
+        },
+        constants: List::new(alloc),
+        types: List::new(alloc),
+    })
+}

@@ -1,0 +1,31 @@
+use mesa_base::{List, Name};
+use mesa_types::{Face, TypeTree};
+
+pub type Constants = List<Constant>;
+
+pub type NamedTypes = List<NamedType>;
+
+pub type Interfaces = List<Interface>;
+
+/// A constant of an interface: its type is ordinal, and the word is the constant's value.
+#[derive(Drop)]
+pub struct Constant {
+    pub name: Name,
+    pub kind: TypeTree,
+    pub value: u16,
+}
+
+/// A type that an interface declares.
+#[derive(Drop)]
+pub struct NamedType {
+    pub name: Name,
+    pub kind: TypeTree,
+}
+
+/// What a DEFINITIONS module declares, under a stamp (Language Manual, chapter 7).
+#[derive(Drop)]
+pub struct Interface {
+    pub face: Face,
+    pub constants: Constants,
+    pub types: NamedTypes,
+}

@@ -1,0 +1,15 @@
+//! Interfaces: their faces, what is wanted of them, and the built-in one.
+#![tactic(auto)]
+
+mod built_in;
+mod interface;
+mod sameness;
+mod wanted;
+
+pub use built_in::iodefs;
+pub use interface::{Constant, Constants, Interface, Interfaces, NamedType, NamedTypes};
+pub use sameness::{same_face, same_signature};
+pub use wanted::{Wanted, WantedItem, Wanteds};
+
+#[cfg(test)]
+mod tests;

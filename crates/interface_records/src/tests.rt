@@ -1,0 +1,13 @@
+use crate::{iodefs, same_face};
+use std::test::Fail;
+
+#[test]
+fn the_built_in_interface(rt: HostRuntime) -> Result<(), Fail> {
+    let interface = iodefs(rt.alloc())?;
+    let other = iodefs(rt.alloc())?;
+    assert!(rt; same_face(&interface.face, &other.face));
+    assert_eq!(rt; interface.face.items.len(), 6);
+    let last = interface.face.items.get(5).ok_or("no items")?;
+    assert_eq!(rt; last.name.bytes(), b"NoInput".as_slice());
+    Ok(())
+}
