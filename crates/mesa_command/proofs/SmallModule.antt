@@ -1,11 +1,13 @@
 -- A text of the small language and its one module.
-use Rattle.std.proofs.Common.{◌≡◌, ℕ, ◌≤◌, ◌<◌, List, [], length, Option, Some, None, sym, ap, subst, ◌∙◌, arith}
+use Rattle.std.proofs.Common.{◌≡◌, ◌≢◌, ℕ, ◌≤◌, ◌<◌, List, [], length, Option, Some, None, Result, Ok, Err, IfSome, IfOk, IsErrOf, sym, ap, subst, ◌∙◌, arith}
 use Rattle.mesa_types.specs.Typed as t
 use Rattle.mesa_types.specs.Plain.{plain}
 use Rattle.mesa_types.specs.declared.typed.TypedModule.{TypedModule}
 use Rattle.mesa_command.specs.SmallTokens.{Spells}
 use Rattle.mesa_command.specs.SmallGrammar as g
-use Rattle.mesa_command.specs.SmallParser.{Tokens, module_text}
+use Rattle.mesa_command.specs.SmallParser.{Tokens, Reads, module_text}
+use Rattle.mesa_command.specs.declared.small_fault.SmallFault.{SmallFault}
+use Rattle.mesa_command.specs.declared.small_fault.SmallFault.TheVariants.{NotBuilt, Memory}
 use Rattle.mesa_command.proofs.SmallPieces.{one_spelling}
 use Rattle.mesa_command.proofs.SmallTurns.{none_some, some_same}
 use Rattle.mesa_command.proofs.SmallFound.{text_there}
@@ -39,3 +41,27 @@ unspelled_there text none m d = none d.tokens d.spelled
 
 pub too_long : (text : List ℕ) → 1048576 < length text → (m : t.Module) → g.Reads text m → ⊥
 too_long text long m d = let short = d.short in omega arith
+
+-- the tokens that the scanner gave
+spelled_at : (text : List ℕ) (o : Option Tokens) (ts us : Tokens) → IfSome o (λ q. Spells text q) → o ≡ Some ts → us ≡ ts → Spells text us
+spelled_at text o ts us h e same =
+    let P : Option Tokens → Type 0 = λ q. IfSome q (λ w. Spells text w) in
+    let Q : Tokens → Type 0 = λ q. Spells text q in
+    subst Q (sym same) (subst P e h)
+
+pub whole_found : (text : List ℕ) (o : Option Tokens) (ts us : Tokens) (r : Result TypedModule SmallFault) (new : Tokens) → length text ≤ 1048576 → IfSome o (λ q. Spells text q) → o ≡ Some ts → us ≡ ts →
+    Reads (module_text us) r new → IfOk r (λ k. g.Reads text (plain k))
+whole_found text o ts us (Ok k) new short h e same d = found_there text us k new short (spelled_at text o ts us h e same) d
+whole_found text o ts us (Err f) new short h e same d = tt
+
+not_ok : (k : TypedModule) → ◌≡◌ {A = Result TypedModule SmallFault} (Ok k) (Err NotBuilt) → ⊥
+not_ok k e = cc
+
+not_both : (f : SmallFault) → ◌≡◌ {A = Result TypedModule SmallFault} (Err f) (Err NotBuilt) → f ≡ Memory → ⊥
+not_both f e memory = cc
+
+pub whole_refused : (text : List ℕ) (o : Option Tokens) (ts us : Tokens) (r : Result TypedModule SmallFault) (new : Tokens) → IfSome o (λ q. Spells text q) → o ≡ Some ts → us ≡ ts →
+    Reads (module_text us) r new → IsErrOf r NotBuilt → (m : t.Module) → g.Reads text m → ⊥
+whole_refused text o ts us (Ok k) new h e same d fault m reads = absurd (not_ok k fault)
+whole_refused text o ts us (Err f) new h e same d fault m reads =
+    refused_there text us (spelled_at text o ts us h e same) (d (λ memory. not_both f fault memory)) m reads

@@ -22,7 +22,7 @@ mod tests;
 mod top;
 mod translator;
 
-pub use laws::{images_run_as_their_source, one_case};
+pub use laws::{images_run_as_their_source, one_case, one_module};
 use mesa_base::{DirFolder, InSource, OutOfMemory, OutSink, Status, Steps, Words};
 use reply::Reply;
 use std::alloc::Global;

@@ -1,6 +1,6 @@
 //! The module of a text of the small language.
 
-ghost use Rattle.std.specs.Prelude.{◌≡◌, ◌≢◌, Some, None, List, IfOk, MatchResult, IsErrOf};
+ghost use Rattle.std.specs.Prelude.{◌≡◌, ◌≢◌, ℕ, Some, None, List, IfOk, MatchResult, IsErrOf};
 ghost use Rattle.mesa_types.specs.Typed.{Module};
 ghost use Rattle.mesa_types.specs.Plain.{plain};
 ghost use Rattle.mesa_command.specs.SmallGrammar as grammar;
