@@ -5,7 +5,7 @@ use crate::top::mesa;
 use mesa_base::{
     Bytes, List, MemoryFolder, MemorySink, MemorySource, Numbers, OutOfMemory, Steps, Words,
 };
-use std::alloc::Global;
+use std::alloc::{AllocError, Global};
 use std::marker::Brand;
 use std::sync::ledger::{Blank, Ledger};
 use std::test::Fail;
@@ -23,6 +23,7 @@ const WRAP: &str =
 const USAGE: &str = "usage: mesa compile, bind, list, run, go or exercise\n";
 
 /// What a call is made on: its words with blanks between, the one text in the folder, and the calls that fail.
+#[derive(Clone, Copy)]
 struct Call<'a> {
     words: &'a str,
     text: &'a [u8],
@@ -53,7 +54,7 @@ fn words_of(alloc: Global, line: &str) -> Result<Words, OutOfMemory> {
     Ok(words)
 }
 
-fn call(alloc: Global, call: &Call<'_>) -> Result<Left, OutOfMemory> {
+fn called(alloc: Global, call: &Call<'_>) -> Result<Left, OutOfMemory> {
     counted::<Brand>(alloc, Blank::new(1), call)
 }
 
@@ -85,7 +86,7 @@ fn counted<L: Ledger>(alloc: Global, blank: Blank, call: &Call<'_>) -> Result<Le
     })
 }
 
-fn left(rt: &HostRuntime, words: &str, text: &str) -> Result<Left, OutOfMemory> {
+fn left_by(rt: &HostRuntime, words: &str, text: &str) -> Result<Left, OutOfMemory> {
     let made = Call {
         words,
         text: text.as_bytes(),
@@ -93,7 +94,7 @@ fn left(rt: &HostRuntime, words: &str, text: &str) -> Result<Left, OutOfMemory> 
         out: &[],
         err: &[],
     };
-    call(rt.alloc(), &made)
+    called(rt.alloc(), &made)
 }
 
 fn is_left(left: &Left, status: u8, out: &str, err: &str) -> bool {
@@ -121,7 +122,7 @@ fn worked_rows(rt: HostRuntime) -> Result<(), Fail> {
         ),
     ];
     for (words, text, status, out, err) in rows {
-        let left = left(&rt, words, text)?;
+        let left = left_by(&rt, words, text)?;
         assert!(rt;
             is_left(&left, status, out, err),
             "{words} of {text} left {left:?}"
@@ -148,7 +149,7 @@ fn words_without_a_form(rt: HostRuntime) -> Result<(), Fail> {
         "list M.mob",
     ];
     for words in rows {
-        let left = left(&rt, words, NOTHING)?;
+        let left = left_by(&rt, words, NOTHING)?;
         assert!(rt; is_left(&left, 10, "", USAGE), "{words} left {left:?}");
     }
     Ok(())
@@ -159,7 +160,7 @@ fn files_that_are_not_there(rt: HostRuntime) -> Result<(), Fail> {
     let name = "A234567890123456789012345678901234567890123456789012345678901-_z.mesa";
     let words = format!(in rt.alloc(); "go {name} 1")?;
     let err = format!(in rt.alloc(); "{name}: absent\n")?;
-    let left = left(&rt, words.as_str(), NOTHING)?;
+    let left = left_by(&rt, words.as_str(), NOTHING)?;
     assert!(rt; is_left(&left, 5, "", err.as_str()), "left {left:?}");
     Ok(())
 }
@@ -181,7 +182,7 @@ fn calls_that_fail(rt: HostRuntime) -> Result<(), Fail> {
             out,
             err,
         };
-        let left = call(rt.alloc(), &made)?;
+        let left = called(rt.alloc(), &made)?;
         assert!(rt;
             is_left(&left, status, printed, said),
             "{folder:?} {out:?} {err:?} left {left:?}"
@@ -220,8 +221,82 @@ fn texts(rt: HostRuntime) -> Result<(), Fail> {
     ];
     for (inner, is_text) in rows {
         let text = format!(in rt.alloc(); "M: PROGRAM = BEGIN {inner} END.")?;
-        let left = left(&rt, "go M.mesa 9", text.as_str())?;
+        let left = left_by(&rt, "go M.mesa 9", text.as_str())?;
         assert_eq!(rt; left.status != 4, is_text, "{inner} left {left:?}");
+    }
+    Ok(())
+}
+
+/// A module whose inside has one piece many times, and behind it another one as often.
+#[derive(Clone, Copy)]
+struct Inside<'a> {
+    before: &'a str,
+    piece: &'a str,
+    count: usize,
+    between: &'a str,
+    closing: &'a str,
+}
+
+fn text_with(alloc: Global, inside: &Inside<'_>) -> Result<String, AllocError> {
+    let mut text = String::from_str(alloc, "M: PROGRAM = BEGIN ")?;
+    text.push_str(inside.before)?;
+    for _ in 0..inside.count {
+        text.push_str(inside.piece)?;
+    }
+    text.push_str(inside.between)?;
+    for _ in 0..inside.count {
+        text.push_str(inside.closing)?;
+    }
+    text.push_str(" END.")?;
+    Ok(text)
+}
+
+fn variables(alloc: Global, count: u16) -> Result<String, AllocError> {
+    let mut text = String::from_str(alloc, "M: PROGRAM = BEGIN ")?;
+    for number in 0..count {
+        let declaration = format!(in alloc; "v{number}: INTEGER;")?;
+        text.push_str(declaration.as_str())?;
+    }
+    text.push_str(" END.")?;
+    Ok(text)
+}
+
+#[test]
+fn limits(rt: HostRuntime) -> Result<(), Fail> {
+    let rows = [
+        ("", "a", 255, ": INTEGER;", ""),
+        ("a: INTEGER ← 1", " + 1", 999, ";", ""),
+        ("a: INTEGER; a ← 1", " - 1", 999, "", ""),
+        ("a: INTEGER; ", "WHILE a = 1 DO ", 100, "a ← a", " ENDLOOP"),
+        ("", " ", 1_048_552, "", ""),
+    ];
+    for (before, piece, count, between, closing) in rows {
+        for past in [0usize, 1] {
+            let inside = Inside {
+                before,
+                piece,
+                count: count.saturating_add(past),
+                between,
+                closing,
+            };
+            let text = text_with(rt.alloc(), &inside)?;
+            let left = left_by(&rt, "go M.mesa 1", text.as_str())?;
+            assert_eq!(rt;
+                left.status,
+                if past == 0 { 0 } else { 4 },
+                "{piece} {count} and {past}"
+            );
+        }
+    }
+    Ok(())
+}
+
+#[test]
+fn most_variables(rt: HostRuntime) -> Result<(), Fail> {
+    for (count, status) in [(16_384, 0), (16_385, 4)] {
+        let text = variables(rt.alloc(), count)?;
+        let left = left_by(&rt, "go M.mesa 1", text.as_str())?;
+        assert_eq!(rt; left.status, status, "{count} variables");
     }
     Ok(())
 }
