@@ -3,7 +3,7 @@ ghost use Rattle.std.specs.Prelude.{◌≡◌, ◌<◌};
 
 use crate::top::mesa;
 use mesa_base::{
-    Bytes, List, MemoryFolder, MemorySink, MemorySource, Numbers, OutOfMemory, Steps, Words,
+    Bytes, List, MemoryFolder, MemorySink, MemorySource, Numbers, OutOfMemory, Status, Steps, Words,
 };
 use std::alloc::{AllocError, Global};
 use std::marker::Brand;
@@ -54,36 +54,78 @@ fn words_of(alloc: Global, line: &str) -> Result<Words, OutOfMemory> {
     Ok(words)
 }
 
-fn called(alloc: Global, call: &Call<'_>) -> Result<Left, OutOfMemory> {
-    counted::<Brand>(alloc, Blank::new(1), call)
+/// The objects in memory that a call is made on.
+#[derive(Drop)]
+struct Objects {
+    words: Words,
+    folder: MemoryFolder,
+    input: MemorySource,
+    out: MemorySink,
+    err: MemorySink,
 }
 
-fn counted<L: Ledger>(alloc: Global, blank: Blank, call: &Call<'_>) -> Result<Left, OutOfMemory>
+fn folder_with(alloc: Global, call: &Call<'_>) -> Result<MemoryFolder, OutOfMemory> {
+    let failing = numbers(alloc, call.folder)?;
+    let mut folder = MemoryFolder::new(alloc, failing);
+    folder.insert("M.mesa", call.text)?;
+    Ok(folder)
+}
+
+fn source_of(alloc: Global) -> Result<MemorySource, OutOfMemory> {
+    MemorySource::new(alloc, b"input", List::new(alloc))
+}
+
+fn sink_of(alloc: Global, failing: &[u32]) -> Result<MemorySink, OutOfMemory> {
+    let failing = numbers(alloc, failing)?;
+    MemorySink::new(alloc, 4096, failing)
+}
+
+fn objects_of(alloc: Global, call: &Call<'_>) -> Result<Objects, OutOfMemory> {
+    let words = words_of(alloc, call.words)?;
+    let folder = folder_with(alloc, call)?;
+    let input = source_of(alloc)?;
+    let out = sink_of(alloc, call.out)?;
+    let err = sink_of(alloc, call.err)?;
+    Ok(Objects {
+        words,
+        folder,
+        input,
+        out,
+        err,
+    })
+}
+
+fn counted<L: Ledger>(alloc: Global, blank: Blank, objects: &mut Objects) -> Status
     requires name { blank.name ≡ L.name }
     requires parts { blank.parts ≡ L.parts }
     requires some { 0 < blank.parts }
 {
     let mut steps = Steps::<L>::new(blank);
-    let words = words_of(alloc, call.words)?;
-    let mut folder = MemoryFolder::new(alloc, numbers(alloc, call.folder)?);
-    folder.insert("M.mesa", call.text)?;
-    let mut input = MemorySource::new(alloc, b"input", numbers(alloc, &[])?)?;
-    let mut out = MemorySink::new(alloc, 4096, numbers(alloc, call.out)?)?;
-    let mut err = MemorySink::new(alloc, 4096, numbers(alloc, call.err)?)?;
-    let status = mesa(
+    mesa(
         alloc,
-        &words,
-        &mut folder,
-        &mut input,
-        &mut out,
-        &mut err,
+        &objects.words,
+        &mut objects.folder,
+        &mut objects.input,
+        &mut objects.out,
+        &mut objects.err,
         &mut steps,
-    );
+    )
+}
+
+fn left_in(alloc: Global, status: Status, objects: &Objects) -> Result<Left, OutOfMemory> {
+    let out = List::from_slice(alloc, objects.out.bytes())?;
+    let err = List::from_slice(alloc, objects.err.bytes())?;
     Ok(Left {
         status: status.code(),
-        out: List::from_slice(alloc, out.bytes())?,
-        err: List::from_slice(alloc, err.bytes())?,
+        out,
+        err,
     })
+}
+
+fn called(alloc: Global, call: &Call<'_>) -> Result<Left, OutOfMemory> {
+    let mut objects = objects_of(alloc, call)?;
+    let status = counted::<Brand>(alloc, Blank::new(1), &mut objects);
+    left_in(alloc, status, &objects)
 }
 
 fn left_by(rt: &HostRuntime, words: &str, text: &str) -> Result<Left, OutOfMemory> {
@@ -264,7 +306,7 @@ fn variables(alloc: Global, count: u16) -> Result<String, AllocError> {
 #[test]
 fn limits(rt: HostRuntime) -> Result<(), Fail> {
     let rows = [
-        ("", "a", 255, ": INTEGER;", ""),
+        ("", "a", 255usize, ": INTEGER;", ""),
         ("a: INTEGER ← 1", " + 1", 999, ";", ""),
         ("a: INTEGER; a ← 1", " - 1", 999, "", ""),
         ("a: INTEGER; ", "WHILE a = 1 DO ", 100, "a ← a", " ENDLOOP"),
