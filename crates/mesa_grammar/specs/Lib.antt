@@ -1,0 +1,10 @@
+pub mod Signs
+pub mod Grammar
+pub mod Depth
+pub mod Nested
+pub mod Expressions
+pub mod Statements
+pub mod Modules
+pub mod Texts
+pub mod Answer
+pub mod Parsing

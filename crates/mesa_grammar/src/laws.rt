@@ -1,0 +1,10 @@
+ghost use Rattle.mesa_grammar.specs.Answer.{OneAnswer};
+
+use mesa_lexer::Token;
+
+/// A law: the tokens are a text with one tree, or they have one fault, at the least token at which no text of the grammar
+/// goes on (or at the end), or at the least one at which the 201st nested statement, expression or type would begin in
+/// some tree of some text that starts with the tokens up to it; never two of these.
+pub fn exactly_one_answer(tokens: &[Token])
+    ensures { OneAnswer tokens.now }
+{}
