@@ -1,8 +1,8 @@
 -- What comes of a text, from what its reader and its run ensure.
-use Rattle.std.proofs.Common.{◌≡◌, ◌≢◌, ℕ, ◌+◌, ◌≤◌, ◌<◌, List, [], ◌∷◌, ◌++◌, length, take, min, Option, Some, None, IfSome, refl, sym, ◌∙◌, ap, subst, arith}
+use Rattle.std.proofs.Common.{◌≡◌, ℕ, ◌≤◌, List, ◌++◌, length, take, min, Option, Some, None, IfSome, sym, ◌∙◌, ap, subst, arith}
 use Rattle.std.proofs.lemmas.List.{length-take, take_min}
 use Rattle.std.proofs.Math.Seq.{take-length}
-use Rattle.mesa_base.specs.Outside.{Files, Reads as FileReads, Rose, AppendsPrefix}
+use Rattle.mesa_base.specs.Outside.{Files, Reads as FileReads, Rose}
 use Rattle.mesa_types.specs.Typed.{Module}
 use Rattle.source_meaning.specs.State.{Answer}
 use Rattle.frame_machine.specs.declared.outcome.End.{End}
@@ -12,7 +12,7 @@ use Rattle.mesa_command.specs.SmallGrammar.{Reads}
 use Rattle.mesa_command.specs.Forms.{IsGo, file_of}
 use Rattle.mesa_command.specs.Outputs.{Stream, stream}
 use Rattle.mesa_command.specs.Running.{Ran, CutOff, answer_of}
-use Rattle.mesa_command.specs.Comes.{MeansAtAnyInput, OfText, done, spent, write_fault, not_built, memory_before, memory_in_run, Does, IsNoText, Comes, of_text, absent, folder_fault, memory, usage, Shelf}
+use Rattle.mesa_command.specs.Comes.{MeansAtAnyInput, OfText, done, spent, write_fault, not_built, memory_before, memory_in_run, Does, IsNoText, Comes, of_text, absent, folder_fault, Shelf}
 use Rattle.mesa_command.specs.Case.{Case, Done, Spent, NotBuilt, Absent, WriteFault, FolderFault, Memory, Usage}
 use Rattle.mesa_command.specs.Reply.{case_of_end}
 

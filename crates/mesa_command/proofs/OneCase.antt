@@ -1,20 +1,18 @@
 -- For words and files that are told one case comes, and a text that is there is run.
-use Rattle.std.proofs.Common.{◌≡◌, ◌≢◌, ℕ, ◌^◌, ◌<◌, ◌⊎◌, ◌↔◌, List, [], ◌∷◌, ◌++◌, Option, Some, None, IfSome, refl, sym, ◌∙◌, ap, subst, inl, inr, codes, decimal}
+use Rattle.std.proofs.Common.{◌≡◌, ◌≢◌, ℕ, ◌⊎◌, ◌↔◌, List, [], ◌∷◌, Option, Some, None, IfSome, refl, sym, ◌∙◌, ap, subst, inl, inr, codes}
 use Rattle.std.proofs.lemmas.Fmt.{decimal_injective}
 use Rattle.std.proofs.lemmas.List.{append_cancel_right}
-use Rattle.mesa_base.specs.Outside.{Files, Rose}
-use Rattle.mesa_base.specs.declared.status.Status.{Status}
+use Rattle.mesa_base.specs.Outside.{Files}
 use Rattle.mesa_base.specs.declared.status.Status.TheVariants as status
-use Rattle.mesa_types.specs.Typed.{Module}
 use Rattle.source_meaning.specs.Program.{single}
 use Rattle.source_meaning.specs.Means.{outcome}
-use Rattle.source_meaning.specs.State.{End, Answer, Normal, Gives, Spent as TurnsSpent, FrameLimit}
+use Rattle.source_meaning.specs.State.{End, Answer, Normal, Spent as TurnsSpent}
 use Rattle.mesa_command.specs.SmallGrammar.{Reads}
 use Rattle.mesa_command.specs.Forms.{IsGo, HasNoForm, file_of}
 use Rattle.mesa_command.specs.Outputs.{Stream, HasFaulted}
-use Rattle.mesa_command.specs.Comes.{MeansAtAnyInput, OfText, done, spent, write_fault, not_built, memory_before, memory_in_run, Does, IsNoText, Comes, of_text, absent, folder_fault, memory, usage, Shelf}
+use Rattle.mesa_command.specs.Comes.{OfText, done, spent, write_fault, not_built, memory_before, memory_in_run, Does, IsNoText, Comes, of_text, absent, folder_fault, memory, usage, Shelf}
 use Rattle.mesa_command.specs.Case.{Case, Done, Spent, NotBuilt, Absent, WriteFault, FolderFault, Memory, Usage, status_of}
-use Rattle.mesa_command.specs.Complete.{NoFault, Asks, IsStatusOf, IsComplete, OneCaseComes}
+use Rattle.mesa_command.specs.Complete.{NoFault, IsStatusOf, IsComplete, OneCaseComes}
 use Rattle.mesa_command.proofs.SmallModule.{one_module}
 
 -- words are `go` of one file and one number of turns

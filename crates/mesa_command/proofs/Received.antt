@@ -1,9 +1,9 @@
 -- A line that is written in two pieces.
-use Rattle.std.proofs.Common.{◌≡◌, ℕ, ◌+◌, ◌<◌, ◌≤◌, ◌⊎◌, List, ◌++◌, length, take, Bool, true, false, Option, Some, None, IfSome, refl, inl, inr, append_assoc, arith, sym, ◌∙◌, ap, length-append, append-nil, []}
+use Rattle.std.proofs.Common.{◌≡◌, ℕ, ◌+◌, ◌≤◌, List, ◌++◌, length, take, Bool, true, false, Option, Some, None, IfSome, refl, inl, inr, append_assoc, arith, sym, ◌∙◌, ap, length-append, append-nil, []}
 use Rattle.std.proofs.Math.Seq.{take-append-add}
 use Rattle.std.proofs.lemmas.List.{take-append-le}
 use Rattle.mesa_base.specs.Outside.{AppendsPrefix, Rose}
-use Rattle.mesa_command.specs.Outputs.{Stream, stream, PrintsAll, PrintsPrefix, HasFaulted, Receives}
+use Rattle.mesa_command.specs.Outputs.{Stream, PrintsAll, PrintsPrefix, HasFaulted, Receives}
 
 rose-after : (n k m : ℕ) → n ≤ k → Rose k m → Rose n m
 rose-after n k m stays rose = elim rose as (λ _. Rose n m) [ inl more ↦ inl (omega arith) | inr last ↦ inr last ]

@@ -1,7 +1,7 @@
 -- What is there is read: the reader finds each text's tree, and no other.
-use Rattle.std.proofs.Common.{◌≡◌, ◌≢◌, ℕ, zero, suc, ◌+◌, ◌<◌, ◌≤◌, Bool, true, false, cond, not, ◌&&◌, ◌||◌, eqb, ltb, leb, List, [], ◌∷◌, ◌++◌, length, map, Option, Some, None, is_some, ◌⊎◌, inl, inr, refl, sym, ap, subst, ◌∙◌, arith, append_assoc, append-nil, codes, bytes_eq, slice_get}
+use Rattle.std.proofs.Common.{◌≡◌, ℕ, suc, ◌+◌, ◌<◌, ◌≤◌, Bool, true, false, cond, not, ◌&&◌, ◌||◌, ltb, List, [], ◌∷◌, ◌++◌, length, map, Option, Some, None, is_some, ◌⊎◌, inl, inr, refl, sym, ap, subst, ◌∙◌, arith, append_assoc, append-nil, codes, bytes_eq, slice_get}
 use Rattle.std.proofs.lemmas.List.{length_push}
-use Rattle.std.proofs.lemmas.Bool.{and_parts, and_from, eq-eqb, le-leb, lt-ltb, false≢true, cond-true, cond-false, false_from_ne_true, and_right, and_left}
+use Rattle.std.proofs.lemmas.Bool.{and_from, eq-eqb, le-leb, lt-ltb, false≢true, false_from_ne_true, and_right}
 use Rattle.std.proofs.lemmas.Slice.Eq.{bytes_eq-Decides}
 use Rattle.mesa_types.specs.Typed as t
 use Rattle.mesa_types.specs.Plain as pl
@@ -22,11 +22,11 @@ use Rattle.mesa_command.specs.SmallGrammar as g
 use Rattle.mesa_command.specs.SmallParser as p
 use Rattle.mesa_command.specs.SmallParser.{Tokens, Parser, and_then, ◌>>=◌, ◌>>◌, take_token, pure, refuse, next, skip, Step, Go, Done, go_on, repeat, Find, Declared}
 use Rattle.mesa_command.specs.declared.small_token.Sign.{Sign}
-use Rattle.mesa_command.specs.declared.small_token.Sign.TheVariants.{Arrow, Colon, Semicolon, Dot, LeftBracket, RightBracket, Equal, Sharp, Less, Greater, AtMost, AtLeast, Plus, Minus}
+use Rattle.mesa_command.specs.declared.small_token.Sign.TheVariants.{Arrow, Colon, Semicolon, Dot, LeftBracket, RightBracket, Equal}
 use Rattle.mesa_command.specs.declared.small_token.SmallToken.{SmallToken}
 use Rattle.mesa_command.specs.declared.small_token.SmallToken.TheVariants.{Named, Number, Char, HostText, Marked}
 use Rattle.mesa_command.proofs.SmallPlain as plain
-use Rattle.mesa_command.proofs.SmallTurns.{none_some, some_same, operations_turning, more_turning, declarations_turning}
+use Rattle.mesa_command.proofs.SmallTurns.{operations_turning, more_turning, declarations_turning}
 use Rattle.mesa_command.proofs.SmallFound.{Knows, Stands, Fresh, knows_more, join_plain, start_stands}
 
 -- no operator comes next

@@ -1,5 +1,5 @@
 -- What the reader reads is there.
-use Rattle.std.proofs.Common.{◌≡◌, ◌≢◌, ℕ, zero, suc, ◌+◌, ◌<◌, ◌≤◌, Bool, true, false, cond, not, ◌&&◌, ◌||◌, eqb, ltb, leb, List, [], ◌∷◌, ◌++◌, length, map, Option, Some, None, is_some, ◌⊎◌, inl, inr, refl, sym, ap, subst, ◌∙◌, arith, append_assoc, append-nil, codes, bytes_eq, slice_get}
+use Rattle.std.proofs.Common.{◌≡◌, ℕ, zero, suc, ◌+◌, ◌<◌, ◌≤◌, Bool, true, false, cond, not, ◌&&◌, eqb, ltb, leb, List, [], ◌∷◌, ◌++◌, length, map, Option, Some, None, is_some, ◌⊎◌, inl, inr, refl, sym, ap, subst, ◌∙◌, arith, append_assoc, append-nil, codes, bytes_eq, slice_get}
 use Rattle.std.proofs.lemmas.List.{length_push}
 use Rattle.std.proofs.lemmas.Bool.{and_parts, eqb-true, leb-true, ltb-true, false≢true, cond-true, cond-false, false_from_ne_true}
 use Rattle.std.proofs.lemmas.Slice.Eq.{bytes_eq-Decides}
@@ -8,9 +8,7 @@ use Rattle.mesa_types.specs.Plain.{expr, stmt, operation, operations_of, exprs_o
 use Rattle.mesa_types.specs.Plain as pl
 use Rattle.mesa_types.specs.declared.typed.Host.TheVariants as h
 use Rattle.mesa_types.specs.declared.typed.Operator.{Operator}
-use Rattle.mesa_types.specs.declared.typed.Operator.TheVariants as o
 use Rattle.mesa_types.specs.declared.typed.Relation.{Relation}
-use Rattle.mesa_types.specs.declared.typed.Relation.TheVariants as r
 use Rattle.mesa_types.specs.declared.typed.Operation.{Operation}
 use Rattle.mesa_types.specs.declared.typed.TypedExpr.{TypedExpr}
 use Rattle.mesa_types.specs.declared.typed.TypedExpr.TheVariants as ex
@@ -27,7 +25,6 @@ use Rattle.mesa_command.specs.declared.small_token.SmallToken.{SmallToken}
 use Rattle.mesa_command.specs.declared.small_token.SmallToken.TheVariants.{Named, Number, Char, HostText, Marked}
 use Rattle.mesa_command.proofs.SmallPlain as plain
 use Rattle.mesa_command.proofs.SmallTurns.{split, none_some, some_same}
-use Rattle.mesa_command.proofs.SmallScanned.{if_some}
 
 -- the index finds exactly the names, of which none is taken
 pub record Knows (find : Find) (names : g.Names) : Type 0 where

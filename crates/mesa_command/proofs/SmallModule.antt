@@ -1,5 +1,5 @@
 -- A text of the small language and its one module.
-use Rattle.std.proofs.Common.{◌≡◌, ◌≢◌, ℕ, ◌≤◌, ◌<◌, List, [], length, Option, Some, None, Result, Ok, Err, IfSome, IfOk, IsErrOf, sym, ap, subst, ◌∙◌, arith}
+use Rattle.std.proofs.Common.{◌≡◌, ℕ, ◌≤◌, ◌<◌, List, [], length, Option, Some, None, Result, Ok, Err, IfSome, IfOk, IsErrOf, sym, ap, subst, ◌∙◌, arith}
 use Rattle.mesa_types.specs.Typed as t
 use Rattle.mesa_types.specs.Plain.{plain}
 use Rattle.mesa_types.specs.declared.typed.TypedModule.{TypedModule}

@@ -1,5 +1,5 @@
 -- What the reader's trees are in the plain twin.
-use Rattle.std.proofs.Common.{◌≡◌, ℕ, List, [], ◌∷◌, ◌++◌, map, refl, sym, ap, ◌∙◌}
+use Rattle.std.proofs.Common.{◌≡◌, ℕ, List, map, sym, ap, ◌∙◌}
 use Rattle.mesa_types.specs.Typed as t
 use Rattle.mesa_types.specs.Plain.{PlainOperation, expr, stmt, operation, expr_step, stmt_step, operation_step, operations_of, exprs_of, stmts_of, operator, relation, host}
 use Rattle.mesa_types.specs.declared.typed.Host.{Host}

@@ -1,10 +1,10 @@
 -- The module of a text is sound, and is one of the first program.
-use Rattle.std.proofs.Common.{◌≡◌, ℕ, zero, suc, ◌+◌, ◌<◌, ◌≤◌, Bool, true, false, List, [], ◌∷◌, ◌++◌, length, Some, None, slice_get, refl, arith, sym, subst, length-append}
+use Rattle.std.proofs.Common.{◌≡◌, ℕ, suc, ◌<◌, ◌≤◌, Bool, List, [], ◌∷◌, ◌++◌, length, Some, slice_get, arith, sym, subst, length-append}
 use Rattle.std.proofs.lemmas.Option.{slice_get_within}
 use Rattle.mesa_types.specs.Typed as t
-use Rattle.mesa_types.specs.Sound.{HomeIn, ExprIn, ExprsIn, OperationsIn, StmtIn, StmtsIn, Sound}
-use Rattle.mesa_command.specs.FirstProgram.{IsQuiet, AreQuiet, IsOneArgument, IsHostCall, IsFirst, AreFirst, FirstProgram}
-use Rattle.mesa_command.specs.SmallTokens.{Form, name, number, char, text, underscore, arrow, colon, semicolon, dot, left, right, equal, sharp, less, greater, at_most, at_least, plus, minus, Spells, nothing, blank, comment, token}
+use Rattle.mesa_types.specs.Sound.{ExprIn, ExprsIn, OperationsIn, StmtIn, StmtsIn, Sound}
+use Rattle.mesa_command.specs.FirstProgram.{IsQuiet, AreQuiet, IsFirst, AreFirst, FirstProgram}
+use Rattle.mesa_command.specs.SmallTokens.{Form, number, char, Spells, nothing, blank, comment, token}
 use Rattle.mesa_command.specs.SmallGrammar as g
 use Rattle.mesa_command.specs.SmallGrammar.{Tokens, Names, IsTerm, IsTerms, IsSum, sum_of, IsStmt, IsBody, IsMore, IsDeclared, join, IsHead, IsText, Reads}
 use Rattle.mesa_command.specs.declared.small_token.SmallToken.{SmallToken}

@@ -1,5 +1,5 @@
 -- Loops of the reader: a turn that goes on takes a token, so that a loop is one turn and the loop again.
-use Rattle.std.proofs.Common.{◌≡◌, ◌≢◌, ℕ, zero, suc, ◌-◌, ◌<◌, ◌≤◌, length, List, [], ◌∷◌, ◌++◌, Option, Some, None, Bool, true, false, cond, ltb, leb, ◌&&◌, ◌+◌, bytes_eq, refl, sym, ap, subst, ◌∙◌, arith, codes}
+use Rattle.std.proofs.Common.{◌≡◌, ℕ, zero, suc, ◌<◌, ◌≤◌, length, List, [], ◌∷◌, ◌++◌, Option, Some, None, Bool, true, false, cond, ltb, leb, ◌&&◌, ◌+◌, bytes_eq, refl, sym, ap, ◌∙◌, arith, codes}
 use Rattle.std.proofs.lemmas.Bool.{le-ltb}
 use Rattle.mesa_command.specs.SmallParser as p
 use Rattle.mesa_command.specs.SmallParser.{Tokens, Parser, and_then, ◌>>=◌, ◌>>◌, take_token, pure, refuse, next, skip, Step, Go, Done, go_on, turns, repeat, Find, Declared}

@@ -1,5 +1,5 @@
 -- A list of three.
-use Rattle.std.proofs.Common.{◌≡◌, ℕ, suc, List, [], ◌∷◌, length, Some, slice_get, refl, arith}
+use Rattle.std.proofs.Common.{◌≡◌, List, [], ◌∷◌, length, Some, slice_get, arith}
 
 pub three : {A : Type 0} (xs : List A) (a b c : A) → length xs ≡ 3 → slice_get xs 0 ≡ Some a → slice_get xs 1 ≡ Some b →
     slice_get xs 2 ≡ Some c → xs ≡ a ∷ b ∷ c ∷ []

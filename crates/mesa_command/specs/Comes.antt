@@ -1,5 +1,5 @@
 -- When each answer of a call comes, and what it leaves in `out` (rule of this project).
-use Rattle.std.specs.Prelude.{◌≡◌, ◌≢◌, ℕ, List, Option, Some, None, IfSome}
+use Rattle.std.specs.Prelude.{◌≡◌, ℕ, List, Option, Some, None, IfSome}
 use Rattle.mesa_base.specs.Outside.{Files, Rose}
 use Rattle.mesa_types.specs.Typed.{Module}
 use Rattle.source_meaning.specs.Program.{single}

@@ -28,7 +28,7 @@ abbrev pub IsStatusOf : Answer → Status → Type 0
 IsStatusOf Normal s = s ≡ status.Done
 IsStatusOf Spent s = s ≡ status.Spent
 IsStatusOf FrameLimit s = s ≡ status.FrameLimit
-IsStatusOf (Gives values) s = ⊥
+IsStatusOf (Gives _) s = ⊥
 
 -- a text of the small language that is there is run, and the call ends as its module does
 abbrev pub IsComplete : List (List ℕ) → Shelf → Shelf → Stream → Stream → Status → Type 0

@@ -1,7 +1,7 @@
 -- The small language, one constructor for each row of its grammar (Language Manual, chapters 2 to 4; its conditions and
 -- limits are rules of this project). `IsStmt .. ts s rest` says that the tokens ts begin with the statement s, behind
 -- which rest remains. The trees are typed: a variable goes by its number in the list of names declared so far.
-use Rattle.std.specs.Prelude.{◌≡◌, ◌≢◌, ◌≤◌, ℕ, suc, ◌+◌, Bool, true, false, List, [], ◌∷◌, ◌++◌, length, Some, None, Option, slice_get, codes}
+use Rattle.std.specs.Prelude.{◌≡◌, ◌≢◌, ◌≤◌, ℕ, suc, ◌+◌, Bool, true, false, List, [], ◌∷◌, ◌++◌, length, Some, slice_get, codes}
 use Rattle.mesa_types.specs.Typed as t
 use Rattle.mesa_command.specs.SmallTokens.{Spells}
 use Rattle.mesa_command.specs.SmallWords.{is_word, is_taken}

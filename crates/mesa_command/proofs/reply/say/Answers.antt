@@ -1,5 +1,5 @@
 use Rattle.std.proofs.Common.{sym}
-use Rattle.mesa_command.proofs.Received.{receives-both, receives-cut, receives-one}
+use Rattle.mesa_command.proofs.Received.{receives-both, receives-one}
 use Rattle.mesa_command.proofs.reply.say.Goals as goal
 
 -- the first piece was taken, so what is said of the second is said of both

@@ -1,7 +1,7 @@
-use Rattle.std.proofs.Common.{◌≡◌, ◌≤◌, Some, Bool, true, ◌∙◌, rules, arith}
+use Rattle.std.proofs.Common.{◌∙◌, rules, arith}
 use Rattle.std.proofs.lemmas.Grind.{common_steps}
 use Rattle.mesa_command.specs.SmallNames.{finds}
-use Rattle.mesa_command.specs.SmallParser.{Declared, Tokens, next, skip, is_fresh, declaration}
+use Rattle.mesa_command.specs.SmallParser.{Declared}
 use Rattle.mesa_command.specs.declared.small_token.SmallToken.TheVariants.{Named}
 use Rattle.mesa_command.proofs.SmallTurns.{declarations_full, declaration_falls}
 use Rattle.mesa_command.proofs.small_declarations.declarations.Goals as goal

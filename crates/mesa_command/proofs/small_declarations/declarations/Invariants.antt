@@ -1,6 +1,6 @@
 use Rattle.std.proofs.Common.{◌≡◌, length}
 use Rattle.mesa_command.specs.SmallNames.{finds}
-use Rattle.mesa_command.specs.SmallParser.{repeat, declarations_turn, start, Declared}
+use Rattle.mesa_command.specs.SmallParser.{repeat, declarations_turn, start}
 use Rattle.mesa_command.proofs.small_declarations.declarations.Given as goal
 
 abbrev pub invariant-declarations : goal.invariant-declarations
