@@ -6,9 +6,9 @@ use Rattle.mesa_lexer.specs.declared.token.Kind.{Kind}
 use Rattle.mesa_lexer.specs.declared.token.Kind.TheVariants as k
 use Rattle.mesa_lexer.specs.declared.word.Word.TheVariants.{ArrayWord, BeginWord, BooleanWord, CardinalWord, CharacterWord, ContinueWord, DoWord, ElseWord, EnableWord, EndWord, EndcaseWord, EndloopWord, ErrorWord, ExitWord, ExitsWord, FalseWord, ForWord, FromWord, GoWord, GotoWord, IfWord, InWord, IntegerWord, LoopWord, NullWord, OfWord, RecordWord, RejectWord, RepeatWord, ResumeWord, RetryWord, ReturnWord, SelectWord, SignalWord, StringWord, ThenWord, ThroughWord, ToWord, TrueWord, TypeWord, UntilWord, WhileWord}
 use Rattle.mesa_lexer.specs.declared.mark.Mark.TheVariants.{Arrow, Semicolon, Colon, Comma, Dot, DotDot, LeftBracket, RightBracket, LeftParenthesis, RightParenthesis, LeftBrace, RightBrace, Equal, Bang, DoubleArrow}
-use Rattle.mesa_grammar.specs.Parsing.{token, word, mark, Out, Got, Parser, and_then, ◌>>=◌, ◌>>◌, pure, refuse, first, only, exactly, found, finds, among, a_name, choose, option, need, when, Go, Done, repeat, many_turn, many, ended_turn, ended}
-use Rattle.mesa_grammar.specs.Parsing.{Step as Turned}
-use Rattle.mesa_grammar.specs.Parsing as w
+use Rattle.mesa_lexer.specs.Parsing.{token, word, mark, Out, Got, Parser, and_then, ◌>>=◌, ◌>>◌, pure, refuse, first, only, exactly, found, finds, among, a_name, choose, option, need, when, Go, Done, repeat, many_turn, many, ended_turn, ended}
+use Rattle.mesa_lexer.specs.Parsing.{Step as Turned}
+use Rattle.mesa_lexer.specs.Parsing as w
 use Rattle.mesa_types.specs.declared.syntax.Identifier.{Identifier}
 use Rattle.mesa_types.specs.declared.syntax.QualifiedName.{QualifiedName}
 use Rattle.mesa_types.specs.declared.syntax.Placed.{Placed}
@@ -53,9 +53,9 @@ use Rattle.mesa_grammar.specs.Signs.{spelled, disjoining, conjoining, adding, mu
 use Rattle.mesa_grammar.specs.Grammar as g
 use Rattle.mesa_grammar.specs.Grammar.{run, step, interval, left, brackets, keyed, labeled, qualified, arm, case, control, block, NoElse, IsNames, IsQName, IsQNames, IsLabels, IsRepeatLabels, IsBase, IsNot, IsDecreasing, IsType, IsFields, IsTypes, IsGroups, IsInterval, IsExpr, IsOrs, IsConj, IsAnds, IsNeg, IsRel, IsSum, IsSums, IsProduct, IsProducts, IsFactor, IsPrimary, IsList, IsListOption, IsLeft, IsBrackets, IsBracketsOption, IsArgs, IsExprs, IsKeys, IsCatch, IsArmList, IsArms, IsArm, IsRaise, IsStmt, IsTargets, IsLefts, IsKeyLefts, IsOtherwise, IsCaseList, IsCases, IsCase, IsTests, IsTest, IsControl, IsCount, IsCondition, IsBody, IsStmts, IsRepeatPart, IsRepeats, IsRepeat, IsExitPart, IsExits, IsExit, IsEnabling, IsBlock, IsLocals, IsLocal, IsPlain}
 use Rattle.mesa_grammar.specs.Grammar.{placed as placing}
-use Rattle.mesa_grammar.proofs.Exact.{Free, first_none}
-use Rattle.mesa_grammar.proofs.Choices.{passed, when_false, chosen}
-use Rattle.mesa_grammar.proofs.Leading.{Leads, stand, onto, under, comp, last, ahead, via, placed, many_more, many_end, ended_more, ended_bare, ended_closed, Begins, when_begins}
+use Rattle.mesa_lexer.proofs.Exact.{Free, first_none}
+use Rattle.mesa_lexer.proofs.Branches.{passed, when_false, chosen}
+use Rattle.mesa_lexer.proofs.Leading.{Leads, stand, onto, under, comp, last, ahead, via, placed, many_more, many_end, ended_more, ended_bare, ended_closed, Begins, when_begins}
 use Rattle.mesa_grammar.specs.Nested.{Fresh, Nested, begins_expr, begins_stmt, begins_arm, begins_test, begins_repeat, begins_type, comma, identifier}
 use Rattle.mesa_grammar.specs.Nested as nr
 use Rattle.mesa_grammar.specs.Expressions as ex

@@ -4,12 +4,12 @@ use Rattle.mesa_base.specs.declared.place.Place.{Place}
 use Rattle.mesa_lexer.specs.declared.token.Token.{Token}
 use Rattle.mesa_lexer.specs.declared.token.Kind.TheVariants as k
 use Rattle.mesa_lexer.specs.declared.mark.Mark.TheVariants.{Colon, Comma, Dot}
-use Rattle.mesa_grammar.specs.Parsing.{token, mark, Out, Got, Parser, and_then, ◌>>=◌, pure, exactly, found, finds, a_name, choose, Step, Go, Done, go_on, repeat, many}
-use Rattle.mesa_grammar.specs.Parsing as w
-use Rattle.mesa_grammar.proofs.Exact.{Free}
-use Rattle.mesa_grammar.proofs.Choices.{passed}
-use Rattle.mesa_grammar.proofs.Loops.{Eats, unroll}
-use Rattle.mesa_grammar.proofs.Leading.{Leads, stand, finish, onto, under, comp, last, ahead, via, placed, turn_leads, many_more, many_end, Begins, stops_deep, done_on}
+use Rattle.mesa_lexer.specs.Parsing.{token, mark, Out, Got, Parser, and_then, ◌>>=◌, pure, exactly, found, finds, a_name, choose, Step, Go, Done, go_on, repeat, many}
+use Rattle.mesa_lexer.specs.Parsing as w
+use Rattle.mesa_lexer.proofs.Exact.{Free}
+use Rattle.mesa_lexer.proofs.Branches.{passed}
+use Rattle.mesa_lexer.proofs.Loops.{Eats, unroll}
+use Rattle.mesa_lexer.proofs.Leading.{Leads, stand, finish, onto, under, comp, last, ahead, via, placed, turn_leads, many_more, many_end, Begins, stops_deep, done_on}
 use Rattle.mesa_types.specs.declared.syntax.Identifier.{Identifier}
 use Rattle.mesa_types.specs.declared.syntax.FieldList.{FieldList}
 use Rattle.mesa_types.specs.declared.syntax.FieldList.TheVariants.{Unnamed}

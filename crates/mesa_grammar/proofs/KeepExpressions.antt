@@ -6,11 +6,11 @@ use Rattle.mesa_lexer.specs.declared.token.Kind.{Kind}
 use Rattle.mesa_lexer.specs.declared.token.Kind.TheVariants as k
 use Rattle.mesa_lexer.specs.declared.word.Word.TheVariants.{ErrorWord, FalseWord, InWord, SignalWord, TrueWord}
 use Rattle.mesa_lexer.specs.declared.mark.Mark.TheVariants.{Semicolon, Colon, Comma, Dot, DotDot, LeftBracket, RightBracket, LeftParenthesis, RightParenthesis, Bang, DoubleArrow}
-use Rattle.mesa_grammar.specs.Parsing.{token, mark, Got, Parser, ◌>>=◌, ◌>>◌, pure, refuse, first, finds, a_name, choose, option, need, when, Step, Go, Done, repeat, many_turn, many, ended_turn, ended}
-use Rattle.mesa_grammar.specs.Parsing as w
-use Rattle.mesa_grammar.proofs.Exact.{Rel, Keeps, Took, Then, Pre, bind, done, imply, Plainly, bind_plain, alone, single, both, either}
-use Rattle.mesa_grammar.proofs.Choices.{somewhere, choose_or, choose_must, option_or, option_must, word, when_keeps, of_kind}
-use Rattle.mesa_grammar.proofs.Loops.{Eats, many_eats, many_keeps, ended_eats, ended_keeps, listed, series}
+use Rattle.mesa_lexer.specs.Parsing.{token, mark, Got, Parser, ◌>>=◌, ◌>>◌, pure, refuse, first, finds, a_name, choose, option, need, when, Step, Go, Done, repeat, many_turn, many, ended_turn, ended}
+use Rattle.mesa_lexer.specs.Parsing as w
+use Rattle.mesa_lexer.proofs.Exact.{Rel, Keeps, Took, Then, Pre, bind, done, imply, Plainly, bind_plain, alone, single, both, either}
+use Rattle.mesa_lexer.proofs.Branches.{somewhere, choose_or, choose_must, option_or, option_must, word, when_keeps, of_kind}
+use Rattle.mesa_lexer.proofs.Loops.{Eats, many_eats, many_keeps, ended_eats, ended_keeps, listed, series}
 use Rattle.mesa_types.specs.declared.syntax.Identifier.{Identifier}
 use Rattle.mesa_types.specs.declared.syntax.Keyed.{Keyed}
 use Rattle.mesa_types.specs.declared.syntax.Entries.TheVariants.{Nothing, InOrder, ByKey}

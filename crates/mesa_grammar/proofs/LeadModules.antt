@@ -7,12 +7,12 @@ use Rattle.mesa_lexer.specs.declared.token.Kind.TheVariants as k
 use Rattle.mesa_lexer.specs.declared.word.Word.{Word}
 use Rattle.mesa_lexer.specs.declared.word.Word.TheVariants.{DirectoryWord, EnableWord, EndWord, ErrorWord, ExportsWord, ImportsWord, OpenWord, ProcWord, ProcedureWord, ReturnsWord, SignalWord, TypeWord, UsingWord}
 use Rattle.mesa_lexer.specs.declared.mark.Mark.TheVariants.{Semicolon, Colon, Comma, LeftBracket, RightBracket, RightBrace, Equal}
-use Rattle.mesa_grammar.specs.Parsing.{token, mark, Out, Got, Stop, Parser, and_then, ◌>>=◌, ◌>>◌, pure, refuse, first, exactly, found, finds, among, a_name, choose, option, need, when, Step, Go, Done, go_on, repeat, many_turn, many}
-use Rattle.mesa_grammar.specs.Parsing as w
-use Rattle.mesa_grammar.proofs.Exact.{Free, first_none}
-use Rattle.mesa_grammar.proofs.Choices.{or_true, among_every, passed, when_false, chosen}
-use Rattle.mesa_grammar.proofs.Loops.{Eats, unroll}
-use Rattle.mesa_grammar.proofs.Leading.{Leads, stand, finish, onto, under, comp, last, ahead, via, placed, at_once, turn_leads, many_more, many_end, Begins, when_begins}
+use Rattle.mesa_lexer.specs.Parsing.{token, mark, Out, Got, Stop, Parser, and_then, ◌>>=◌, ◌>>◌, pure, refuse, first, exactly, found, finds, among, a_name, choose, option, need, when, Step, Go, Done, go_on, repeat, many_turn, many}
+use Rattle.mesa_lexer.specs.Parsing as w
+use Rattle.mesa_lexer.proofs.Exact.{Free, first_none}
+use Rattle.mesa_lexer.proofs.Branches.{or_true, among_every, passed, when_false, chosen}
+use Rattle.mesa_lexer.proofs.Loops.{Eats, unroll}
+use Rattle.mesa_lexer.proofs.Leading.{Leads, stand, finish, onto, under, comp, last, ahead, via, placed, at_once, turn_leads, many_more, many_end, Begins, when_begins}
 use Rattle.mesa_types.specs.declared.syntax.Identifier.{Identifier}
 use Rattle.mesa_types.specs.declared.syntax.Labeled.{Labeled}
 use Rattle.mesa_types.specs.declared.syntax.FieldList.{FieldList}

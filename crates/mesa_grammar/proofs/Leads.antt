@@ -6,10 +6,10 @@ use Rattle.mesa_lexer.specs.declared.token.Kind.{Kind}
 use Rattle.mesa_lexer.specs.declared.token.Kind.TheVariants as k
 use Rattle.mesa_lexer.specs.declared.word.Word.TheVariants.{DoWord, EnableWord, EndWord, EndcaseWord, EndloopWord}
 use Rattle.mesa_lexer.specs.declared.mark.Mark.TheVariants.{Semicolon, LeftBracket, RightBracket, RightBrace}
-use Rattle.mesa_grammar.specs.Parsing.{token, mark, Out, Got, Parser, and_then, ◌>>=◌, ◌>>◌, pure, refuse, first, only, exactly, found, finds, among, a_name, choose, option, need, when, Step, Go, Done, repeat, many_turn, many, ended_turn, ended}
-use Rattle.mesa_grammar.specs.Parsing as w
-use Rattle.mesa_grammar.proofs.Exact.{Free, first_none}
-use Rattle.mesa_grammar.proofs.Leading.{Leads, stand, comp, via, placed, turn_leads, Begins}
+use Rattle.mesa_lexer.specs.Parsing.{token, mark, Out, Got, Parser, and_then, ◌>>=◌, ◌>>◌, pure, refuse, first, only, exactly, found, finds, among, a_name, choose, option, need, when, Step, Go, Done, repeat, many_turn, many, ended_turn, ended}
+use Rattle.mesa_lexer.specs.Parsing as w
+use Rattle.mesa_lexer.proofs.Exact.{Free, first_none}
+use Rattle.mesa_lexer.proofs.Leading.{Leads, stand, comp, via, placed, turn_leads, Begins}
 use Rattle.mesa_types.specs.declared.syntax.Identifier.{Identifier}
 use Rattle.mesa_types.specs.declared.syntax.Placed.{Placed}
 use Rattle.mesa_types.specs.declared.syntax.Keyed.{Keyed}

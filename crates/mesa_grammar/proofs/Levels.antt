@@ -8,8 +8,8 @@ use Rattle.mesa_lexer.specs.declared.word.Word.{Word}
 use Rattle.mesa_lexer.specs.declared.mark.Mark.{Mark}
 use Rattle.mesa_lexer.specs.declared.word.Word.TheVariants.{DoWord, EndWord, EndcaseWord, EndloopWord, FromWord, InWord, IntegerWord, NullWord, OfWord, ThenWord, ToWord}
 use Rattle.mesa_lexer.specs.declared.mark.Mark.TheVariants.{Arrow, DotDot, LeftBracket, RightBracket, RightParenthesis, RightBrace}
-use Rattle.mesa_grammar.specs.Parsing.{token, word, mark, found, finds, a_name, among}
-use Rattle.mesa_grammar.proofs.Choices.{somewhere, Deep, deep_keeps, Every, or_true, among_every, named_every}
+use Rattle.mesa_lexer.specs.Parsing.{token, word, mark, found, finds, a_name, among}
+use Rattle.mesa_lexer.proofs.Branches.{somewhere, Deep, deep_keeps, Every, or_true, among_every, named_every}
 use Rattle.mesa_types.specs.declared.syntax.Identifier.{Identifier}
 use Rattle.mesa_types.specs.declared.syntax.Entries.TheVariants.{Nothing}
 use Rattle.mesa_types.specs.declared.syntax.TypeBase.TheVariants.{Unsaid}

@@ -18,7 +18,3 @@ pub mod KeepModules
 pub mod LeadModules
 pub mod Whole
 pub mod Examples
-pub mod Exact
-pub mod Choices
-pub mod Loops
-pub mod Leading

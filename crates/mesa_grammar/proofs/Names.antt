@@ -6,10 +6,10 @@ use Rattle.mesa_lexer.specs.declared.token.Kind.{Kind}
 use Rattle.mesa_lexer.specs.declared.token.Kind.TheVariants as k
 use Rattle.mesa_lexer.specs.declared.word.Word.TheVariants.{AnyWord, UnwindWord, FinishedWord}
 use Rattle.mesa_lexer.specs.declared.mark.Mark.TheVariants.{Comma, Dot}
-use Rattle.mesa_grammar.specs.Parsing.{token, Parser, ◌>>=◌, refuse, a_name, choose, many_turn}
-use Rattle.mesa_grammar.proofs.Exact.{Test, Rel, first_none, Keeps, Took, Then, done, imply, Plainly, bind_plain}
-use Rattle.mesa_grammar.proofs.Choices.{name_is, choose_or, choose_must, option_or, of_kind}
-use Rattle.mesa_grammar.proofs.Loops.{Eats, many_eats, many_keeps, listed}
+use Rattle.mesa_lexer.specs.Parsing.{token, Parser, ◌>>=◌, refuse, a_name, choose, many_turn}
+use Rattle.mesa_lexer.proofs.Exact.{Test, Rel, first_none, Keeps, Took, Then, done, imply, Plainly, bind_plain}
+use Rattle.mesa_lexer.proofs.Branches.{name_is, choose_or, choose_must, option_or, of_kind}
+use Rattle.mesa_lexer.proofs.Loops.{Eats, many_eats, many_keeps, listed}
 use Rattle.mesa_types.specs.declared.syntax.Identifier.{Identifier}
 use Rattle.mesa_types.specs.declared.syntax.QualifiedName.{QualifiedName}
 use Rattle.mesa_types.specs.declared.syntax.Labels.TheVariants.{Any, Unwind, Signals}

@@ -5,10 +5,10 @@ use Rattle.mesa_lexer.specs.declared.token.Kind.{Kind}
 use Rattle.mesa_lexer.specs.declared.token.Kind.TheVariants as k
 use Rattle.mesa_lexer.specs.declared.word.Word.TheVariants.{ModWord}
 use Rattle.mesa_lexer.specs.declared.mark.Mark.TheVariants.{Colon, Dot, LeftBracket, Plus, Minus, Star, Slash}
-use Rattle.mesa_grammar.specs.Parsing.{only, exactly, found, finds, among, a_name}
-use Rattle.mesa_grammar.proofs.Exact.{Test, Free}
-use Rattle.mesa_grammar.proofs.Choices.{only_is}
-use Rattle.mesa_grammar.proofs.Leading.{Begins}
+use Rattle.mesa_lexer.specs.Parsing.{only, exactly, found, finds, among, a_name}
+use Rattle.mesa_lexer.proofs.Exact.{Test, Free}
+use Rattle.mesa_lexer.proofs.Branches.{only_is}
+use Rattle.mesa_lexer.proofs.Leading.{Begins}
 use Rattle.mesa_types.specs.declared.syntax.Identifier.{Identifier}
 use Rattle.mesa_types.specs.declared.syntax.Operator.{Operator}
 use Rattle.mesa_types.specs.declared.syntax.Relation.{Relation}

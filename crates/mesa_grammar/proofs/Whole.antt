@@ -2,14 +2,14 @@
 use Rattle.std.proofs.Common.{◌≡◌, ℕ, zero, suc, ◌+◌, ◌-◌, ◌<◌, ◌≤◌, length, take, drop, true, List, [], ◌∷◌, ◌++◌, Option, Some, None, ◌⊎◌, inl, inr, refl, sym, ap, subst, ◌∙◌, arith, append_assoc, length-append}
 use Rattle.std.proofs.Math.Seq.{take-append_seam, drop-append_seam}
 use Rattle.mesa_lexer.specs.declared.token.Token.{Token}
-use Rattle.mesa_grammar.specs.Parsing.{Why, Unexpected, TooDeep, Out, Got, Stop, pure}
+use Rattle.mesa_lexer.specs.Parsing.{Why, Unexpected, TooDeep, Out, Got, Stop, pure}
 use Rattle.mesa_types.specs.declared.syntax.Module.{Module}
 use Rattle.mesa_grammar.specs.Modules.{IsModule, deep_module}
 use Rattle.mesa_grammar.specs.Statements.{nested}
 use Rattle.mesa_grammar.specs.Texts as r
 use Rattle.mesa_grammar.specs.Answer.{Parses, Starts, TooDeepAt, IsShallow, UnexpectedAt, FaultAt, Answer, Tree, Fault, Answers, OneAnswer}
-use Rattle.mesa_grammar.proofs.Exact.{Test, Rel, Free, Same, same, After, Sample, Keeps, Gets, Halts, Holds, Then, bind, first_none, same_front}
-use Rattle.mesa_grammar.proofs.Leading.{Early, Leads, stand, onto, comp}
+use Rattle.mesa_lexer.proofs.Exact.{Test, Rel, Free, Same, same, After, Sample, Keeps, Gets, Halts, Holds, Then, bind, first_none, same_front}
+use Rattle.mesa_lexer.proofs.Leading.{Early, Leads, stand, onto, comp}
 use Rattle.mesa_grammar.proofs.Readings.{cut}
 use Rattle.mesa_grammar.proofs.Levels.{all_of}
 use Rattle.mesa_grammar.proofs.KeepModules.{Module_at, module_text}

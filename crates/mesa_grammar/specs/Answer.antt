@@ -2,7 +2,7 @@
 use Rattle.std.specs.Prelude.{◌≡◌, ℕ, suc, ◌<◌, ◌≤◌, List, [], ◌∷◌, ◌++◌, length, take, drop, Some}
 use Rattle.mesa_base.specs.declared.place.Place.{Place}
 use Rattle.mesa_lexer.specs.declared.token.Token.{Token}
-use Rattle.mesa_grammar.specs.Parsing.{Why, Unexpected, TooDeep}
+use Rattle.mesa_lexer.specs.Parsing.{Why, Unexpected, TooDeep}
 use Rattle.mesa_types.specs.declared.syntax.Module.{Module}
 use Rattle.mesa_grammar.specs.Modules.{IsModule, deep_module}
 use Rattle.mesa_grammar.specs.Texts.{limit}

@@ -5,7 +5,7 @@ use Rattle.mesa_lexer.specs.declared.token.Kind.{Kind}
 use Rattle.mesa_lexer.specs.declared.token.Kind.TheVariants as k
 use Rattle.mesa_lexer.specs.declared.word.Word.TheVariants.{ArrayWord, BooleanWord, CardinalWord, CharacterWord, ErrorWord, FalseWord, InWord, IntegerWord, OfWord, RecordWord, SignalWord, StringWord, TrueWord}
 use Rattle.mesa_lexer.specs.declared.mark.Mark.TheVariants.{Semicolon, Colon, Comma, Dot, DotDot, LeftBracket, RightBracket, LeftParenthesis, RightParenthesis, LeftBrace, RightBrace, Bang, DoubleArrow}
-use Rattle.mesa_grammar.specs.Parsing.{Parser, ◌>>=◌, ◌>>◌, pure, refuse, finds, a_name, choose, option, need, when, Step, Go, Done, repeat, many, ended}
+use Rattle.mesa_lexer.specs.Parsing.{Parser, ◌>>=◌, ◌>>◌, pure, refuse, finds, a_name, choose, option, need, when, Step, Go, Done, repeat, many, ended}
 use Rattle.mesa_types.specs.declared.syntax.Identifier.{Identifier}
 use Rattle.mesa_types.specs.declared.syntax.Placed.{Placed}
 use Rattle.mesa_types.specs.declared.syntax.Keyed.{Keyed}

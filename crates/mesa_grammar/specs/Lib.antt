@@ -7,4 +7,3 @@ pub mod Statements
 pub mod Modules
 pub mod Texts
 pub mod Answer
-pub mod Parsing

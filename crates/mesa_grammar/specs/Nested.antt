@@ -5,7 +5,7 @@ use Rattle.mesa_lexer.specs.declared.token.Kind.{Kind}
 use Rattle.mesa_lexer.specs.declared.token.Kind.TheVariants as k
 use Rattle.mesa_lexer.specs.declared.word.Word.TheVariants.{AnyWord, ArrayWord, BeginWord, BooleanWord, CardinalWord, CharacterWord, ContinueWord, DoWord, ErrorWord, ExitWord, FalseWord, FinishedWord, ForWord, GoWord, GotoWord, IfWord, InWord, IntegerWord, LoopWord, NotWord, NullWord, RecordWord, RejectWord, ResumeWord, RetryWord, ReturnWord, SelectWord, SignalWord, StringWord, ThroughWord, TrueWord, UntilWord, UnwindWord, WhileWord}
 use Rattle.mesa_lexer.specs.declared.mark.Mark.TheVariants.{Comma, Dot, LeftBracket, LeftParenthesis, LeftBrace, Plus, Minus, Tilde}
-use Rattle.mesa_grammar.specs.Parsing.{Parser, ◌>>=◌, pure, refuse, only, exactly, among, finds, a_name, choose, option, many}
+use Rattle.mesa_lexer.specs.Parsing.{Parser, ◌>>=◌, pure, refuse, only, exactly, among, finds, a_name, choose, option, many}
 use Rattle.mesa_types.specs.declared.syntax.Identifier.{Identifier}
 use Rattle.mesa_types.specs.declared.syntax.QualifiedName.{QualifiedName}
 use Rattle.mesa_types.specs.declared.syntax.Labels.{Labels}

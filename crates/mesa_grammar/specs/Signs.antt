@@ -5,7 +5,7 @@ use Rattle.mesa_lexer.specs.declared.token.Kind.{Kind}
 use Rattle.mesa_lexer.specs.declared.token.Kind.TheVariants as k
 use Rattle.mesa_lexer.specs.declared.word.Word.TheVariants.{AndWord, ModWord, NotWord, OrWord, ProcWord, ProcedureWord, PublicWord, PrivateWord}
 use Rattle.mesa_lexer.specs.declared.mark.Mark.TheVariants as m
-use Rattle.mesa_grammar.specs.Parsing.{token}
+use Rattle.mesa_lexer.specs.Parsing.{token}
 use Rattle.mesa_types.specs.declared.syntax.Identifier.{Identifier}
 use Rattle.mesa_types.specs.declared.syntax.Operator.{Operator}
 use Rattle.mesa_types.specs.declared.syntax.Operator.TheVariants as o

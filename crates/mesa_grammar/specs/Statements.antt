@@ -5,7 +5,7 @@ use Rattle.mesa_lexer.specs.declared.token.Kind.{Kind}
 use Rattle.mesa_lexer.specs.declared.token.Kind.TheVariants as k
 use Rattle.mesa_lexer.specs.declared.word.Word.TheVariants.{BeginWord, ContinueWord, DecreasingWord, DoWord, ElseWord, EnableWord, EndWord, EndcaseWord, EndloopWord, ExitWord, ExitsWord, ForWord, FromWord, GoWord, GotoWord, IfWord, InWord, LoopWord, NullWord, RejectWord, RepeatWord, ResumeWord, RetryWord, ReturnWord, SelectWord, ThenWord, ThroughWord, ToWord, TypeWord, UntilWord, WhileWord}
 use Rattle.mesa_lexer.specs.declared.mark.Mark.TheVariants.{Arrow, Semicolon, Colon, Comma, LeftBracket, RightBracket, LeftBrace, RightBrace, Equal, DoubleArrow}
-use Rattle.mesa_grammar.specs.Parsing.{Parser, ◌>>=◌, ◌>>◌, pure, among, finds, a_name, choose, option, need, when, Step, Go, Done, repeat, many, ended, too_deep}
+use Rattle.mesa_lexer.specs.Parsing.{Parser, ◌>>=◌, ◌>>◌, pure, among, finds, a_name, choose, option, need, when, Step, Go, Done, repeat, many, ended, too_deep}
 use Rattle.mesa_types.specs.declared.syntax.Identifier.{Identifier}
 use Rattle.mesa_types.specs.declared.syntax.Placed.{Placed}
 use Rattle.mesa_types.specs.declared.syntax.Keyed.{Keyed}

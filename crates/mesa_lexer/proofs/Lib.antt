@@ -16,3 +16,7 @@ pub mod Initials
 pub mod Behind
 pub mod Choices
 pub mod Scanning
+pub mod Exact
+pub mod Branches
+pub mod Loops
+pub mod Leading

@@ -8,3 +8,4 @@ pub mod Pieces
 pub mod Positions
 pub mod Steps
 pub mod Answer
+pub mod Parsing

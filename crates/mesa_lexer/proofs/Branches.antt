@@ -7,8 +7,8 @@ use Rattle.mesa_lexer.specs.declared.token.Kind.{Kind}
 use Rattle.mesa_lexer.specs.declared.token.Kind.TheVariants as k
 use Rattle.mesa_lexer.specs.contracts.word.Word as words
 use Rattle.mesa_lexer.specs.contracts.mark.Mark as marks
-use Rattle.mesa_grammar.specs.Parsing.{token, Why, Unexpected, TooDeep, Out, Got, Stop, Parser, and_then, ◌>>=◌, pure, refuse, only, among, exactly, found, finds, a_name, picked, choose, option, need, when, too_deep}
-use Rattle.mesa_grammar.proofs.Exact.{Test, Rel, Free, Same, Holds, Sample, Keeps, At, everywhere, bind, change, refused, ready, done, Took, behind, imply, Plainly, Past, bind_plain}
+use Rattle.mesa_lexer.specs.Parsing.{token, Why, Unexpected, TooDeep, Out, Got, Stop, Parser, and_then, ◌>>=◌, pure, refuse, only, among, exactly, found, finds, a_name, picked, choose, option, need, when, too_deep}
+use Rattle.mesa_lexer.proofs.Exact.{Test, Rel, Free, Same, Holds, Sample, Keeps, At, everywhere, bind, change, refused, ready, done, Took, behind, imply, Plainly, Past, bind_plain}
 
 -- a place for the tokens of examples
 abbrev pub somewhere : Place
