@@ -18,3 +18,5 @@ pub mod KeepModules
 pub mod LeadModules
 pub mod Whole
 pub mod Examples
+pub mod TwoNodes
+pub mod NodeExamples

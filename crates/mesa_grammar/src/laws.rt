@@ -1,4 +1,7 @@
-ghost use Rattle.mesa_grammar.specs.Answer.{OneAnswer};
+ghost use Rattle.std.specs.Prelude.{◌*◌, ◌≤◌, length};
+ghost use Rattle.mesa_grammar.specs.Answer.{OneAnswer, Parses};
+ghost use Rattle.mesa_types.specs.SyntaxNodes.{nodes};
+ghost use Rattle.mesa_types.specs.declared.syntax.Module.{Module};
 
 use mesa_lexer::Token;
 
@@ -7,4 +10,9 @@ use mesa_lexer::Token;
 /// some tree of some text that starts with the tokens up to it; never two of these.
 pub fn exactly_one_answer(tokens: &[Token])
     ensures { OneAnswer tokens.now }
+{}
+
+/// A law: the tree of a text has at most two nodes for each token, by the count of docs/LANGUAGE.md.
+pub fn two_nodes_a_token(tokens: &[Token])
+    ensures { (x : Module) → Parses tokens.now x → nodes x ≤ 2 * length tokens.now }
 {}

@@ -4,4 +4,4 @@
 
 mod laws;
 
-pub use laws::exactly_one_answer;
+pub use laws::{exactly_one_answer, two_nodes_a_token};

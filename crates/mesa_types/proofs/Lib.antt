@@ -1,1 +1,2 @@
 pub mod KindWords
+pub mod SyntaxForms

@@ -4,6 +4,7 @@ pub mod Plain
 pub mod Shapes
 pub mod Sound
 pub mod SoundTree
+pub mod SyntaxNodes
 pub mod Tree
 pub mod TreeOf
 pub mod Typed
