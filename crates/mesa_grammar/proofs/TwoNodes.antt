@@ -18,6 +18,7 @@ use Rattle.mesa_types.specs.declared.syntax.Expr.{Expr}
 use Rattle.mesa_types.specs.declared.syntax.Step.{Step}
 use Rattle.mesa_types.specs.declared.syntax.Left.{Left}
 use Rattle.mesa_types.specs.declared.syntax.Suffix.{Suffix}
+use Rattle.mesa_types.specs.declared.syntax.Suffix.TheVariants.{Field, Applied}
 use Rattle.mesa_types.specs.declared.syntax.Brackets.{Brackets}
 use Rattle.mesa_types.specs.declared.syntax.Raise.{Raise}
 use Rattle.mesa_types.specs.declared.syntax.Arm.{Arm}
@@ -40,8 +41,7 @@ use Rattle.mesa_types.specs.declared.syntax.DirectoryItem.{DirectoryItem}
 use Rattle.mesa_types.specs.declared.syntax.Module.{Module}
 use Rattle.mesa_types.specs.SyntaxNodes.{total, optional, named, keyed, entries, phrase, values, labels, repeat_labels, repeated, base, negation, condition_nodes, count_nodes, expr_nodes, field_list_nodes, plain_nodes, raise_nodes, statement_nodes, suffix_nodes, test_nodes, type_nodes, arm_nodes, block_nodes, brackets_nodes, case_nodes, control_nodes, interval_nodes, left_nodes, step_nodes, head_nodes, declared_nodes, declaration_nodes, inner_nodes, defined_nodes, kind_nodes, directory_item_nodes, nodes}
 use Rattle.mesa_types.proofs.SyntaxForms as of
-use Rattle.mesa_types.specs.declared.syntax.Suffix.TheVariants.{Field, Applied}
-use Rattle.mesa_grammar.specs.Grammar.{run, step, interval, left, brackets, placed, keyed as key_of, labeled, arm, case, control, block}
+use Rattle.mesa_grammar.specs.Grammar.{run, step, left, keyed as key_of, labeled}
 use Rattle.mesa_grammar.specs.Grammar as g
 use Rattle.mesa_grammar.specs.Modules as m
 

@@ -1,14 +1,14 @@
 -- Parsers that decide by the next token.
-use Rattle.std.proofs.Common.{◌≡◌, ℕ, Bool, cond, true, false, ◌||◌, List, [], ◌∷◌, ◌++◌, Option, Some, None, ◌⊎◌, inl, inr, refl, sym, ap, subst, ◌∙◌, rules}
-use denote.Enum.Bare.{sameb, same_true}
+use Rattle.std.proofs.Common.{◌≡◌, ℕ, Bool, cond, true, false, ◌||◌, List, [], ◌∷◌, ◌++◌, Option, Some, None, ◌⊎◌, inl, inr, refl, sym, ap, subst, rules}
+use denote.Enum.Bare.{same_true}
 use Rattle.mesa_base.specs.declared.place.Place.{Place}
 use Rattle.mesa_lexer.specs.declared.token.Token.{Token}
 use Rattle.mesa_lexer.specs.declared.token.Kind.{Kind}
 use Rattle.mesa_lexer.specs.declared.token.Kind.TheVariants as k
 use Rattle.mesa_lexer.specs.contracts.word.Word as words
 use Rattle.mesa_lexer.specs.contracts.mark.Mark as marks
-use Rattle.mesa_lexer.specs.Parsing.{token, Why, Unexpected, TooDeep, Out, Got, Stop, Parser, and_then, ◌>>=◌, pure, refuse, only, among, exactly, found, finds, a_name, picked, choose, option, need, when, too_deep}
-use Rattle.mesa_lexer.proofs.Exact.{Test, Rel, Free, Same, Holds, Sample, Keeps, At, everywhere, bind, change, refused, ready, done, Took, behind, imply, Plainly, Past, bind_plain}
+use Rattle.mesa_lexer.specs.Parsing.{token, TooDeep, Stop, Parser, ◌>>=◌, refuse, only, among, exactly, found, finds, a_name, picked, choose, option, need, when, too_deep}
+use Rattle.mesa_lexer.proofs.Exact.{Test, Rel, Free, Same, Holds, Sample, Keeps, At, everywhere, change, refused, done, Took, behind, imply, Plainly, Past, bind_plain}
 
 -- a place for the tokens of examples
 abbrev pub somewhere : Place

@@ -1,10 +1,10 @@
 -- What a reading tells of the parser: it comes to the reading's tree, or stops no later than something there is too deep.
-use Rattle.std.proofs.Common.{◌≡◌, ◌<◌, ◌≤◌, length, arith, Bool, cond, true, false, List, [], ◌∷◌, ◌++◌, Option, Some, None, ◌⊎◌, inl, inr, refl, sym, ap, subst, ◌∙◌}
+use Rattle.std.proofs.Common.{◌≡◌, ◌≤◌, length, arith, cond, true, List, ◌∷◌, Option, Some, None, ◌⊎◌, inl, inr, refl, sym, ap, subst, ◌∙◌}
 use Rattle.mesa_base.specs.declared.place.Place.{Place}
 use Rattle.mesa_lexer.specs.declared.token.Token.{Token}
 use Rattle.mesa_lexer.specs.declared.token.Kind.{Kind}
-use Rattle.mesa_lexer.specs.Parsing.{token, first, Why, Unexpected, TooDeep, Out, Got, Stop, Parser, and_then, ◌>>=◌, pure, refuse, exactly, finds, choose, option, when, Step, Go, Done, go_on, repeat, goes, many_turn, many, ended_turn, ended, too_deep}
-use Rattle.mesa_lexer.proofs.Exact.{Test, first_none, Free}
+use Rattle.mesa_lexer.specs.Parsing.{token, first, TooDeep, Out, Got, Stop, Parser, and_then, pure, refuse, exactly, finds, choose, when, Step, Go, Done, go_on, repeat, goes, many_turn, many, ended_turn, ended, too_deep}
+use Rattle.mesa_lexer.proofs.Exact.{Test, Free}
 use Rattle.mesa_lexer.proofs.Branches.{chosen, passed, when_false}
 use Rattle.mesa_lexer.proofs.Loops.{Eats, unroll}
 
