@@ -12,7 +12,7 @@ use Rattle.mesa_command.specs.SmallGrammar.{Reads}
 use Rattle.mesa_command.specs.Forms.{IsGo, file_of}
 use Rattle.mesa_command.specs.Outputs.{Stream, stream}
 use Rattle.mesa_command.specs.Running.{Ran, CutOff, answer_of}
-use Rattle.mesa_command.specs.Comes.{MeansAtAnyInput, OfText, done, spent, write_fault, not_built, memory_before, memory_in_run, Does, IsNoText, Comes, of_text, absent, folder_fault, Shelf}
+use Rattle.mesa_command.specs.Comes.{MeansAtAnyInput, OfText, done, spent, write_fault, refused, memory_before, memory_in_run, Does, IsNoText, IsRefusedAs, not_built, Comes, of_text, absent, folder_fault, Shelf}
 use Rattle.mesa_command.specs.Case.{Case, Done, Spent, NotBuilt, Absent, WriteFault, FolderFault, Memory, Usage}
 use Rattle.mesa_command.specs.Reply.{case_of_end}
 
@@ -58,19 +58,27 @@ does-whole : (part whole : List ℕ) (turns : ℕ) (output : List ℕ) (a : Answ
     Does part turns output a → Does whole turns output a
 does-whole part whole turns output a e does = subst (λ t. Does t turns output a) (is-whole part whole e does.reads.short) does
 
+refusal-whole : (file part whole : List ℕ) (case : Case) → part ≡ take 1048577 whole → IsRefusedAs file part case →
+    IsRefusedAs file whole case
+refusal-whole file part whole (NotBuilt _) e (not_built none) = not_built (too-long part whole e none)
+refusal-whole file part whole Done e x = elim x [ ]
+refusal-whole file part whole Spent e x = elim x [ ]
+refusal-whole file part whole (Absent _) e x = elim x [ ]
+refusal-whole file part whole WriteFault e x = elim x [ ]
+refusal-whole file part whole (FolderFault _) e x = elim x [ ]
+refusal-whole file part whole Memory e x = elim x [ ]
+refusal-whole file part whole Usage e x = elim x [ ]
+
 pub text-whole : (file part whole : List ℕ) (turns : ℕ) (old new : Stream) (case : Case) → part ≡ take 1048577 whole →
     OfText file part turns old new case → OfText file whole turns old new case
 text-whole file part whole turns old new Done e (done output does prints) = done output (does-whole part whole turns output _ e does) prints
 text-whole file part whole turns old new Spent e (spent output does prints) = spent output (does-whole part whole turns output _ e does) prints
 text-whole file part whole turns old new WriteFault e (write_fault output a does fault prints) =
     write_fault output a (does-whole part whole turns output a e does) fault prints
-text-whole file part whole turns old new (NotBuilt _) e (not_built none) = not_built (too-long part whole e none)
+text-whole file part whole turns old new case e (refused _ r) = refused case (refusal-whole file part whole case e r)
 text-whole file part whole turns old new Memory e (memory_before same) = memory_before same
 text-whole file part whole turns old new Memory e (memory_in_run output a does prints) =
     memory_in_run output a (does-whole part whole turns output a e does) prints
-text-whole file part whole turns old new (Absent _) e comes = elim comes [ ]
-text-whole file part whole turns old new (FolderFault _) e comes = elim comes [ ]
-text-whole file part whole turns old new Usage e comes = elim comes [ ]
 
 -- what comes of the words
 

@@ -25,6 +25,10 @@ pub record Does (text : List ℕ) (turns : ℕ) (output : List ℕ) (end : Answe
 abbrev pub IsNoText : List ℕ → Type 0
 IsNoText text = (m : Module) → Reads text m → ⊥
 
+-- the text of this file is refused by this answer
+pub data IsRefusedAs (file text : List ℕ) : Case → Type 0 where
+  not_built : IsNoText text → IsRefusedAs file text (NotBuilt file)
+
 -- what comes of the text of a file
 pub data OfText (file text : List ℕ) (turns : ℕ) (old new : Stream) : Case → Type 0 where
   done : (output : List ℕ) → Does text turns output Normal → PrintsAll output old new → OfText file text turns old new Done
@@ -32,7 +36,7 @@ pub data OfText (file text : List ℕ) (turns : ℕ) (old new : Stream) : Case �
       OfText file text turns old new Spent
   write_fault : (output : List ℕ) (end : Answer) → Does text turns output end → HasFaulted old new →
       PrintsPrefix output old new → OfText file text turns old new WriteFault
-  not_built : IsNoText text → OfText file text turns old new (NotBuilt file)
+  refused : (case : Case) → IsRefusedAs file text case → OfText file text turns old new case
   memory_before : new ≡ old → OfText file text turns old new Memory
   memory_in_run : (output : List ℕ) (end : Answer) → Does text turns output end → PrintsPrefix output old new →
       OfText file text turns old new Memory

@@ -10,7 +10,7 @@ pub fn images_run_as_their_source()
     ensures { ImagesRunAsTheirSource }
 {}
 
-/// For words and files that are told one case comes, want of memory aside.
+/// For words and files that are told one case comes, where neither the folder nor `out` failed, want of memory aside.
 pub fn one_case()
     ensures { OneCaseComes }
 {}

@@ -1,4 +1,4 @@
-//! Worked rows of the first program, through `mesa` over objects in memory.
+//! Runs of the small language, and calls that fail, through `mesa` over objects in memory.
 ghost use Rattle.std.specs.Prelude.{◌≡◌, ◌<◌};
 
 use crate::top::mesa;

@@ -1,7 +1,7 @@
 ghost use Rattle.std.specs.Prelude.{◌≡◌, ◌↔◌, List, ℕ};
 ghost use Rattle.mesa_command.specs.Case.{Case, status_of, line_of, IsBeforeRun};
 ghost use Rattle.mesa_command.specs.Forms.{HasNoForm};
-ghost use Rattle.mesa_command.specs.Complete.{IsComplete};
+ghost use Rattle.mesa_command.specs.Complete.{IsComplete, IsRefused, IsAbsent};
 ghost use Rattle.mesa_command.specs.Comes.{Comes, OfText, shelf};
 ghost use Rattle.mesa_command.specs.Outputs.{stream, Receives};
 ghost use Rattle.mesa_command.specs.Reply.{reply_case, case_of_end};
@@ -46,6 +46,13 @@ pub fn mesa<F: Folder, S: Source, K: Sink, E: Sink, L: Ledger>(
     ensures complete { IsComplete words.now (shelf (F.files folder.old) (F.faults folder.old) (F.misses folder.old))
         (shelf (F.files folder.new) (F.faults folder.new) (F.misses folder.new))
         (stream (K.written out.old) (K.faults out.old)) (stream (K.written out.new) (K.faults out.new)) result }
+    // A text that is there and is none of the small language is refused by its line; a file that is not there is absent.
+    ensures refused { IsRefused words.now (shelf (F.files folder.old) (F.faults folder.old) (F.misses folder.old))
+        (shelf (F.files folder.new) (F.faults folder.new) (F.misses folder.new))
+        (stream (E.written err.old) (E.faults err.old)) (stream (E.written err.new) (E.faults err.new)) result }
+    ensures absent { IsAbsent words.now (shelf (F.files folder.old) (F.faults folder.old) (F.misses folder.old))
+        (shelf (F.files folder.new) (F.faults folder.new) (F.misses folder.new))
+        (stream (E.written err.old) (E.faults err.old)) (stream (E.written err.new) (E.faults err.new)) result }
     ensures before_run { IsBeforeRun result → out.new ≡ out.old }
     // No file is changed, and nothing of the input is taken.
     ensures files { F.files folder.new ≡ F.files folder.old }
