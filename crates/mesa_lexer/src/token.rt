@@ -51,6 +51,13 @@ impl Tokens {
         self.items.get(at)
     }
 
+    /// The tokens in order.
+    pub fn as_slice(&self) -> &[Token]
+        ensures { result.now ≡ self.now.items }
+    {
+        self.items.as_slice()
+    }
+
     /// The place past the last byte of the text.
     pub fn end(&self) -> Place
         ensures { result ≡ self.now.end }

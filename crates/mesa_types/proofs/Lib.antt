@@ -1,2 +1,3 @@
 pub mod KindWords
 pub mod SyntaxForms
+pub mod NodeSums
