@@ -3,6 +3,7 @@ use Rattle.std.specs.Prelude.{◌≡◌, refl, ℕ, zero, suc, ◌-◌, List, Bo
 use mathlib.Core.Path.{◌∙◌, ap}
 use native.Mathlib.Omega.{arith}
 use Rattle.mesa_types.specs.Typed.{Stmt}
+use Rattle.source_meaning.specs.Program.{Program}
 use Rattle.source_meaning.specs.State.{State, Store, Answer, Run, give, carry, after, look, change, spend_of, spend, leave, enter_if, enter, put}
 use Rattle.source_meaning.specs.Calls.{Where}
 use Rattle.source_meaning.specs.Meaning.{meaning}
@@ -56,7 +57,7 @@ leaves_keeps = record { its_give = give_leaves; its_after = λ h p g. after_leav
 pub leaves_kept : Kept Leaves Leaves
 leaves_kept = record { loose = leaves_keeps; tight = leaves_keeps; loosen = λ h. h; its_spend = spend_leaves; its_enter = enter_leaves; its_put = put_leaves }
 
-pub meaning_leaves : (n : ℕ) (s : Stmt) (w : Where) → Leaves (meaning n s w) (meaning n s w)
+pub meaning_leaves : (P : Program) (n : ℕ) (s : Stmt) (w : Where) → Leaves (meaning P n s w) (meaning P n s w)
 unfolding meaning
-meaning_leaves zero s w = give_leaves _
-meaning_leaves (suc n) s w = does_kept Leaves Leaves leaves_kept (meaning n) (meaning n) (meaning_leaves n) s w
+meaning_leaves P zero s w = give_leaves _
+meaning_leaves P (suc n) s w = does_kept Leaves Leaves leaves_kept P (meaning P n) (meaning P n) (meaning_leaves P n) s w

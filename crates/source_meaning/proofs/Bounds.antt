@@ -6,7 +6,8 @@ use Rattle.std.proofs.lemmas.List.{append-nil, append_assoc}
 use mathlib.Core.Path.{◌∙◌, ap, sym, subst}
 use native.Mathlib.Omega.{arith}
 use Rattle.mesa_types.specs.Typed.{Stmt}
-use Rattle.source_meaning.specs.State.{State, Store, Answer, Normal, Gives, Spent, FrameLimit, Result, Run, give, carry, after, look, change, spend_of, spend, leave, enter_if, enter, put}
+use Rattle.source_meaning.specs.Program.{Program}
+use Rattle.source_meaning.specs.State.{State, Store, Answer, Normal, Gives, Spent, FrameLimit, NoRow, Result, Run, give, carry, after, look, change, spend_of, spend, leave, enter_if, enter, put}
 use Rattle.source_meaning.specs.Calls.{Where}
 use Rattle.source_meaning.specs.Meaning.{meaning}
 use Rattle.source_meaning.specs.Laws.{Begins, LargerBound}
@@ -33,6 +34,7 @@ spent_or_not Spent = inl refl
 spent_or_not Normal = inr λ e. cc
 spent_or_not (Gives vs) = inr λ e. cc
 spent_or_not FrameLimit = inr λ e. cc
+spent_or_not NoRow = inr λ e. cc
 
 give_upto : (a : Answer) → Upto (give a) (give a)
 unfolding give more
@@ -122,13 +124,13 @@ no_fuel : (m' : Run) → ((σ : State) → Begins σ.output (m' σ).state.output
 unfolding give more
 no_fuel m' g = record { grows = g; larger = λ σ d. record { begins = g (more d σ); ends = λ n. absurd (n refl) } }
 
-meaning_grows : (n : ℕ) (s : Stmt) (w : Where) → Upto (meaning n s w) (meaning n s w)
+meaning_grows : (P : Program) (n : ℕ) (s : Stmt) (w : Where) → Upto (meaning P n s w) (meaning P n s w)
 unfolding meaning
-meaning_grows zero s w = give_upto _
-meaning_grows (suc n) s w = does_kept Upto Upto upto_kept (meaning n) (meaning n) (meaning_grows n) s w
+meaning_grows P zero s w = give_upto _
+meaning_grows P (suc n) s w = does_kept Upto Upto upto_kept P (meaning P n) (meaning P n) (meaning_grows P n) s w
 
-pub meaning_upto : (n k : ℕ) → n ≤ k → (s : Stmt) (w : Where) → Upto (meaning n s w) (meaning k s w)
+pub meaning_upto : (P : Program) (n k : ℕ) → n ≤ k → (s : Stmt) (w : Where) → Upto (meaning P n s w) (meaning P k s w)
 unfolding meaning
-meaning_upto zero k le s w = no_fuel (meaning k s w) (meaning_grows k s w).grows
-meaning_upto (suc n) zero le s w = absurd (omega arith)
-meaning_upto (suc n) (suc k) le s w = does_kept Upto Upto upto_kept (meaning n) (meaning k) (meaning_upto n k (omega arith)) s w
+meaning_upto P zero k le s w = no_fuel (meaning P k s w) (meaning_grows P k s w).grows
+meaning_upto P (suc n) zero le s w = absurd (omega arith)
+meaning_upto P (suc n) (suc k) le s w = does_kept Upto Upto upto_kept P (meaning P n) (meaning P k) (meaning_upto P n k (omega arith)) s w

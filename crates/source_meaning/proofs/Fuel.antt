@@ -3,6 +3,7 @@ use Rattle.std.specs.Prelude.{◌≡◌, refl, ℕ, zero, suc, ◌<◌, ◌≤�
 use mathlib.Core.Path.{◌∙◌, ap}
 use native.Mathlib.Omega.{arith}
 use Rattle.mesa_types.specs.Typed.{Stmt}
+use Rattle.source_meaning.specs.Program.{Program}
 use Rattle.source_meaning.specs.State.{State, Store, Answer, Run, give, carry, after, look, change, spend_of, spend, leave, enter_if, enter, put}
 use Rattle.source_meaning.specs.Calls.{Where}
 use Rattle.source_meaning.specs.Meaning.{meaning}
@@ -76,8 +77,8 @@ module _ (n : ℕ) where
 pub alike_kept : (n : ℕ) → Kept (Alike n) (Alike (suc n))
 alike_kept n = record { loose = alike_keeps n; tight = alike_keeps (suc n); loosen = alike_less n; its_spend = spend_alike n; its_enter = enter_alike n; its_put = put_alike n }
 
-pub meaning_alike : (n k : ℕ) → n ≤ k → (s : Stmt) (w : Where) → Alike n (meaning n s w) (meaning k s w)
+pub meaning_alike : (P : Program) (n k : ℕ) → n ≤ k → (s : Stmt) (w : Where) → Alike n (meaning P n s w) (meaning P k s w)
 unfolding meaning give
-meaning_alike zero k le s w = record { same = λ σ lt. absurd (omega arith); fewer = λ σ. omega arith }
-meaning_alike (suc n) zero le s w = absurd (omega arith)
-meaning_alike (suc n) (suc k) le s w = does_kept (Alike n) (Alike (suc n)) (alike_kept n) (meaning n) (meaning k) (meaning_alike n k (omega arith)) s w
+meaning_alike P zero k le s w = record { same = λ σ lt. absurd (omega arith); fewer = λ σ. omega arith }
+meaning_alike P (suc n) zero le s w = absurd (omega arith)
+meaning_alike P (suc n) (suc k) le s w = does_kept (Alike n) (Alike (suc n)) (alike_kept n) P (meaning P n) (meaning P k) (meaning_alike P n k (omega arith)) s w

@@ -2,6 +2,7 @@
 use Rattle.std.specs.Prelude.{◌≡◌, refl, ℕ, zero, suc, List, Bool, true, false}
 use mathlib.Core.Path.{◌∙◌, ap}
 use Rattle.mesa_types.specs.Typed.{Stmt}
+use Rattle.source_meaning.specs.Program.{Program}
 use Rattle.source_meaning.specs.State.{State, Store, Ending, Answer, Run, give, carry, after, look, change, spend_of, spend, leave, enter_if, enter, put}
 use Rattle.source_meaning.specs.Calls.{Where}
 use Rattle.source_meaning.specs.Meaning.{meaning}
@@ -60,7 +61,7 @@ unread_keeps = record { its_give = give_unread; its_after = λ h p g. after_unre
 pub unread_kept : Kept Unread Unread
 unread_kept = record { loose = unread_keeps; tight = unread_keeps; loosen = λ h. h; its_spend = spend_unread; its_enter = enter_unread; its_put = put_unread }
 
-pub meaning_unread : (n : ℕ) (s : Stmt) (w : Where) → Unread (meaning n s w) (meaning n s w)
+pub meaning_unread : (P : Program) (n : ℕ) (s : Stmt) (w : Where) → Unread (meaning P n s w) (meaning P n s w)
 unfolding meaning
-meaning_unread zero s w = give_unread _
-meaning_unread (suc n) s w = does_kept Unread Unread unread_kept (meaning n) (meaning n) (meaning_unread n) s w
+meaning_unread P zero s w = give_unread _
+meaning_unread P (suc n) s w = does_kept Unread Unread unread_kept P (meaning P n) (meaning P n) (meaning_unread P n) s w

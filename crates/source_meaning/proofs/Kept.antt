@@ -2,7 +2,7 @@
 -- start on, and loose where it is so once a turn has been spent.
 use Rattle.std.specs.Prelude.{◌≡◌, refl, ℕ, List, Bool, true, false}
 use Rattle.source_meaning.specs.Value.{Value, Values, nth, word}
-use Rattle.source_meaning.specs.State.{State, Store, Answer, Normal, Gives, Spent, Run, give, give_value, after, look, change, spend, enter, put, branch, value_then, on_values, on_value, on_word, normal_then, on_normal, dropped_of, dropped}
+use Rattle.source_meaning.specs.State.{State, Store, Answer, Normal, Gives, Spent, Run, give, give_value, after, look, change, spend, enter, put, branch, value_then, on_values, on_value, on_word, normal_then, on_normal, dropped_of, dropped, no_row}
 use Rattle.source_meaning.specs.Calls.{push, pop, in_frame}
 
 abbrev pub Pairs : Type 1
@@ -53,6 +53,10 @@ module _ (R : Pairs) (keeps : Keeps R) where
   pub give_value_kept : (v : Value) → R (give_value v) (give_value v)
   unfolding give_value
   give_value_kept v = keeps.its_give _
+
+  pub no_row_kept : R no_row no_row
+  unfolding no_row
+  no_row_kept = keeps.its_give _
 
   value_then_kept : {k k' : Values → Run} → ((vs : Values) → R (k vs) (k' vs)) → (a : Answer) → R (value_then k a) (value_then k' a)
   unfolding value_then

@@ -14,34 +14,34 @@ use Rattle.source_meaning.proofs.Bounds.{Upto, upto_kept, meaning_upto, more}
 use Rattle.source_meaning.proofs.Input.{Unread, unread_kept, meaning_unread, fed}
 
 pub activations_as_found : ActivationsAsFound
-activations_as_found n s w σ = (meaning_leaves n s w).its σ
+activations_as_found P n s w σ = (meaning_leaves P n s w).its σ
 
 pub fuel_never_shows : FuelNeverShows
-fuel_never_shows n k s w σ lt le = (meaning_alike n k le s w).same σ lt
+fuel_never_shows P n k s w σ lt le = (meaning_alike P n k le s w).same σ lt
 
 pub bounds_are_cuts : BoundsAreCuts
 unfolding outcome first_state more
 bounds_are_cuts P input e turns d =
-    let u : Upto (control P (meaning (suc turns)) P.control) (control P (meaning (suc (turns + d))) P.control) =
-    control_kept Upto Upto upto_kept (meaning (suc turns)) (meaning (suc (turns + d))) (meaning_upto (suc turns) (suc (turns + d)) (omega arith)) P P.control in
+    let u : Upto (control P (meaning P (suc turns)) P.control) (control P (meaning P (suc (turns + d))) P.control) =
+    control_kept Upto Upto upto_kept P (meaning P (suc turns)) (meaning P (suc (turns + d))) (meaning_upto P (suc turns) (suc (turns + d)) (omega arith)) P.control in
     u.larger (first_state P input e turns) d
 
 pub input_is_not_read : InputIsNotRead
 unfolding outcome first_state fed
 input_is_not_read P input other e f turns =
-    (control_kept Unread Unread unread_kept (meaning (suc turns)) (meaning (suc turns)) (meaning_unread (suc turns)) P P.control).its other f (first_state P input e turns)
+    (control_kept Unread Unread unread_kept P (meaning P (suc turns)) (meaning P (suc turns)) (meaning_unread P (suc turns)) P.control).its other f (first_state P input e turns)
 
 -- a whole program begins and ends with no activation
 pub none_standing : (P : Program) (input : List ℕ) (e : Ending) (turns : ℕ) → (outcome P input e turns).state.standing ≡ 0
 unfolding outcome first_state
 none_standing P input e turns =
-    (control_kept Leaves Leaves leaves_kept (meaning (suc turns)) (meaning (suc turns)) (meaning_leaves (suc turns)) P P.control).its (first_state P input e turns)
+    (control_kept Leaves Leaves leaves_kept P (meaning P (suc turns)) (meaning P (suc turns)) (meaning_leaves P (suc turns)) P.control).its (first_state P input e turns)
 
 -- of a whole program too, more fuel than the turns changes nothing
-pub outcome_by_fuel : (P : Program) (input : List ℕ) (e : Ending) (turns k : ℕ) → turns < k → outcome P input e turns ≡ control P (meaning k) P.control (first_state P input e turns)
+pub outcome_by_fuel : (P : Program) (input : List ℕ) (e : Ending) (turns k : ℕ) → turns < k → outcome P input e turns ≡ control P (meaning P k) P.control (first_state P input e turns)
 unfolding outcome first_state
 outcome_by_fuel P input e turns k lt =
-    (control_kept (Alike (suc turns)) (Alike (suc (suc turns))) (alike_kept (suc turns)) (meaning (suc turns)) (meaning k) (meaning_alike (suc turns) k lt) P P.control).same (first_state P input e turns) (omega arith)
+    (control_kept (Alike (suc turns)) (Alike (suc (suc turns))) (alike_kept (suc turns)) P (meaning P (suc turns)) (meaning P k) (meaning_alike P (suc turns) k lt) P.control).same (first_state P input e turns) (omega arith)
 
 pub one_result : HasOneResult
 one_result P input e turns = record {

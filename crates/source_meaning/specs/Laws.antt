@@ -1,9 +1,10 @@
 -- The laws of the meaning.
-use Rattle.std.specs.Prelude.{◌≡◌, ◌≢◌, ℕ, ◌+◌, ◌<◌, ◌≤◌, ◌⊎◌, List, ◌++◌}
+use Rattle.std.specs.Prelude.{◌≡◌, ◌≢◌, ℕ, ◌+◌, ◌<◌, ◌≤◌, ◌⊎◌, List, ◌++◌, All}
 use Rattle.mesa_types.specs.Typed.{Stmt}
 use Rattle.source_meaning.specs.Program.{Program}
 use Rattle.source_meaning.specs.State.{State, Ending, Answer, Normal, Spent, FrameLimit, Result}
 use Rattle.source_meaning.specs.Calls.{Where}
+use Rattle.source_meaning.specs.FirstProgram.{IsFirstInstance}
 use Rattle.source_meaning.specs.Meaning.{meaning}
 use Rattle.source_meaning.specs.Means.{outcome, Means}
 
@@ -14,7 +15,7 @@ pub record Begins (xs ys : List ℕ) : Type 0 where
 
 -- the number of activations is left as it was found
 abbrev pub ActivationsAsFound : Type 0
-ActivationsAsFound = (n : ℕ) (s : Stmt) (w : Where) (σ : State) → (meaning n s w σ).state.standing ≡ σ.standing
+ActivationsAsFound = (P : Program) (n : ℕ) (s : Stmt) (w : Where) (σ : State) → (meaning P n s w σ).state.standing ≡ σ.standing
 
 -- there is one output, end, number of turns left and number of bytes taken, and no other
 pub record OneResult (P : Program) (input : List ℕ) (e : Ending) (turns : ℕ) : Type 0 where
@@ -30,7 +31,7 @@ HasOneResult = (P : Program) (input : List ℕ) (e : Ending) (turns : ℕ) → O
 
 -- fuel above the turns is enough: it never shows
 abbrev pub FuelNeverShows : Type 0
-FuelNeverShows = (n k : ℕ) (s : Stmt) (w : Where) (σ : State) → σ.turns < n → n ≤ k → meaning n s w σ ≡ meaning k s w σ
+FuelNeverShows = (P : Program) (n k : ℕ) (s : Stmt) (w : Where) (σ : State) → σ.turns < n → n ≤ k → meaning P n s w σ ≡ meaning P k s w σ
 
 -- a larger bound: the output begins with the one before, and an end that was not Spent is the same, with as many turns more left
 pub record LargerBound (r : Result) (d : ℕ) (r' : Result) : Type 0 where
@@ -40,9 +41,9 @@ pub record LargerBound (r : Result) (d : ℕ) (r' : Result) : Type 0 where
 abbrev pub BoundsAreCuts : Type 0
 BoundsAreCuts = (P : Program) (input : List ℕ) (e : Ending) (turns d : ℕ) → LargerBound (outcome P input e turns) d (outcome P input e (turns + d))
 
--- a program comes to an end: it is done, or its turns are spent, or its frames are full
+-- a program of first programs comes to an end: it is done, or its turns are spent, or its frames are full
 abbrev pub AlwaysEnds : Type 0
-AlwaysEnds = (P : Program) (input : List ℕ) (e : Ending) (turns : ℕ) →
+AlwaysEnds = (P : Program) (input : List ℕ) (e : Ending) (turns : ℕ) → All IsFirstInstance P.instances →
     let end = (outcome P input e turns).answer in (end ≡ Normal) ⊎ (end ≡ Spent) ⊎ (end ≡ FrameLimit)
 
 -- the same result with another input left, and what follows it

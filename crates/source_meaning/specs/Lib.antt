@@ -1,4 +1,5 @@
 pub mod Calls
+pub mod FirstProgram
 pub mod Laws
 pub mod Meaning
 pub mod Means

@@ -1,8 +1,7 @@
 -- What a whole program means: its output, its end, the turns left and the bytes of the input taken.
 use Rattle.std.specs.Prelude.{◌≡◌, ℕ, suc, ◌-◌, List, [], ◌∷◌, map, false, length}
-use Rattle.mesa_types.specs.Typed.{Module}
-use Rattle.source_meaning.specs.Value.{Word, copies}
-use Rattle.source_meaning.specs.Program.{Program}
+use Rattle.source_meaning.specs.Value.{zeros}
+use Rattle.source_meaning.specs.Program.{Program, Instance}
 use Rattle.source_meaning.specs.State.{State, Ending, Answer, Normal, Result, Run, give, look, branch, on_normal}
 use Rattle.source_meaning.specs.Calls.{Next, is_started, start}
 use Rattle.source_meaning.specs.Meaning.{meaning}
@@ -17,9 +16,9 @@ control P next (j ∷ js) =
 unfoldable pub first_state : Program → List ℕ → Ending → ℕ → State
 first_state P input ending turns = record {
   store = record {
-    globals = map (λ (m : Module). copies m.globals (Word 0)) P.instances;
+    globals = map (λ (i : Instance). zeros i.code.globals) P.instances;
     frames = [];
-    started = map (λ (m : Module). false) P.instances;
+    started = map (λ (i : Instance). false) P.instances;
     fresh = 0;
   };
   input = input;
@@ -31,7 +30,7 @@ first_state P input ending turns = record {
 
 -- the answer is Normal where the end is Done
 unfoldable pub outcome : Program → List ℕ → Ending → ℕ → Result
-outcome P input ending turns = control P (meaning (suc turns)) P.control (first_state P input ending turns)
+outcome P input ending turns = control P (meaning P (suc turns)) P.control (first_state P input ending turns)
 
 pub record Means (P : Program) (input : List ℕ) (ending : Ending) (turns : ℕ) (output : List ℕ) (end : Answer) (left taken : ℕ) : Type 0 where
   pub its_output : (outcome P input ending turns).state.output ≡ output

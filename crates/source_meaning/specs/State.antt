@@ -34,6 +34,8 @@ pub data Answer : Type 0 where
   Gives : Values → Answer
   Spent : Answer
   FrameLimit : Answer
+  -- a construct that has no row yet; no module of the first program comes to it
+  NoRow : Answer
 
 pub record Result : Type 0 where
   pub answer : Answer
@@ -118,3 +120,7 @@ dropped_of a = give a
 
 unfoldable pub dropped : Run → Run
 dropped m = after m dropped_of
+
+-- a construct that has no row yet
+unfoldable pub no_row : Run
+no_row = give NoRow

@@ -1,17 +1,26 @@
--- Values, and what the operators make of words (Language Manual, chapter 2: INTEGER is -32768 to 32767).
-use Rattle.std.specs.Prelude.{ℕ, zero, suc, ◌+◌, ◌-◌, ◌%◌, Bool, true, false, not, nat_eq, nat_lt, nat_le}
-use Rattle.mesa_types.specs.Typed.{Base, Signed, Operator, Plus, Minus, Relation, Equal, Differs, Less, AtMost, More, AtLeast}
+-- Values, and what the operators make of words (Language Manual, chapter 2: INTEGER is -32768 to 32767, CARDINAL 0 to
+-- 65535).
+use Rattle.std.specs.Prelude.{ℕ, zero, suc, ◌+◌, ◌-◌, ◌%◌, List, [], Bool, true, false, not, nat_eq, nat_lt, nat_le}
+use Rattle.mesa_types.specs.Typed.{Kind, Ordinal, Texts, Array, Record, Kinds, NoKinds, AndKind}
+use Rattle.mesa_types.specs.declared.typed_parts.Base.{Base}
+use Rattle.mesa_types.specs.declared.typed_parts.Base.TheVariants.{Signed, Unsigned}
+use Rattle.mesa_types.specs.declared.typed_parts.Relation.{Relation}
+use Rattle.mesa_types.specs.declared.typed_parts.Relation.TheVariants.{Equal, Differs, Less, AtMost, More, AtLeast}
 
--- a word
-pub data Value : Type 0 where
-  Word : ℕ → Value
+-- a word, the bytes of a string, or the elements of an array or the fields of a record
+mutual
+  pub data Value : Type 0 where
+    Word : ℕ → Value
+    Text : List ℕ → Value
+    Many : Values → Value
 
-pub data Values : Type 0 where
-  NoValues : Values
-  AndValue : Value → Values → Values
+  pub data Values : Type 0 where
+    NoValues : Values
+    AndValue : Value → Values → Values
 
 unfoldable pub word : Value → ℕ
 word (Word n) = n
+word _ = 0
 
 unfoldable pub nth : Values → ℕ → Value
 nth NoValues _ = Word 0
@@ -32,18 +41,30 @@ unfoldable pub copies : ℕ → Value → Values
 copies zero v = NoValues
 copies (suc n) v = AndValue v (copies n v)
 
+-- what a variable of a kind holds before anything is written to it
+unfoldable mutual
+  pub zero_of : Kind → Value
+  zero_of Ordinal = Word 0
+  zero_of Texts = Text []
+  zero_of (Array n k) = Many (copies n (zero_of k))
+  zero_of (Record ks) = Many (zeros ks)
+
+  pub zeros : Kinds → Values
+  zeros NoKinds = NoValues
+  zeros (AndKind k ks) = AndValue (zero_of k) (zeros ks)
+
 -- a number as a word
 unfoldable pub wrap : ℕ → ℕ
 wrap n = n % 65536
 
+-- the word of the number with the other sign
+unfoldable pub opposite : ℕ → ℕ
+opposite w = wrap (65536 - w)
+
 -- a word as a plain number, plus 32768
 unfoldable pub shifted : Base → ℕ → ℕ
 shifted Signed w = (w + 32768) % 65536
-
--- sums and differences are taken modulo 2^16
-unfoldable pub operated : Operator → ℕ → ℕ → ℕ
-operated Plus x y = wrap (x + y)
-operated Minus x y = wrap (x + (65536 - y))
+shifted Unsigned w = w + 32768
 
 unfoldable pub related : Relation → Base → ℕ → ℕ → Bool
 related Equal b x y = nat_eq x y

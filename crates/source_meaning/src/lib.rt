@@ -32,7 +32,7 @@ pub fn input_is_not_read()
     ensures { InputIsNotRead }
 {}
 
-/// A program comes to an end: it is done, or its turns are spent, or its frames are full.
+/// A program of first programs comes to an end: it is done, or its turns are spent, or its frames are full.
 #[tactic(auto, using(crate::proofs::Ends::always_ends))]
 pub fn always_ends()
     ensures { AlwaysEnds }
