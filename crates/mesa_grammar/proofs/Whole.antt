@@ -15,11 +15,11 @@ use Rattle.mesa_grammar.proofs.Levels.{all_of}
 use Rattle.mesa_grammar.proofs.KeepModules.{Module_at, module_text}
 use Rattle.mesa_grammar.proofs.LeadModules.{module_c}
 
-abbrev every : Test
+abbrev pub every : Test
 every kind = true
 
 -- a module with nothing behind it
-abbrev Text : Rel Module
+abbrev pub Text : Rel Module
 Text ts x rest o = (rest ≡ []) × (d : IsModule ts x []) × (deep_module r.limit d ≡ o)
 
 ending : (x : Module) (ws : List Token) → After every [] ws → Then (Module_at r.limit) Text x ws x ws None
@@ -106,7 +106,7 @@ stop_at a = Stop TooDeep a
 stop_injective : (a b : List Token) → stop_at a ≡ stop_at b → a ≡ b
 stop_injective a b e = cc
 
-halted : (ts rest : List Token) (why : Why) → r.text ts ≡ Stop why rest → Halts cut every Text r.text ts why rest
+pub halted : (ts rest : List Token) (why : Why) → r.text ts ≡ Stop why rest → Halts cut every Text r.text ts why rest
 halted ts rest why e = subst (λ out. Holds cut every Text r.text ts out) e (keeps.holds ts)
 
 got : (ts rest : List Token) (x : Module) → r.text ts ≡ Got x rest → Gets cut every Text r.text ts x rest

@@ -2,6 +2,8 @@
 use Rattle.std.specs.Prelude.{◌≡◌, ℕ, suc, ◌<◌, ◌≤◌, List, [], ◌∷◌, ◌++◌, length, take, drop, Some}
 use Rattle.mesa_base.specs.declared.place.Place.{Place}
 use Rattle.mesa_lexer.specs.declared.token.Token.{Token}
+use Rattle.mesa_lexer.specs.declared.fault.SyntaxFault.{SyntaxFault}
+use Rattle.mesa_lexer.specs.declared.fault.SyntaxFault.TheVariants as f
 use Rattle.mesa_lexer.specs.Parsing.{Why, Unexpected, TooDeep}
 use Rattle.mesa_types.specs.declared.syntax.Module.{Module}
 use Rattle.mesa_grammar.specs.Modules.{IsModule, deep_module}
@@ -49,6 +51,11 @@ pub record IsFault (ts : List Token) (end : Place) (why : Why) (place : Place) :
   pub at : ℕ
   pub fault : FaultAt ts why at
   pub here : place ≡ place_of ts end at
+
+-- why the tokens of a text that ends there are no module
+pub data HasSyntaxFault (ts : List Token) (end : Place) : SyntaxFault → Type 0 where
+  unexpected : {p : Place} → IsFault ts end Unexpected p → HasSyntaxFault ts end (f.Unexpected p)
+  too_deep : {p : Place} → IsFault ts end TooDeep p → HasSyntaxFault ts end (f.TooDeep p)
 
 -- a tree, or why not and the fault's token
 pub data Answer : Type 0 where

@@ -15,14 +15,10 @@ use Rattle.mesa_types.specs.declared.syntax.RepeatLabels.TheVariants.{Named, Fin
 use Rattle.mesa_types.specs.declared.syntax.TypeExp.{TypeExp}
 use Rattle.mesa_types.specs.declared.syntax.Expr.{Expr}
 use Rattle.mesa_types.specs.declared.syntax.Statement.{Statement}
+pub use Rattle.mesa_grammar.specs.declared.begun.Begun.{Begun}
+pub use Rattle.mesa_grammar.specs.declared.begun.Begun.TheVariants.{Fresh, AtName, AtNot}
 use Rattle.mesa_grammar.specs.Signs.{relating}
 use Rattle.mesa_grammar.specs.Grammar.{qualified}
-
--- what of an expression was taken already, where that decided that it is one
-pub data Begun : Type 0 where
-  Fresh : Begun
-  AtName : Identifier → Begun
-  AtNot : Place → Begun
 
 -- the parsers one level below; `can` tells whether something may begin there, before anything of it is taken
 pub record Nested : Type 0 where

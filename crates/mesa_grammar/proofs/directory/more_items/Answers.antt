@@ -1,0 +1,10 @@
+use Rattle.std.proofs.Common.{rules, arith}
+use Rattle.std.proofs.lemmas.Grind.{common_steps}
+use Rattle.mesa_grammar.specs.Nested.{comma}
+use Rattle.mesa_grammar.specs.Texts.{items_step}
+use Rattle.mesa_grammar.proofs.KeepModules.{items_eats}
+use Rattle.mesa_grammar.proofs.Taking.{many_falls}
+use Rattle.mesa_grammar.proofs.directory.more_items.Goals as goal
+
+pub items-smaller : goal.items-smaller
+items-smaller c = many_falls comma items_step items_eats c.items.all c.push.new.self _ _ (first_of (search rules, grind (arith, common_steps)))

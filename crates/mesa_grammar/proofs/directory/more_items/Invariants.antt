@@ -1,0 +1,11 @@
+use Rattle.std.proofs.Common.{◌≡◌, length}
+use Rattle.mesa_lexer.specs.Parsing.{many}
+use Rattle.mesa_grammar.specs.Nested.{comma}
+use Rattle.mesa_grammar.specs.Texts.{items_step}
+use Rattle.mesa_grammar.proofs.directory.more_items.Given as goal
+
+abbrev pub invariant-items : goal.invariant-items
+invariant-items l = many comma items_step l.fn.all l.fn.tokens.rest.now ≡ many comma items_step l.all l.tokens.rest.now
+
+abbrev pub decreases-items : goal.decreases-items
+decreases-items l = length l.tokens.rest.now

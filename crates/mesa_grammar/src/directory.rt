@@ -1,0 +1,124 @@
+//! Lists of names around a module: DIRECTORY, IMPORTS and EXPORTS, OPEN.
+
+ghost use Rattle.std.specs.Prelude.{◌≡◌};
+ghost use Rattle.mesa_grammar.specs.Running.{Reads};
+ghost use Rattle.mesa_lexer.specs.Parsing.{many};
+ghost use Rattle.mesa_grammar.specs.Nested.{comma};
+ghost use Rattle.mesa_grammar.specs.Texts as spec;
+
+use crate::cursor::Cursor;
+use crate::fault::Stopped;
+use crate::naming::{named, names};
+use mesa_base::List;
+use mesa_lexer::{Mark, Word};
+use mesa_types::syntax::{Directory, DirectoryItem, Identifiers, Placed};
+use std::alloc::Global;
+
+#[tactic(auto, using(crate::proofs::Choosing::choose_none, crate::proofs::Choosing::choose_some), unfolding(crate::specs::Texts::opened))]
+pub fn opened(alloc: Global, tokens: &mut Cursor<'_>) -> Result<Identifiers, Stopped>
+    ensures { Reads (spec.opened tokens.old.rest.now) result tokens.new.rest.now }
+{
+    match tokens.takes_word(Word::OpenWord) {
+        Some(_) => {
+            let all = names(alloc, tokens)?;
+            tokens.need_mark(Mark::Semicolon)?;
+            Ok(all)
+        }
+        None => Ok(List::new(alloc)),
+    }
+}
+
+/// The names behind this word, where it comes.
+#[tactic(auto, using(crate::proofs::Choosing::choose_none, crate::proofs::Choosing::choose_some), unfolding(crate::specs::Texts::listed))]
+pub fn listed(alloc: Global, tokens: &mut Cursor<'_>, word: Word) -> Result<Identifiers, Stopped>
+    ensures { Reads (spec.listed word tokens.old.rest.now) result tokens.new.rest.now }
+{
+    match tokens.takes_word(word) {
+        Some(_) => names(alloc, tokens),
+        None => Ok(List::new(alloc)),
+    }
+}
+
+#[tactic(auto, using(crate::proofs::Choosing::choose_none, crate::proofs::Choosing::choose_some), unfolding(crate::specs::Texts::using_names))]
+fn using_names(alloc: Global, tokens: &mut Cursor<'_>) -> Result<Option<Identifiers>, Stopped>
+    ensures { Reads (spec.using_names tokens.old.rest.now) result tokens.new.rest.now }
+{
+    match tokens.takes_mark(Mark::RightBracket) {
+        Some(_) => Ok(Some(List::new(alloc))),
+        None => {
+            let all = names(alloc, tokens)?;
+            tokens.need_mark(Mark::RightBracket)?;
+            Ok(Some(all))
+        }
+    }
+}
+
+/// The names that a module may use of an interface, where it says them.
+#[tactic(auto, using(crate::proofs::Choosing::choose_none, crate::proofs::Choosing::choose_some), unfolding(crate::specs::Texts::using))]
+fn used(alloc: Global, tokens: &mut Cursor<'_>) -> Result<Option<Identifiers>, Stopped>
+    ensures { Reads (spec.using tokens.old.rest.now) result tokens.new.rest.now }
+{
+    match tokens.takes_word(Word::UsingWord) {
+        Some(_) => {
+            tokens.need_mark(Mark::LeftBracket)?;
+            using_names(alloc, tokens)
+        }
+        None => Ok(None),
+    }
+}
+
+#[tactic(auto, using(crate::proofs::Choosing::choose_none, crate::proofs::Choosing::choose_some), unfolding(crate::specs::Texts::item, crate::specs::Texts::file))]
+fn item(alloc: Global, tokens: &mut Cursor<'_>) -> Result<DirectoryItem, Stopped>
+    ensures { Reads (spec.item tokens.old.rest.now) result tokens.new.rest.now }
+{
+    let name = named(alloc, tokens)?;
+    tokens.need_mark(Mark::Colon)?;
+    tokens.need_word(Word::FromWord)?;
+    let Some(text) = tokens.takes_text(alloc)? else {
+        return Err(Stopped::Unexpected);
+    };
+    let Placed { place, item: file } = text;
+    let used = used(alloc, tokens)?;
+    Ok(DirectoryItem {
+        name,
+        place,
+        file,
+        used,
+    })
+}
+
+/// Further items behind these.
+#[tactic(auto, using(crate::proofs::Taking::many_by, crate::proofs::KeepModules::items_eats))]
+fn more_items(
+    alloc: Global,
+    tokens: &mut Cursor<'_>,
+    mut all: Directory,
+) -> Result<Directory, Stopped>
+    ensures { Reads (many comma spec.items_step all tokens.old.rest.now) result tokens.new.rest.now }
+{
+    'items: while tokens.takes_mark(Mark::Comma).is_some() {
+        all.push(item(alloc, tokens)?)?;
+    }
+    Ok(all)
+}
+
+#[tactic(auto, unfolding(crate::specs::Texts::items))]
+fn items(alloc: Global, tokens: &mut Cursor<'_>) -> Result<Directory, Stopped>
+    ensures { Reads (spec.items tokens.old.rest.now) result tokens.new.rest.now }
+{
+    let mut all = List::new(alloc);
+    all.push(item(alloc, tokens)?)?;
+    let all = more_items(alloc, tokens, all)?;
+    tokens.need_mark(Mark::Semicolon)?;
+    Ok(all)
+}
+
+#[tactic(auto, using(crate::proofs::Choosing::choose_none, crate::proofs::Choosing::choose_some), unfolding(crate::specs::Texts::directory))]
+pub fn interfaces(alloc: Global, tokens: &mut Cursor<'_>) -> Result<Directory, Stopped>
+    ensures { Reads (spec.directory tokens.old.rest.now) result tokens.new.rest.now }
+{
+    match tokens.takes_word(Word::DirectoryWord) {
+        Some(_) => items(alloc, tokens),
+        None => Ok(List::new(alloc)),
+    }
+}

@@ -1,0 +1,140 @@
+//! Heads of procedures and signals, and what a declaration declares.
+
+ghost use Rattle.std.specs.Prelude.{◌≡◌};
+ghost use Rattle.mesa_grammar.specs.Running.{Reads};
+ghost use Rattle.mesa_grammar.specs.Nests.{Nests};
+ghost use Rattle.mesa_grammar.specs.Statements.{nested};
+ghost use Rattle.mesa_grammar.specs.Texts as spec;
+
+use crate::begun::Begun;
+use crate::blocks::BlockEnd;
+use crate::cursor::Cursor;
+use crate::fault::Stopped;
+use crate::nesting::Grammar;
+use mesa_lexer::{Mark, Word};
+use mesa_types::syntax::{Block, Declared, Expr, FieldList, Head, Identifier, Statement, TypeExp};
+use std::alloc::Global;
+
+impl<
+    F: Fn(Global, &mut Cursor<'_>, usize, Option<Identifier>) -> Result<Statement, Stopped>,
+    G: Fn(Global, &mut Cursor<'_>, usize, Begun) -> Result<Expr, Stopped>,
+    H: Fn(Global, &mut Cursor<'_>, usize, Option<Identifier>) -> Result<TypeExp, Stopped>,
+> Grammar<F, G, H> {
+    /// Parameters behind their bracket.
+    #[tactic(auto, using(crate::proofs::Choosing::choose_none, crate::proofs::Choosing::choose_some), unfolding(crate::specs::Texts::in_params))]
+    fn in_params(&self, tokens: &mut Cursor<'_>) -> Result<Option<FieldList>, Stopped>
+        requires { Nests self.now.depth (F.pre self.now.stmt) (F.post self.now.stmt) (G.pre self.now.expr) (G.post self.now.expr) (H.pre self.now.type_exp) (H.post self.now.type_exp) }
+        ensures { Reads (spec.in_params (nested self.now.depth) tokens.old.rest.now) result tokens.new.rest.now }
+    {
+        match tokens.takes_mark(Mark::RightBracket) {
+            Some(_) => Ok(None),
+            None => {
+                let fields = self.field_list(tokens)?;
+                tokens.need_mark(Mark::RightBracket)?;
+                Ok(Some(fields))
+            }
+        }
+    }
+
+    #[tactic(auto, using(crate::proofs::Choosing::choose_none, crate::proofs::Choosing::choose_some), unfolding(crate::specs::Texts::params))]
+    pub fn params(&self, tokens: &mut Cursor<'_>) -> Result<Option<FieldList>, Stopped>
+        requires { Nests self.now.depth (F.pre self.now.stmt) (F.post self.now.stmt) (G.pre self.now.expr) (G.post self.now.expr) (H.pre self.now.type_exp) (H.post self.now.type_exp) }
+        ensures { Reads (spec.params (nested self.now.depth) tokens.old.rest.now) result tokens.new.rest.now }
+    {
+        match tokens.takes_mark(Mark::LeftBracket) {
+            Some(_) => self.in_params(tokens),
+            None => Ok(None),
+        }
+    }
+
+    #[tactic(auto, using(crate::proofs::Choosing::choose_none, crate::proofs::Choosing::choose_some), unfolding(crate::specs::Texts::returns))]
+    fn results(&self, tokens: &mut Cursor<'_>) -> Result<Option<FieldList>, Stopped>
+        requires { Nests self.now.depth (F.pre self.now.stmt) (F.post self.now.stmt) (G.pre self.now.expr) (G.post self.now.expr) (H.pre self.now.type_exp) (H.post self.now.type_exp) }
+        ensures { Reads (spec.returns (nested self.now.depth) tokens.old.rest.now) result tokens.new.rest.now }
+    {
+        match tokens.takes_word(Word::ReturnsWord) {
+            Some(_) => {
+                tokens.need_mark(Mark::LeftBracket)?;
+                self.in_params(tokens)
+            }
+            None => Ok(None),
+        }
+    }
+
+    #[tactic(auto, unfolding(crate::specs::Texts::head))]
+    pub fn head(&self, tokens: &mut Cursor<'_>) -> Result<Head, Stopped>
+        requires { Nests self.now.depth (F.pre self.now.stmt) (F.post self.now.stmt) (G.pre self.now.expr) (G.post self.now.expr) (H.pre self.now.type_exp) (H.post self.now.type_exp) }
+        ensures { Reads (spec.head (nested self.now.depth) tokens.old.rest.now) result tokens.new.rest.now }
+    {
+        let takes = self.params(tokens)?;
+        let gives = self.results(tokens)?;
+        Ok(Head { takes, gives })
+    }
+
+    #[tactic(auto, using(crate::proofs::Choosing::choose_none, crate::proofs::Choosing::choose_some), unfolding(crate::specs::Texts::block))]
+    fn any_block(&self, tokens: &mut Cursor<'_>) -> Result<Block, Stopped>
+        requires { Nests self.now.depth (F.pre self.now.stmt) (F.post self.now.stmt) (G.pre self.now.expr) (G.post self.now.expr) (H.pre self.now.type_exp) (H.post self.now.type_exp) }
+        ensures { Reads (spec.block (nested self.now.depth) tokens.old.rest.now) result tokens.new.rest.now }
+    {
+        if let Some(place) = tokens.takes_word(Word::BeginWord) {
+            return self.block(tokens, BlockEnd::ByWord, place);
+        }
+        match tokens.takes_mark(Mark::LeftBrace) {
+            Some(place) => self.block(tokens, BlockEnd::ByBrace, place),
+            None => Err(Stopped::Unexpected),
+        }
+    }
+
+    #[tactic(auto, unfolding(crate::specs::Texts::procedure))]
+    fn procedure(&self, tokens: &mut Cursor<'_>) -> Result<Declared, Stopped>
+        requires { Nests self.now.depth (F.pre self.now.stmt) (F.post self.now.stmt) (G.pre self.now.expr) (G.post self.now.expr) (H.pre self.now.type_exp) (H.post self.now.type_exp) }
+        ensures { Reads (spec.procedure (nested self.now.depth) tokens.old.rest.now) result tokens.new.rest.now }
+    {
+        let head = self.head(tokens)?;
+        tokens.need_mark(Mark::Equal)?;
+        let body = self.any_block(tokens)?;
+        Ok(Declared::Procedure(head, body))
+    }
+
+    #[tactic(auto, unfolding(crate::specs::Texts::signal))]
+    fn signal(&self, tokens: &mut Cursor<'_>) -> Result<Declared, Stopped>
+        requires { Nests self.now.depth (F.pre self.now.stmt) (F.post self.now.stmt) (G.pre self.now.expr) (G.post self.now.expr) (H.pre self.now.type_exp) (H.post self.now.type_exp) }
+        ensures { Reads (spec.signal (nested self.now.depth) tokens.old.rest.now) result tokens.new.rest.now }
+    {
+        let head = self.head(tokens)?;
+        tokens.need_mark(Mark::Equal)?;
+        tokens.need_word(Word::CodeWord)?;
+        Ok(Declared::Signal(head))
+    }
+
+    #[tactic(auto, unfolding(crate::specs::Texts::error))]
+    fn error(&self, tokens: &mut Cursor<'_>) -> Result<Declared, Stopped>
+        requires { Nests self.now.depth (F.pre self.now.stmt) (F.post self.now.stmt) (G.pre self.now.expr) (G.post self.now.expr) (H.pre self.now.type_exp) (H.post self.now.type_exp) }
+        ensures { Reads (spec.error (nested self.now.depth) tokens.old.rest.now) result tokens.new.rest.now }
+    {
+        let takes = self.params(tokens)?;
+        tokens.need_mark(Mark::Equal)?;
+        tokens.need_word(Word::CodeWord)?;
+        Ok(Declared::Error(takes))
+    }
+
+    #[tactic(auto, using(crate::proofs::Choosing::choose_none, crate::proofs::Choosing::choose_some), unfolding(crate::specs::Texts::declared))]
+    pub fn declared(&self, tokens: &mut Cursor<'_>) -> Result<Declared, Stopped>
+        requires { Nests self.now.depth (F.pre self.now.stmt) (F.post self.now.stmt) (G.pre self.now.expr) (G.post self.now.expr) (H.pre self.now.type_exp) (H.post self.now.type_exp) }
+        ensures { Reads (spec.declared (nested self.now.depth) tokens.old.rest.now) result tokens.new.rest.now }
+    {
+        if let Some(_) = tokens.takes_procedure_word() {
+            return self.procedure(tokens);
+        }
+        if let Some(_) = tokens.takes_word(Word::SignalWord) {
+            return self.signal(tokens);
+        }
+        match tokens.takes_word(Word::ErrorWord) {
+            Some(_) => self.error(tokens),
+            None => {
+                let plain = self.plain(tokens)?;
+                Ok(Declared::Data(plain))
+            }
+        }
+    }
+}

@@ -1,0 +1,110 @@
+//! The items of an interface.
+
+ghost use Rattle.std.specs.Prelude.{◌≡◌};
+ghost use Rattle.mesa_grammar.specs.Running.{Reads};
+ghost use Rattle.mesa_grammar.specs.Nests.{Nests};
+ghost use Rattle.mesa_grammar.specs.Statements.{nested};
+ghost use Rattle.mesa_grammar.specs.Texts as spec;
+ghost use Rattle.mesa_grammar.specs.StatementTails as tails;
+
+use crate::begun::Begun;
+use crate::cursor::Cursor;
+use crate::fault::Stopped;
+use crate::naming::names_from;
+use crate::nesting::Grammar;
+use mesa_base::List;
+use mesa_lexer::{Mark, Word};
+use mesa_types::syntax::{Defined, Definitions, Expr, Identifier, Labeled, Statement, TypeExp};
+use std::alloc::Global;
+
+impl<
+    F: Fn(Global, &mut Cursor<'_>, usize, Option<Identifier>) -> Result<Statement, Stopped>,
+    G: Fn(Global, &mut Cursor<'_>, usize, Begun) -> Result<Expr, Stopped>,
+    H: Fn(Global, &mut Cursor<'_>, usize, Option<Identifier>) -> Result<TypeExp, Stopped>,
+> Grammar<F, G, H> {
+    #[tactic(auto, unfolding(crate::specs::Texts::constant))]
+    fn constant(&self, tokens: &mut Cursor<'_>) -> Result<Defined, Stopped>
+        requires { Nests self.now.depth (F.pre self.now.stmt) (F.post self.now.stmt) (G.pre self.now.expr) (G.post self.now.expr) (H.pre self.now.type_exp) (H.post self.now.type_exp) }
+        ensures { Reads (spec.constant (nested self.now.depth) tokens.old.rest.now) result tokens.new.rest.now }
+    {
+        let of = self.type_exp(tokens, None)?;
+        tokens.need_mark(Mark::Equal)?;
+        let value = self.expr(tokens, Begun::Fresh)?;
+        Ok(Defined::ConstantItem(of, value))
+    }
+
+    #[tactic(auto, unfolding(crate::specs::Texts::type_item))]
+    fn type_item(&self, tokens: &mut Cursor<'_>) -> Result<Defined, Stopped>
+        requires { Nests self.now.depth (F.pre self.now.stmt) (F.post self.now.stmt) (G.pre self.now.expr) (G.post self.now.expr) (H.pre self.now.type_exp) (H.post self.now.type_exp) }
+        ensures { Reads (spec.type_item (nested self.now.depth) tokens.old.rest.now) result tokens.new.rest.now }
+    {
+        tokens.need_mark(Mark::Equal)?;
+        let is = self.type_exp(tokens, None)?;
+        Ok(Defined::TypeItem(is))
+    }
+
+    /// An item that is an error, a type or a constant.
+    #[tactic(auto, using(crate::proofs::Choosing::choose_none, crate::proofs::Choosing::choose_some), unfolding(crate::specs::StatementTails::other_item))]
+    fn other_item(&self, tokens: &mut Cursor<'_>) -> Result<Defined, Stopped>
+        requires { Nests self.now.depth (F.pre self.now.stmt) (F.post self.now.stmt) (G.pre self.now.expr) (G.post self.now.expr) (H.pre self.now.type_exp) (H.post self.now.type_exp) }
+        ensures { Reads (tails.other_item (nested self.now.depth) tokens.old.rest.now) result tokens.new.rest.now }
+    {
+        if let Some(_) = tokens.takes_word(Word::ErrorWord) {
+            let takes = self.params(tokens)?;
+            return Ok(Defined::ErrorItem(takes));
+        }
+        match tokens.takes_word(Word::TypeWord) {
+            Some(_) => self.type_item(tokens),
+            None => self.constant(tokens),
+        }
+    }
+
+    #[tactic(auto, using(crate::proofs::Choosing::choose_none, crate::proofs::Choosing::choose_some), unfolding(crate::specs::Texts::defined, crate::specs::StatementTails::other_item))]
+    fn defined(&self, tokens: &mut Cursor<'_>) -> Result<Defined, Stopped>
+        requires { Nests self.now.depth (F.pre self.now.stmt) (F.post self.now.stmt) (G.pre self.now.expr) (G.post self.now.expr) (H.pre self.now.type_exp) (H.post self.now.type_exp) }
+        ensures { Reads (spec.defined (nested self.now.depth) tokens.old.rest.now) result tokens.new.rest.now }
+    {
+        if let Some(_) = tokens.takes_procedure_word() {
+            let head = self.head(tokens)?;
+            return Ok(Defined::ProcedureItem(head));
+        }
+        match tokens.takes_word(Word::SignalWord) {
+            Some(_) => {
+                let head = self.head(tokens)?;
+                Ok(Defined::SignalItem(head))
+            }
+            None => self.other_item(tokens),
+        }
+    }
+
+    /// One more item behind these, whose first name was taken.
+    #[tactic(auto, unfolding(crate::specs::Texts::definitions_step))]
+    fn definition(
+        &self,
+        tokens: &mut Cursor<'_>,
+        mut all: Definitions,
+        first: Identifier,
+    ) -> Result<Definitions, Stopped>
+        requires { Nests self.now.depth (F.pre self.now.stmt) (F.post self.now.stmt) (G.pre self.now.expr) (G.post self.now.expr) (H.pre self.now.type_exp) (H.post self.now.type_exp) }
+        ensures { Reads (spec.definitions_step (nested self.now.depth) all first.name first.place tokens.old.rest.now) result tokens.new.rest.now }
+    {
+        let labels = names_from(self.alloc, tokens, first)?;
+        tokens.need_mark(Mark::Colon)?;
+        let item = self.defined(tokens)?;
+        all.push(Labeled { labels, item })?;
+        tokens.need_mark(Mark::Semicolon)?;
+        Ok(all)
+    }
+
+    #[tactic(auto, using(crate::proofs::Taking::many_by, crate::proofs::FrontSteps::definitions_eats), unfolding(crate::specs::Texts::definitions))]
+    pub fn definitions(&self, tokens: &mut Cursor<'_>) -> Result<Definitions, Stopped>
+        requires { Nests self.now.depth (F.pre self.now.stmt) (F.post self.now.stmt) (G.pre self.now.expr) (G.post self.now.expr) (H.pre self.now.type_exp) (H.post self.now.type_exp) }
+        ensures { Reads (spec.definitions (nested self.now.depth) tokens.old.rest.now) result tokens.new.rest.now }
+    {
+        let mut all = List::new(self.alloc);
+        'definitions: while let Some(first) = tokens.takes_name(self.alloc)? {
+            all = self.definition(tokens, all, first)?;
+        }
+        Ok(all)
+    }
+}

@@ -1,0 +1,157 @@
+//! The reader of modules.
+ghost use Rattle.std.specs.Prelude.{◌≡◌, ◌≢◌, if◌then◌else◌, IfErr, IfOk, MatchResult};
+ghost use Rattle.mesa_lexer.specs.declared.fault.SyntaxFault.{SyntaxFault};
+ghost use Rattle.mesa_types.specs.declared.syntax.Module.{Module};
+ghost use Rattle.mesa_grammar.specs.Answer.{HasSyntaxFault, Parses, place_at};
+ghost use Rattle.mesa_grammar.specs.Running.{Reads, fault_of};
+ghost use Rattle.mesa_grammar.specs.Statements.{nested};
+ghost use Rattle.mesa_grammar.specs.Texts as texts;
+
+use crate::begun::Begun;
+use crate::cursor::Cursor;
+use crate::fault::Stopped;
+use crate::nesting::Grammar;
+use mesa_base::Place;
+use mesa_lexer::{SyntaxFault, Tokens};
+use mesa_types::Module;
+use mesa_types::syntax::{Expr, Identifier, Statement, TypeExp};
+use std::alloc::Global;
+
+/// So many statements, expressions and types may stand inside one another.
+const LIMIT: usize = 200;
+
+/// Why a parser stops at the level where nothing more may nest.
+pub fn too_deep(begins: bool) -> Stopped
+    ensures { result ≡ (if begins then Stopped.TooDeep else Stopped.Unexpected) }
+{
+    if begins {
+        Stopped::TooDeep
+    } else {
+        Stopped::Unexpected
+    }
+}
+
+#[cycle(nest)]
+fn stmt(
+    alloc: Global,
+    tokens: &mut Cursor<'_>,
+    depth: usize,
+    begun: Option<Identifier>,
+) -> Result<Statement, Stopped>
+    ensures { Reads ((nested depth).stmt begun tokens.old.rest.now) result tokens.new.rest.now }
+{
+    if depth == 0 {
+        return Err(too_deep(tokens.begins_stmt()));
+    }
+    Grammar {
+        alloc,
+        depth: depth - 1,
+        stmt,
+        expr,
+        type_exp,
+    }
+    .statement(tokens, begun)
+}
+
+#[cycle(nest)]
+fn expr(alloc: Global, tokens: &mut Cursor<'_>, depth: usize, begun: Begun) -> Result<Expr, Stopped>
+    ensures { Reads ((nested depth).expr begun tokens.old.rest.now) result tokens.new.rest.now }
+{
+    if depth == 0 {
+        return Err(too_deep(tokens.begins_expr()));
+    }
+    Grammar {
+        alloc,
+        depth: depth - 1,
+        stmt,
+        expr,
+        type_exp,
+    }
+    .disj(tokens, begun)
+}
+
+#[cycle(nest)]
+fn type_exp(
+    alloc: Global,
+    tokens: &mut Cursor<'_>,
+    depth: usize,
+    begun: Option<Identifier>,
+) -> Result<TypeExp, Stopped>
+    ensures { Reads ((nested depth).type begun tokens.old.rest.now) result tokens.new.rest.now }
+{
+    if depth == 0 {
+        return Err(too_deep(tokens.begins_type()));
+    }
+    Grammar {
+        alloc,
+        depth: depth - 1,
+        stmt,
+        expr,
+        type_exp,
+    }
+    .any_type(tokens, begun)
+}
+
+#[tactic(auto, using(crate::proofs::Ending::ended_none, crate::proofs::Ending::ended_some), unfolding(crate::specs::Texts::text, crate::specs::Texts::limit))]
+fn text(alloc: Global, tokens: &mut Cursor<'_>) -> Result<Module, Stopped>
+    ensures { Reads (texts.text tokens.old.rest.now) result tokens.new.rest.now }
+{
+    let module = Grammar {
+        alloc,
+        depth: LIMIT,
+        stmt,
+        expr,
+        type_exp,
+    }
+    .module_text(tokens)?;
+    match tokens.peek() {
+        None => Ok(module),
+        Some(_) => Err(Stopped::Unexpected),
+    }
+}
+
+/// The place of the next token, or of the text's end.
+#[tactic(auto, using(crate::proofs::Ending::place_none, crate::proofs::Ending::place_some))]
+fn place(tokens: &Cursor<'_>, end: Place) -> Place
+    ensures { result ≡ place_at tokens.now.rest.now end }
+{
+    match tokens.peek() {
+        Some(token) => token.place,
+        None => end,
+    }
+}
+
+fn fault(why: Stopped, place: Place) -> SyntaxFault
+    ensures { result ≡ fault_of why place }
+{
+    match why {
+        Stopped::Unexpected => SyntaxFault::Unexpected(place),
+        Stopped::TooDeep => SyntaxFault::TooDeep(place),
+        Stopped::Memory => SyntaxFault::Memory,
+    }
+}
+
+/// The tree of a module's tokens (Language Manual, appendix on syntax; docs/LANGUAGE.md has each production), or the
+/// first fault, whichever of the two comes at the earlier token. It is one pass over the tokens, with one token of
+/// lookahead, and linear in time and memory.
+///
+/// Unexpected: the tokens before this place begin a text, and those through it begin none; at the text's end they are no
+/// text. TooDeep: some text starts with the tokens through this place, and there the 201st statement, expression or type
+/// begins that stand inside one another. Memory: it ran out.
+pub fn module(alloc: Global, tokens: &Tokens) -> Result<Module, SyntaxFault>
+    ensures ok { IfOk result (λ x. Parses tokens.now.items x) }
+    ensures fault { IfErr result (λ fault. fault ≢ SyntaxFault.Memory → HasSyntaxFault tokens.now.items tokens.now.end fault) }
+    // Where the tokens have a tree it is the answer, and where they have a fault that is, but for want of memory.
+    ensures only_tree { (x : Module) → Parses tokens.now.items x
+        → MatchResult result (λ found. found ≡ x) (λ fault. fault ≡ SyntaxFault.Memory) }
+    ensures only_fault { (fault : SyntaxFault) → HasSyntaxFault tokens.now.items tokens.now.end fault
+        → MatchResult result (λ x. ⊥) (λ found. found ≢ SyntaxFault.Memory → found ≡ fault) }
+{
+    let mut at = Cursor {
+        rest: tokens.as_slice(),
+    };
+    match text(alloc, &mut at) {
+        Ok(module) => Ok(module),
+        Err(why) => Err(fault(why, place(&at, tokens.end()))),
+    }
+}
