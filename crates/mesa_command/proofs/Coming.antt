@@ -1,5 +1,5 @@
 -- What comes of a text, from what its reader and its run ensure.
-use Rattle.std.proofs.Common.{◌≡◌, ℕ, ◌≤◌, List, ◌++◌, length, take, min, Option, Some, None, IfSome, sym, ◌∙◌, ap, subst, arith}
+use Rattle.std.proofs.Common.{◌≡◌, ◌≢◌, ℕ, ◌≤◌, List, ◌++◌, length, take, min, Option, Some, None, IfSome, refl, sym, ◌∙◌, ap, subst, arith}
 use Rattle.std.proofs.lemmas.List.{length-take, take_min}
 use Rattle.std.proofs.Math.Seq.{take-length}
 use Rattle.mesa_base.specs.Outside.{Files, Reads as FileReads, Rose}
@@ -8,12 +8,24 @@ use Rattle.source_meaning.specs.State.{Answer}
 use Rattle.frame_machine.specs.declared.outcome.End.{End}
 use Rattle.frame_machine.specs.declared.outcome.End.TheVariants as end
 use Rattle.frame_machine.specs.declared.outcome.Outcome.{Outcome}
-use Rattle.mesa_command.specs.SmallGrammar.{Reads}
+use Rattle.mesa_lexer.specs.declared.token.Tokens.{Tokens}
+use Rattle.mesa_grammar.specs.Answer as grammar
+use Rattle.mesa_lexer.specs.Tokens.{HasTokens, HasLexFault, text_too_long, no_token, not_in_text, open_text, too_large, too_long}
+use Rattle.mesa_lexer.specs.declared.fault.SyntaxFault.{SyntaxFault}
+use Rattle.mesa_lexer.specs.declared.fault.SyntaxFault.TheVariants as fault
+use Rattle.mesa_lexer.specs.declared.fault.LexFault.{LexFault}
+use Rattle.mesa_lexer.specs.declared.fault.LexFault.TheVariants as lex
+use Rattle.mesa_types.specs.declared.syntax.Module as syntax
+use Rattle.mesa_command.specs.FirstText.{first_module}
+use Rattle.mesa_command.specs.declared.first_fault.FirstFault.{FirstFault}
+use Rattle.mesa_command.specs.declared.first_fault.FirstFault.TheVariants as first
+use Rattle.mesa_command.specs.Text as r
+use Rattle.mesa_command.specs.Text.{HasTree, Reads, HasSyntaxFault, IsRefusedAs}
 use Rattle.mesa_command.specs.Forms.{IsGo, file_of}
 use Rattle.mesa_command.specs.Outputs.{Stream, stream}
 use Rattle.mesa_command.specs.Running.{Ran, CutOff, answer_of}
-use Rattle.mesa_command.specs.Comes.{MeansAtAnyInput, OfText, done, spent, write_fault, refused, memory_before, memory_in_run, Does, IsNoText, IsRefusedAs, not_built, Comes, of_text, absent, folder_fault, Shelf}
-use Rattle.mesa_command.specs.Case.{Case, Done, Spent, NotBuilt, Absent, WriteFault, FolderFault, Memory, Usage}
+use Rattle.mesa_command.specs.Comes.{MeansAtAnyInput, OfText, done, spent, write_fault, refused, memory_before, memory_in_run, Does, Comes, of_text, absent, folder_fault, Shelf}
+use Rattle.mesa_command.specs.Case.{Case, Done, Spent, Fault, TextTooLong, NotYet, Absent, WriteFault, FolderFault, Memory, Usage}
 use Rattle.mesa_command.specs.Reply.{case_of_end}
 
 by-end : (file text : List ℕ) (m : Module) (turns left : ℕ) (output : List ℕ) (e : End) (old new : Option (List ℕ)) (n k : ℕ) →
@@ -39,6 +51,38 @@ pub memory-comes : (file text : List ℕ) (m : Module) (turns : ℕ) (old new : 
 memory-comes file text m turns old new n k reads cut =
     memory_in_run cut.output cut.end (record { tree = m; reads = reads; left = cut.left; means = cut.means }) cut.wrote
 
+pub lexical-comes : (file text : List ℕ) (turns : ℕ) (fault : LexFault) (old : Stream) (case : Case) →
+    (fault ≢ lex.Memory → HasLexFault text fault) → ((t : List ℕ) → HasLexFault t fault → IsRefusedAs file t case) →
+    (fault ≡ lex.Memory → case ≡ Memory) → OfText file text turns old old case
+lexical-comes file text turns lex.Memory old case has refuses memory =
+    subst (λ c. OfText file text turns old old c) (sym (memory refl)) (memory_before refl)
+lexical-comes file text turns (lex.BadByte place) old case has refuses memory = refused case (refuses text (has (λ e. cc)))
+lexical-comes file text turns (lex.OpenString place) old case has refuses memory = refused case (refuses text (has (λ e. cc)))
+lexical-comes file text turns (lex.NumberTooLarge place) old case has refuses memory = refused case (refuses text (has (λ e. cc)))
+lexical-comes file text turns (lex.TokenTooLong place) old case has refuses memory = refused case (refuses text (has (λ e. cc)))
+lexical-comes file text turns lex.TextTooLong old case has refuses memory = refused case (refuses text (has (λ e. cc)))
+
+pub no-memory-fault : (text : List ℕ) → HasSyntaxFault text fault.Memory → ⊥
+no-memory-fault text h = elim (h.has_fault) [ ]
+
+pub syntax-comes : (file text : List ℕ) (tokens : Tokens) (turns : ℕ) (why : SyntaxFault) (old : Stream) (case : Case) → HasTokens text tokens →
+    (why ≢ fault.Memory → grammar.HasSyntaxFault tokens.items tokens.end why) →
+    ((t : List ℕ) → HasSyntaxFault t why → IsRefusedAs file t case) → (why ≡ fault.Memory → case ≡ Memory) → OfText file text turns old old case
+syntax-comes file text tokens turns fault.Memory old case made has refuses memory =
+    subst (λ c. OfText file text turns old old c) (sym (memory refl)) (memory_before refl)
+syntax-comes file text tokens turns (fault.Unexpected place) old case made has refuses memory =
+    refused case (refuses text (record { tokens = tokens; has_tokens = made; has_fault = has (λ e. cc) }))
+syntax-comes file text tokens turns (fault.TooDeep place) old case made has refuses memory =
+    refused case (refuses text (record { tokens = tokens; has_tokens = made; has_fault = has (λ e. cc) }))
+
+pub unbuilt-comes : (file text : List ℕ) (tree : syntax.Module) (turns : ℕ) (fault : FirstFault) (old : Stream) (case : Case) →
+    HasTree text tree → (fault ≢ first.Memory → first_module tree ≡ None) → (fault ≡ first.NotYet → case ≡ NotYet file) →
+    (fault ≡ first.Memory → case ≡ Memory) → OfText file text turns old old case
+unbuilt-comes file text tree turns first.NotYet old case has none named memory =
+    subst (λ c. OfText file text turns old old c) (sym (named refl)) (refused (NotYet file) (r.not_yet tree has (none (λ e. cc))))
+unbuilt-comes file text tree turns first.Memory old case has none named memory =
+    subst (λ c. OfText file text turns old old c) (sym (memory refl)) (memory_before refl)
+
 -- a text that was read up to a byte past the limit is the whole one, or is no text at all
 
 is-whole : (part whole : List ℕ) → part ≡ take 1048577 whole → length part ≤ 1048576 → part ≡ whole
@@ -47,20 +91,54 @@ is-whole part whole e few =
     let all : min 1048577 (length whole) ≡ length whole = omega arith in
     e ∙ sym (take_min 1048577 whole) ∙ ap (λ n. take n whole) all ∙ take-length whole
 
--- what is short as a whole is read whole
-is-read : (part whole : List ℕ) → part ≡ take 1048577 whole → length whole ≤ 1048576 → part ≡ whole
-is-read part whole e few = is-whole part whole e (omega (arith, ap length e ∙ length-take 1048577 whole))
-
-too-long : (part whole : List ℕ) → part ≡ take 1048577 whole → IsNoText part → IsNoText whole
-too-long part whole e none m reads = none m (subst (λ t. Reads t m) (sym (is-read part whole e reads.short)) reads)
+reads-short : (text : List ℕ) (m : Module) → Reads text m → length text ≤ 1048576
+reads-short text m reads = reads.has_tree.has_tokens.not_long
 
 does-whole : (part whole : List ℕ) (turns : ℕ) (output : List ℕ) (a : Answer) → part ≡ take 1048577 whole →
     Does part turns output a → Does whole turns output a
-does-whole part whole turns output a e does = subst (λ t. Does t turns output a) (is-whole part whole e does.reads.short) does
+does-whole part whole turns output a e does =
+    subst (λ t. Does t turns output a) (is-whole part whole e (reads-short part does.tree does.reads)) does
+
+-- a text with another lexical fault is not too long
+lexical-short : (text : List ℕ) (fault : LexFault) → HasLexFault text fault → (fault ≡ lex.TextTooLong → ⊥) → length text ≤ 1048576
+lexical-short text lex.TextTooLong (text_too_long long) other = absurd (other refl)
+lexical-short text (lex.BadByte _) (no_token stops none) other = stops.not_long
+lexical-short text (lex.BadByte _) (not_in_text stops longest within) other = stops.not_long
+lexical-short text (lex.OpenString _) (open_text stops longest last) other = stops.not_long
+lexical-short text (lex.NumberTooLarge _) (too_large stops longest large) other = stops.not_long
+lexical-short text (lex.TokenTooLong _) (too_long stops longest long) other = stops.not_long
+lexical-short text lex.Memory x other = elim x [ ]
+
+lexical-whole : (part whole : List ℕ) (fault : LexFault) → part ≡ take 1048577 whole → (fault ≡ lex.TextTooLong → ⊥) →
+    HasLexFault part fault → HasLexFault whole fault
+lexical-whole part whole fault e other h =
+    subst (λ t. HasLexFault t fault) (is-whole part whole e (lexical-short part fault h other)) h
+
+long-whole : (part whole : List ℕ) → part ≡ take 1048577 whole → HasLexFault part lex.TextTooLong → HasLexFault whole lex.TextTooLong
+long-whole part whole e (text_too_long long) = text_too_long (omega (arith, long, ap length e ∙ length-take 1048577 whole))
+
+syntax-whole : (part whole : List ℕ) (fault : SyntaxFault) → part ≡ take 1048577 whole → HasSyntaxFault part fault →
+    HasSyntaxFault whole fault
+syntax-whole part whole fault e h = subst (λ t. HasSyntaxFault t fault) (is-whole part whole e h.has_tokens.not_long) h
+
+tree-whole : (part whole : List ℕ) (tree : syntax.Module) → part ≡ take 1048577 whole → HasTree part tree → HasTree whole tree
+tree-whole part whole tree e h = subst (λ t. HasTree t tree) (is-whole part whole e h.has_tokens.not_long) h
 
 refusal-whole : (file part whole : List ℕ) (case : Case) → part ≡ take 1048577 whole → IsRefusedAs file part case →
     IsRefusedAs file whole case
-refusal-whole file part whole (NotBuilt _) e (not_built none) = not_built (too-long part whole e none)
+refusal-whole file part whole (TextTooLong _) e (r.text_too_long h) = r.text_too_long (long-whole part whole e h)
+refusal-whole file part whole (Fault _ _ _) e (r.bad_byte place h) =
+    r.bad_byte place (lexical-whole part whole (lex.BadByte place) e (λ no. cc) h)
+refusal-whole file part whole (Fault _ _ _) e (r.open_string place h) =
+    r.open_string place (lexical-whole part whole (lex.OpenString place) e (λ no. cc) h)
+refusal-whole file part whole (Fault _ _ _) e (r.number_too_large place h) =
+    r.number_too_large place (lexical-whole part whole (lex.NumberTooLarge place) e (λ no. cc) h)
+refusal-whole file part whole (Fault _ _ _) e (r.token_too_long place h) =
+    r.token_too_long place (lexical-whole part whole (lex.TokenTooLong place) e (λ no. cc) h)
+refusal-whole file part whole (Fault _ _ _) e (r.unexpected place h) =
+    r.unexpected place (syntax-whole part whole (fault.Unexpected place) e h)
+refusal-whole file part whole (Fault _ _ _) e (r.too_deep place h) = r.too_deep place (syntax-whole part whole (fault.TooDeep place) e h)
+refusal-whole file part whole (NotYet _) e (r.not_yet tree h none) = r.not_yet tree (tree-whole part whole tree e h) none
 refusal-whole file part whole Done e x = elim x [ ]
 refusal-whole file part whole Spent e x = elim x [ ]
 refusal-whole file part whole (Absent _) e x = elim x [ ]

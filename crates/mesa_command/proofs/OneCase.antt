@@ -5,17 +5,16 @@ use Rattle.std.proofs.lemmas.List.{append_cancel_right}
 use Rattle.mesa_base.specs.Outside.{Files, Rose}
 use Rattle.mesa_base.specs.declared.status.Status.{Status}
 use Rattle.mesa_base.specs.declared.status.Status.TheVariants as status
-use Rattle.mesa_types.specs.Typed.{Module}
 use Rattle.source_meaning.specs.Program.{single}
 use Rattle.source_meaning.specs.Means.{outcome}
 use Rattle.source_meaning.specs.State.{End, Answer, Normal, Spent as TurnsSpent}
-use Rattle.mesa_command.specs.SmallGrammar.{Reads}
+use Rattle.mesa_command.specs.Text.{Reads, IsRefusedAs, text_too_long, bad_byte, open_string, number_too_large, token_too_long, unexpected, too_deep, not_yet}
 use Rattle.mesa_command.specs.Forms.{IsGo, HasNoForm, file_of}
 use Rattle.mesa_command.specs.Outputs.{Stream, HasFaulted, Receives}
-use Rattle.mesa_command.specs.Comes.{OfText, done, spent, write_fault, refused, memory_before, memory_in_run, Does, IsRefusedAs, not_built, Comes, of_text, absent, folder_fault, memory, usage, Shelf}
-use Rattle.mesa_command.specs.Case.{Case, Done, Spent, NotBuilt, Absent, WriteFault, FolderFault, Memory, Usage, status_of, line_of}
+use Rattle.mesa_command.specs.Comes.{OfText, done, spent, write_fault, refused, memory_before, memory_in_run, Does, Comes, of_text, absent, folder_fault, memory, usage, Shelf}
+use Rattle.mesa_command.specs.Case.{Case, Done, Spent, Fault, TextTooLong, NotYet, Absent, WriteFault, FolderFault, Memory, Usage, status_of, line_of}
 use Rattle.mesa_command.specs.Complete.{NoFault, Asks, AsksInVain, IsStatusOf, IsComplete, IsAnswer, IsRefused, IsAbsent, OneCaseComes}
-use Rattle.mesa_command.proofs.SmallModule.{one_module}
+use Rattle.mesa_command.proofs.Verdicts.{one_module, one_refusal, never_both}
 
 -- words are `go` of one file and one number of turns
 
@@ -37,35 +36,6 @@ one-base words b b' n n' go go' = append_cancel_right b b' (codes ".mesa") (ap s
 one-count : (words : List (List ℕ)) (b b' : List ℕ) (n n' : ℕ) → IsGo words b n → IsGo words b' n' → n ≡ n'
 unfolding third
 one-count words b b' n n' go go' = decimal_injective n n' go.bounded go'.bounded (ap third (sym go.are ∙ go'.are))
-
--- a text is refused in one way
-one_refusal : (file text : List ℕ) (a b : Case) → IsRefusedAs file text a → IsRefusedAs file text b → a ≡ b
-one_refusal file text (NotBuilt _) (NotBuilt _) (not_built none) (not_built none') = refl
-one_refusal file text Done b x y = elim x [ ]
-one_refusal file text Spent b x y = elim x [ ]
-one_refusal file text (Absent _) b x y = elim x [ ]
-one_refusal file text WriteFault b x y = elim x [ ]
-one_refusal file text (FolderFault _) b x y = elim x [ ]
-one_refusal file text Memory b x y = elim x [ ]
-one_refusal file text Usage b x y = elim x [ ]
-one_refusal file text (NotBuilt _) Done x y = elim y [ ]
-one_refusal file text (NotBuilt _) Spent x y = elim y [ ]
-one_refusal file text (NotBuilt _) (Absent _) x y = elim y [ ]
-one_refusal file text (NotBuilt _) WriteFault x y = elim y [ ]
-one_refusal file text (NotBuilt _) (FolderFault _) x y = elim y [ ]
-one_refusal file text (NotBuilt _) Memory x y = elim y [ ]
-one_refusal file text (NotBuilt _) Usage x y = elim y [ ]
-
--- a text that is run is not refused
-never_both : (file text : List ℕ) (case : Case) (m : Module) → IsRefusedAs file text case → Reads text m → ⊥
-never_both file text (NotBuilt _) m (not_built none) reads = none m reads
-never_both file text Done m x reads = elim x [ ]
-never_both file text Spent m x reads = elim x [ ]
-never_both file text (Absent _) m x reads = elim x [ ]
-never_both file text WriteFault m x reads = elim x [ ]
-never_both file text (FolderFault _) m x reads = elim x [ ]
-never_both file text Memory m x reads = elim x [ ]
-never_both file text Usage m x reads = elim x [ ]
 
 -- a text does one thing
 
@@ -286,7 +256,14 @@ uses words folder folder' old new Memory none (memory base turns go same) = absu
 uses words folder folder' old new Usage none (usage none') = refl
 
 used-refusal : (file text : List ℕ) (case : Case) → IsRefusedAs file text case → status_of case ≢ status.Usage
-used-refusal file text (NotBuilt _) (not_built none) e = cc
+used-refusal file text (TextTooLong _) (text_too_long h) e = cc
+used-refusal file text (Fault _ _ _) (bad_byte place h) e = cc
+used-refusal file text (Fault _ _ _) (open_string place h) e = cc
+used-refusal file text (Fault _ _ _) (number_too_large place h) e = cc
+used-refusal file text (Fault _ _ _) (token_too_long place h) e = cc
+used-refusal file text (Fault _ _ _) (unexpected place h) e = cc
+used-refusal file text (Fault _ _ _) (too_deep place h) e = cc
+used-refusal file text (NotYet _) (not_yet tree h n) e = cc
 used-refusal file text Done x e = elim x [ ]
 used-refusal file text Spent x e = elim x [ ]
 used-refusal file text (Absent _) x e = elim x [ ]

@@ -1,5 +1,5 @@
 -- A line that is written in two pieces.
-use Rattle.std.proofs.Common.{◌≡◌, ℕ, ◌+◌, ◌≤◌, List, ◌++◌, length, take, Bool, true, false, Option, Some, None, IfSome, refl, inl, inr, append_assoc, arith, sym, ◌∙◌, ap, length-append, append-nil, []}
+use Rattle.std.proofs.Common.{◌≡◌, ℕ, ◌+◌, ◌≤◌, List, ◌++◌, length, take, Bool, true, false, Option, Some, None, IfSome, refl, inl, inr, append_assoc, arith, sym, subst, ◌∙◌, ap, length-append, append-nil, []}
 use Rattle.std.proofs.Math.Seq.{take-append-add}
 use Rattle.std.proofs.lemmas.List.{take-append-le}
 use Rattle.mesa_base.specs.Outside.{AppendsPrefix, Rose}
@@ -46,16 +46,24 @@ part-cut (Some bytes) new a b part = record {
 pub receives-cut : (old new : Stream) (a b : List ℕ) → PrintsPrefix a old new → HasFaulted old new → Receives (a ++ b) old new
 receives-cut old new a b part rose = inr (rose, part-cut old.holds new.holds a b part)
 
--- a piece is taken whole, or cut
-pub receives-one : (took : Bool) (old new : Stream) (a : List ℕ) → (took ≡ true → PrintsAll a old new) →
-    (took ≡ false → PrintsPrefix a old new) → (took ≡ false → HasFaulted old new) → Receives a old new
-receives-one true old new a whole cut fault = inl (whole refl)
-receives-one false old new a whole cut fault = inr (fault refl, cut refl)
-
 -- nothing was written
 nothing-new : (holds : Option (List ℕ)) → IfSome holds (λ bytes. holds ≡ Some (bytes ++ []))
 nothing-new None = tt
 nothing-new (Some bytes) = ap Some (sym (append-nil bytes))
 
-pub receives-nothing : (old : Stream) → Receives [] old old
-receives-nothing old = inl (nothing-new old.holds)
+-- a further piece was taken whole
+pub prints-more : (old mid new : Stream) (a b c : List ℕ) → c ≡ a ++ b → PrintsAll a old mid → PrintsAll b mid new → PrintsAll c old new
+prints-more old mid new a b c e first second = subst (λ z. PrintsAll z old new) (sym e) (all-both old.holds mid.holds new.holds a b first second)
+
+-- a further piece was cut, so what stands behind it was not written
+pub receives-part : (old mid new : Stream) (a b c all : List ℕ) → all ≡ a ++ (b ++ c) → PrintsAll a old mid → old.faults ≤ mid.faults →
+    PrintsPrefix b mid new → HasFaulted mid new → Receives all old new
+receives-part old mid new a b c all e first stays part rose =
+    subst (λ z. Receives z old new) (sym e) (receives-both old mid new a (b ++ c) first stays (receives-cut mid new b c part rose))
+
+-- the pieces so far were all of them
+pub receives-all : (old new : Stream) (a all : List ℕ) → a ≡ all → PrintsAll a old new → Receives all old new
+receives-all old new a all e prints = inl (subst (λ z. PrintsAll z old new) e prints)
+
+pub prints-nothing : (old : Stream) → PrintsAll [] old old
+prints-nothing old = nothing-new old.holds

@@ -15,7 +15,7 @@ use Rattle.frame_machine.specs.Steps.{Steps}
 use Rattle.frame_machine.specs.OneResult.{results_alike}
 use Rattle.frame_machine.specs.Runs.{Completes, BreaksOff}
 use Rattle.mesa_command.specs.Code.{image_of}
-use Rattle.mesa_command.specs.FirstProgram.{FirstProgram}
+use Rattle.source_meaning.specs.FirstProgram.{FirstProgram}
 use Rattle.mesa_command.specs.Running.{answer_of, Ran, CutOff}
 use Rattle.mesa_command.specs.Comes.{MeansAtAnyInput}
 use Rattle.mesa_command.proofs.Whole.{simulation}

@@ -5,29 +5,21 @@ use Rattle.mesa_types.specs.Typed.{Module}
 use Rattle.source_meaning.specs.Program.{single}
 use Rattle.source_meaning.specs.State.{Answer, Normal, Spent as TurnsSpent, End}
 use Rattle.source_meaning.specs.Means.{Means}
-use Rattle.mesa_command.specs.SmallGrammar.{Reads}
+use Rattle.mesa_command.specs.Text.{Reads, IsRefusedAs}
 use Rattle.mesa_command.specs.Forms.{IsGo, HasNoForm, file_of}
 use Rattle.mesa_command.specs.Outputs.{Stream, PrintsAll, PrintsPrefix, HasFaulted}
-use Rattle.mesa_command.specs.Case.{Case, Done, Spent, NotBuilt, Absent, WriteFault, FolderFault, Memory, Usage}
+use Rattle.mesa_command.specs.Case.{Case, Done, Spent, Absent, WriteFault, FolderFault, Memory, Usage}
 
 -- the module's program means this output and this end, with so many turns left; it takes nothing of any input
 abbrev pub MeansAtAnyInput : Module → ℕ → List ℕ → Answer → ℕ → Type 0
 MeansAtAnyInput m turns output end left = (input : List ℕ) → Means (single m) input End turns output end left 0
 
--- the text is one of the small language, and this is what its module does within so many turns
+-- the text is one of the first program's language, and this is what its module does within so many turns
 pub record Does (text : List ℕ) (turns : ℕ) (output : List ℕ) (end : Answer) : Type 0 where
   pub tree : Module
   pub reads : Reads text tree
   pub left : ℕ
   pub means : MeansAtAnyInput tree turns output end left
-
--- no module has this text
-abbrev pub IsNoText : List ℕ → Type 0
-IsNoText text = (m : Module) → Reads text m → ⊥
-
--- the text of this file is refused by this answer
-pub data IsRefusedAs (file text : List ℕ) : Case → Type 0 where
-  not_built : IsNoText text → IsRefusedAs file text (NotBuilt file)
 
 -- what comes of the text of a file
 pub data OfText (file text : List ℕ) (turns : ℕ) (old new : Stream) : Case → Type 0 where

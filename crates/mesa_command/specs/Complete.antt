@@ -3,11 +3,12 @@ use Rattle.std.specs.Prelude.{◌≡◌, ◌≢◌, ℕ, ◌⊎◌, List, Some, 
 use Rattle.mesa_base.specs.Outside.{Files, Rose}
 use Rattle.mesa_base.specs.declared.status.Status.{Status}
 use Rattle.mesa_base.specs.declared.status.Status.TheVariants as status
-use Rattle.source_meaning.specs.State.{Answer, Normal, Gives, Spent, FrameLimit}
+use Rattle.source_meaning.specs.State.{Answer, Normal, Gives, Spent, FrameLimit, NoRow}
 use Rattle.mesa_command.specs.Forms.{IsGo, file_of}
 use Rattle.mesa_command.specs.Outputs.{Stream, HasFaulted, Receives}
 use Rattle.mesa_command.specs.Case.{Case, Absent, Memory, status_of, line_of}
-use Rattle.mesa_command.specs.Comes.{Shelf, Does, IsRefusedAs, Comes}
+use Rattle.mesa_command.specs.Text.{IsRefusedAs}
+use Rattle.mesa_command.specs.Comes.{Shelf, Does, Comes}
 
 -- no call failed
 pub record NoFault (folder folder' : Shelf) (old new : Stream) : Type 0 where
@@ -37,6 +38,7 @@ IsStatusOf Normal s = s ≡ status.Done
 IsStatusOf Spent s = s ≡ status.Spent
 IsStatusOf FrameLimit s = s ≡ status.FrameLimit
 IsStatusOf (Gives _) s = ⊥
+IsStatusOf NoRow s = ⊥
 
 -- a text of the language that is there is run, and the call ends as its module does
 abbrev pub IsComplete : List (List ℕ) → Shelf → Shelf → Stream → Stream → Status → Type 0
@@ -47,7 +49,7 @@ IsComplete words folder folder' old new s = (text output : List ℕ) (turns : �
 abbrev pub IsAnswer : Case → Stream → Stream → Status → Type 0
 IsAnswer case said said' s = ((s ≡ status_of case) × Receives (line_of case) said said') ⊎ (s ≡ status.Memory)
 
--- a text that is there and is refused is refused by its line
+-- a text that is there and has a fault, or holds what isn't built yet, is refused by its line
 abbrev pub IsRefused : List (List ℕ) → Shelf → Shelf → Stream → Stream → Status → Type 0
 IsRefused words folder folder' said said' s = (text : List ℕ) (turns : ℕ) (case : Case) (asks : Asks words folder text turns) →
     IsRefusedAs (file_of asks.base) text case → ¬ (Rose folder.faults folder'.faults) → IsAnswer case said said' s

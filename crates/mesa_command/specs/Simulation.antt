@@ -9,7 +9,7 @@ use Rattle.frame_machine.specs.declared.image.Image.{Image}
 use Rattle.frame_machine.specs.declared.outcome.End.{End}
 use Rattle.frame_machine.specs.Steps.{Steps}
 use Rattle.mesa_command.specs.Code.{image_of}
-use Rattle.mesa_command.specs.FirstProgram.{FirstProgram}
+use Rattle.source_meaning.specs.FirstProgram.{FirstProgram}
 use Rattle.mesa_command.specs.Running.{answer_of}
 
 -- the machine runs the image to this result's output, end and turns; and no byte of the input was taken

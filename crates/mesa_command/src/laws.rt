@@ -3,7 +3,7 @@ ghost use Rattle.std.specs.Prelude.{◌≡◌, List, ℕ};
 ghost use Rattle.mesa_types.specs.Typed.{Module};
 ghost use Rattle.mesa_command.specs.Complete.{OneCaseComes};
 ghost use Rattle.mesa_command.specs.Simulation.{ImagesRunAsTheirSource};
-ghost use Rattle.mesa_command.specs.SmallGrammar.{Reads};
+ghost use Rattle.mesa_command.specs.Text.{Reads};
 
 /// The machine runs the image of a module to the output, the end and the turns that the module means.
 pub fn images_run_as_their_source()

@@ -3,24 +3,27 @@
 
 ghost use Rattle.std.specs.Prelude.{◌≡◌, ◌<◌};
 
+mod built_in_names;
+mod cause;
+mod first_calls;
+mod first_declarations;
+mod first_fault;
+mod first_module;
+mod first_statements;
+mod first_sums;
+mod first_tree;
 mod forms;
 mod laws;
+mod links;
+#[cfg(test)]
+mod readings;
 mod reply;
 mod running;
-mod small_cursor;
-mod small_declarations;
-mod small_fault;
-mod small_names;
-mod small_reader;
-mod small_scan;
-mod small_statements;
-mod small_sums;
-mod small_token;
-mod small_words;
 #[cfg(test)]
 mod tests;
 mod top;
 mod translator;
+mod variables;
 
 pub use laws::{images_run_as_their_source, one_case, one_module};
 use mesa_base::{DirFolder, InSource, OutOfMemory, OutSink, Status, Steps, Words};

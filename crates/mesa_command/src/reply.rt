@@ -1,16 +1,21 @@
+//! How a call ends, and the line that says so.
+
 ghost use Rattle.std.specs.Prelude.{◌≡◌, ◌++◌, ◌≤◌, IsTrue, false};
-ghost use Rattle.mesa_command.specs.Case.{status_of, line_of};
-ghost use Rattle.mesa_command.specs.Reply.{reply_case};
+ghost use Rattle.mesa_command.specs.Case.{status_of, line_of, of_place};
+ghost use Rattle.mesa_command.specs.Reply.{reply_case, reply_cause, bytes_of, joined};
 ghost use Rattle.mesa_command.specs.Outputs.{stream, PrintsAll, PrintsPrefix, HasFaulted, Receives};
 
-use mesa_base::{Sink, Status};
+use crate::cause::Cause;
+use mesa_base::{Decimal, Place, Sink, Status};
 
 /// How a call ends, with what its line shows.
 #[derive(Clone, Copy, Debug)]
 pub enum Reply<'a> {
     Done,
     Spent,
-    NotBuilt(&'a str),
+    Fault(&'a str, Place, Cause),
+    TextTooLong(&'a str),
+    NotYet(&'a str),
     Absent(&'a str),
     WriteFault,
     FolderFault(&'a str),
@@ -25,7 +30,7 @@ impl Reply<'_> {
         match self {
             Reply::Done => Status::Done,
             Reply::Spent => Status::Spent,
-            Reply::NotBuilt(_) => Status::Refused,
+            Reply::Fault(..) | Reply::TextTooLong(_) | Reply::NotYet(_) => Status::Refused,
             Reply::Absent(_) => Status::Absent,
             Reply::WriteFault => Status::WriteFault,
             Reply::FolderFault(_) => Status::FolderFault,
@@ -37,51 +42,76 @@ impl Reply<'_> {
     /// Writes the line. A fault of `err` cuts it short and changes nothing else.
     pub fn tell<E: Sink>(&self, err: &mut E)
         ensures received { Receives (line_of (reply_case self.now)) (stream (E.written err.old) (E.faults err.old)) (stream (E.written err.new) (E.faults err.new)) }
-        ensures faults_stay { E.faults err.old ≤ E.faults err.new }
-    {
-        let line = self.line();
-        say(line.file, line.text, err);
-    }
-
-    fn line(&self) -> Line<'_>
-        ensures { line_of (reply_case self.now) ≡ result.file.now ++ result.text.now }
     {
         match self {
-            Reply::Done => Line::of("", ""),
-            Reply::Spent => Line::of("", "turns spent\n"),
-            Reply::NotBuilt(file) => Line::of(file, ": NotBuilt\n"),
-            Reply::Absent(file) => Line::of(file, ": absent\n"),
-            Reply::WriteFault => Line::of("", "output failed\n"),
-            Reply::FolderFault(file) => Line::of(file, ": folder failed\n"),
-            Reply::Memory => Line::of("", "out of memory\n"),
-            Reply::Usage => Line::of("", "usage: mesa compile, bind, list, run, go or exercise\n"),
+            Reply::Done => {}
+            Reply::Spent => say("", "turns spent\n", err),
+            Reply::Fault(file, place, cause) => say_place(file, *place, *cause, err),
+            Reply::TextTooLong(file) => say(file, ": TextTooLong\n", err),
+            Reply::NotYet(file) => say(file, ": NotYet\n", err),
+            Reply::Absent(file) => say(file, ": absent\n", err),
+            Reply::WriteFault => say("", "output failed\n", err),
+            Reply::FolderFault(file) => say(file, ": folder failed\n", err),
+            Reply::Memory => say("", "out of memory\n", err),
+            Reply::Usage => say(
+                "",
+                "usage: mesa compile, bind, list, run, go or exercise\n",
+                err,
+            ),
         }
     }
 }
 
-/// A line: what it says of a file begins with the file's name.
+/// A piece of a line.
 #[derive(Clone, Copy)]
-struct Line<'a> {
-    file: &'a str,
-    text: &'a str,
+enum Piece<'a> {
+    Text(&'a str),
+    Number(u32),
 }
 
-impl<'a> Line<'a> {
-    fn of(file: &'a str, text: &'a str) -> Line<'a>
-        ensures file { result.file.now ≡ file.now }
-        ensures text { result.text.now ≡ text.now }
-    {
-        Line { file, text }
+/// FILE:LINE:COLUMN: Cause
+fn say_place<E: Sink>(file: &str, place: Place, cause: Cause, err: &mut E)
+    ensures { Receives (of_place file.now place (reply_cause cause)) (stream (E.written err.old) (E.faults err.old)) (stream (E.written err.new) (E.faults err.new)) }
+{
+    let pieces = [
+        Piece::Text(file),
+        Piece::Text(":"),
+        Piece::Number(place.line),
+        Piece::Text(":"),
+        Piece::Number(place.column),
+        Piece::Text(": "),
+        Piece::Text(cause.name()),
+        Piece::Text("\n"),
+    ];
+    say_all(&pieces, err);
+}
+
+fn say<E: Sink>(file: &str, text: &str, err: &mut E)
+    ensures { Receives (file.now ++ text.now) (stream (E.written err.old) (E.faults err.old)) (stream (E.written err.new) (E.faults err.new)) }
+{
+    say_all(&[Piece::Text(file), Piece::Text(text)], err);
+}
+
+/// The pieces in order, each only where those before were taken.
+fn say_all<E: Sink>(pieces: &[Piece<'_>], err: &mut E)
+    ensures { Receives (joined pieces.now) (stream (E.written err.old) (E.faults err.old)) (stream (E.written err.new) (E.faults err.new)) }
+{
+    for piece in pieces {
+        if !send_piece(*piece, err) {
+            break;
+        }
     }
 }
 
-/// Two pieces, the second only where the first was taken.
-fn say<E: Sink>(file: &str, text: &str, err: &mut E)
-    ensures received { Receives (file.now ++ text.now) (stream (E.written err.old) (E.faults err.old)) (stream (E.written err.new) (E.faults err.new)) }
+fn send_piece<E: Sink>(piece: Piece<'_>, err: &mut E) -> bool
+    ensures whole { IsTrue result → PrintsAll (bytes_of piece.entry) (stream (E.written err.old) (E.faults err.old)) (stream (E.written err.new) (E.faults err.new)) }
+    ensures cut { result ≡ false → PrintsPrefix (bytes_of piece.entry) (stream (E.written err.old) (E.faults err.old)) (stream (E.written err.new) (E.faults err.new)) }
+    ensures fault { result ≡ false → HasFaulted (stream (E.written err.old) (E.faults err.old)) (stream (E.written err.new) (E.faults err.new)) }
     ensures faults_stay { E.faults err.old ≤ E.faults err.new }
 {
-    if send(file.as_bytes(), err) {
-        send(text.as_bytes(), err);
+    match piece {
+        Piece::Text(text) => send(text.as_bytes(), err),
+        Piece::Number(number) => send(Decimal::of(u64::from(number)).as_bytes(), err),
     }
 }
 

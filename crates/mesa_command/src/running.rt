@@ -2,7 +2,7 @@ ghost use Rattle.std.specs.Prelude.{◌≡◌, ◌≢◌, ◌≤◌, IfOk, OnErr
 ghost use Rattle.mesa_base.specs.Outside.{Rose};
 ghost use Rattle.mesa_types.specs.Plain.{plain};
 ghost use Rattle.mesa_types.specs.Sound.{Sound};
-ghost use Rattle.mesa_command.specs.FirstProgram.{FirstProgram};
+ghost use Rattle.source_meaning.specs.FirstProgram.{FirstProgram};
 ghost use Rattle.mesa_command.specs.Running.{Ran, CutOff};
 
 use crate::translator::translate;

@@ -1,4 +1,4 @@
-//! Runs of the small language, and calls that fail, through `mesa` over objects in memory.
+//! Runs of the first program's language, and calls that fail, through `mesa` over objects in memory.
 ghost use Rattle.std.specs.Prelude.{◌≡◌, ◌<◌};
 
 use crate::top::mesa;
@@ -34,10 +34,10 @@ struct Call<'a> {
 
 /// What a call left: its exit status, and what `out` and `err` received.
 #[derive(Debug, Drop)]
-struct Left {
-    status: u8,
-    out: Bytes,
-    err: Bytes,
+pub struct Left {
+    pub status: u8,
+    pub out: Bytes,
+    pub err: Bytes,
 }
 
 fn numbers(alloc: Global, all: &[u32]) -> Result<Numbers, OutOfMemory> {
@@ -128,7 +128,7 @@ fn called(alloc: Global, call: &Call<'_>) -> Result<Left, OutOfMemory> {
     left_in(alloc, status, &objects)
 }
 
-fn left_by(rt: &HostRuntime, words: &str, text: &str) -> Result<Left, OutOfMemory> {
+pub fn left_by(rt: &HostRuntime, words: &str, text: &str) -> Result<Left, OutOfMemory> {
     let made = Call {
         words,
         text: text.as_bytes(),
@@ -139,7 +139,7 @@ fn left_by(rt: &HostRuntime, words: &str, text: &str) -> Result<Left, OutOfMemor
     called(rt.alloc(), &made)
 }
 
-fn is_left(left: &Left, status: u8, out: &str, err: &str) -> bool {
+pub fn is_left(left: &Left, status: u8, out: &str, err: &str) -> bool {
     left.status == status
         && left.out.as_slice() == out.as_bytes()
         && left.err.as_slice() == err.as_bytes()
@@ -160,7 +160,7 @@ fn worked_rows(rt: HostRuntime) -> Result<(), Fail> {
             "Nothing: PROGRAM = BEGIN x ← 1 END.",
             4,
             "",
-            "M.mesa: NotBuilt\n",
+            "M.mesa: NotYet\n",
         ),
     ];
     for (words, text, status, out, err) in rows {
@@ -233,20 +233,29 @@ fn calls_that_fail(rt: HostRuntime) -> Result<(), Fail> {
     Ok(())
 }
 
-/// Texts of the small language, and texts that are none.
+/// Texts of the first program's language, and texts that are none.
 #[test]
 fn texts(rt: HostRuntime) -> Result<(), Fail> {
     let rows = [
         ("a: INTEGER; a _ a -- none -- + 1", true),
         ("a: INTEGER ← 17; a ← a;", true),
-        ("a: INTEGER ← 19B", false),
-        ("a: INTEGER ← 17B;", false),
-        ("a: INTEGER ← 17D;", false),
+        ("a: INTEGER ← 19B;", false),
+        ("a: INTEGER ← 17B;", true),
+        ("a: INTEGER ← 17D;", true),
+        ("a: INTEGER ← 77777B;", true),
+        ("a: INTEGER ← 100000B;", false),
         ("a: INTEGER ← 32768;", false),
         ("a: INTEGER ← 007;", true),
+        ("a: INTEGER ← (1);", false),
+        ("a: INTEGER ← 1 + 2 * 3;", false),
+        ("a: INTEGER ← -1;", false),
         ("a: INTEGER ← a;", false),
         ("a: INTEGER; a: INTEGER;", false),
-        ("b ← 1; a: INTEGER;", false),
+        ("a, b: INTEGER;", false),
+        ("a: PUBLIC INTEGER;", false),
+        ("a: INTEGER = 1;", false),
+        ("a: CARDINAL;", false),
+        ("b ← 1;", false),
         ("IODefs: INTEGER;", false),
         ("WriteChar: INTEGER;", false),
         ("BoundsFault: INTEGER;", false),
@@ -257,8 +266,10 @@ fn texts(rt: HostRuntime) -> Result<(), Fail> {
             "a: INTEGER; WHILE a <= 0 DO a ← a - 1 + 2; ENDLOOP; a ← 1;",
             true,
         ),
-        ("a: INTEGER; WHILE a < = 0 DO ENDLOOP", false),
-        ("a: INTEGER;; a ← 1", false),
+        ("a: INTEGER; WHILE a NOT < 0 DO ENDLOOP", false),
+        ("a: INTEGER; UNTIL a < 0 DO ENDLOOP", false),
+        ("a: INTEGER; WHILE a DO ENDLOOP", false),
+        ("DO ENDLOOP", false),
         ("a: INTEGER; IF a = 1 THEN a ← 2", false),
     ];
     for (inner, is_text) in rows {

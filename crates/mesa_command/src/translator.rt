@@ -1,10 +1,19 @@
-ghost use Rattle.std.specs.Prelude.{◌≡◌, [], ◌∷◌, ◌++◌, map, IfOk, OnOk};
-ghost use Rattle.mesa_types.specs.Plain.{expr, operation, exprs_of, operations_of, stmt, stmts_of, plain, host, operator, relation};
-ghost use Rattle.mesa_command.specs.Code.{code_of_expr, code_of_exprs, code_of_operations, code_of_stmt, code_of_stmts, code_of_relation, code_of_operator, code_of_host, image_of};
+ghost use Rattle.std.specs.Prelude.{◌≡◌, [], ◌∷◌, ◌++◌, ◌≤◌, map, slice_get, bytes_eq, IfOk, OnOk};
+ghost use Rattle.mesa_types.specs.Typed.{NoSuffix, NoExits, NoOperation};
+ghost use Rattle.mesa_types.specs.Plain.{chain, exprs, stmts, condition, exit, expr, kinds_of, loop, operation, phrase, plain, stmt, suffix};
+ghost use Rattle.mesa_types.specs.Shapes.{words_in_all};
+ghost use Rattle.mesa_types.specs.Sound.{Sound};
+ghost use Rattle.source_meaning.specs.Program.{host_of};
+ghost use Rattle.mesa_command.specs.Code.{code_of_relation, code_of_operation, code_of_host, code_of_link, code_of_expr, code_of_exprs, code_of_operations, code_of_stmt, code_of_stmts, code_of_loop, image_of};
+ghost use Rattle.mesa_command.specs.Rows.{global_at, one_global, called_link, is_plain, ends_plainly};
 
+use crate::links::links_of;
 use frame_machine::{Image, Instruction};
-use mesa_base::{List, OutOfMemory};
-use mesa_types::{Host, Operation, Operator, Relation, TypedExpr, TypedModule, TypedStmt};
+use mesa_base::{List, Name, OutOfMemory};
+use mesa_types::{
+    Base, Callee, Condition, Exit, Fields, Home, Items, Loop, Operation, Operator, Phrase, Range,
+    Relation, Suffix, TypedExpr, TypedModule, TypedStmt, fields_words,
+};
 use std::alloc::Global;
 
 type Code = List<Instruction>;
@@ -16,26 +25,48 @@ fn put(code: &mut Code, instruction: Instruction) -> Result<(), OutOfMemory>
     Ok(())
 }
 
-fn instruction_of(sign: Operator) -> Instruction
-    ensures { result ≡ code_of_operator (operator sign) }
+/// The global, where nothing stands behind its name.
+fn global_at(home: Home, suffixes: &[Suffix]) -> Option<u16>
+    ensures { result ≡ global_at home (chain (map suffix suffixes.now) NoSuffix) }
 {
-    match sign {
-        Operator::Plus => Instruction::Add,
-        Operator::Minus => Instruction::Sub,
+    match (home, suffixes) {
+        (Home::Global(at), []) => Some(at),
+        _ => None,
     }
 }
 
-fn call_of(procedure: Host) -> Instruction
-    ensures { result ≡ code_of_host (host procedure) }
+fn one_global(homes: &[Home]) -> Option<u16>
+    ensures { result ≡ one_global homes.now }
 {
-    match procedure {
-        Host::WriteChar => Instruction::WriteChar,
-        Host::WriteDecimal => Instruction::WriteDecimal,
+    match homes {
+        [Home::Global(at)] => Some(*at),
+        _ => None,
     }
+}
+
+fn called_link(callee: Callee, places: &[u32], catching: &Phrase) -> Option<u32>
+    ensures { result ≡ called_link callee places.now (phrase catching.now) }
+{
+    match (callee, places, catching) {
+        (Callee::LinkedProcedure(link), [], Phrase::NoPhrase) => Some(link),
+        _ => None,
+    }
+}
+
+fn is_plain(catching: &Phrase, exits: &[Exit]) -> bool
+    ensures { result ≡ is_plain (phrase catching.now) (chain (map exit exits.now) NoExits) }
+{
+    matches!((catching, exits), (Phrase::NoPhrase, []))
+}
+
+fn ends_plainly(exits: &[Exit], finished: &TypedStmt) -> bool
+    ensures { result ≡ ends_plainly (chain (map exit exits.now) NoExits) (stmt finished.now) }
+{
+    matches!((exits, finished), ([], TypedStmt::Null))
 }
 
 fn put_relation(code: &mut Code, sign: Relation) -> Result<(), OutOfMemory>
-    ensures { OnOk result (code.new ≡ code.old ++ code_of_relation (relation sign)) }
+    ensures { OnOk result (code.new ≡ code.old ++ code_of_relation sign) }
 {
     match sign {
         Relation::Equal => put(code, Instruction::Eq),
@@ -60,78 +91,128 @@ fn put_relation(code: &mut Code, sign: Relation) -> Result<(), OutOfMemory>
     }
 }
 
-#[cycle(expressions)]
-fn put_expr(code: &mut Code, e: &TypedExpr) -> Result<(), OutOfMemory>
-    ensures { OnOk result (code.new ≡ code.old ++ code_of_expr (expr e.now)) }
+fn is_spelled(name: &Name, text: &[u8]) -> bool
+    ensures { result ≡ bytes_eq name.now text.now }
 {
-    match e {
-        TypedExpr::Number(word) => put(code, Instruction::Lit(*word)),
-        TypedExpr::Variable(at) => put(code, Instruction::LoadG(*at)),
-        TypedExpr::Operate(first, operations) => {
-            put_expr(code, first.get())?;
-            put_operations(code, operations.as_slice())
-        }
-        TypedExpr::Relate(sign, left, right) => {
-            put_expr(code, left.get())?;
-            put_expr(code, right.get())?;
-            put_relation(code, *sign)
-        }
-        TypedExpr::Call(procedure, arguments) => {
-            put_exprs(code, arguments.as_slice())?;
-            put(code, call_of(*procedure))
-        }
+    name.bytes() == text
+}
+
+#[tactic(auto, unfolding(source_meaning::specs::Program::host_of))]
+fn put_host(code: &mut Code, name: &Name) -> Result<(), OutOfMemory>
+    ensures { OnOk result (code.new ≡ code.old ++ code_of_host (host_of name.now)) }
+{
+    if is_spelled(name, b"WriteChar") {
+        put(code, Instruction::WriteChar)
+    } else if is_spelled(name, b"WriteDecimal") {
+        put(code, Instruction::WriteDecimal)
+    } else {
+        Ok(())
+    }
+}
+
+fn put_call(code: &mut Code, links: &Items, link: u32) -> Result<(), OutOfMemory>
+    ensures { OnOk result (code.new ≡ code.old ++ code_of_link (slice_get links.now link)) }
+{
+    match links.get(link as usize) {
+        Some(item) => put_host(code, &item.name),
+        None => Ok(()),
     }
 }
 
 #[cycle(expressions)]
-fn put_exprs(code: &mut Code, es: &[TypedExpr]) -> Result<(), OutOfMemory>
-    ensures { OnOk result (code.new ≡ code.old ++ code_of_exprs (exprs_of (map expr es.now))) }
+fn put_expr(code: &mut Code, e: &TypedExpr, links: &Items) -> Result<(), OutOfMemory>
+    ensures { OnOk result (code.new ≡ code.old ++ code_of_expr links.now (expr e.now)) }
+{
+    match e {
+        TypedExpr::Number(word) => put(code, Instruction::Lit(*word)),
+        TypedExpr::Variable(home, suffixes, _) => match global_at(*home, suffixes.as_slice()) {
+            Some(at) => put(code, Instruction::LoadG(at)),
+            None => Ok(()),
+        },
+        TypedExpr::Operate(first, operations) => {
+            put_expr(code, first.get(), links)?;
+            put_operations(code, operations.as_slice(), links)
+        }
+        TypedExpr::Relate(Base::Signed, sign, left, right) => {
+            put_expr(code, left.get(), links)?;
+            put_expr(code, right.get(), links)?;
+            put_relation(code, *sign)
+        }
+        TypedExpr::Call(callee, places, arguments, _, catching) => {
+            let Some(link) = called_link(*callee, places.as_slice(), catching.get()) else {
+                return Ok(());
+            };
+            put_exprs(code, arguments.as_slice(), links)?;
+            put_call(code, links, link)
+        }
+        _ => Ok(()),
+    }
+}
+
+#[cycle(expressions)]
+fn put_exprs(code: &mut Code, es: &[TypedExpr], links: &Items) -> Result<(), OutOfMemory>
+    ensures { OnOk result (code.new ≡ code.old ++ code_of_exprs links.now (exprs (map expr es.now))) }
 {
     for e in es {
-        put_expr(code, e)?;
+        put_expr(code, e, links)?;
     }
     Ok(())
 }
 
 #[cycle(expressions)]
-fn put_operations(code: &mut Code, operations: &[Operation]) -> Result<(), OutOfMemory>
-    ensures { OnOk result (code.new ≡ code.old ++ code_of_operations (operations_of (map operation operations.now))) }
+fn put_operations(
+    code: &mut Code,
+    operations: &[Operation],
+    links: &Items,
+) -> Result<(), OutOfMemory>
+    ensures { OnOk result (code.new ≡ code.old ++ code_of_operations links.now (chain (map operation operations.now) NoOperation)) }
 {
     for step in operations {
-        put_expr(code, &step.right)?;
-        put(code, instruction_of(step.operator))?;
+        match (step.check, step.operator) {
+            (Range::Every, Operator::Plus) => {
+                put_expr(code, &step.right, links)?;
+                put(code, Instruction::Add)?;
+            }
+            (Range::Every, Operator::Minus) => {
+                put_expr(code, &step.right, links)?;
+                put(code, Instruction::Sub)?;
+            }
+            _ => {}
+        }
     }
     Ok(())
 }
 
 #[cycle(statements)]
-fn put_stmt(code: &mut Code, s: &TypedStmt) -> Result<(), OutOfMemory>
-    ensures { OnOk result (code.new ≡ code.old ++ code_of_stmt (stmt s.now)) }
+fn put_stmt(code: &mut Code, s: &TypedStmt, links: &Items) -> Result<(), OutOfMemory>
+    ensures { OnOk result (code.new ≡ code.old ++ code_of_stmt links.now (stmt s.now)) }
 {
     match s {
-        TypedStmt::Declare(at) => put_zero(code, *at),
-        TypedStmt::DeclareAs(at, e) => {
-            put_zero(code, *at)?;
-            put_expr(code, e)?;
-            put(code, Instruction::StoreG(*at))
+        TypedStmt::Declare(homes, _) => match one_global(homes.as_slice()) {
+            Some(at) => put_zero(code, at),
+            None => Ok(()),
+        },
+        TypedStmt::DeclareAs(homes, e) => {
+            let Some(at) = one_global(homes.as_slice()) else {
+                return Ok(());
+            };
+            put_zero(code, at)?;
+            put_expr(code, e, links)?;
+            put(code, Instruction::StoreG(at))
         }
-        TypedStmt::Assign(at, e) => {
-            put_expr(code, e)?;
-            put(code, Instruction::StoreG(*at))
+        TypedStmt::Assign(home, suffixes, e) => {
+            let Some(at) = global_at(*home, suffixes.as_slice()) else {
+                return Ok(());
+            };
+            put_expr(code, e, links)?;
+            put(code, Instruction::StoreG(at))
         }
-        TypedStmt::Perform(e) => put_expr(code, e),
-        TypedStmt::Block(ss) => put_stmts(code, ss.as_slice()),
-        TypedStmt::While(control, body) => {
-            let start = code.len();
-            put_expr(code, control)?;
-            let test = code.len();
-            put(code, Instruction::JumpIfNot(0))?;
-            put_stmt(code, body.get())?;
-            let end = code.len();
-            put(code, Instruction::JumpBack(end - start))?;
-            code.set(test, Instruction::JumpIfNot(end - test));
-            Ok(())
+        TypedStmt::Perform(e) => put_expr(code, e, links),
+        TypedStmt::Block(catching, ss, exits) if is_plain(catching.get(), exits.as_slice()) => {
+            put_stmts(code, ss.as_slice(), links)
         }
+        TypedStmt::Repeat(l) => put_loop(code, l.get(), links),
+        _ => Ok(()),
     }
 }
 
@@ -144,24 +225,55 @@ fn put_zero(code: &mut Code, at: u16) -> Result<(), OutOfMemory>
 }
 
 #[cycle(statements)]
-fn put_stmts(code: &mut Code, ss: &[TypedStmt]) -> Result<(), OutOfMemory>
-    ensures { OnOk result (code.new ≡ code.old ++ code_of_stmts (stmts_of (map stmt ss.now))) }
+fn put_stmts(code: &mut Code, ss: &[TypedStmt], links: &Items) -> Result<(), OutOfMemory>
+    ensures { OnOk result (code.new ≡ code.old ++ code_of_stmts links.now (stmts (map stmt ss.now))) }
 {
     for s in ss {
-        put_stmt(code, s)?;
+        put_stmt(code, s, links)?;
     }
     Ok(())
+}
+
+#[cycle(statements)]
+fn put_loop(code: &mut Code, l: &Loop, links: &Items) -> Result<(), OutOfMemory>
+    ensures { OnOk result (code.new ≡ code.old ++ code_of_loop links.now (loop l.now)) }
+{
+    let Condition::While(control) = &l.condition else {
+        return Ok(());
+    };
+    if !ends_plainly(l.exits.as_slice(), &l.finished) {
+        return Ok(());
+    }
+    let start = code.len();
+    put_expr(code, control, links)?;
+    let test = code.len();
+    put(code, Instruction::JumpIfNot(0))?;
+    put_stmt(code, &l.body, links)?;
+    let end = code.len();
+    put(code, Instruction::JumpBack(end - start))?;
+    code.set(test, Instruction::JumpIfNot(end - test));
+    Ok(())
+}
+
+#[tactic(auto, using(crate::proofs::Globals::words_of_globals))]
+fn words_of(globals: &Fields) -> u16
+    requires { words_in_all (kinds_of globals.now) ≤ 16384 }
+    ensures { result ≡ words_in_all (kinds_of globals.now) }
+{
+    fields_words(globals.as_slice()) as u16
 }
 
 /// The image of a module: the code of its body, which stands at offset 0. Nothing is refused but for want of memory.
 /// The recursion is as deep as the tree.
 pub fn translate(alloc: Global, module: &TypedModule) -> Result<Image, OutOfMemory>
+    requires { Sound (plain «module».now) }
     ensures { IfOk result (λ image. image ≡ image_of (plain «module».now)) }
 {
+    let links = links_of(alloc, &module.imports)?;
     let mut code = List::new(alloc);
-    put_stmt(&mut code, &module.body)?;
+    put_stmt(&mut code, &module.body.does, &links)?;
     Ok(Image {
-        globals: module.globals,
+        globals: words_of(&module.globals),
         code,
     })
 }

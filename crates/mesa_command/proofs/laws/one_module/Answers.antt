@@ -1,5 +1,5 @@
-use Rattle.mesa_command.proofs.SmallModule as law
+use Rattle.mesa_command.proofs.Verdicts.{one_module}
 use Rattle.mesa_command.proofs.laws.one_module.Goals as goal
 
 pub returns : goal.returns
-returns c = law.one_module
+returns c = one_module

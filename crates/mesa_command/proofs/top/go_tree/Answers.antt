@@ -1,16 +1,13 @@
-use Rattle.std.proofs.Common.{ap, Err}
-use Rattle.mesa_command.proofs.Coming.{ran-comes, cut-comes, memory-comes}
+use Rattle.std.proofs.Common.{Some, ap, sym, ◌∙◌}
+use Rattle.mesa_types.specs.Plain.{plain}
+use Rattle.mesa_command.proofs.Coming.{unbuilt-comes}
 use Rattle.mesa_command.proofs.top.go_tree.Goals as goal
 
+pub returns-in-Err-clause-comes : goal.returns-in-Err-clause-comes
+returns-in-Err-clause-comes g c = λ text has.
+    unbuilt-comes _ _ _ _ _ _ _ has c.in-Err.ensures.gives c.unbuilt.ensures.not_yet c.unbuilt.ensures.memory
+
 pub returns-in-Ok-clause-comes : goal.returns-in-Ok-clause-comes
-returns-in-Ok-clause-comes g c = λ text reads.
-    rw c.ended.ensures (ran-comes _ text _ _ c.in-Ok.outcome _ _ _ _ reads c.in-Ok.ensures.ok)
-
-pub returns-in-Err-WriteFault-clause-comes : goal.returns-in-Err-WriteFault-clause-comes
-returns-in-Err-WriteFault-clause-comes g c = λ text reads.
-    cut-comes _ text _ _ _ _ _ _ reads c.in-Err-WriteFault.ensures.cut_off
-    (c.in-Err-WriteFault.ensures.write_fault (ap Err c.in-Err-WriteFault.field-0-is))
-
-pub returns-in-Err-Memory-clause-comes : goal.returns-in-Err-Memory-clause-comes
-returns-in-Err-Memory-clause-comes g c = λ text reads.
-    memory-comes _ text _ _ _ _ _ _ reads c.in-Err-Memory.ensures.cut_off
+returns-in-Ok-clause-comes g c = λ text has.
+    c.go_module.ensures.comes text
+    (record { tree = _; has_tree = has; is_typed = c.in-Ok.ensures.gives ∙ ap (λ m. Some (plain m)) (sym c.get.ensures) })

@@ -1,14 +1,15 @@
 use Rattle.std.proofs.Common.{◌≡◌, ◌++◌, map, drop}
-use Rattle.mesa_types.specs.Plain.{expr, operation, exprs_of, operations_of}
+use Rattle.mesa_types.specs.Typed.{NoOperation}
+use Rattle.mesa_types.specs.Plain.{chain, expr, exprs, operation}
 use Rattle.mesa_command.specs.Code.{code_of_exprs, code_of_operations}
 use Rattle.mesa_command.proofs.translator.+expressions.Given as goal
 
 abbrev pub invariant-put_exprs-loop-e : goal.invariant-put_exprs-loop-e
 invariant-put_exprs-loop-e l =
-    l.fn.code ++ code_of_exprs (exprs_of (map expr l.es))
-    ≡ l.code ++ code_of_exprs (exprs_of (map expr (drop l.e-index l.es)))
+    l.fn.code ++ code_of_exprs l.links (exprs (map expr l.es))
+    ≡ l.code ++ code_of_exprs l.links (exprs (map expr (drop l.e-index l.es)))
 
 abbrev pub invariant-put_operations-loop-step : goal.invariant-put_operations-loop-step
 invariant-put_operations-loop-step l =
-    l.fn.code ++ code_of_operations (operations_of (map operation l.operations))
-    ≡ l.code ++ code_of_operations (operations_of (map operation (drop l.step-index l.operations)))
+    l.fn.code ++ code_of_operations l.links (chain (map operation l.operations) NoOperation)
+    ≡ l.code ++ code_of_operations l.links (chain (map operation (drop l.step-index l.operations)) NoOperation)
