@@ -9,7 +9,7 @@ use Rattle.frame_machine.specs.declared.outcome.End.{End}
 use Rattle.frame_machine.specs.declared.outcome.End.TheVariants as end
 use Rattle.frame_machine.specs.declared.outcome.Outcome.{Outcome}
 use Rattle.mesa_lexer.specs.declared.token.Tokens.{Tokens}
-use Rattle.mesa_grammar.specs.Answer as grammar
+use Rattle.module_productions.specs.Answer as grammar
 use Rattle.mesa_lexer.specs.Tokens.{HasTokens, HasLexFault, text_too_long, no_token, not_in_text, open_text, too_large, too_long}
 use Rattle.mesa_lexer.specs.declared.fault.SyntaxFault.{SyntaxFault}
 use Rattle.mesa_lexer.specs.declared.fault.SyntaxFault.TheVariants as fault

@@ -9,8 +9,8 @@ use Rattle.mesa_lexer.specs.declared.fault.SyntaxFault.{SyntaxFault}
 use Rattle.mesa_lexer.specs.declared.fault.SyntaxFault.TheVariants as syntax
 use Rattle.mesa_types.specs.Typed as t
 use Rattle.mesa_types.specs.declared.syntax.Module.{Module}
-use Rattle.mesa_grammar.specs.Answer as grammar
-use Rattle.mesa_grammar.specs.Answer.{Parses}
+use Rattle.module_productions.specs.Answer as grammar
+use Rattle.module_productions.specs.Answer.{Parses}
 use Rattle.mesa_command.specs.FirstText.{first_module}
 use Rattle.mesa_command.specs.Case.{Case, Fault, BadByte, OpenString, NumberTooLarge, TokenTooLong, Unexpected, TooDeep, TextTooLong, NotYet}
 

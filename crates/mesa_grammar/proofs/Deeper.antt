@@ -3,10 +3,10 @@ use Rattle.std.proofs.Common.{◌≡◌, ℕ, suc, ◌-◌, ◌<◌, Bool, true,
 use Rattle.mesa_lexer.specs.declared.token.Token.{Token}
 use Rattle.mesa_lexer.specs.declared.token.Kind.{Kind}
 use Rattle.mesa_lexer.specs.Parsing.{Stop, TooDeep, refuse, too_deep}
-use Rattle.mesa_grammar.specs.declared.fault.Stopped.{Stopped}
-use Rattle.mesa_grammar.specs.declared.fault.Stopped.TheVariants as f
-use Rattle.mesa_grammar.specs.Running.{next_is, why_of}
-use Rattle.mesa_grammar.proofs.Choosing.{when_true, when_false}
+use Rattle.token_cursor.specs.declared.fault.Stopped.{Stopped}
+use Rattle.token_cursor.specs.declared.fault.Stopped.TheVariants as f
+use Rattle.token_cursor.specs.Running.{next_is, why_of}
+use Rattle.token_cursor.proofs.Choosing.{when_true, when_false}
 
 pub deeper : {X : Type 0} (f : ℕ → X) (n : ℕ) → 0 < n → f n ≡ f (suc (n - 1))
 deeper f n some = let e : n ≡ suc (n - 1) = omega arith in ap f e

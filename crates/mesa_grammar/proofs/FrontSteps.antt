@@ -5,13 +5,13 @@ use Rattle.mesa_lexer.specs.declared.token.Token.{Token}
 use Rattle.mesa_lexer.specs.Parsing.{Got, and_then, pure, a_name, Go, go_on, repeat, many_turn}
 use Rattle.mesa_lexer.proofs.Loops.{Eats, unroll}
 use Rattle.mesa_types.specs.declared.syntax.Declaration.{Declaration}
-use Rattle.mesa_grammar.specs.Running.{next_is, taken, behind}
-use Rattle.mesa_grammar.specs.Nested.{identifier}
-use Rattle.mesa_grammar.specs.Statements as st
-use Rattle.mesa_grammar.specs.Statements.{nested}
-use Rattle.mesa_grammar.specs.Texts as tx
-use Rattle.mesa_grammar.proofs.Levels.{all_of}
-use Rattle.mesa_grammar.proofs.KeepModules as km
+use Rattle.token_cursor.specs.Running.{next_is, taken, behind}
+use Rattle.module_productions.specs.Nested.{identifier}
+use Rattle.module_productions.specs.Statements as st
+use Rattle.module_productions.specs.Statements.{nested}
+use Rattle.module_productions.specs.Texts as tx
+use Rattle.module_productions.proofs.Levels.{all_of}
+use Rattle.module_productions.proofs.KeepModules as km
 use Rattle.mesa_grammar.proofs.Stepping.{Step_at, Next_at, step_at, next_at, next_item, next_stmts}
 
 pub front_eats : (n : ℕ) → Eats (tx.front_turn (nested n))

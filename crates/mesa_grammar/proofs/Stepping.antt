@@ -10,14 +10,14 @@ use Rattle.mesa_lexer.proofs.Loops.{unroll}
 use Rattle.mesa_types.specs.declared.syntax.Identifier.{Identifier}
 use Rattle.mesa_types.specs.declared.syntax.Statement.TheVariants as s
 use Rattle.mesa_types.specs.declared.syntax.Count.TheVariants.{For}
-use Rattle.mesa_grammar.specs.Running.{taken, behind, next_is}
-use Rattle.mesa_grammar.specs.Signs.{negating}
-use Rattle.mesa_grammar.specs.Nested.{identifier, named}
-use Rattle.mesa_grammar.specs.Expressions as x
-use Rattle.mesa_grammar.specs.Statements as st
-use Rattle.mesa_grammar.specs.Statements.{nested, Local}
-use Rattle.mesa_grammar.proofs.Taking.{chosen, choose_by, when_by}
-use Rattle.mesa_grammar.proofs.Parts.{head_eats}
+use Rattle.token_cursor.specs.Running.{taken, behind, next_is}
+use Rattle.module_productions.specs.Signs.{negating}
+use Rattle.module_productions.specs.Nested.{identifier, named}
+use Rattle.module_productions.specs.Expressions as x
+use Rattle.module_productions.specs.Statements as st
+use Rattle.module_productions.specs.Statements.{nested, Local}
+use Rattle.token_cursor.proofs.Taking.{chosen, choose_by, when_by}
+use Rattle.module_productions.proofs.Parts.{head_eats}
 
 -- ---- what follows a step
 

@@ -1,13 +1,1 @@
-pub mod Answer
-pub mod Depth
-pub mod Expressions
-pub mod Grammar
-pub mod Modules
-pub mod Nested
-pub mod Nests
-pub mod Running
-pub mod Signs
 pub mod StatementTails
-pub mod Statements
-pub mod Tails
-pub mod Texts

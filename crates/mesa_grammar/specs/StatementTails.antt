@@ -16,13 +16,14 @@ use Rattle.mesa_types.specs.declared.syntax.Statement.TheVariants as s
 use Rattle.mesa_types.specs.declared.syntax.TypeExp.{TypeExp}
 use Rattle.mesa_grammar.specs.declared.blocks.BlockEnd.{BlockEnd}
 use Rattle.mesa_grammar.specs.declared.blocks.BlockEnd.TheVariants.{ByWord, ByBrace}
-use Rattle.mesa_grammar.specs.Nested.{Fresh, Nested, raise_starts}
-use Rattle.mesa_grammar.specs.Expressions.{list_option, raise}
-use Rattle.mesa_grammar.specs.Statements.{block, conditional, extract, jump, loop, select}
+use Rattle.module_productions.specs.declared.begun.Begun.TheVariants.{Fresh}
+use Rattle.module_productions.specs.Nested.{Nested, raise_starts}
+use Rattle.module_productions.specs.Expressions.{list_option, raise}
+use Rattle.module_productions.specs.Statements.{block, conditional, extract, jump, loop, select}
 use Rattle.mesa_lexer.specs.declared.word.Word.TheVariants.{GoWord, GotoWord}
-use Rattle.mesa_grammar.specs.Nested.{named}
-use Rattle.mesa_grammar.specs.Statements.{go_to}
-use Rattle.mesa_grammar.specs.Texts.{constant, params, type_item}
+use Rattle.module_productions.specs.Nested.{named}
+use Rattle.module_productions.specs.Statements.{go_to}
+use Rattle.module_productions.specs.Texts.{constant, params, type_item}
 
 abbrev pub last_of : BlockEnd → Kind
 last_of ByWord = k.Word EndWord

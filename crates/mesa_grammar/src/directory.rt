@@ -1,20 +1,19 @@
 //! Lists of names around a module: DIRECTORY, IMPORTS and EXPORTS, OPEN.
 
 ghost use Rattle.std.specs.Prelude.{◌≡◌};
-ghost use Rattle.mesa_grammar.specs.Running.{Reads};
+ghost use Rattle.token_cursor.specs.Running.{Reads};
 ghost use Rattle.mesa_lexer.specs.Parsing.{many};
-ghost use Rattle.mesa_grammar.specs.Nested.{comma};
-ghost use Rattle.mesa_grammar.specs.Texts as spec;
+ghost use Rattle.module_productions.specs.Nested.{comma};
+ghost use Rattle.module_productions.specs.Texts as spec;
 
-use crate::cursor::Cursor;
-use crate::fault::Stopped;
-use crate::naming::{named, names};
 use mesa_base::List;
 use mesa_lexer::{Mark, Word};
 use mesa_types::syntax::{Directory, DirectoryItem, Identifiers, Placed};
 use std::alloc::Global;
+use token_cursor::naming::{named, names};
+use token_cursor::{Cursor, Stopped};
 
-#[tactic(auto, using(crate::proofs::Choosing::choose_none, crate::proofs::Choosing::choose_some), unfolding(crate::specs::Texts::opened))]
+#[tactic(auto, using(token_cursor::proofs::Choosing::choose_none, token_cursor::proofs::Choosing::choose_some), unfolding(module_productions::specs::Texts::opened))]
 pub fn opened(alloc: Global, tokens: &mut Cursor<'_>) -> Result<Identifiers, Stopped>
     ensures { Reads (spec.opened tokens.old.rest.now) result tokens.new.rest.now }
 {
@@ -29,7 +28,7 @@ pub fn opened(alloc: Global, tokens: &mut Cursor<'_>) -> Result<Identifiers, Sto
 }
 
 /// The names behind this word, where it comes.
-#[tactic(auto, using(crate::proofs::Choosing::choose_none, crate::proofs::Choosing::choose_some), unfolding(crate::specs::Texts::listed))]
+#[tactic(auto, using(token_cursor::proofs::Choosing::choose_none, token_cursor::proofs::Choosing::choose_some), unfolding(module_productions::specs::Texts::listed))]
 pub fn listed(alloc: Global, tokens: &mut Cursor<'_>, word: Word) -> Result<Identifiers, Stopped>
     ensures { Reads (spec.listed word tokens.old.rest.now) result tokens.new.rest.now }
 {
@@ -39,7 +38,7 @@ pub fn listed(alloc: Global, tokens: &mut Cursor<'_>, word: Word) -> Result<Iden
     }
 }
 
-#[tactic(auto, using(crate::proofs::Choosing::choose_none, crate::proofs::Choosing::choose_some), unfolding(crate::specs::Texts::using_names))]
+#[tactic(auto, using(token_cursor::proofs::Choosing::choose_none, token_cursor::proofs::Choosing::choose_some), unfolding(module_productions::specs::Texts::using_names))]
 fn using_names(alloc: Global, tokens: &mut Cursor<'_>) -> Result<Option<Identifiers>, Stopped>
     ensures { Reads (spec.using_names tokens.old.rest.now) result tokens.new.rest.now }
 {
@@ -54,7 +53,7 @@ fn using_names(alloc: Global, tokens: &mut Cursor<'_>) -> Result<Option<Identifi
 }
 
 /// The names that a module may use of an interface, where it says them.
-#[tactic(auto, using(crate::proofs::Choosing::choose_none, crate::proofs::Choosing::choose_some), unfolding(crate::specs::Texts::using))]
+#[tactic(auto, using(token_cursor::proofs::Choosing::choose_none, token_cursor::proofs::Choosing::choose_some), unfolding(module_productions::specs::Texts::using))]
 fn used(alloc: Global, tokens: &mut Cursor<'_>) -> Result<Option<Identifiers>, Stopped>
     ensures { Reads (spec.using tokens.old.rest.now) result tokens.new.rest.now }
 {
@@ -67,7 +66,7 @@ fn used(alloc: Global, tokens: &mut Cursor<'_>) -> Result<Option<Identifiers>, S
     }
 }
 
-#[tactic(auto, using(crate::proofs::Choosing::choose_none, crate::proofs::Choosing::choose_some), unfolding(crate::specs::Texts::item, crate::specs::Texts::file))]
+#[tactic(auto, using(token_cursor::proofs::Choosing::choose_none, token_cursor::proofs::Choosing::choose_some), unfolding(module_productions::specs::Texts::item, module_productions::specs::Texts::file))]
 fn item(alloc: Global, tokens: &mut Cursor<'_>) -> Result<DirectoryItem, Stopped>
     ensures { Reads (spec.item tokens.old.rest.now) result tokens.new.rest.now }
 {
@@ -88,7 +87,7 @@ fn item(alloc: Global, tokens: &mut Cursor<'_>) -> Result<DirectoryItem, Stopped
 }
 
 /// Further items behind these.
-#[tactic(auto, using(crate::proofs::Taking::many_by, crate::proofs::KeepModules::items_eats))]
+#[tactic(auto, using(token_cursor::proofs::Taking::many_by, module_productions::proofs::KeepModules::items_eats))]
 fn more_items(
     alloc: Global,
     tokens: &mut Cursor<'_>,
@@ -102,7 +101,7 @@ fn more_items(
     Ok(all)
 }
 
-#[tactic(auto, unfolding(crate::specs::Texts::items))]
+#[tactic(auto, unfolding(module_productions::specs::Texts::items))]
 fn items(alloc: Global, tokens: &mut Cursor<'_>) -> Result<Directory, Stopped>
     ensures { Reads (spec.items tokens.old.rest.now) result tokens.new.rest.now }
 {
@@ -113,7 +112,7 @@ fn items(alloc: Global, tokens: &mut Cursor<'_>) -> Result<Directory, Stopped>
     Ok(all)
 }
 
-#[tactic(auto, using(crate::proofs::Choosing::choose_none, crate::proofs::Choosing::choose_some), unfolding(crate::specs::Texts::directory))]
+#[tactic(auto, using(token_cursor::proofs::Choosing::choose_none, token_cursor::proofs::Choosing::choose_some), unfolding(module_productions::specs::Texts::directory))]
 pub fn interfaces(alloc: Global, tokens: &mut Cursor<'_>) -> Result<Directory, Stopped>
     ensures { Reads (spec.directory tokens.old.rest.now) result tokens.new.rest.now }
 {

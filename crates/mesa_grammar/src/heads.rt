@@ -1,19 +1,18 @@
 //! Heads of procedures and signals, and what a declaration declares.
 
 ghost use Rattle.std.specs.Prelude.{◌≡◌};
-ghost use Rattle.mesa_grammar.specs.Running.{Reads};
-ghost use Rattle.mesa_grammar.specs.Nests.{Nests};
-ghost use Rattle.mesa_grammar.specs.Statements.{nested};
-ghost use Rattle.mesa_grammar.specs.Texts as spec;
+ghost use Rattle.token_cursor.specs.Running.{Reads};
+ghost use Rattle.expression_parser.specs.Nests.{Nests};
+ghost use Rattle.module_productions.specs.Statements.{nested};
+ghost use Rattle.module_productions.specs.Texts as spec;
 
-use crate::begun::Begun;
 use crate::blocks::BlockEnd;
-use crate::cursor::Cursor;
-use crate::fault::Stopped;
 use crate::nesting::Grammar;
 use mesa_lexer::{Mark, Word};
 use mesa_types::syntax::{Block, Declared, Expr, FieldList, Head, Identifier, Statement, TypeExp};
+use module_productions::Begun;
 use std::alloc::Global;
+use token_cursor::{Cursor, Stopped};
 
 impl<
     F: Fn(Global, &mut Cursor<'_>, usize, Option<Identifier>) -> Result<Statement, Stopped>,
@@ -21,25 +20,25 @@ impl<
     H: Fn(Global, &mut Cursor<'_>, usize, Option<Identifier>) -> Result<TypeExp, Stopped>,
 > Grammar<F, G, H> {
     /// Parameters behind their bracket.
-    #[tactic(auto, using(crate::proofs::Choosing::choose_none, crate::proofs::Choosing::choose_some), unfolding(crate::specs::Texts::in_params))]
+    #[tactic(auto, using(token_cursor::proofs::Choosing::choose_none, token_cursor::proofs::Choosing::choose_some), unfolding(module_productions::specs::Texts::in_params))]
     fn in_params(&self, tokens: &mut Cursor<'_>) -> Result<Option<FieldList>, Stopped>
-        requires { Nests self.now.depth (F.pre self.now.stmt) (F.post self.now.stmt) (G.pre self.now.expr) (G.post self.now.expr) (H.pre self.now.type_exp) (H.post self.now.type_exp) }
-        ensures { Reads (spec.in_params (nested self.now.depth) tokens.old.rest.now) result tokens.new.rest.now }
+        requires { Nests self.now.level.depth (F.pre self.now.level.stmt) (F.post self.now.level.stmt) (G.pre self.now.level.expr) (G.post self.now.level.expr) (H.pre self.now.level.type_exp) (H.post self.now.level.type_exp) }
+        ensures { Reads (spec.in_params (nested self.now.level.depth) tokens.old.rest.now) result tokens.new.rest.now }
     {
         match tokens.takes_mark(Mark::RightBracket) {
             Some(_) => Ok(None),
             None => {
-                let fields = self.field_list(tokens)?;
+                let fields = self.level.field_list(tokens)?;
                 tokens.need_mark(Mark::RightBracket)?;
                 Ok(Some(fields))
             }
         }
     }
 
-    #[tactic(auto, using(crate::proofs::Choosing::choose_none, crate::proofs::Choosing::choose_some), unfolding(crate::specs::Texts::params))]
+    #[tactic(auto, using(token_cursor::proofs::Choosing::choose_none, token_cursor::proofs::Choosing::choose_some), unfolding(module_productions::specs::Texts::params))]
     pub fn params(&self, tokens: &mut Cursor<'_>) -> Result<Option<FieldList>, Stopped>
-        requires { Nests self.now.depth (F.pre self.now.stmt) (F.post self.now.stmt) (G.pre self.now.expr) (G.post self.now.expr) (H.pre self.now.type_exp) (H.post self.now.type_exp) }
-        ensures { Reads (spec.params (nested self.now.depth) tokens.old.rest.now) result tokens.new.rest.now }
+        requires { Nests self.now.level.depth (F.pre self.now.level.stmt) (F.post self.now.level.stmt) (G.pre self.now.level.expr) (G.post self.now.level.expr) (H.pre self.now.level.type_exp) (H.post self.now.level.type_exp) }
+        ensures { Reads (spec.params (nested self.now.level.depth) tokens.old.rest.now) result tokens.new.rest.now }
     {
         match tokens.takes_mark(Mark::LeftBracket) {
             Some(_) => self.in_params(tokens),
@@ -47,10 +46,10 @@ impl<
         }
     }
 
-    #[tactic(auto, using(crate::proofs::Choosing::choose_none, crate::proofs::Choosing::choose_some), unfolding(crate::specs::Texts::returns))]
+    #[tactic(auto, using(token_cursor::proofs::Choosing::choose_none, token_cursor::proofs::Choosing::choose_some), unfolding(module_productions::specs::Texts::returns))]
     fn results(&self, tokens: &mut Cursor<'_>) -> Result<Option<FieldList>, Stopped>
-        requires { Nests self.now.depth (F.pre self.now.stmt) (F.post self.now.stmt) (G.pre self.now.expr) (G.post self.now.expr) (H.pre self.now.type_exp) (H.post self.now.type_exp) }
-        ensures { Reads (spec.returns (nested self.now.depth) tokens.old.rest.now) result tokens.new.rest.now }
+        requires { Nests self.now.level.depth (F.pre self.now.level.stmt) (F.post self.now.level.stmt) (G.pre self.now.level.expr) (G.post self.now.level.expr) (H.pre self.now.level.type_exp) (H.post self.now.level.type_exp) }
+        ensures { Reads (spec.returns (nested self.now.level.depth) tokens.old.rest.now) result tokens.new.rest.now }
     {
         match tokens.takes_word(Word::ReturnsWord) {
             Some(_) => {
@@ -61,20 +60,20 @@ impl<
         }
     }
 
-    #[tactic(auto, unfolding(crate::specs::Texts::head))]
+    #[tactic(auto, unfolding(module_productions::specs::Texts::head))]
     pub fn head(&self, tokens: &mut Cursor<'_>) -> Result<Head, Stopped>
-        requires { Nests self.now.depth (F.pre self.now.stmt) (F.post self.now.stmt) (G.pre self.now.expr) (G.post self.now.expr) (H.pre self.now.type_exp) (H.post self.now.type_exp) }
-        ensures { Reads (spec.head (nested self.now.depth) tokens.old.rest.now) result tokens.new.rest.now }
+        requires { Nests self.now.level.depth (F.pre self.now.level.stmt) (F.post self.now.level.stmt) (G.pre self.now.level.expr) (G.post self.now.level.expr) (H.pre self.now.level.type_exp) (H.post self.now.level.type_exp) }
+        ensures { Reads (spec.head (nested self.now.level.depth) tokens.old.rest.now) result tokens.new.rest.now }
     {
         let takes = self.params(tokens)?;
         let gives = self.results(tokens)?;
         Ok(Head { takes, gives })
     }
 
-    #[tactic(auto, using(crate::proofs::Choosing::choose_none, crate::proofs::Choosing::choose_some), unfolding(crate::specs::Texts::block))]
+    #[tactic(auto, using(token_cursor::proofs::Choosing::choose_none, token_cursor::proofs::Choosing::choose_some), unfolding(module_productions::specs::Texts::block))]
     fn any_block(&self, tokens: &mut Cursor<'_>) -> Result<Block, Stopped>
-        requires { Nests self.now.depth (F.pre self.now.stmt) (F.post self.now.stmt) (G.pre self.now.expr) (G.post self.now.expr) (H.pre self.now.type_exp) (H.post self.now.type_exp) }
-        ensures { Reads (spec.block (nested self.now.depth) tokens.old.rest.now) result tokens.new.rest.now }
+        requires { Nests self.now.level.depth (F.pre self.now.level.stmt) (F.post self.now.level.stmt) (G.pre self.now.level.expr) (G.post self.now.level.expr) (H.pre self.now.level.type_exp) (H.post self.now.level.type_exp) }
+        ensures { Reads (spec.block (nested self.now.level.depth) tokens.old.rest.now) result tokens.new.rest.now }
     {
         if let Some(place) = tokens.takes_word(Word::BeginWord) {
             return self.block(tokens, BlockEnd::ByWord, place);
@@ -85,10 +84,10 @@ impl<
         }
     }
 
-    #[tactic(auto, unfolding(crate::specs::Texts::procedure))]
+    #[tactic(auto, unfolding(module_productions::specs::Texts::procedure))]
     fn procedure(&self, tokens: &mut Cursor<'_>) -> Result<Declared, Stopped>
-        requires { Nests self.now.depth (F.pre self.now.stmt) (F.post self.now.stmt) (G.pre self.now.expr) (G.post self.now.expr) (H.pre self.now.type_exp) (H.post self.now.type_exp) }
-        ensures { Reads (spec.procedure (nested self.now.depth) tokens.old.rest.now) result tokens.new.rest.now }
+        requires { Nests self.now.level.depth (F.pre self.now.level.stmt) (F.post self.now.level.stmt) (G.pre self.now.level.expr) (G.post self.now.level.expr) (H.pre self.now.level.type_exp) (H.post self.now.level.type_exp) }
+        ensures { Reads (spec.procedure (nested self.now.level.depth) tokens.old.rest.now) result tokens.new.rest.now }
     {
         let head = self.head(tokens)?;
         tokens.need_mark(Mark::Equal)?;
@@ -96,10 +95,10 @@ impl<
         Ok(Declared::Procedure(head, body))
     }
 
-    #[tactic(auto, unfolding(crate::specs::Texts::signal))]
+    #[tactic(auto, unfolding(module_productions::specs::Texts::signal))]
     fn signal(&self, tokens: &mut Cursor<'_>) -> Result<Declared, Stopped>
-        requires { Nests self.now.depth (F.pre self.now.stmt) (F.post self.now.stmt) (G.pre self.now.expr) (G.post self.now.expr) (H.pre self.now.type_exp) (H.post self.now.type_exp) }
-        ensures { Reads (spec.signal (nested self.now.depth) tokens.old.rest.now) result tokens.new.rest.now }
+        requires { Nests self.now.level.depth (F.pre self.now.level.stmt) (F.post self.now.level.stmt) (G.pre self.now.level.expr) (G.post self.now.level.expr) (H.pre self.now.level.type_exp) (H.post self.now.level.type_exp) }
+        ensures { Reads (spec.signal (nested self.now.level.depth) tokens.old.rest.now) result tokens.new.rest.now }
     {
         let head = self.head(tokens)?;
         tokens.need_mark(Mark::Equal)?;
@@ -107,10 +106,10 @@ impl<
         Ok(Declared::Signal(head))
     }
 
-    #[tactic(auto, unfolding(crate::specs::Texts::error))]
+    #[tactic(auto, unfolding(module_productions::specs::Texts::error))]
     fn error(&self, tokens: &mut Cursor<'_>) -> Result<Declared, Stopped>
-        requires { Nests self.now.depth (F.pre self.now.stmt) (F.post self.now.stmt) (G.pre self.now.expr) (G.post self.now.expr) (H.pre self.now.type_exp) (H.post self.now.type_exp) }
-        ensures { Reads (spec.error (nested self.now.depth) tokens.old.rest.now) result tokens.new.rest.now }
+        requires { Nests self.now.level.depth (F.pre self.now.level.stmt) (F.post self.now.level.stmt) (G.pre self.now.level.expr) (G.post self.now.level.expr) (H.pre self.now.level.type_exp) (H.post self.now.level.type_exp) }
+        ensures { Reads (spec.error (nested self.now.level.depth) tokens.old.rest.now) result tokens.new.rest.now }
     {
         let takes = self.params(tokens)?;
         tokens.need_mark(Mark::Equal)?;
@@ -118,10 +117,10 @@ impl<
         Ok(Declared::Error(takes))
     }
 
-    #[tactic(auto, using(crate::proofs::Choosing::choose_none, crate::proofs::Choosing::choose_some), unfolding(crate::specs::Texts::declared))]
+    #[tactic(auto, using(token_cursor::proofs::Choosing::choose_none, token_cursor::proofs::Choosing::choose_some), unfolding(module_productions::specs::Texts::declared))]
     pub fn declared(&self, tokens: &mut Cursor<'_>) -> Result<Declared, Stopped>
-        requires { Nests self.now.depth (F.pre self.now.stmt) (F.post self.now.stmt) (G.pre self.now.expr) (G.post self.now.expr) (H.pre self.now.type_exp) (H.post self.now.type_exp) }
-        ensures { Reads (spec.declared (nested self.now.depth) tokens.old.rest.now) result tokens.new.rest.now }
+        requires { Nests self.now.level.depth (F.pre self.now.level.stmt) (F.post self.now.level.stmt) (G.pre self.now.level.expr) (G.post self.now.level.expr) (H.pre self.now.level.type_exp) (H.post self.now.level.type_exp) }
+        ensures { Reads (spec.declared (nested self.now.level.depth) tokens.old.rest.now) result tokens.new.rest.now }
     {
         if let Some(_) = tokens.takes_procedure_word() {
             return self.procedure(tokens);

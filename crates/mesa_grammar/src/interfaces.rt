@@ -1,53 +1,52 @@
 //! The items of an interface.
 
 ghost use Rattle.std.specs.Prelude.{◌≡◌};
-ghost use Rattle.mesa_grammar.specs.Running.{Reads};
-ghost use Rattle.mesa_grammar.specs.Nests.{Nests};
-ghost use Rattle.mesa_grammar.specs.Statements.{nested};
-ghost use Rattle.mesa_grammar.specs.Texts as spec;
+ghost use Rattle.token_cursor.specs.Running.{Reads};
+ghost use Rattle.expression_parser.specs.Nests.{Nests};
+ghost use Rattle.module_productions.specs.Statements.{nested};
+ghost use Rattle.module_productions.specs.Texts as spec;
 ghost use Rattle.mesa_grammar.specs.StatementTails as tails;
 
-use crate::begun::Begun;
-use crate::cursor::Cursor;
-use crate::fault::Stopped;
-use crate::naming::names_from;
 use crate::nesting::Grammar;
 use mesa_base::List;
 use mesa_lexer::{Mark, Word};
 use mesa_types::syntax::{Defined, Definitions, Expr, Identifier, Labeled, Statement, TypeExp};
+use module_productions::Begun;
 use std::alloc::Global;
+use token_cursor::naming::names_from;
+use token_cursor::{Cursor, Stopped};
 
 impl<
     F: Fn(Global, &mut Cursor<'_>, usize, Option<Identifier>) -> Result<Statement, Stopped>,
     G: Fn(Global, &mut Cursor<'_>, usize, Begun) -> Result<Expr, Stopped>,
     H: Fn(Global, &mut Cursor<'_>, usize, Option<Identifier>) -> Result<TypeExp, Stopped>,
 > Grammar<F, G, H> {
-    #[tactic(auto, unfolding(crate::specs::Texts::constant))]
+    #[tactic(auto, unfolding(module_productions::specs::Texts::constant))]
     fn constant(&self, tokens: &mut Cursor<'_>) -> Result<Defined, Stopped>
-        requires { Nests self.now.depth (F.pre self.now.stmt) (F.post self.now.stmt) (G.pre self.now.expr) (G.post self.now.expr) (H.pre self.now.type_exp) (H.post self.now.type_exp) }
-        ensures { Reads (spec.constant (nested self.now.depth) tokens.old.rest.now) result tokens.new.rest.now }
+        requires { Nests self.now.level.depth (F.pre self.now.level.stmt) (F.post self.now.level.stmt) (G.pre self.now.level.expr) (G.post self.now.level.expr) (H.pre self.now.level.type_exp) (H.post self.now.level.type_exp) }
+        ensures { Reads (spec.constant (nested self.now.level.depth) tokens.old.rest.now) result tokens.new.rest.now }
     {
-        let of = self.type_exp(tokens, None)?;
+        let of = self.level.type_exp(tokens, None)?;
         tokens.need_mark(Mark::Equal)?;
-        let value = self.expr(tokens, Begun::Fresh)?;
+        let value = self.level.expr(tokens, Begun::Fresh)?;
         Ok(Defined::ConstantItem(of, value))
     }
 
-    #[tactic(auto, unfolding(crate::specs::Texts::type_item))]
+    #[tactic(auto, unfolding(module_productions::specs::Texts::type_item))]
     fn type_item(&self, tokens: &mut Cursor<'_>) -> Result<Defined, Stopped>
-        requires { Nests self.now.depth (F.pre self.now.stmt) (F.post self.now.stmt) (G.pre self.now.expr) (G.post self.now.expr) (H.pre self.now.type_exp) (H.post self.now.type_exp) }
-        ensures { Reads (spec.type_item (nested self.now.depth) tokens.old.rest.now) result tokens.new.rest.now }
+        requires { Nests self.now.level.depth (F.pre self.now.level.stmt) (F.post self.now.level.stmt) (G.pre self.now.level.expr) (G.post self.now.level.expr) (H.pre self.now.level.type_exp) (H.post self.now.level.type_exp) }
+        ensures { Reads (spec.type_item (nested self.now.level.depth) tokens.old.rest.now) result tokens.new.rest.now }
     {
         tokens.need_mark(Mark::Equal)?;
-        let is = self.type_exp(tokens, None)?;
+        let is = self.level.type_exp(tokens, None)?;
         Ok(Defined::TypeItem(is))
     }
 
     /// An item that is an error, a type or a constant.
-    #[tactic(auto, using(crate::proofs::Choosing::choose_none, crate::proofs::Choosing::choose_some), unfolding(crate::specs::StatementTails::other_item))]
+    #[tactic(auto, using(token_cursor::proofs::Choosing::choose_none, token_cursor::proofs::Choosing::choose_some), unfolding(crate::specs::StatementTails::other_item))]
     fn other_item(&self, tokens: &mut Cursor<'_>) -> Result<Defined, Stopped>
-        requires { Nests self.now.depth (F.pre self.now.stmt) (F.post self.now.stmt) (G.pre self.now.expr) (G.post self.now.expr) (H.pre self.now.type_exp) (H.post self.now.type_exp) }
-        ensures { Reads (tails.other_item (nested self.now.depth) tokens.old.rest.now) result tokens.new.rest.now }
+        requires { Nests self.now.level.depth (F.pre self.now.level.stmt) (F.post self.now.level.stmt) (G.pre self.now.level.expr) (G.post self.now.level.expr) (H.pre self.now.level.type_exp) (H.post self.now.level.type_exp) }
+        ensures { Reads (tails.other_item (nested self.now.level.depth) tokens.old.rest.now) result tokens.new.rest.now }
     {
         if let Some(_) = tokens.takes_word(Word::ErrorWord) {
             let takes = self.params(tokens)?;
@@ -59,10 +58,10 @@ impl<
         }
     }
 
-    #[tactic(auto, using(crate::proofs::Choosing::choose_none, crate::proofs::Choosing::choose_some), unfolding(crate::specs::Texts::defined, crate::specs::StatementTails::other_item))]
+    #[tactic(auto, using(token_cursor::proofs::Choosing::choose_none, token_cursor::proofs::Choosing::choose_some), unfolding(module_productions::specs::Texts::defined, crate::specs::StatementTails::other_item))]
     fn defined(&self, tokens: &mut Cursor<'_>) -> Result<Defined, Stopped>
-        requires { Nests self.now.depth (F.pre self.now.stmt) (F.post self.now.stmt) (G.pre self.now.expr) (G.post self.now.expr) (H.pre self.now.type_exp) (H.post self.now.type_exp) }
-        ensures { Reads (spec.defined (nested self.now.depth) tokens.old.rest.now) result tokens.new.rest.now }
+        requires { Nests self.now.level.depth (F.pre self.now.level.stmt) (F.post self.now.level.stmt) (G.pre self.now.level.expr) (G.post self.now.level.expr) (H.pre self.now.level.type_exp) (H.post self.now.level.type_exp) }
+        ensures { Reads (spec.defined (nested self.now.level.depth) tokens.old.rest.now) result tokens.new.rest.now }
     {
         if let Some(_) = tokens.takes_procedure_word() {
             let head = self.head(tokens)?;
@@ -78,17 +77,17 @@ impl<
     }
 
     /// One more item behind these, whose first name was taken.
-    #[tactic(auto, unfolding(crate::specs::Texts::definitions_step))]
+    #[tactic(auto, unfolding(module_productions::specs::Texts::definitions_step))]
     fn definition(
         &self,
         tokens: &mut Cursor<'_>,
         mut all: Definitions,
         first: Identifier,
     ) -> Result<Definitions, Stopped>
-        requires { Nests self.now.depth (F.pre self.now.stmt) (F.post self.now.stmt) (G.pre self.now.expr) (G.post self.now.expr) (H.pre self.now.type_exp) (H.post self.now.type_exp) }
-        ensures { Reads (spec.definitions_step (nested self.now.depth) all first.name first.place tokens.old.rest.now) result tokens.new.rest.now }
+        requires { Nests self.now.level.depth (F.pre self.now.level.stmt) (F.post self.now.level.stmt) (G.pre self.now.level.expr) (G.post self.now.level.expr) (H.pre self.now.level.type_exp) (H.post self.now.level.type_exp) }
+        ensures { Reads (spec.definitions_step (nested self.now.level.depth) all first.name first.place tokens.old.rest.now) result tokens.new.rest.now }
     {
-        let labels = names_from(self.alloc, tokens, first)?;
+        let labels = names_from(self.level.alloc, tokens, first)?;
         tokens.need_mark(Mark::Colon)?;
         let item = self.defined(tokens)?;
         all.push(Labeled { labels, item })?;
@@ -96,13 +95,13 @@ impl<
         Ok(all)
     }
 
-    #[tactic(auto, using(crate::proofs::Taking::many_by, crate::proofs::FrontSteps::definitions_eats), unfolding(crate::specs::Texts::definitions))]
+    #[tactic(auto, using(token_cursor::proofs::Taking::many_by, crate::proofs::FrontSteps::definitions_eats), unfolding(module_productions::specs::Texts::definitions))]
     pub fn definitions(&self, tokens: &mut Cursor<'_>) -> Result<Definitions, Stopped>
-        requires { Nests self.now.depth (F.pre self.now.stmt) (F.post self.now.stmt) (G.pre self.now.expr) (G.post self.now.expr) (H.pre self.now.type_exp) (H.post self.now.type_exp) }
-        ensures { Reads (spec.definitions (nested self.now.depth) tokens.old.rest.now) result tokens.new.rest.now }
+        requires { Nests self.now.level.depth (F.pre self.now.level.stmt) (F.post self.now.level.stmt) (G.pre self.now.level.expr) (G.post self.now.level.expr) (H.pre self.now.level.type_exp) (H.post self.now.level.type_exp) }
+        ensures { Reads (spec.definitions (nested self.now.level.depth) tokens.old.rest.now) result tokens.new.rest.now }
     {
-        let mut all = List::new(self.alloc);
-        'definitions: while let Some(first) = tokens.takes_name(self.alloc)? {
+        let mut all = List::new(self.level.alloc);
+        'definitions: while let Some(first) = tokens.takes_name(self.level.alloc)? {
             all = self.definition(tokens, all, first)?;
         }
         Ok(all)

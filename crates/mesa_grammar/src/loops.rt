@@ -1,22 +1,21 @@
 //! Loops, and what stands before their DO.
 
 ghost use Rattle.std.specs.Prelude.{◌≡◌};
-ghost use Rattle.mesa_grammar.specs.Running.{Reads};
-ghost use Rattle.mesa_grammar.specs.Nests.{Nests};
-ghost use Rattle.mesa_grammar.specs.Statements.{nested};
-ghost use Rattle.mesa_grammar.specs.Statements as spec;
+ghost use Rattle.token_cursor.specs.Running.{Reads};
+ghost use Rattle.expression_parser.specs.Nests.{Nests};
+ghost use Rattle.module_productions.specs.Statements.{nested};
+ghost use Rattle.module_productions.specs.Statements as spec;
 
-use crate::begun::Begun;
-use crate::cursor::Cursor;
-use crate::fault::Stopped;
-use crate::naming::named;
 use crate::nesting::Grammar;
 use mesa_base::{Boxed, Place};
 use mesa_lexer::Word;
 use mesa_types::syntax::{Condition, Control, Count, Expr, Identifier, Statement, TypeExp};
+use module_productions::Begun;
 use std::alloc::Global;
+use token_cursor::naming::named;
+use token_cursor::{Cursor, Stopped};
 
-#[tactic(auto, using(crate::proofs::Choosing::choose_none, crate::proofs::Choosing::choose_some), unfolding(crate::specs::Statements::decreasing))]
+#[tactic(auto, using(token_cursor::proofs::Choosing::choose_none, token_cursor::proofs::Choosing::choose_some), unfolding(module_productions::specs::Statements::decreasing))]
 fn decreasing(tokens: &mut Cursor<'_>) -> Result<bool, Stopped>
     ensures { Reads (spec.decreasing tokens.old.rest.now) result tokens.new.rest.now }
 {
@@ -33,29 +32,29 @@ impl<
 > Grammar<F, G, H> {
     #[tactic(auto, using(crate::proofs::Stepping::for_by))]
     fn for_count(&self, tokens: &mut Cursor<'_>, place: Place) -> Result<Option<Count>, Stopped>
-        requires { Nests self.now.depth (F.pre self.now.stmt) (F.post self.now.stmt) (G.pre self.now.expr) (G.post self.now.expr) (H.pre self.now.type_exp) (H.post self.now.type_exp) }
-        ensures { Reads (spec.for (nested self.now.depth) place tokens.old.rest.now) result tokens.new.rest.now }
+        requires { Nests self.now.level.depth (F.pre self.now.level.stmt) (F.post self.now.level.stmt) (G.pre self.now.level.expr) (G.post self.now.level.expr) (H.pre self.now.level.type_exp) (H.post self.now.level.type_exp) }
+        ensures { Reads (spec.for (nested self.now.level.depth) place tokens.old.rest.now) result tokens.new.rest.now }
     {
-        let variable = named(self.alloc, tokens)?;
+        let variable = named(self.level.alloc, tokens)?;
         let is_decreasing = decreasing(tokens)?;
         tokens.need_word(Word::InWord)?;
-        let interval = self.interval(tokens)?;
+        let interval = self.level.interval(tokens)?;
         Ok(Some(Count::For(place, variable, is_decreasing, interval)))
     }
 
-    #[tactic(auto, unfolding(crate::specs::Statements::through))]
+    #[tactic(auto, unfolding(module_productions::specs::Statements::through))]
     fn through_count(&self, tokens: &mut Cursor<'_>, place: Place) -> Result<Option<Count>, Stopped>
-        requires { Nests self.now.depth (F.pre self.now.stmt) (F.post self.now.stmt) (G.pre self.now.expr) (G.post self.now.expr) (H.pre self.now.type_exp) (H.post self.now.type_exp) }
-        ensures { Reads (spec.through (nested self.now.depth) place tokens.old.rest.now) result tokens.new.rest.now }
+        requires { Nests self.now.level.depth (F.pre self.now.level.stmt) (F.post self.now.level.stmt) (G.pre self.now.level.expr) (G.post self.now.level.expr) (H.pre self.now.level.type_exp) (H.post self.now.level.type_exp) }
+        ensures { Reads (spec.through (nested self.now.level.depth) place tokens.old.rest.now) result tokens.new.rest.now }
     {
-        let interval = self.interval(tokens)?;
+        let interval = self.level.interval(tokens)?;
         Ok(Some(Count::Through(place, interval)))
     }
 
-    #[tactic(auto, using(crate::proofs::Choosing::choose_none, crate::proofs::Choosing::choose_some), unfolding(crate::specs::Statements::count))]
+    #[tactic(auto, using(token_cursor::proofs::Choosing::choose_none, token_cursor::proofs::Choosing::choose_some), unfolding(module_productions::specs::Statements::count))]
     fn count(&self, tokens: &mut Cursor<'_>) -> Result<Option<Count>, Stopped>
-        requires { Nests self.now.depth (F.pre self.now.stmt) (F.post self.now.stmt) (G.pre self.now.expr) (G.post self.now.expr) (H.pre self.now.type_exp) (H.post self.now.type_exp) }
-        ensures { Reads (spec.count (nested self.now.depth) tokens.old.rest.now) result tokens.new.rest.now }
+        requires { Nests self.now.level.depth (F.pre self.now.level.stmt) (F.post self.now.level.stmt) (G.pre self.now.level.expr) (G.post self.now.level.expr) (H.pre self.now.level.type_exp) (H.post self.now.level.type_exp) }
+        ensures { Reads (spec.count (nested self.now.level.depth) tokens.old.rest.now) result tokens.new.rest.now }
     {
         if let Some(place) = tokens.takes_word(Word::ForWord) {
             return self.for_count(tokens, place);
@@ -66,28 +65,28 @@ impl<
         }
     }
 
-    #[tactic(auto, using(crate::proofs::Choosing::choose_none, crate::proofs::Choosing::choose_some), unfolding(crate::specs::Statements::condition))]
+    #[tactic(auto, using(token_cursor::proofs::Choosing::choose_none, token_cursor::proofs::Choosing::choose_some), unfolding(module_productions::specs::Statements::condition))]
     fn condition(&self, tokens: &mut Cursor<'_>) -> Result<Option<Condition>, Stopped>
-        requires { Nests self.now.depth (F.pre self.now.stmt) (F.post self.now.stmt) (G.pre self.now.expr) (G.post self.now.expr) (H.pre self.now.type_exp) (H.post self.now.type_exp) }
-        ensures { Reads (spec.condition (nested self.now.depth) tokens.old.rest.now) result tokens.new.rest.now }
+        requires { Nests self.now.level.depth (F.pre self.now.level.stmt) (F.post self.now.level.stmt) (G.pre self.now.level.expr) (G.post self.now.level.expr) (H.pre self.now.level.type_exp) (H.post self.now.level.type_exp) }
+        ensures { Reads (spec.condition (nested self.now.level.depth) tokens.old.rest.now) result tokens.new.rest.now }
     {
         if let Some(place) = tokens.takes_word(Word::WhileWord) {
-            let test = self.expr(tokens, Begun::Fresh)?;
+            let test = self.level.expr(tokens, Begun::Fresh)?;
             return Ok(Some(Condition::While(place, test)));
         }
         match tokens.takes_word(Word::UntilWord) {
             Some(place) => {
-                let test = self.expr(tokens, Begun::Fresh)?;
+                let test = self.level.expr(tokens, Begun::Fresh)?;
                 Ok(Some(Condition::Until(place, test)))
             }
             None => Ok(None),
         }
     }
 
-    #[tactic(auto, unfolding(crate::specs::Statements::control))]
+    #[tactic(auto, unfolding(module_productions::specs::Statements::control))]
     fn control(&self, tokens: &mut Cursor<'_>) -> Result<Control, Stopped>
-        requires { Nests self.now.depth (F.pre self.now.stmt) (F.post self.now.stmt) (G.pre self.now.expr) (G.post self.now.expr) (H.pre self.now.type_exp) (H.post self.now.type_exp) }
-        ensures { Reads (spec.control (nested self.now.depth) tokens.old.rest.now) result tokens.new.rest.now }
+        requires { Nests self.now.level.depth (F.pre self.now.level.stmt) (F.post self.now.level.stmt) (G.pre self.now.level.expr) (G.post self.now.level.expr) (H.pre self.now.level.type_exp) (H.post self.now.level.type_exp) }
+        ensures { Reads (spec.control (nested self.now.level.depth) tokens.old.rest.now) result tokens.new.rest.now }
     {
         let count = self.count(tokens)?;
         let condition = self.condition(tokens)?;
@@ -96,10 +95,10 @@ impl<
 
     #[tactic(auto, using(crate::proofs::Stepping::loop_by))]
     pub fn loop_statement(&self, tokens: &mut Cursor<'_>) -> Result<Statement, Stopped>
-        requires { Nests self.now.depth (F.pre self.now.stmt) (F.post self.now.stmt) (G.pre self.now.expr) (G.post self.now.expr) (H.pre self.now.type_exp) (H.post self.now.type_exp) }
-        ensures { Reads (spec.loop (nested self.now.depth) tokens.old.rest.now) result tokens.new.rest.now }
+        requires { Nests self.now.level.depth (F.pre self.now.level.stmt) (F.post self.now.level.stmt) (G.pre self.now.level.expr) (G.post self.now.level.expr) (H.pre self.now.level.type_exp) (H.post self.now.level.type_exp) }
+        ensures { Reads (spec.loop (nested self.now.level.depth) tokens.old.rest.now) result tokens.new.rest.now }
     {
-        let control = Boxed::new(self.alloc, self.control(tokens)?)?;
+        let control = Boxed::new(self.level.alloc, self.control(tokens)?)?;
         let place = tokens.need_word(Word::DoWord)?;
         let enable = self.enabling(tokens)?;
         let body = self.body(tokens)?;

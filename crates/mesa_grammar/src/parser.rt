@@ -2,20 +2,20 @@
 ghost use Rattle.std.specs.Prelude.{◌≡◌, ◌≢◌, if◌then◌else◌, IfErr, IfOk, MatchResult};
 ghost use Rattle.mesa_lexer.specs.declared.fault.SyntaxFault.{SyntaxFault};
 ghost use Rattle.mesa_types.specs.declared.syntax.Module.{Module};
-ghost use Rattle.mesa_grammar.specs.Answer.{HasSyntaxFault, Parses, place_at};
-ghost use Rattle.mesa_grammar.specs.Running.{Reads, fault_of};
-ghost use Rattle.mesa_grammar.specs.Statements.{nested};
-ghost use Rattle.mesa_grammar.specs.Texts as texts;
+ghost use Rattle.module_productions.specs.Answer.{HasSyntaxFault, Parses, place_at};
+ghost use Rattle.token_cursor.specs.Running.{Reads, fault_of};
+ghost use Rattle.module_productions.specs.Statements.{nested};
+ghost use Rattle.module_productions.specs.Texts as texts;
 
-use crate::begun::Begun;
-use crate::cursor::Cursor;
-use crate::fault::Stopped;
 use crate::nesting::Grammar;
+use expression_parser::Level;
 use mesa_base::Place;
 use mesa_lexer::{SyntaxFault, Tokens};
 use mesa_types::Module;
 use mesa_types::syntax::{Expr, Identifier, Statement, TypeExp};
+use module_productions::Begun;
 use std::alloc::Global;
+use token_cursor::{Cursor, Stopped};
 
 /// So many statements, expressions and types may stand inside one another.
 const LIMIT: usize = 200;
@@ -44,11 +44,13 @@ fn stmt(
         return Err(too_deep(tokens.begins_stmt()));
     }
     Grammar {
-        alloc,
-        depth: depth - 1,
-        stmt,
-        expr,
-        type_exp,
+        level: Level {
+            alloc,
+            depth: depth - 1,
+            stmt,
+            expr,
+            type_exp,
+        },
     }
     .statement(tokens, begun)
 }
@@ -60,7 +62,7 @@ fn expr(alloc: Global, tokens: &mut Cursor<'_>, depth: usize, begun: Begun) -> R
     if depth == 0 {
         return Err(too_deep(tokens.begins_expr()));
     }
-    Grammar {
+    Level {
         alloc,
         depth: depth - 1,
         stmt,
@@ -82,7 +84,7 @@ fn type_exp(
     if depth == 0 {
         return Err(too_deep(tokens.begins_type()));
     }
-    Grammar {
+    Level {
         alloc,
         depth: depth - 1,
         stmt,
@@ -92,16 +94,18 @@ fn type_exp(
     .any_type(tokens, begun)
 }
 
-#[tactic(auto, using(crate::proofs::Ending::ended_none, crate::proofs::Ending::ended_some), unfolding(crate::specs::Texts::text, crate::specs::Texts::limit))]
+#[tactic(auto, using(crate::proofs::Ending::ended_none, crate::proofs::Ending::ended_some), unfolding(module_productions::specs::Texts::text, module_productions::specs::Texts::limit))]
 fn text(alloc: Global, tokens: &mut Cursor<'_>) -> Result<Module, Stopped>
     ensures { Reads (texts.text tokens.old.rest.now) result tokens.new.rest.now }
 {
     let module = Grammar {
-        alloc,
-        depth: LIMIT,
-        stmt,
-        expr,
-        type_exp,
+        level: Level {
+            alloc,
+            depth: LIMIT,
+            stmt,
+            expr,
+            type_exp,
+        },
     }
     .module_text(tokens)?;
     match tokens.peek() {

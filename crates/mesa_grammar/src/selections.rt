@@ -1,21 +1,20 @@
 //! SELECT.
 
 ghost use Rattle.std.specs.Prelude.{◌≡◌};
-ghost use Rattle.mesa_grammar.specs.Running.{Reads};
-ghost use Rattle.mesa_grammar.specs.Nests.{Nests};
+ghost use Rattle.token_cursor.specs.Running.{Reads};
+ghost use Rattle.expression_parser.specs.Nests.{Nests};
 ghost use Rattle.mesa_lexer.specs.Parsing.{ended, many};
-ghost use Rattle.mesa_grammar.specs.Nested.{begins_test, comma};
-ghost use Rattle.mesa_grammar.specs.Statements.{nested, semicolon};
-ghost use Rattle.mesa_grammar.specs.Statements as spec;
+ghost use Rattle.module_productions.specs.Nested.{begins_test, comma};
+ghost use Rattle.module_productions.specs.Statements.{nested, semicolon};
+ghost use Rattle.module_productions.specs.Statements as spec;
 
-use crate::begun::Begun;
-use crate::cursor::Cursor;
-use crate::fault::Stopped;
 use crate::nesting::Grammar;
 use mesa_base::{Boxed, List, Place};
 use mesa_lexer::{Mark, Word};
 use mesa_types::syntax::{Case, Cases, Expr, Identifier, Statement, Test, Tests, TypeExp};
+use module_productions::Begun;
 use std::alloc::Global;
+use token_cursor::{Cursor, Stopped};
 
 impl<
     F: Fn(Global, &mut Cursor<'_>, usize, Option<Identifier>) -> Result<Statement, Stopped>,
@@ -23,55 +22,55 @@ impl<
     H: Fn(Global, &mut Cursor<'_>, usize, Option<Identifier>) -> Result<TypeExp, Stopped>,
 > Grammar<F, G, H> {
     /// A test behind NOT.
-    #[tactic(auto, using(crate::proofs::Choosing::choose_none, crate::proofs::Choosing::choose_some), unfolding(crate::specs::Statements::after_not))]
+    #[tactic(auto, using(token_cursor::proofs::Choosing::choose_none, token_cursor::proofs::Choosing::choose_some), unfolding(module_productions::specs::Statements::after_not))]
     fn after_not(&self, tokens: &mut Cursor<'_>, place: Place) -> Result<Test, Stopped>
-        requires { Nests self.now.depth (F.pre self.now.stmt) (F.post self.now.stmt) (G.pre self.now.expr) (G.post self.now.expr) (H.pre self.now.type_exp) (H.post self.now.type_exp) }
-        ensures { Reads (spec.after_not (nested self.now.depth) place tokens.old.rest.now) result tokens.new.rest.now }
+        requires { Nests self.now.level.depth (F.pre self.now.level.stmt) (F.post self.now.level.stmt) (G.pre self.now.level.expr) (G.post self.now.level.expr) (H.pre self.now.level.type_exp) (H.post self.now.level.type_exp) }
+        ensures { Reads (spec.after_not (nested self.now.level.depth) place tokens.old.rest.now) result tokens.new.rest.now }
     {
         if let Some((relation, at)) = tokens.takes_relating() {
-            let right = self.sum(tokens, None)?;
+            let right = self.level.sum(tokens, None)?;
             return Ok(Test::Compared(true, relation, at, right));
         }
         match tokens.takes_word(Word::InWord) {
             Some(at) => {
-                let interval = self.interval(tokens)?;
+                let interval = self.level.interval(tokens)?;
                 Ok(Test::Inside(true, at, interval))
             }
             None => {
-                let value = self.expr(tokens, Begun::AtNot(place))?;
+                let value = self.level.expr(tokens, Begun::AtNot(place))?;
                 Ok(Test::Value(value))
             }
         }
     }
 
     /// A test that begins with no NOT, or where NOT may not be taken.
-    #[tactic(auto, using(crate::proofs::Choosing::choose_none, crate::proofs::Choosing::choose_some), unfolding(crate::specs::Statements::unnegated))]
+    #[tactic(auto, using(token_cursor::proofs::Choosing::choose_none, token_cursor::proofs::Choosing::choose_some), unfolding(module_productions::specs::Statements::unnegated))]
     fn unnegated(&self, tokens: &mut Cursor<'_>) -> Result<Test, Stopped>
-        requires { Nests self.now.depth (F.pre self.now.stmt) (F.post self.now.stmt) (G.pre self.now.expr) (G.post self.now.expr) (H.pre self.now.type_exp) (H.post self.now.type_exp) }
-        ensures { Reads (spec.unnegated (nested self.now.depth) tokens.old.rest.now) result tokens.new.rest.now }
+        requires { Nests self.now.level.depth (F.pre self.now.level.stmt) (F.post self.now.level.stmt) (G.pre self.now.level.expr) (G.post self.now.level.expr) (H.pre self.now.level.type_exp) (H.post self.now.level.type_exp) }
+        ensures { Reads (spec.unnegated (nested self.now.level.depth) tokens.old.rest.now) result tokens.new.rest.now }
     {
         if let Some((relation, at)) = tokens.takes_relating() {
-            let right = self.sum(tokens, None)?;
+            let right = self.level.sum(tokens, None)?;
             return Ok(Test::Compared(false, relation, at, right));
         }
         match tokens.takes_word(Word::InWord) {
             Some(at) => {
-                let interval = self.interval(tokens)?;
+                let interval = self.level.interval(tokens)?;
                 Ok(Test::Inside(false, at, interval))
             }
             None => {
-                let value = self.expr(tokens, Begun::Fresh)?;
+                let value = self.level.expr(tokens, Begun::Fresh)?;
                 Ok(Test::Value(value))
             }
         }
     }
 
-    #[tactic(auto, using(crate::proofs::Stepping::test_by, crate::proofs::Choosing::choose_none, crate::proofs::Choosing::choose_some, crate::proofs::Choosing::if_true, crate::proofs::Choosing::if_false))]
+    #[tactic(auto, using(crate::proofs::Stepping::test_by, token_cursor::proofs::Choosing::choose_none, token_cursor::proofs::Choosing::choose_some, token_cursor::proofs::Choosing::if_true, token_cursor::proofs::Choosing::if_false))]
     fn test(&self, tokens: &mut Cursor<'_>) -> Result<Test, Stopped>
-        requires { Nests self.now.depth (F.pre self.now.stmt) (F.post self.now.stmt) (G.pre self.now.expr) (G.post self.now.expr) (H.pre self.now.type_exp) (H.post self.now.type_exp) }
-        ensures { Reads (spec.test (nested self.now.depth) tokens.old.rest.now) result tokens.new.rest.now }
+        requires { Nests self.now.level.depth (F.pre self.now.level.stmt) (F.post self.now.level.stmt) (G.pre self.now.level.expr) (G.post self.now.level.expr) (H.pre self.now.level.type_exp) (H.post self.now.level.type_exp) }
+        ensures { Reads (spec.test (nested self.now.level.depth) tokens.old.rest.now) result tokens.new.rest.now }
     {
-        if !self.can() {
+        if !self.level.can() {
             return self.unnegated(tokens);
         }
         match tokens.takes_negating() {
@@ -81,10 +80,10 @@ impl<
     }
 
     /// Further tests behind these.
-    #[tactic(auto, using(crate::proofs::Taking::many_by, crate::proofs::Parts::tests_eats))]
+    #[tactic(auto, using(token_cursor::proofs::Taking::many_by, module_productions::proofs::Parts::tests_eats))]
     fn more_tests(&self, tokens: &mut Cursor<'_>, mut all: Tests) -> Result<Tests, Stopped>
-        requires { Nests self.now.depth (F.pre self.now.stmt) (F.post self.now.stmt) (G.pre self.now.expr) (G.post self.now.expr) (H.pre self.now.type_exp) (H.post self.now.type_exp) }
-        ensures { Reads (many comma (spec.tests_step (nested self.now.depth)) all tokens.old.rest.now) result tokens.new.rest.now }
+        requires { Nests self.now.level.depth (F.pre self.now.level.stmt) (F.post self.now.level.stmt) (G.pre self.now.level.expr) (G.post self.now.level.expr) (H.pre self.now.level.type_exp) (H.post self.now.level.type_exp) }
+        ensures { Reads (many comma (spec.tests_step (nested self.now.level.depth)) all tokens.old.rest.now) result tokens.new.rest.now }
     {
         'tests: while tokens.takes_mark(Mark::Comma).is_some() {
             all.push(self.test(tokens)?)?;
@@ -92,24 +91,24 @@ impl<
         Ok(all)
     }
 
-    #[tactic(auto, unfolding(crate::specs::Statements::case))]
+    #[tactic(auto, unfolding(module_productions::specs::Statements::case))]
     fn case(&self, tokens: &mut Cursor<'_>) -> Result<Case, Stopped>
-        requires { Nests self.now.depth (F.pre self.now.stmt) (F.post self.now.stmt) (G.pre self.now.expr) (G.post self.now.expr) (H.pre self.now.type_exp) (H.post self.now.type_exp) }
-        ensures { Reads (spec.case (nested self.now.depth) tokens.old.rest.now) result tokens.new.rest.now }
+        requires { Nests self.now.level.depth (F.pre self.now.level.stmt) (F.post self.now.level.stmt) (G.pre self.now.level.expr) (G.post self.now.level.expr) (H.pre self.now.level.type_exp) (H.post self.now.level.type_exp) }
+        ensures { Reads (spec.case (nested self.now.level.depth) tokens.old.rest.now) result tokens.new.rest.now }
     {
-        let mut tests = List::new(self.alloc);
+        let mut tests = List::new(self.level.alloc);
         tests.push(self.test(tokens)?)?;
         let tests = self.more_tests(tokens, tests)?;
         tokens.need_mark(Mark::DoubleArrow)?;
-        let body = self.stmt(tokens, None)?;
+        let body = self.level.stmt(tokens, None)?;
         Ok(Case { tests, body })
     }
 
     /// Further cases behind these.
-    #[tactic(auto, using(crate::proofs::Taking::ended_by, crate::proofs::Parts::cases_eats))]
+    #[tactic(auto, using(token_cursor::proofs::Taking::ended_by, module_productions::proofs::Parts::cases_eats))]
     fn more_cases(&self, tokens: &mut Cursor<'_>, mut all: Cases) -> Result<Cases, Stopped>
-        requires { Nests self.now.depth (F.pre self.now.stmt) (F.post self.now.stmt) (G.pre self.now.expr) (G.post self.now.expr) (H.pre self.now.type_exp) (H.post self.now.type_exp) }
-        ensures { Reads (ended semicolon begins_test (spec.cases_step (nested self.now.depth)) all tokens.old.rest.now) result tokens.new.rest.now }
+        requires { Nests self.now.level.depth (F.pre self.now.level.stmt) (F.post self.now.level.stmt) (G.pre self.now.level.expr) (G.post self.now.level.expr) (H.pre self.now.level.type_exp) (H.post self.now.level.type_exp) }
+        ensures { Reads (ended semicolon begins_test (spec.cases_step (nested self.now.level.depth)) all tokens.old.rest.now) result tokens.new.rest.now }
     {
         'cases: while tokens.takes_mark(Mark::Semicolon).is_some() {
             if !tokens.begins_test() {
@@ -120,48 +119,48 @@ impl<
         Ok(all)
     }
 
-    #[tactic(auto, unfolding(crate::specs::Statements::cases))]
+    #[tactic(auto, unfolding(module_productions::specs::Statements::cases))]
     fn cases(&self, tokens: &mut Cursor<'_>) -> Result<Cases, Stopped>
-        requires { Nests self.now.depth (F.pre self.now.stmt) (F.post self.now.stmt) (G.pre self.now.expr) (G.post self.now.expr) (H.pre self.now.type_exp) (H.post self.now.type_exp) }
-        ensures { Reads (spec.cases (nested self.now.depth) tokens.old.rest.now) result tokens.new.rest.now }
+        requires { Nests self.now.level.depth (F.pre self.now.level.stmt) (F.post self.now.level.stmt) (G.pre self.now.level.expr) (G.post self.now.level.expr) (H.pre self.now.level.type_exp) (H.post self.now.level.type_exp) }
+        ensures { Reads (spec.cases (nested self.now.level.depth) tokens.old.rest.now) result tokens.new.rest.now }
     {
-        let mut all = List::new(self.alloc);
+        let mut all = List::new(self.level.alloc);
         all.push(self.case(tokens)?)?;
         self.more_cases(tokens, all)
     }
 
-    #[tactic(auto, using(crate::proofs::Choosing::when_true, crate::proofs::Choosing::when_false), unfolding(crate::specs::Statements::case_list))]
+    #[tactic(auto, using(token_cursor::proofs::Choosing::when_true, token_cursor::proofs::Choosing::when_false), unfolding(module_productions::specs::Statements::case_list))]
     fn case_list(&self, tokens: &mut Cursor<'_>) -> Result<Cases, Stopped>
-        requires { Nests self.now.depth (F.pre self.now.stmt) (F.post self.now.stmt) (G.pre self.now.expr) (G.post self.now.expr) (H.pre self.now.type_exp) (H.post self.now.type_exp) }
-        ensures { Reads (spec.case_list (nested self.now.depth) tokens.old.rest.now) result tokens.new.rest.now }
+        requires { Nests self.now.level.depth (F.pre self.now.level.stmt) (F.post self.now.level.stmt) (G.pre self.now.level.expr) (G.post self.now.level.expr) (H.pre self.now.level.type_exp) (H.post self.now.level.type_exp) }
+        ensures { Reads (spec.case_list (nested self.now.level.depth) tokens.old.rest.now) result tokens.new.rest.now }
     {
         if !tokens.begins_test() {
-            return Ok(List::new(self.alloc));
+            return Ok(List::new(self.level.alloc));
         }
         self.cases(tokens)
     }
 
     /// The statement for no case, behind ENDCASE.
-    #[tactic(auto, using(crate::proofs::Choosing::choose_none, crate::proofs::Choosing::choose_some), unfolding(crate::specs::Statements::otherwise))]
+    #[tactic(auto, using(token_cursor::proofs::Choosing::choose_none, token_cursor::proofs::Choosing::choose_some), unfolding(module_productions::specs::Statements::otherwise))]
     fn otherwise(&self, tokens: &mut Cursor<'_>) -> Result<Option<Boxed<Statement>>, Stopped>
-        requires { Nests self.now.depth (F.pre self.now.stmt) (F.post self.now.stmt) (G.pre self.now.expr) (G.post self.now.expr) (H.pre self.now.type_exp) (H.post self.now.type_exp) }
-        ensures { Reads (spec.otherwise (nested self.now.depth) tokens.old.rest.now) result tokens.new.rest.now }
+        requires { Nests self.now.level.depth (F.pre self.now.level.stmt) (F.post self.now.level.stmt) (G.pre self.now.level.expr) (G.post self.now.level.expr) (H.pre self.now.level.type_exp) (H.post self.now.level.type_exp) }
+        ensures { Reads (spec.otherwise (nested self.now.level.depth) tokens.old.rest.now) result tokens.new.rest.now }
     {
         match tokens.takes_mark(Mark::DoubleArrow) {
             Some(_) => {
-                let body = self.stmt(tokens, None)?;
-                Ok(Some(Boxed::new(self.alloc, body)?))
+                let body = self.level.stmt(tokens, None)?;
+                Ok(Some(Boxed::new(self.level.alloc, body)?))
             }
             None => Ok(None),
         }
     }
 
-    #[tactic(auto, unfolding(crate::specs::Statements::select))]
+    #[tactic(auto, unfolding(module_productions::specs::Statements::select))]
     pub fn select(&self, tokens: &mut Cursor<'_>, place: Place) -> Result<Statement, Stopped>
-        requires { Nests self.now.depth (F.pre self.now.stmt) (F.post self.now.stmt) (G.pre self.now.expr) (G.post self.now.expr) (H.pre self.now.type_exp) (H.post self.now.type_exp) }
-        ensures { Reads (spec.select (nested self.now.depth) place tokens.old.rest.now) result tokens.new.rest.now }
+        requires { Nests self.now.level.depth (F.pre self.now.level.stmt) (F.post self.now.level.stmt) (G.pre self.now.level.expr) (G.post self.now.level.expr) (H.pre self.now.level.type_exp) (H.post self.now.level.type_exp) }
+        ensures { Reads (spec.select (nested self.now.level.depth) place tokens.old.rest.now) result tokens.new.rest.now }
     {
-        let selector = self.expr(tokens, Begun::Fresh)?;
+        let selector = self.level.expr(tokens, Begun::Fresh)?;
         tokens.need_word(Word::FromWord)?;
         let cases = self.case_list(tokens)?;
         tokens.need_word(Word::EndcaseWord)?;

@@ -1,24 +1,23 @@
 //! Statements, and lists of them.
 
 ghost use Rattle.std.specs.Prelude.{◌≡◌};
-ghost use Rattle.mesa_grammar.specs.Running.{Reads};
-ghost use Rattle.mesa_grammar.specs.Nests.{Nests};
+ghost use Rattle.token_cursor.specs.Running.{Reads};
+ghost use Rattle.expression_parser.specs.Nests.{Nests};
 ghost use Rattle.mesa_lexer.specs.Parsing.{ended};
-ghost use Rattle.mesa_grammar.specs.Nested.{begins_stmt};
-ghost use Rattle.mesa_grammar.specs.Statements.{nested, semicolon};
-ghost use Rattle.mesa_grammar.specs.Statements as spec;
+ghost use Rattle.module_productions.specs.Nested.{begins_stmt};
+ghost use Rattle.module_productions.specs.Statements.{nested, semicolon};
+ghost use Rattle.module_productions.specs.Statements as spec;
 ghost use Rattle.mesa_grammar.specs.StatementTails as tails;
 
-use crate::begun::Begun;
 use crate::blocks::BlockEnd;
-use crate::cursor::Cursor;
-use crate::fault::Stopped;
-use crate::naming::named;
 use crate::nesting::Grammar;
 use mesa_base::{Boxed, List, Place};
 use mesa_lexer::{Mark, Word};
 use mesa_types::syntax::{Expr, Identifier, Statement, Statements, TypeExp};
+use module_productions::Begun;
 use std::alloc::Global;
+use token_cursor::naming::named;
+use token_cursor::{Cursor, Stopped};
 
 impl<
     F: Fn(Global, &mut Cursor<'_>, usize, Option<Identifier>) -> Result<Statement, Stopped>,
@@ -26,46 +25,46 @@ impl<
     H: Fn(Global, &mut Cursor<'_>, usize, Option<Identifier>) -> Result<TypeExp, Stopped>,
 > Grammar<F, G, H> {
     /// Statements; of the first a name was taken or nothing.
-    #[tactic(auto, unfolding(crate::specs::Statements::stmts))]
+    #[tactic(auto, unfolding(module_productions::specs::Statements::stmts))]
     pub fn stmts(
         &self,
         tokens: &mut Cursor<'_>,
         begun: Option<Identifier>,
     ) -> Result<Statements, Stopped>
-        requires { Nests self.now.depth (F.pre self.now.stmt) (F.post self.now.stmt) (G.pre self.now.expr) (G.post self.now.expr) (H.pre self.now.type_exp) (H.post self.now.type_exp) }
-        ensures { Reads (spec.stmts (nested self.now.depth) begun tokens.old.rest.now) result tokens.new.rest.now }
+        requires { Nests self.now.level.depth (F.pre self.now.level.stmt) (F.post self.now.level.stmt) (G.pre self.now.level.expr) (G.post self.now.level.expr) (H.pre self.now.level.type_exp) (H.post self.now.level.type_exp) }
+        ensures { Reads (spec.stmts (nested self.now.level.depth) begun tokens.old.rest.now) result tokens.new.rest.now }
     {
-        let mut all = List::new(self.alloc);
-        all.push(self.stmt(tokens, begun)?)?;
+        let mut all = List::new(self.level.alloc);
+        all.push(self.level.stmt(tokens, begun)?)?;
         self.more_stmts(tokens, all)
     }
 
     /// Further statements behind these.
-    #[tactic(auto, using(crate::proofs::Taking::ended_by, crate::proofs::Parts::stmts_eats))]
+    #[tactic(auto, using(token_cursor::proofs::Taking::ended_by, module_productions::proofs::Parts::stmts_eats))]
     fn more_stmts(
         &self,
         tokens: &mut Cursor<'_>,
         mut all: Statements,
     ) -> Result<Statements, Stopped>
-        requires { Nests self.now.depth (F.pre self.now.stmt) (F.post self.now.stmt) (G.pre self.now.expr) (G.post self.now.expr) (H.pre self.now.type_exp) (H.post self.now.type_exp) }
-        ensures { Reads (ended semicolon begins_stmt (spec.stmts_step (nested self.now.depth)) all tokens.old.rest.now) result tokens.new.rest.now }
+        requires { Nests self.now.level.depth (F.pre self.now.level.stmt) (F.post self.now.level.stmt) (G.pre self.now.level.expr) (G.post self.now.level.expr) (H.pre self.now.level.type_exp) (H.post self.now.level.type_exp) }
+        ensures { Reads (ended semicolon begins_stmt (spec.stmts_step (nested self.now.level.depth)) all tokens.old.rest.now) result tokens.new.rest.now }
     {
         'statements: while tokens.takes_mark(Mark::Semicolon).is_some() {
             if !tokens.begins_stmt() {
                 break;
             }
-            all.push(self.stmt(tokens, None)?)?;
+            all.push(self.level.stmt(tokens, None)?)?;
         }
         Ok(all)
     }
 
-    #[tactic(auto, using(crate::proofs::Choosing::when_true, crate::proofs::Choosing::when_false), unfolding(crate::specs::Statements::body))]
+    #[tactic(auto, using(token_cursor::proofs::Choosing::when_true, token_cursor::proofs::Choosing::when_false), unfolding(module_productions::specs::Statements::body))]
     pub fn body(&self, tokens: &mut Cursor<'_>) -> Result<Statements, Stopped>
-        requires { Nests self.now.depth (F.pre self.now.stmt) (F.post self.now.stmt) (G.pre self.now.expr) (G.post self.now.expr) (H.pre self.now.type_exp) (H.post self.now.type_exp) }
-        ensures { Reads (spec.body (nested self.now.depth) tokens.old.rest.now) result tokens.new.rest.now }
+        requires { Nests self.now.level.depth (F.pre self.now.level.stmt) (F.post self.now.level.stmt) (G.pre self.now.level.expr) (G.post self.now.level.expr) (H.pre self.now.level.type_exp) (H.post self.now.level.type_exp) }
+        ensures { Reads (spec.body (nested self.now.level.depth) tokens.old.rest.now) result tokens.new.rest.now }
     {
         if !tokens.begins_stmt() {
-            return Ok(List::new(self.alloc));
+            return Ok(List::new(self.level.alloc));
         }
         self.stmts(tokens, None)
     }
@@ -79,15 +78,15 @@ impl<
         condition: Expr,
         first: Boxed<Statement>,
     ) -> Result<Statement, Stopped>
-        requires { Nests self.now.depth (F.pre self.now.stmt) (F.post self.now.stmt) (G.pre self.now.expr) (G.post self.now.expr) (H.pre self.now.type_exp) (H.post self.now.type_exp) }
-        ensures { Reads (tails.alternative (nested self.now.depth) place condition first tokens.old.rest.now) result tokens.new.rest.now }
+        requires { Nests self.now.level.depth (F.pre self.now.level.stmt) (F.post self.now.level.stmt) (G.pre self.now.level.expr) (G.post self.now.level.expr) (H.pre self.now.level.type_exp) (H.post self.now.level.type_exp) }
+        ensures { Reads (tails.alternative (nested self.now.level.depth) place condition first tokens.old.rest.now) result tokens.new.rest.now }
     {
-        let second = Boxed::new(self.alloc, self.stmt(tokens, None)?)?;
+        let second = Boxed::new(self.level.alloc, self.level.stmt(tokens, None)?)?;
         Ok(Statement::If(place, condition, first, Some(second)))
     }
 
     /// What stands behind the first statement of an IF.
-    #[tactic(auto, using(crate::proofs::Choosing::choose_none, crate::proofs::Choosing::choose_some), unfolding(crate::specs::Statements::else_part, crate::specs::StatementTails::alternative))]
+    #[tactic(auto, using(token_cursor::proofs::Choosing::choose_none, token_cursor::proofs::Choosing::choose_some), unfolding(module_productions::specs::Statements::else_part, crate::specs::StatementTails::alternative))]
     fn else_part(
         &self,
         tokens: &mut Cursor<'_>,
@@ -95,8 +94,8 @@ impl<
         condition: Expr,
         first: Boxed<Statement>,
     ) -> Result<Statement, Stopped>
-        requires { Nests self.now.depth (F.pre self.now.stmt) (F.post self.now.stmt) (G.pre self.now.expr) (G.post self.now.expr) (H.pre self.now.type_exp) (H.post self.now.type_exp) }
-        ensures { Reads (spec.else_part (nested self.now.depth) place condition first tokens.old.rest.now) result tokens.new.rest.now }
+        requires { Nests self.now.level.depth (F.pre self.now.level.stmt) (F.post self.now.level.stmt) (G.pre self.now.level.expr) (G.post self.now.level.expr) (H.pre self.now.level.type_exp) (H.post self.now.level.type_exp) }
+        ensures { Reads (spec.else_part (nested self.now.level.depth) place condition first tokens.old.rest.now) result tokens.new.rest.now }
     {
         match tokens.takes_word(Word::ElseWord) {
             Some(_) => self.alternative(tokens, place, condition, first),
@@ -104,45 +103,45 @@ impl<
         }
     }
 
-    #[tactic(auto, unfolding(crate::specs::Statements::conditional))]
+    #[tactic(auto, unfolding(module_productions::specs::Statements::conditional))]
     fn conditional(&self, tokens: &mut Cursor<'_>, place: Place) -> Result<Statement, Stopped>
-        requires { Nests self.now.depth (F.pre self.now.stmt) (F.post self.now.stmt) (G.pre self.now.expr) (G.post self.now.expr) (H.pre self.now.type_exp) (H.post self.now.type_exp) }
-        ensures { Reads (spec.conditional (nested self.now.depth) place tokens.old.rest.now) result tokens.new.rest.now }
+        requires { Nests self.now.level.depth (F.pre self.now.level.stmt) (F.post self.now.level.stmt) (G.pre self.now.level.expr) (G.post self.now.level.expr) (H.pre self.now.level.type_exp) (H.post self.now.level.type_exp) }
+        ensures { Reads (spec.conditional (nested self.now.level.depth) place tokens.old.rest.now) result tokens.new.rest.now }
     {
-        let condition = self.expr(tokens, Begun::Fresh)?;
+        let condition = self.level.expr(tokens, Begun::Fresh)?;
         tokens.need_word(Word::ThenWord)?;
-        let first = Boxed::new(self.alloc, self.stmt(tokens, None)?)?;
+        let first = Boxed::new(self.level.alloc, self.level.stmt(tokens, None)?)?;
         self.else_part(tokens, place, condition, first)
     }
 
     /// The label behind GO.
-    #[tactic(auto, unfolding(crate::specs::Statements::go_to))]
+    #[tactic(auto, unfolding(module_productions::specs::Statements::go_to))]
     fn go_to(&self, tokens: &mut Cursor<'_>, place: Place) -> Result<Statement, Stopped>
-        requires { Nests self.now.depth (F.pre self.now.stmt) (F.post self.now.stmt) (G.pre self.now.expr) (G.post self.now.expr) (H.pre self.now.type_exp) (H.post self.now.type_exp) }
-        ensures { Reads (spec.go_to (nested self.now.depth) place tokens.old.rest.now) result tokens.new.rest.now }
+        requires { Nests self.now.level.depth (F.pre self.now.level.stmt) (F.post self.now.level.stmt) (G.pre self.now.level.expr) (G.post self.now.level.expr) (H.pre self.now.level.type_exp) (H.post self.now.level.type_exp) }
+        ensures { Reads (spec.go_to (nested self.now.level.depth) place tokens.old.rest.now) result tokens.new.rest.now }
     {
         tokens.need_word(Word::ToWord)?;
-        let label = named(self.alloc, tokens)?;
+        let label = named(self.level.alloc, tokens)?;
         Ok(Statement::Goto(place, label))
     }
 
-    #[tactic(auto, using(crate::proofs::Choosing::when_true, crate::proofs::Choosing::when_false), unfolding(crate::specs::StatementTails::raise_or_loop))]
+    #[tactic(auto, using(token_cursor::proofs::Choosing::when_true, token_cursor::proofs::Choosing::when_false), unfolding(crate::specs::StatementTails::raise_or_loop))]
     fn raise_or_loop(&self, tokens: &mut Cursor<'_>) -> Result<Statement, Stopped>
-        requires { Nests self.now.depth (F.pre self.now.stmt) (F.post self.now.stmt) (G.pre self.now.expr) (G.post self.now.expr) (H.pre self.now.type_exp) (H.post self.now.type_exp) }
-        ensures { Reads (tails.raise_or_loop (nested self.now.depth) tokens.old.rest.now) result tokens.new.rest.now }
+        requires { Nests self.now.level.depth (F.pre self.now.level.stmt) (F.post self.now.level.stmt) (G.pre self.now.level.expr) (G.post self.now.level.expr) (H.pre self.now.level.type_exp) (H.post self.now.level.type_exp) }
+        ensures { Reads (tails.raise_or_loop (nested self.now.level.depth) tokens.old.rest.now) result tokens.new.rest.now }
     {
         if !tokens.begins_raise() {
             return self.loop_statement(tokens);
         }
-        let raise = self.raise(tokens)?;
-        Ok(Statement::RaiseStatement(Boxed::new(self.alloc, raise)?))
+        let raise = self.level.raise(tokens)?;
+        Ok(Statement::RaiseStatement(Boxed::new(self.level.alloc, raise)?))
     }
 
     /// REJECT, RETRY and CONTINUE, or a raise or loop.
-    #[tactic(auto, using(crate::proofs::Choosing::choose_none, crate::proofs::Choosing::choose_some), unfolding(crate::specs::StatementTails::arm_jump))]
+    #[tactic(auto, using(token_cursor::proofs::Choosing::choose_none, token_cursor::proofs::Choosing::choose_some), unfolding(crate::specs::StatementTails::arm_jump))]
     fn arm_jump(&self, tokens: &mut Cursor<'_>) -> Result<Statement, Stopped>
-        requires { Nests self.now.depth (F.pre self.now.stmt) (F.post self.now.stmt) (G.pre self.now.expr) (G.post self.now.expr) (H.pre self.now.type_exp) (H.post self.now.type_exp) }
-        ensures { Reads (tails.arm_jump (nested self.now.depth) (tails.raise_or_loop (nested self.now.depth)) tokens.old.rest.now) result tokens.new.rest.now }
+        requires { Nests self.now.level.depth (F.pre self.now.level.stmt) (F.post self.now.level.stmt) (G.pre self.now.level.expr) (G.post self.now.level.expr) (H.pre self.now.level.type_exp) (H.post self.now.level.type_exp) }
+        ensures { Reads (tails.arm_jump (nested self.now.level.depth) (tails.raise_or_loop (nested self.now.level.depth)) tokens.old.rest.now) result tokens.new.rest.now }
     {
         if let Some(place) = tokens.takes_word(Word::RejectWord) {
             return Ok(Statement::Reject(place));
@@ -157,18 +156,18 @@ impl<
     }
 
     /// RETURN and RESUME with their values.
-    #[tactic(auto, using(crate::proofs::Choosing::choose_none, crate::proofs::Choosing::choose_some), unfolding(crate::specs::StatementTails::value_jump))]
+    #[tactic(auto, using(token_cursor::proofs::Choosing::choose_none, token_cursor::proofs::Choosing::choose_some), unfolding(crate::specs::StatementTails::value_jump))]
     fn value_jump(&self, tokens: &mut Cursor<'_>) -> Result<Statement, Stopped>
-        requires { Nests self.now.depth (F.pre self.now.stmt) (F.post self.now.stmt) (G.pre self.now.expr) (G.post self.now.expr) (H.pre self.now.type_exp) (H.post self.now.type_exp) }
-        ensures { Reads (tails.value_jump (nested self.now.depth) (tails.raise_or_loop (nested self.now.depth)) tokens.old.rest.now) result tokens.new.rest.now }
+        requires { Nests self.now.level.depth (F.pre self.now.level.stmt) (F.post self.now.level.stmt) (G.pre self.now.level.expr) (G.post self.now.level.expr) (H.pre self.now.level.type_exp) (H.post self.now.level.type_exp) }
+        ensures { Reads (tails.value_jump (nested self.now.level.depth) (tails.raise_or_loop (nested self.now.level.depth)) tokens.old.rest.now) result tokens.new.rest.now }
     {
         if let Some(place) = tokens.takes_word(Word::ReturnWord) {
-            let list = self.list_option(tokens)?;
+            let list = self.level.list_option(tokens)?;
             return Ok(Statement::Return(place, list));
         }
         match tokens.takes_word(Word::ResumeWord) {
             Some(place) => {
-                let list = self.list_option(tokens)?;
+                let list = self.level.list_option(tokens)?;
                 Ok(Statement::Resume(place, list))
             }
             None => self.arm_jump(tokens),
@@ -176,13 +175,13 @@ impl<
     }
 
     /// A jump to a label.
-    #[tactic(auto, using(crate::proofs::Choosing::choose_none, crate::proofs::Choosing::choose_some), unfolding(crate::specs::StatementTails::label_jump))]
+    #[tactic(auto, using(token_cursor::proofs::Choosing::choose_none, token_cursor::proofs::Choosing::choose_some), unfolding(crate::specs::StatementTails::label_jump))]
     fn label_jump(&self, tokens: &mut Cursor<'_>) -> Result<Statement, Stopped>
-        requires { Nests self.now.depth (F.pre self.now.stmt) (F.post self.now.stmt) (G.pre self.now.expr) (G.post self.now.expr) (H.pre self.now.type_exp) (H.post self.now.type_exp) }
-        ensures { Reads (tails.label_jump (nested self.now.depth) (tails.raise_or_loop (nested self.now.depth)) tokens.old.rest.now) result tokens.new.rest.now }
+        requires { Nests self.now.level.depth (F.pre self.now.level.stmt) (F.post self.now.level.stmt) (G.pre self.now.level.expr) (G.post self.now.level.expr) (H.pre self.now.level.type_exp) (H.post self.now.level.type_exp) }
+        ensures { Reads (tails.label_jump (nested self.now.level.depth) (tails.raise_or_loop (nested self.now.level.depth)) tokens.old.rest.now) result tokens.new.rest.now }
     {
         if let Some(place) = tokens.takes_word(Word::GotoWord) {
-            let label = named(self.alloc, tokens)?;
+            let label = named(self.level.alloc, tokens)?;
             return Ok(Statement::Goto(place, label));
         }
         match tokens.takes_word(Word::GoWord) {
@@ -192,10 +191,10 @@ impl<
     }
 
     /// A jump out of a loop or its turn, or one of the others.
-    #[tactic(auto, using(crate::proofs::Choosing::choose_none, crate::proofs::Choosing::choose_some), unfolding(crate::specs::Statements::jump, crate::specs::StatementTails::label_jump, crate::specs::StatementTails::value_jump, crate::specs::StatementTails::arm_jump))]
+    #[tactic(auto, using(token_cursor::proofs::Choosing::choose_none, token_cursor::proofs::Choosing::choose_some), unfolding(module_productions::specs::Statements::jump, crate::specs::StatementTails::label_jump, crate::specs::StatementTails::value_jump, crate::specs::StatementTails::arm_jump))]
     fn jump(&self, tokens: &mut Cursor<'_>) -> Result<Statement, Stopped>
-        requires { Nests self.now.depth (F.pre self.now.stmt) (F.post self.now.stmt) (G.pre self.now.expr) (G.post self.now.expr) (H.pre self.now.type_exp) (H.post self.now.type_exp) }
-        ensures { Reads (spec.jump (nested self.now.depth) (tails.raise_or_loop (nested self.now.depth)) tokens.old.rest.now) result tokens.new.rest.now }
+        requires { Nests self.now.level.depth (F.pre self.now.level.stmt) (F.post self.now.level.stmt) (G.pre self.now.level.expr) (G.post self.now.level.expr) (H.pre self.now.level.type_exp) (H.post self.now.level.type_exp) }
+        ensures { Reads (spec.jump (nested self.now.level.depth) (tails.raise_or_loop (nested self.now.level.depth)) tokens.old.rest.now) result tokens.new.rest.now }
     {
         if let Some(place) = tokens.takes_word(Word::ExitWord) {
             return Ok(Statement::ExitLoop(place));
@@ -207,13 +206,13 @@ impl<
     }
 
     /// An extractor, IF and SELECT, or a jump.
-    #[tactic(auto, using(crate::proofs::Choosing::choose_none, crate::proofs::Choosing::choose_some), unfolding(crate::specs::StatementTails::branching, crate::specs::StatementTails::raise_or_loop))]
+    #[tactic(auto, using(token_cursor::proofs::Choosing::choose_none, token_cursor::proofs::Choosing::choose_some), unfolding(crate::specs::StatementTails::branching, crate::specs::StatementTails::raise_or_loop))]
     fn branching(&self, tokens: &mut Cursor<'_>) -> Result<Statement, Stopped>
-        requires { Nests self.now.depth (F.pre self.now.stmt) (F.post self.now.stmt) (G.pre self.now.expr) (G.post self.now.expr) (H.pre self.now.type_exp) (H.post self.now.type_exp) }
-        ensures { Reads (tails.branching (nested self.now.depth) tokens.old.rest.now) result tokens.new.rest.now }
+        requires { Nests self.now.level.depth (F.pre self.now.level.stmt) (F.post self.now.level.stmt) (G.pre self.now.level.expr) (G.post self.now.level.expr) (H.pre self.now.level.type_exp) (H.post self.now.level.type_exp) }
+        ensures { Reads (tails.branching (nested self.now.level.depth) tokens.old.rest.now) result tokens.new.rest.now }
     {
         if let Some(place) = tokens.takes_mark(Mark::LeftBracket) {
-            return self.extract(tokens, place);
+            return self.level.extract(tokens, place);
         }
         if let Some(place) = tokens.takes_word(Word::IfWord) {
             return self.conditional(tokens, place);
@@ -225,10 +224,10 @@ impl<
     }
 
     /// A block.
-    #[tactic(auto, using(crate::proofs::Choosing::choose_none, crate::proofs::Choosing::choose_some), unfolding(crate::specs::StatementTails::enclosed))]
+    #[tactic(auto, using(token_cursor::proofs::Choosing::choose_none, token_cursor::proofs::Choosing::choose_some), unfolding(crate::specs::StatementTails::enclosed))]
     fn enclosed(&self, tokens: &mut Cursor<'_>) -> Result<Statement, Stopped>
-        requires { Nests self.now.depth (F.pre self.now.stmt) (F.post self.now.stmt) (G.pre self.now.expr) (G.post self.now.expr) (H.pre self.now.type_exp) (H.post self.now.type_exp) }
-        ensures { Reads (tails.enclosed (nested self.now.depth) tokens.old.rest.now) result tokens.new.rest.now }
+        requires { Nests self.now.level.depth (F.pre self.now.level.stmt) (F.post self.now.level.stmt) (G.pre self.now.level.expr) (G.post self.now.level.expr) (H.pre self.now.level.type_exp) (H.post self.now.level.type_exp) }
+        ensures { Reads (tails.enclosed (nested self.now.level.depth) tokens.old.rest.now) result tokens.new.rest.now }
     {
         if let Some(place) = tokens.takes_word(Word::BeginWord) {
             return self.nested_block(tokens, BlockEnd::ByWord, place);
@@ -239,13 +238,13 @@ impl<
         }
     }
 
-    #[tactic(auto, using(crate::proofs::Choosing::choose_none, crate::proofs::Choosing::choose_some), unfolding(crate::specs::Statements::statement, crate::specs::StatementTails::enclosed, crate::specs::StatementTails::branching))]
+    #[tactic(auto, using(token_cursor::proofs::Choosing::choose_none, token_cursor::proofs::Choosing::choose_some), unfolding(module_productions::specs::Statements::statement, crate::specs::StatementTails::enclosed, crate::specs::StatementTails::branching))]
     fn unnamed_statement(&self, tokens: &mut Cursor<'_>) -> Result<Statement, Stopped>
-        requires { Nests self.now.depth (F.pre self.now.stmt) (F.post self.now.stmt) (G.pre self.now.expr) (G.post self.now.expr) (H.pre self.now.type_exp) (H.post self.now.type_exp) }
-        ensures { Reads (spec.statement (nested self.now.depth) None tokens.old.rest.now) result tokens.new.rest.now }
+        requires { Nests self.now.level.depth (F.pre self.now.level.stmt) (F.post self.now.level.stmt) (G.pre self.now.level.expr) (G.post self.now.level.expr) (H.pre self.now.level.type_exp) (H.post self.now.level.type_exp) }
+        ensures { Reads (spec.statement (nested self.now.level.depth) None tokens.old.rest.now) result tokens.new.rest.now }
     {
-        if let Some(name) = tokens.takes_name(self.alloc)? {
-            return self.assigned(tokens, name);
+        if let Some(name) = tokens.takes_name(self.level.alloc)? {
+            return self.level.assigned(tokens, name);
         }
         match tokens.takes_word(Word::NullWord) {
             Some(place) => Ok(Statement::Null(place)),
@@ -254,17 +253,17 @@ impl<
     }
 
     /// A statement, of which a name was taken or nothing.
-    #[tactic(auto, unfolding(crate::specs::Statements::statement))]
+    #[tactic(auto, unfolding(module_productions::specs::Statements::statement))]
     pub fn statement(
         &self,
         tokens: &mut Cursor<'_>,
         begun: Option<Identifier>,
     ) -> Result<Statement, Stopped>
-        requires { Nests self.now.depth (F.pre self.now.stmt) (F.post self.now.stmt) (G.pre self.now.expr) (G.post self.now.expr) (H.pre self.now.type_exp) (H.post self.now.type_exp) }
-        ensures { Reads (spec.statement (nested self.now.depth) begun tokens.old.rest.now) result tokens.new.rest.now }
+        requires { Nests self.now.level.depth (F.pre self.now.level.stmt) (F.post self.now.level.stmt) (G.pre self.now.level.expr) (G.post self.now.level.expr) (H.pre self.now.level.type_exp) (H.post self.now.level.type_exp) }
+        ensures { Reads (spec.statement (nested self.now.level.depth) begun tokens.old.rest.now) result tokens.new.rest.now }
     {
         match begun {
-            Some(name) => self.assigned(tokens, name),
+            Some(name) => self.level.assigned(tokens, name),
             None => self.unnamed_statement(tokens),
         }
     }

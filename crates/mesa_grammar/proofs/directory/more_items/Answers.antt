@@ -1,9 +1,9 @@
 use Rattle.std.proofs.Common.{rules, arith}
 use Rattle.std.proofs.lemmas.Grind.{common_steps}
-use Rattle.mesa_grammar.specs.Nested.{comma}
-use Rattle.mesa_grammar.specs.Texts.{items_step}
-use Rattle.mesa_grammar.proofs.KeepModules.{items_eats}
-use Rattle.mesa_grammar.proofs.Taking.{many_falls}
+use Rattle.module_productions.specs.Nested.{comma}
+use Rattle.module_productions.specs.Texts.{items_step}
+use Rattle.module_productions.proofs.KeepModules.{items_eats}
+use Rattle.token_cursor.proofs.Taking.{many_falls}
 use Rattle.mesa_grammar.proofs.directory.more_items.Goals as goal
 
 pub items-smaller : goal.items-smaller

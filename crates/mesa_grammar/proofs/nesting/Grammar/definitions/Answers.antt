@@ -1,11 +1,11 @@
 use Rattle.std.proofs.Common.{rules, arith}
 use Rattle.std.proofs.lemmas.Grind.{common_steps}
 use Rattle.mesa_lexer.specs.Parsing.{a_name}
-use Rattle.mesa_grammar.specs.Statements.{nested}
-use Rattle.mesa_grammar.specs.Texts.{definitions_step}
+use Rattle.module_productions.specs.Statements.{nested}
+use Rattle.module_productions.specs.Texts.{definitions_step}
 use Rattle.mesa_grammar.proofs.FrontSteps.{definitions_eats}
-use Rattle.mesa_grammar.proofs.Taking.{many_falls}
+use Rattle.token_cursor.proofs.Taking.{many_falls}
 use Rattle.mesa_grammar.proofs.nesting.Grammar.definitions.Goals as goal
 
 pub definitions-smaller : goal.definitions-smaller
-definitions-smaller g c = many_falls a_name (definitions_step (nested c.args.self.now.depth)) (definitions_eats c.args.self.now.depth) c.definitions.all c.in_ok-all.all _ _ (first_of (search rules, grind (arith, common_steps)))
+definitions-smaller g c = many_falls a_name (definitions_step (nested c.args.self.now.level.depth)) (definitions_eats c.args.self.now.level.depth) c.definitions.all c.in_ok-all.all _ _ (first_of (search rules, grind (arith, common_steps)))

@@ -1,11 +1,11 @@
 use Rattle.std.proofs.Common.{◌≡◌, length, []}
 use Rattle.mesa_lexer.specs.Parsing.{a_name, many}
-use Rattle.mesa_grammar.specs.Statements.{nested}
-use Rattle.mesa_grammar.specs.Texts.{definitions_step}
+use Rattle.module_productions.specs.Statements.{nested}
+use Rattle.module_productions.specs.Texts.{definitions_step}
 use Rattle.mesa_grammar.proofs.nesting.Grammar.definitions.Given as goal
 
 abbrev pub invariant-definitions : goal.invariant-definitions
-invariant-definitions g l = many a_name (definitions_step (nested l.self.depth)) [] l.fn.tokens.rest.now ≡ many a_name (definitions_step (nested l.self.depth)) l.all l.tokens.rest.now
+invariant-definitions g l = many a_name (definitions_step (nested l.self.level.depth)) [] l.fn.tokens.rest.now ≡ many a_name (definitions_step (nested l.self.level.depth)) l.all l.tokens.rest.now
 
 abbrev pub decreases-definitions : goal.decreases-definitions
 decreases-definitions g l = length l.tokens.rest.now

@@ -1,0 +1,11 @@
+use Rattle.std.proofs.Common.{rules, arith}
+use Rattle.std.proofs.lemmas.Grind.{common_steps}
+use Rattle.module_productions.specs.Nested.{comma}
+use Rattle.module_productions.specs.Expressions.{exprs_step}
+use Rattle.module_productions.specs.Statements.{nested}
+use Rattle.module_productions.proofs.Parts.{exprs_eats}
+use Rattle.token_cursor.proofs.Taking.{many_falls}
+use Rattle.expression_parser.proofs.nesting.Level.more_exprs.Goals as goal
+
+pub exprs-smaller : goal.exprs-smaller
+exprs-smaller g c = many_falls comma (exprs_step (nested c.args.self.now.depth)) (exprs_eats c.args.self.now.depth) c.exprs.all c.push.new.self _ _ (first_of (search rules, grind (arith, common_steps)))

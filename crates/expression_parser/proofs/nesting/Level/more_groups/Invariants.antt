@@ -1,0 +1,12 @@
+use Rattle.std.proofs.Common.{◌≡◌, length}
+use Rattle.mesa_lexer.specs.Parsing.{many}
+use Rattle.module_productions.specs.Nested.{comma}
+use Rattle.module_productions.specs.Expressions.{groups_step}
+use Rattle.module_productions.specs.Statements.{nested}
+use Rattle.expression_parser.proofs.nesting.Level.more_groups.Given as goal
+
+abbrev pub invariant-groups : goal.invariant-groups
+invariant-groups g l = many comma (groups_step (nested l.self.depth)) l.fn.all l.fn.tokens.rest.now ≡ many comma (groups_step (nested l.self.depth)) l.all l.tokens.rest.now
+
+abbrev pub decreases-groups : goal.decreases-groups
+decreases-groups g l = length l.tokens.rest.now

@@ -1,0 +1,11 @@
+use Rattle.std.proofs.Common.{◌≡◌, length}
+use Rattle.mesa_lexer.specs.Parsing.{many}
+use Rattle.module_productions.specs.Nested.{comma}
+use Rattle.module_productions.specs.Statements.{nested, key_lefts_step}
+use Rattle.expression_parser.proofs.nesting.Level.more_key_lefts.Given as goal
+
+abbrev pub invariant-key_lefts : goal.invariant-key_lefts
+invariant-key_lefts g l = many comma (key_lefts_step (nested l.self.depth)) l.fn.all l.fn.tokens.rest.now ≡ many comma (key_lefts_step (nested l.self.depth)) l.all l.tokens.rest.now
+
+abbrev pub decreases-key_lefts : goal.decreases-key_lefts
+decreases-key_lefts g l = length l.tokens.rest.now

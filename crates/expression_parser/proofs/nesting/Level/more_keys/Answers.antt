@@ -1,0 +1,11 @@
+use Rattle.std.proofs.Common.{rules, arith}
+use Rattle.std.proofs.lemmas.Grind.{common_steps}
+use Rattle.module_productions.specs.Nested.{comma}
+use Rattle.module_productions.specs.Expressions.{keys_step}
+use Rattle.module_productions.specs.Statements.{nested}
+use Rattle.module_productions.proofs.Parts.{keys_eats}
+use Rattle.token_cursor.proofs.Taking.{many_falls}
+use Rattle.expression_parser.proofs.nesting.Level.more_keys.Goals as goal
+
+pub keys-smaller : goal.keys-smaller
+keys-smaller g c = many_falls comma (keys_step (nested c.args.self.now.depth)) (keys_eats c.args.self.now.depth) c.keys.all c.push.new.self _ _ (first_of (search rules, grind (arith, common_steps)))

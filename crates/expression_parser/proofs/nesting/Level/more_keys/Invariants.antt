@@ -1,0 +1,12 @@
+use Rattle.std.proofs.Common.{◌≡◌, length}
+use Rattle.mesa_lexer.specs.Parsing.{many}
+use Rattle.module_productions.specs.Nested.{comma}
+use Rattle.module_productions.specs.Expressions.{keys_step}
+use Rattle.module_productions.specs.Statements.{nested}
+use Rattle.expression_parser.proofs.nesting.Level.more_keys.Given as goal
+
+abbrev pub invariant-keys : goal.invariant-keys
+invariant-keys g l = many comma (keys_step (nested l.self.depth)) l.fn.all l.fn.tokens.rest.now ≡ many comma (keys_step (nested l.self.depth)) l.all l.tokens.rest.now
+
+abbrev pub decreases-keys : goal.decreases-keys
+decreases-keys g l = length l.tokens.rest.now

@@ -1,0 +1,11 @@
+use Rattle.std.proofs.Common.{◌≡◌, length}
+use Rattle.mesa_lexer.specs.Parsing.{many}
+use Rattle.module_productions.specs.Nested.{comma}
+use Rattle.module_productions.specs.Statements.{nested, lefts_step}
+use Rattle.expression_parser.proofs.nesting.Level.more_lefts.Given as goal
+
+abbrev pub invariant-lefts : goal.invariant-lefts
+invariant-lefts g l = many comma (lefts_step (nested l.self.depth)) l.fn.all l.fn.tokens.rest.now ≡ many comma (lefts_step (nested l.self.depth)) l.all l.tokens.rest.now
+
+abbrev pub decreases-lefts : goal.decreases-lefts
+decreases-lefts g l = length l.tokens.rest.now

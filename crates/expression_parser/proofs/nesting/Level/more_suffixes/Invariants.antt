@@ -1,0 +1,11 @@
+use Rattle.std.proofs.Common.{◌≡◌, length}
+use Rattle.mesa_lexer.specs.Parsing.{many}
+use Rattle.module_productions.specs.Expressions.{suffixes_step, suffixing}
+use Rattle.module_productions.specs.Statements.{nested}
+use Rattle.expression_parser.proofs.nesting.Level.more_suffixes.Given as goal
+
+abbrev pub invariant-suffixes : goal.invariant-suffixes
+invariant-suffixes g l = many suffixing (suffixes_step (nested l.self.depth)) l.fn.all l.fn.tokens.rest.now ≡ many suffixing (suffixes_step (nested l.self.depth)) l.all l.tokens.rest.now
+
+abbrev pub decreases-suffixes : goal.decreases-suffixes
+decreases-suffixes g l = length l.tokens.rest.now

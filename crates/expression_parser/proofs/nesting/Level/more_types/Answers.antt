@@ -1,0 +1,11 @@
+use Rattle.std.proofs.Common.{rules, arith}
+use Rattle.std.proofs.lemmas.Grind.{common_steps}
+use Rattle.module_productions.specs.Nested.{comma}
+use Rattle.module_productions.specs.Expressions.{types_step}
+use Rattle.module_productions.specs.Statements.{nested}
+use Rattle.expression_parser.proofs.FieldLoops.{types_eats}
+use Rattle.token_cursor.proofs.Taking.{many_falls}
+use Rattle.expression_parser.proofs.nesting.Level.more_types.Goals as goal
+
+pub types-smaller : goal.types-smaller
+types-smaller g c = many_falls comma (types_step (nested c.args.self.now.depth)) (types_eats c.args.self.now.depth) c.types.all c.push.new.self _ _ (first_of (search rules, grind (arith, common_steps)))

@@ -1,0 +1,12 @@
+use Rattle.std.proofs.Common.{◌≡◌, length}
+use Rattle.mesa_lexer.specs.Parsing.{repeat}
+use Rattle.module_productions.specs.Expressions.{undecided_turn}
+use Rattle.module_productions.specs.Statements.{nested}
+use Rattle.expression_parser.proofs.nesting.Level.undecided.Given as goal
+
+abbrev pub invariant-names : goal.invariant-names
+invariant-names g l = repeat (undecided_turn (nested l.self.depth)) (record { before = l.fn.before; last = l.fn.last }) l.fn.tokens.rest.now
+    ≡ repeat (undecided_turn (nested l.self.depth)) (record { before = l.before; last = l.last }) l.tokens.rest.now
+
+abbrev pub decreases-names : goal.decreases-names
+decreases-names g l = length l.tokens.rest.now

@@ -1,0 +1,10 @@
+//! The parsers of bracket lists, expressions, types and targets, over those of one level of nesting.
+#![tactic(auto)]
+
+mod expressions;
+mod lists;
+mod nesting;
+mod targets;
+mod types;
+
+pub use nesting::Level;

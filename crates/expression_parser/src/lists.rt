@@ -1,0 +1,370 @@
+//! Intervals, arms, bracket lists, and names with what follows them.
+ghost use Rattle.std.specs.Prelude.{◌≡◌, IfOk};
+ghost use Rattle.mesa_lexer.specs.Parsing.{ended, many};
+ghost use Rattle.mesa_lexer.specs.declared.mark.Mark.TheVariants.{Semicolon};
+ghost use Rattle.mesa_lexer.specs.declared.token.Kind.TheVariants as k;
+ghost use Rattle.module_productions.specs.Expressions as spec;
+ghost use Rattle.module_productions.specs.Grammar as g;
+ghost use Rattle.module_productions.specs.Nested.{begins_arm, comma};
+ghost use Rattle.expression_parser.specs.Nests.{Nests};
+ghost use Rattle.token_cursor.specs.Running.{Reads};
+ghost use Rattle.module_productions.specs.Statements.{nested};
+
+use crate::nesting::Level;
+use mesa_base::{Boxed, List, OutOfMemory, Place};
+use mesa_lexer::{Mark, Word};
+use mesa_types::syntax::{
+    Arm, Arms, Brackets, Entries, Expr, Exprs, Identifier, Interval, Keyed, ListExpr, Phrase,
+    Placed, Raise, Statement, Suffix, Suffixes, TypeExp,
+};
+use module_productions::Begun;
+use std::alloc::Global;
+use token_cursor::naming::{labels, named, qname, qname_from};
+use token_cursor::{Cursor, Stopped};
+
+#[tactic(auto, using(token_cursor::proofs::Taking::choose_by), unfolding(module_productions::specs::Expressions::closed))]
+fn closed(tokens: &mut Cursor<'_>) -> Result<bool, Stopped>
+    ensures { Reads (spec.closed tokens.old.rest.now) result tokens.new.rest.now }
+{
+    match tokens.takes_closing() {
+        Some((is_open, _)) => Ok(is_open),
+        None => Err(Stopped::Unexpected),
+    }
+}
+
+/// An interval at its bracket, with which ends are open.
+fn bounded(
+    alloc: Global,
+    place: Place,
+    is_open: (bool, bool),
+    low: Expr,
+    high: Expr,
+) -> Result<Interval, OutOfMemory>
+    ensures { IfOk result (λ made. made ≡ g.interval place is_open.0 low high is_open.1) }
+{
+    Ok(Interval {
+        place,
+        is_open_below: is_open.0,
+        low: Boxed::new(alloc, low)?,
+        high: Boxed::new(alloc, high)?,
+        is_open_above: is_open.1,
+    })
+}
+
+impl<
+    F: Fn(Global, &mut Cursor<'_>, usize, Option<Identifier>) -> Result<Statement, Stopped>,
+    G: Fn(Global, &mut Cursor<'_>, usize, Begun) -> Result<Expr, Stopped>,
+    H: Fn(Global, &mut Cursor<'_>, usize, Option<Identifier>) -> Result<TypeExp, Stopped>,
+> Level<F, G, H> {
+    /// An interval behind its bracket.
+    #[tactic(auto, unfolding(module_productions::specs::Expressions::bounds))]
+    fn bounds(
+        &self,
+        tokens: &mut Cursor<'_>,
+        is_open_below: bool,
+        place: Place,
+    ) -> Result<Interval, Stopped>
+        requires { Nests self.now.depth (F.pre self.now.stmt) (F.post self.now.stmt) (G.pre self.now.expr) (G.post self.now.expr) (H.pre self.now.type_exp) (H.post self.now.type_exp) }
+        ensures { Reads (spec.bounds (nested self.now.depth) is_open_below place tokens.old.rest.now) result tokens.new.rest.now }
+    {
+        let low = self.expr(tokens, Begun::Fresh)?;
+        tokens.need_mark(Mark::DotDot)?;
+        let high = self.expr(tokens, Begun::Fresh)?;
+        let is_open_above = closed(tokens)?;
+        let ends = (is_open_below, is_open_above);
+        Ok(bounded(self.alloc, place, ends, low, high)?)
+    }
+
+    /// An interval, with its brackets.
+    #[tactic(auto, using(token_cursor::proofs::Choosing::choose_none, token_cursor::proofs::Choosing::choose_some), unfolding(module_productions::specs::Expressions::interval))]
+    pub fn interval(&self, tokens: &mut Cursor<'_>) -> Result<Interval, Stopped>
+        requires { Nests self.now.depth (F.pre self.now.stmt) (F.post self.now.stmt) (G.pre self.now.expr) (G.post self.now.expr) (H.pre self.now.type_exp) (H.post self.now.type_exp) }
+        ensures { Reads (spec.interval (nested self.now.depth) tokens.old.rest.now) result tokens.new.rest.now }
+    {
+        match tokens.takes_opening() {
+            Some((is_open, place)) => self.bounds(tokens, is_open, place),
+            None => Err(Stopped::Unexpected),
+        }
+    }
+
+    /// An arm of a catch phrase.
+    #[tactic(auto, unfolding(module_productions::specs::Expressions::arm))]
+    pub fn arm(&self, tokens: &mut Cursor<'_>) -> Result<Arm, Stopped>
+        requires { Nests self.now.depth (F.pre self.now.stmt) (F.post self.now.stmt) (G.pre self.now.expr) (G.post self.now.expr) (H.pre self.now.type_exp) (H.post self.now.type_exp) }
+        ensures { Reads (spec.arm (nested self.now.depth) tokens.old.rest.now) result tokens.new.rest.now }
+    {
+        let labels = labels(self.alloc, tokens)?;
+        tokens.need_mark(Mark::DoubleArrow)?;
+        let body = self.stmt(tokens, None)?;
+        Ok(Arm { labels, body })
+    }
+
+    #[tactic(auto, using(token_cursor::proofs::Taking::ended_by, module_productions::proofs::Parts::arms_eats))]
+    fn more_arms(&self, tokens: &mut Cursor<'_>, mut all: Arms) -> Result<Arms, Stopped>
+        requires { Nests self.now.depth (F.pre self.now.stmt) (F.post self.now.stmt) (G.pre self.now.expr) (G.post self.now.expr) (H.pre self.now.type_exp) (H.post self.now.type_exp) }
+        ensures { Reads (ended (k.Mark Semicolon) begins_arm (spec.arms_step (nested self.now.depth)) all tokens.old.rest.now) result tokens.new.rest.now }
+    {
+        'arms: while tokens.takes_mark(Mark::Semicolon).is_some() {
+            if !tokens.begins_arm() {
+                break;
+            }
+            all.push(self.arm(tokens)?)?;
+        }
+        Ok(all)
+    }
+
+    /// Arms with semicolons between; one may follow the last.
+    #[tactic(auto, unfolding(module_productions::specs::Expressions::arm_list))]
+    pub fn arm_list(&self, tokens: &mut Cursor<'_>) -> Result<Arms, Stopped>
+        requires { Nests self.now.depth (F.pre self.now.stmt) (F.post self.now.stmt) (G.pre self.now.expr) (G.post self.now.expr) (H.pre self.now.type_exp) (H.post self.now.type_exp) }
+        ensures { Reads (spec.arm_list (nested self.now.depth) tokens.old.rest.now) result tokens.new.rest.now }
+    {
+        let mut all = List::new(self.alloc);
+        all.push(self.arm(tokens)?)?;
+        self.more_arms(tokens, all)
+    }
+
+    /// A catch phrase in brackets, if there is one.
+    #[tactic(auto, using(token_cursor::proofs::Choosing::choose_none, token_cursor::proofs::Choosing::choose_some), unfolding(module_productions::specs::Expressions::catch))]
+    fn catch(&self, tokens: &mut Cursor<'_>) -> Result<Option<Phrase>, Stopped>
+        requires { Nests self.now.depth (F.pre self.now.stmt) (F.post self.now.stmt) (G.pre self.now.expr) (G.post self.now.expr) (H.pre self.now.type_exp) (H.post self.now.type_exp) }
+        ensures { Reads (spec.catch (nested self.now.depth) tokens.old.rest.now) result tokens.new.rest.now }
+    {
+        match tokens.takes_mark(Mark::Bang) {
+            Some(place) => {
+                let item = self.arm_list(tokens)?;
+                Ok(Some(Placed { place, item }))
+            }
+            None => Ok(None),
+        }
+    }
+
+    #[tactic(auto, using(token_cursor::proofs::Taking::many_by, module_productions::proofs::Parts::exprs_eats))]
+    fn more_exprs(&self, tokens: &mut Cursor<'_>, mut all: Exprs) -> Result<Exprs, Stopped>
+        requires { Nests self.now.depth (F.pre self.now.stmt) (F.post self.now.stmt) (G.pre self.now.expr) (G.post self.now.expr) (H.pre self.now.type_exp) (H.post self.now.type_exp) }
+        ensures { Reads (many comma (spec.exprs_step (nested self.now.depth)) all tokens.old.rest.now) result tokens.new.rest.now }
+    {
+        'exprs: while tokens.takes_mark(Mark::Comma).is_some() {
+            all.push(self.expr(tokens, Begun::Fresh)?)?;
+        }
+        Ok(all)
+    }
+
+    #[tactic(auto, unfolding(module_productions::specs::Expressions::in_order))]
+    fn in_order(&self, tokens: &mut Cursor<'_>, begun: Begun) -> Result<Entries<Expr>, Stopped>
+        requires { Nests self.now.depth (F.pre self.now.stmt) (F.post self.now.stmt) (G.pre self.now.expr) (G.post self.now.expr) (H.pre self.now.type_exp) (H.post self.now.type_exp) }
+        ensures { Reads (spec.in_order (nested self.now.depth) begun tokens.old.rest.now) result tokens.new.rest.now }
+    {
+        let mut all = List::new(self.alloc);
+        all.push(self.expr(tokens, begun)?)?;
+        let all = self.more_exprs(tokens, all)?;
+        Ok(Entries::InOrder(all))
+    }
+
+    #[tactic(auto, using(token_cursor::proofs::Taking::many_by, module_productions::proofs::Parts::keys_eats))]
+    fn more_keys(
+        &self,
+        tokens: &mut Cursor<'_>,
+        mut all: List<Keyed<Expr>>,
+    ) -> Result<List<Keyed<Expr>>, Stopped>
+        requires { Nests self.now.depth (F.pre self.now.stmt) (F.post self.now.stmt) (G.pre self.now.expr) (G.post self.now.expr) (H.pre self.now.type_exp) (H.post self.now.type_exp) }
+        ensures { Reads (many comma (spec.keys_step (nested self.now.depth)) all tokens.old.rest.now) result tokens.new.rest.now }
+    {
+        'keys: while tokens.takes_mark(Mark::Comma).is_some() {
+            let key = named(self.alloc, tokens)?;
+            tokens.need_mark(Mark::Colon)?;
+            let item = self.expr(tokens, Begun::Fresh)?;
+            all.push(Keyed { key, item })?;
+        }
+        Ok(all)
+    }
+
+    /// Values with keys, of which the first and its colon were taken.
+    #[tactic(auto, unfolding(module_productions::specs::Expressions::by_key))]
+    fn by_key(&self, tokens: &mut Cursor<'_>, key: Identifier) -> Result<Entries<Expr>, Stopped>
+        requires { Nests self.now.depth (F.pre self.now.stmt) (F.post self.now.stmt) (G.pre self.now.expr) (G.post self.now.expr) (H.pre self.now.type_exp) (H.post self.now.type_exp) }
+        ensures { Reads (spec.by_key (nested self.now.depth) key tokens.old.rest.now) result tokens.new.rest.now }
+    {
+        let item = self.expr(tokens, Begun::Fresh)?;
+        let mut all = List::new(self.alloc);
+        all.push(Keyed { key, item })?;
+        let all = self.more_keys(tokens, all)?;
+        Ok(Entries::ByKey(all))
+    }
+
+    /// Values of which the first name was taken: a key, or what an expression begins with.
+    #[tactic(auto, using(token_cursor::proofs::Choosing::choose_none, token_cursor::proofs::Choosing::choose_some), unfolding(module_productions::specs::Expressions::after_name))]
+    fn after_name(
+        &self,
+        tokens: &mut Cursor<'_>,
+        name: Identifier,
+    ) -> Result<Entries<Expr>, Stopped>
+        requires { Nests self.now.depth (F.pre self.now.stmt) (F.post self.now.stmt) (G.pre self.now.expr) (G.post self.now.expr) (H.pre self.now.type_exp) (H.post self.now.type_exp) }
+        ensures { Reads (spec.after_name (nested self.now.depth) name tokens.old.rest.now) result tokens.new.rest.now }
+    {
+        match tokens.takes_mark(Mark::Colon) {
+            Some(_) => self.by_key(tokens, name),
+            None => self.in_order(tokens, Begun::AtName(name)),
+        }
+    }
+
+    #[tactic(auto, using(token_cursor::proofs::Choosing::when_true, token_cursor::proofs::Choosing::when_false), unfolding(module_productions::specs::Expressions::unkeyed))]
+    fn unkeyed(&self, tokens: &mut Cursor<'_>) -> Result<Entries<Expr>, Stopped>
+        requires { Nests self.now.depth (F.pre self.now.stmt) (F.post self.now.stmt) (G.pre self.now.expr) (G.post self.now.expr) (H.pre self.now.type_exp) (H.post self.now.type_exp) }
+        ensures { Reads (spec.unkeyed (nested self.now.depth) tokens.old.rest.now) result tokens.new.rest.now }
+    {
+        if !tokens.begins_expr() {
+            return Ok(Entries::Nothing);
+        }
+        self.in_order(tokens, Begun::Fresh)
+    }
+
+    /// What stands in brackets before a catch phrase. The depth is tested before a name is taken, since an expression too
+    /// deep stops at its first token.
+    #[tactic(auto, using(token_cursor::proofs::Choosing::choose_none, token_cursor::proofs::Choosing::choose_some, token_cursor::proofs::Choosing::if_true, token_cursor::proofs::Choosing::if_false), unfolding(module_productions::specs::Expressions::args))]
+    fn args(&self, tokens: &mut Cursor<'_>) -> Result<Entries<Expr>, Stopped>
+        requires { Nests self.now.depth (F.pre self.now.stmt) (F.post self.now.stmt) (G.pre self.now.expr) (G.post self.now.expr) (H.pre self.now.type_exp) (H.post self.now.type_exp) }
+        ensures { Reads (spec.args (nested self.now.depth) tokens.old.rest.now) result tokens.new.rest.now }
+    {
+        if !self.can() {
+            return self.unkeyed(tokens);
+        }
+        match tokens.takes_name(self.alloc)? {
+            Some(name) => self.after_name(tokens, name),
+            None => self.unkeyed(tokens),
+        }
+    }
+
+    /// A list of values behind its bracket.
+    #[tactic(auto, unfolding(module_productions::specs::Expressions::list))]
+    pub fn list(&self, tokens: &mut Cursor<'_>, place: Place) -> Result<ListExpr, Stopped>
+        requires { Nests self.now.depth (F.pre self.now.stmt) (F.post self.now.stmt) (G.pre self.now.expr) (G.post self.now.expr) (H.pre self.now.type_exp) (H.post self.now.type_exp) }
+        ensures { Reads (spec.list (nested self.now.depth) place tokens.old.rest.now) result tokens.new.rest.now }
+    {
+        let item = self.args(tokens)?;
+        tokens.need_mark(Mark::RightBracket)?;
+        Ok(Placed { place, item })
+    }
+
+    /// A list of values in brackets, if a bracket comes next.
+    #[tactic(auto, using(token_cursor::proofs::Choosing::choose_none, token_cursor::proofs::Choosing::choose_some), unfolding(module_productions::specs::Expressions::list_option))]
+    pub fn list_option(&self, tokens: &mut Cursor<'_>) -> Result<Option<ListExpr>, Stopped>
+        requires { Nests self.now.depth (F.pre self.now.stmt) (F.post self.now.stmt) (G.pre self.now.expr) (G.post self.now.expr) (H.pre self.now.type_exp) (H.post self.now.type_exp) }
+        ensures { Reads (spec.list_option (nested self.now.depth) tokens.old.rest.now) result tokens.new.rest.now }
+    {
+        match tokens.takes_mark(Mark::LeftBracket) {
+            Some(place) => Ok(Some(self.list(tokens, place)?)),
+            None => Ok(None),
+        }
+    }
+
+    #[tactic(auto, unfolding(module_productions::specs::Expressions::brackets))]
+    fn brackets(&self, tokens: &mut Cursor<'_>, place: Place) -> Result<Brackets, Stopped>
+        requires { Nests self.now.depth (F.pre self.now.stmt) (F.post self.now.stmt) (G.pre self.now.expr) (G.post self.now.expr) (H.pre self.now.type_exp) (H.post self.now.type_exp) }
+        ensures { Reads (spec.brackets (nested self.now.depth) place tokens.old.rest.now) result tokens.new.rest.now }
+    {
+        let items = self.args(tokens)?;
+        let catch = self.catch(tokens)?;
+        tokens.need_mark(Mark::RightBracket)?;
+        Ok(Brackets {
+            place,
+            items,
+            catch,
+        })
+    }
+
+    #[tactic(auto, using(token_cursor::proofs::Choosing::choose_none, token_cursor::proofs::Choosing::choose_some), unfolding(module_productions::specs::Expressions::brackets_option))]
+    fn brackets_option(&self, tokens: &mut Cursor<'_>) -> Result<Option<Brackets>, Stopped>
+        requires { Nests self.now.depth (F.pre self.now.stmt) (F.post self.now.stmt) (G.pre self.now.expr) (G.post self.now.expr) (H.pre self.now.type_exp) (H.post self.now.type_exp) }
+        ensures { Reads (spec.brackets_option (nested self.now.depth) tokens.old.rest.now) result tokens.new.rest.now }
+    {
+        match tokens.takes_mark(Mark::LeftBracket) {
+            Some(place) => Ok(Some(self.brackets(tokens, place)?)),
+            None => Ok(None),
+        }
+    }
+
+    /// A suffix behind its dot or bracket.
+    #[tactic(auto, unfolding(module_productions::specs::Expressions::suffixes_step))]
+    fn suffix(
+        &self,
+        tokens: &mut Cursor<'_>,
+        mut all: Suffixes,
+        is_bracket: bool,
+        place: Place,
+    ) -> Result<Suffixes, Stopped>
+        requires { Nests self.now.depth (F.pre self.now.stmt) (F.post self.now.stmt) (G.pre self.now.expr) (G.post self.now.expr) (H.pre self.now.type_exp) (H.post self.now.type_exp) }
+        ensures { Reads (spec.suffixes_step (nested self.now.depth) all is_bracket place tokens.old.rest.now) result tokens.new.rest.now }
+    {
+        if is_bracket {
+            all.push(Suffix::Applied(self.brackets(tokens, place)?))?;
+        } else {
+            all.push(Suffix::Field(named(self.alloc, tokens)?))?;
+        }
+        Ok(all)
+    }
+
+    #[tactic(auto, using(token_cursor::proofs::Taking::many_by, module_productions::proofs::Parts::suffixes_eats))]
+    fn more_suffixes(&self, tokens: &mut Cursor<'_>, mut all: Suffixes) -> Result<Suffixes, Stopped>
+        requires { Nests self.now.depth (F.pre self.now.stmt) (F.post self.now.stmt) (G.pre self.now.expr) (G.post self.now.expr) (H.pre self.now.type_exp) (H.post self.now.type_exp) }
+        ensures { Reads (many spec.suffixing (spec.suffixes_step (nested self.now.depth)) all tokens.old.rest.now) result tokens.new.rest.now }
+    {
+        'suffixes: while let Some((is_bracket, place)) = tokens.takes_suffixing() {
+            all = self.suffix(tokens, all, is_bracket, place)?;
+        }
+        Ok(all)
+    }
+
+    /// What follows a name.
+    #[tactic(auto, unfolding(module_productions::specs::Expressions::suffixes))]
+    pub fn suffixes(&self, tokens: &mut Cursor<'_>) -> Result<Suffixes, Stopped>
+        requires { Nests self.now.depth (F.pre self.now.stmt) (F.post self.now.stmt) (G.pre self.now.expr) (G.post self.now.expr) (H.pre self.now.type_exp) (H.post self.now.type_exp) }
+        ensures { Reads (spec.suffixes (nested self.now.depth) tokens.old.rest.now) result tokens.new.rest.now }
+    {
+        self.more_suffixes(tokens, List::new(self.alloc))
+    }
+
+    /// ERROR with the name behind it, of which the first part was taken.
+    #[tactic(auto, unfolding(module_productions::specs::Expressions::error_raise))]
+    fn error_raise(
+        &self,
+        tokens: &mut Cursor<'_>,
+        place: Place,
+        first: Identifier,
+    ) -> Result<Raise, Stopped>
+        requires { Nests self.now.depth (F.pre self.now.stmt) (F.post self.now.stmt) (G.pre self.now.expr) (G.post self.now.expr) (H.pre self.now.type_exp) (H.post self.now.type_exp) }
+        ensures { Reads (spec.error_raise (nested self.now.depth) place first tokens.old.rest.now) result tokens.new.rest.now }
+    {
+        let name = qname_from(self.alloc, tokens, first)?;
+        let given = self.brackets_option(tokens)?;
+        Ok(Raise::ErrorRaise(place, name, given))
+    }
+
+    #[tactic(auto, unfolding(module_productions::specs::Expressions::signal_raise))]
+    fn signal_raise(&self, tokens: &mut Cursor<'_>, place: Place) -> Result<Raise, Stopped>
+        requires { Nests self.now.depth (F.pre self.now.stmt) (F.post self.now.stmt) (G.pre self.now.expr) (G.post self.now.expr) (H.pre self.now.type_exp) (H.post self.now.type_exp) }
+        ensures { Reads (spec.signal_raise (nested self.now.depth) place tokens.old.rest.now) result tokens.new.rest.now }
+    {
+        let name = qname(self.alloc, tokens)?;
+        let given = self.brackets_option(tokens)?;
+        Ok(Raise::SignalRaise(place, name, given))
+    }
+
+    /// A raise of a signal, an error or the unnamed error.
+    #[tactic(auto, using(token_cursor::proofs::Choosing::choose_none, token_cursor::proofs::Choosing::choose_some), unfolding(module_productions::specs::Expressions::raise))]
+    pub fn raise(&self, tokens: &mut Cursor<'_>) -> Result<Raise, Stopped>
+        requires { Nests self.now.depth (F.pre self.now.stmt) (F.post self.now.stmt) (G.pre self.now.expr) (G.post self.now.expr) (H.pre self.now.type_exp) (H.post self.now.type_exp) }
+        ensures { Reads (spec.raise (nested self.now.depth) tokens.old.rest.now) result tokens.new.rest.now }
+    {
+        if let Some(place) = tokens.takes_word(Word::SignalWord) {
+            return self.signal_raise(tokens, place);
+        }
+        let Some(place) = tokens.takes_word(Word::ErrorWord) else {
+            return Err(Stopped::Unexpected);
+        };
+        match tokens.takes_name(self.alloc)? {
+            Some(first) => self.error_raise(tokens, place, first),
+            None => Ok(Raise::UnnamedError(place)),
+        }
+    }
+}

@@ -1,9 +1,0 @@
-use Rattle.std.proofs.Common.{rules, arith}
-use Rattle.std.proofs.lemmas.Grind.{common_steps}
-use Rattle.mesa_grammar.specs.Nested.{comma, qnames_step}
-use Rattle.mesa_grammar.proofs.Names.{qnames_eats}
-use Rattle.mesa_grammar.proofs.Taking.{many_falls}
-use Rattle.mesa_grammar.proofs.naming.more_qnames.Goals as goal
-
-pub qnames-smaller : goal.qnames-smaller
-qnames-smaller c = many_falls comma qnames_step qnames_eats c.qnames.all c.push.new.self _ _ (first_of (search rules, grind (arith, common_steps)))

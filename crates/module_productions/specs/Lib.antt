@@ -1,0 +1,9 @@
+pub mod Answer
+pub mod Depth
+pub mod Expressions
+pub mod Grammar
+pub mod Modules
+pub mod Nested
+pub mod Signs
+pub mod Statements
+pub mod Texts
