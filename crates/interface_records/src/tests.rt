@@ -1,4 +1,4 @@
-use crate::{iodefs, same_face};
+use crate::{iodefs, same_face, same_signature};
 use std::test::Fail;
 
 #[test]
@@ -9,5 +9,18 @@ fn the_built_in_interface(rt: HostRuntime) -> Result<(), Fail> {
     assert_eq!(rt; interface.face.items.len(), 6);
     let last = interface.face.items.get(5).ok_or("no items")?;
     assert_eq!(rt; last.name.bytes(), b"NoInput".as_slice());
+    Ok(())
+}
+
+/// No two items of the built-in interface have one kind and the same types.
+#[test]
+fn signatures(rt: HostRuntime) -> Result<(), Fail> {
+    let interface = iodefs(rt.alloc())?;
+    let items = interface.face.items.as_slice();
+    for i in 0..items.len() {
+        for j in 0..items.len() {
+            assert_eq!(rt; same_signature(&items[i], &items[j]), i == j);
+        }
+    }
     Ok(())
 }

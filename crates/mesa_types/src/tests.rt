@@ -1,7 +1,8 @@
 use crate::{
     Export, Face, FieldType, Fields, Home, Import, Item, ItemKind, Names, Operation, Operator,
-    Origin, Phrase, Range, Shape, TypeTree, TypedBody, TypedExpr, TypedModule, TypedStmt, conforms,
-    depth, is_within_limits, nodes, same_type, size_words,
+    Origin, Phrase, Range, Shape, TypeTree, TypedBody, TypedExpr, TypedModule, TypedStmt, base,
+    conforms, depth, elements, fields_words, is_within_limits, nodes, same_fields, same_type,
+    same_types, size_words,
 };
 use mesa_base::{Boxed, List, Name, Stamp, Texts};
 use std::alloc::Global;
@@ -55,61 +56,127 @@ fn record(alloc: Global, number: u32, text: &[u8], kind: TypeTree) -> Result<Typ
     Ok(TypeTree::Record(origin(alloc, number)?, field(alloc, text, kind)?))
 }
 
-fn texts_of(alloc: Global, index: TypeTree) -> Result<TypeTree, Fail> {
-    array(alloc, index, TypeTree::String)
+/// A type, the number of its base (0 where it is not ordinal), its words, its depth, and the elements of an array over it.
+#[derive(Drop)]
+struct TypeRow {
+    kind: TypeTree,
+    base: u8,
+    words: u32,
+    deep: u32,
+    elements: usize,
+}
+
+fn row(kind: TypeTree, base: u8, words: u32, deep: u32, elements: usize) -> TypeRow {
+    TypeRow {
+        kind,
+        base,
+        words,
+        deep,
+        elements,
+    }
+}
+
+fn ordinal(kind: TypeTree, base: u8, elements: usize) -> TypeRow {
+    row(kind, base, 1, 1, elements)
+}
+
+fn ranged(alloc: Global, of: TypeTree, base: u8, first: u16, last: u16) -> Result<TypeRow, Fail> {
+    let elements = usize::from(last.wrapping_sub(first)) + 1;
+    Ok(row(subrange(alloc, of, first, last)?, base, 1, 2, elements))
+}
+
+/// Types of which no two are the same; INTEGER and CARDINAL have one base.
+fn ordinals(alloc: Global) -> Result<Vec<TypeRow>, Fail> {
+    Ok(vec![in alloc;
+        ordinal(TypeTree::Integer, 1, 65536),
+        ordinal(TypeTree::Cardinal, 1, 65536),
+        ordinal(TypeTree::Boolean, 2, 2),
+        ordinal(TypeTree::Character, 3, 256),
+        ordinal(color(alloc, 0)?, 4, 3),
+        ordinal(color(alloc, 1)?, 5, 3),
+        ranged(alloc, TypeTree::Integer, 1, 0, 9)?,
+        ranged(alloc, TypeTree::Integer, 1, 65533, 3)?,
+        ranged(alloc, TypeTree::Cardinal, 1, 0, 9)?,
+        ranged(alloc, color(alloc, 0)?, 4, 0, 1)?,
+    ]?)
+}
+
+fn others(alloc: Global) -> Result<Vec<TypeRow>, Fail> {
+    let digits = subrange(alloc, TypeTree::Integer, 65533, 3)?;
+    let texts = array(alloc, digits, TypeTree::String)?;
+    let many = array(alloc, TypeTree::Cardinal, TypeTree::Boolean)?;
+    Ok(vec![in alloc;
+        row(TypeTree::String, 0, 2, 1, 0),
+        row(texts, 0, 14, 3, 0),
+        row(many, 0, 65536, 2, 0),
+        row(record(alloc, 2, b"x", TypeTree::Integer)?, 0, 1, 2, 0),
+        row(record(alloc, 2, b"y", TypeTree::Integer)?, 0, 1, 2, 0),
+        row(record(alloc, 3, b"x", TypeTree::Integer)?, 0, 1, 2, 0),
+        row(record(alloc, 3, b"x", TypeTree::String)?, 0, 2, 2, 0),
+    ]?)
+}
+
+fn check_sizes(rt: &impl Abort, rows: &[TypeRow]) {
+    for row in rows {
+        assert_eq!(rt; size_words(&row.kind), row.words);
+        assert_eq!(rt; depth(&row.kind), row.deep);
+        assert_eq!(rt; elements(&row.kind), row.elements);
+        assert_eq!(rt; is_within_limits(&row.kind), row.words <= 16384);
+        assert_eq!(rt; base(&row.kind).is_some(), row.base > 0);
+    }
 }
 
 #[test]
-fn size_of_arrays(rt: HostRuntime) -> Result<(), Fail> {
-    let digits = subrange(rt.alloc(), TypeTree::Integer, 65533, 3)?;
-    let texts = texts_of(rt.alloc(), digits)?;
-    assert_eq!(rt; size_words(&texts), 14);
+fn sizes_of_types(rt: HostRuntime) -> Result<(), Fail> {
+    check_sizes(&rt, &ordinals(rt.alloc())?);
+    check_sizes(&rt, &others(rt.alloc())?);
+    Ok(())
+}
+
+/// Whether a value of the first type may be given to a target of the second, where they are not the same.
+fn fits(from: &TypeRow, to: &TypeRow) -> bool {
+    from.base > 0 && from.base == to.base
+}
+
+fn check_pairs(rt: &impl Abort, rows: &[TypeRow]) {
+    for i in 0..rows.len() {
+        for j in 0..rows.len() {
+            let (a, b) = (&rows[i], &rows[j]);
+            assert_eq!(rt; same_type(&a.kind, &b.kind), i == j);
+            assert_eq!(rt; conforms(&a.kind, &b.kind), i == j || fits(a, b));
+        }
+    }
+}
+
+#[test]
+fn types_in_pairs(rt: HostRuntime) -> Result<(), Fail> {
+    let mut all = ordinals(rt.alloc())?;
+    for row in others(rt.alloc())? {
+        all.push(row)?;
+    }
+    check_pairs(&rt, &all);
     Ok(())
 }
 
 #[test]
-fn size_of_records(rt: HostRuntime) -> Result<(), Fail> {
-    let texts = texts_of(rt.alloc(), color(rt.alloc(), 0)?)?;
-    let holder = record(rt.alloc(), 1, b"texts", texts)?;
-    assert_eq!(rt; size_words(&holder), 6);
-    assert_eq!(rt; depth(&holder), 3);
-    assert!(rt; is_within_limits(&holder));
-    Ok(())
-}
-
-/// Checks two types that are not the same, where the second conforms to the first or not.
-fn differ(
-    rt: &(impl Abort + AllocGlobal),
-    to: TypeTree,
-    from: TypeTree,
-    fits: bool,
-) -> Result<(), Fail> {
-    assert!(rt; !same_type(&from, &to));
-    assert_eq!(rt; conforms(&from, &to), fits);
-    assert!(rt; same_type(&to, &to.copy(rt.alloc())?));
+fn copies_of_types(rt: HostRuntime) -> Result<(), Fail> {
+    for row in &others(rt.alloc())? {
+        assert!(rt; same_type(&row.kind, &row.kind.copy(rt.alloc())?));
+    }
     Ok(())
 }
 
 #[test]
-fn ordinals(rt: HostRuntime) -> Result<(), Fail> {
-    differ(&rt, TypeTree::Integer, TypeTree::Cardinal, true)?;
-    differ(&rt, TypeTree::Integer, TypeTree::Character, false)?;
-    let few = subrange(rt.alloc(), TypeTree::Integer, 0, 9)?;
-    differ(&rt, few, TypeTree::Cardinal, true)
-}
-
-#[test]
-fn enumerations(rt: HostRuntime) -> Result<(), Fail> {
-    let some = subrange(rt.alloc(), color(rt.alloc(), 0)?, 0, 1)?;
-    differ(&rt, color(rt.alloc(), 0)?, some, true)?;
-    differ(&rt, color(rt.alloc(), 0)?, color(rt.alloc(), 1)?, false)
-}
-
-#[test]
-fn records(rt: HostRuntime) -> Result<(), Fail> {
-    let x = record(rt.alloc(), 2, b"x", TypeTree::Integer)?;
-    let y = record(rt.alloc(), 2, b"y", TypeTree::Integer)?;
-    differ(&rt, x, y, false)
+fn fields_of_other_names(rt: HostRuntime) -> Result<(), Fail> {
+    let x = field(rt.alloc(), b"x", TypeTree::String)?;
+    let y = field(rt.alloc(), b"y", TypeTree::String)?;
+    let n = field(rt.alloc(), b"x", TypeTree::Integer)?;
+    assert_eq!(rt; fields_words(x.as_slice()), 2);
+    assert!(rt; same_types(x.as_slice(), y.as_slice()) && !same_types(x.as_slice(), n.as_slice()));
+    assert!(rt;
+        same_fields(x.as_slice(), x.as_slice()) && !same_fields(x.as_slice(), y.as_slice())
+    );
+    Ok(())
 }
 
 fn face(alloc: Global) -> Result<Face, Fail> {
