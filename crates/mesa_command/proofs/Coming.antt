@@ -16,15 +16,15 @@ use Rattle.mesa_lexer.specs.declared.fault.SyntaxFault.TheVariants as fault
 use Rattle.mesa_lexer.specs.declared.fault.LexFault.{LexFault}
 use Rattle.mesa_lexer.specs.declared.fault.LexFault.TheVariants as lex
 use Rattle.mesa_types.specs.declared.syntax.Module as syntax
-use Rattle.mesa_command.specs.FirstText.{first_module}
-use Rattle.mesa_command.specs.declared.first_fault.FirstFault.{FirstFault}
-use Rattle.mesa_command.specs.declared.first_fault.FirstFault.TheVariants as first
+use Rattle.first_program.specs.FirstText.{first_module}
+use Rattle.first_program.specs.declared.first_fault.FirstFault.{FirstFault}
+use Rattle.first_program.specs.declared.first_fault.FirstFault.TheVariants as first
 use Rattle.mesa_command.specs.Text as r
 use Rattle.mesa_command.specs.Text.{HasTree, Reads, HasSyntaxFault, IsRefusedAs}
 use Rattle.mesa_command.specs.Forms.{IsGo, file_of}
 use Rattle.mesa_command.specs.Outputs.{Stream, stream}
-use Rattle.mesa_command.specs.Running.{Ran, CutOff, answer_of}
-use Rattle.mesa_command.specs.Comes.{MeansAtAnyInput, OfText, done, spent, write_fault, refused, memory_before, memory_in_run, Does, Comes, of_text, absent, folder_fault, Shelf}
+use Rattle.linked_run.specs.Running.{MeansAtAnyInput, Ran, CutOff, answer_of}
+use Rattle.mesa_command.specs.Comes.{OfText, done, spent, write_fault, refused, memory_before, memory_in_run, Does, Comes, of_text, absent, folder_fault, Shelf}
 use Rattle.mesa_command.specs.Case.{Case, Done, Spent, Fault, TextTooLong, NotYet, Absent, WriteFault, FolderFault, Memory, Usage}
 use Rattle.mesa_command.specs.Reply.{case_of_end}
 

@@ -13,7 +13,7 @@ use Rattle.mesa_types.specs.Typed as t
 use Rattle.mesa_types.specs.declared.syntax.Module.{Module}
 use Rattle.module_productions.specs.Answer.{Parses, IsFault, HasSyntaxFault, unexpected as unexpected_token, too_deep as too_deep_token, place_of, Answer, Tree, Fault as Stops, Answers}
 use Rattle.module_productions.proofs.Whole as g
-use Rattle.mesa_command.specs.FirstText.{first_module}
+use Rattle.first_program.specs.FirstText.{first_module}
 use Rattle.mesa_command.specs.Case as c
 use Rattle.mesa_command.specs.Text.{HasTree, Reads, IsRefusedAs, text_too_long, bad_byte, open_string, number_too_large, token_too_long, unexpected, too_deep, not_yet}
 

@@ -2,17 +2,12 @@
 use Rattle.std.specs.Prelude.{◌≡◌, ℕ, List, Option, Some, None, IfSome}
 use Rattle.mesa_base.specs.Outside.{Files, Rose}
 use Rattle.mesa_types.specs.Typed.{Module}
-use Rattle.source_meaning.specs.Program.{single}
-use Rattle.source_meaning.specs.State.{Answer, Normal, Spent as TurnsSpent, End}
-use Rattle.source_meaning.specs.Means.{Means}
+use Rattle.source_meaning.specs.State.{Answer, Normal, Spent as TurnsSpent}
+use Rattle.linked_run.specs.Running.{MeansAtAnyInput}
 use Rattle.mesa_command.specs.Text.{Reads, IsRefusedAs}
 use Rattle.mesa_command.specs.Forms.{IsGo, HasNoForm, file_of}
 use Rattle.mesa_command.specs.Outputs.{Stream, PrintsAll, PrintsPrefix, HasFaulted}
 use Rattle.mesa_command.specs.Case.{Case, Done, Spent, Absent, WriteFault, FolderFault, Memory, Usage}
-
--- the module's program means this output and this end, with so many turns left; it takes nothing of any input
-abbrev pub MeansAtAnyInput : Module → ℕ → List ℕ → Answer → ℕ → Type 0
-MeansAtAnyInput m turns output end left = (input : List ℕ) → Means (single m) input End turns output end left 0
 
 -- the text is one of the first program's language, and this is what its module does within so many turns
 pub record Does (text : List ℕ) (turns : ℕ) (output : List ℕ) (end : Answer) : Type 0 where

@@ -1,16 +1,7 @@
 pub mod Case
-pub mod Code
 pub mod Comes
 pub mod Complete
-pub mod FirstGives
-pub mod FirstLayers
-pub mod FirstText
-pub mod FirstTree
-pub mod FirstViews
 pub mod Forms
 pub mod Outputs
 pub mod Reply
-pub mod Rows
-pub mod Running
-pub mod Simulation
 pub mod Text

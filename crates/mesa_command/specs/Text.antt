@@ -11,7 +11,7 @@ use Rattle.mesa_types.specs.Typed as t
 use Rattle.mesa_types.specs.declared.syntax.Module.{Module}
 use Rattle.module_productions.specs.Answer as grammar
 use Rattle.module_productions.specs.Answer.{Parses}
-use Rattle.mesa_command.specs.FirstText.{first_module}
+use Rattle.first_program.specs.FirstText.{first_module}
 use Rattle.mesa_command.specs.Case.{Case, Fault, BadByte, OpenString, NumberTooLarge, TokenTooLong, Unexpected, TooDeep, TextTooLong, NotYet}
 
 -- the text has this tree

@@ -3,29 +3,17 @@
 
 ghost use Rattle.std.specs.Prelude.{◌≡◌, ◌<◌};
 
-mod built_in_names;
 mod cause;
-mod first_calls;
-mod first_declarations;
-mod first_fault;
-mod first_module;
-mod first_statements;
-mod first_sums;
-mod first_tree;
 mod forms;
 mod laws;
-mod links;
 #[cfg(test)]
 mod readings;
 mod reply;
-mod running;
 #[cfg(test)]
 mod tests;
 mod top;
-mod translator;
-mod variables;
 
-pub use laws::{images_run_as_their_source, one_case, one_module};
+pub use laws::{one_case, one_module};
 use mesa_base::{DirFolder, InSource, OutOfMemory, OutSink, Status, Steps, Words};
 use reply::Reply;
 use std::alloc::Global;

@@ -13,12 +13,11 @@ ghost use Rattle.mesa_types.specs.Plain.{plain};
 ghost use Rattle.mesa_types.specs.Sound.{Sound};
 
 use crate::cause::Cause;
-use crate::first_fault::FirstFault;
-use crate::first_module::first_module;
 use crate::forms::{Go, go_form};
 use crate::reply::Reply;
-use crate::running::run_module;
+use first_program::{FirstFault, first_module};
 use frame_machine::{End, RunFault};
+use linked_run::run_module;
 use mesa_base::{Folder, FolderError, Sink, Source, Status, Steps, Words};
 use mesa_grammar::module;
 use mesa_lexer::{LexFault, SyntaxFault, Tokens, tokens};

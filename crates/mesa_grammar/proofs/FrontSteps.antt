@@ -12,7 +12,7 @@ use Rattle.module_productions.specs.Statements.{nested}
 use Rattle.module_productions.specs.Texts as tx
 use Rattle.module_productions.proofs.Levels.{all_of}
 use Rattle.module_productions.proofs.KeepModules as km
-use Rattle.mesa_grammar.proofs.Stepping.{Step_at, Next_at, step_at, next_at, next_item, next_stmts}
+use Rattle.statement_parser.proofs.Stepping.{Step_at, Next_at, step_at, next_at, next_item, next_stmts}
 
 pub front_eats : (n : ℕ) → Eats (tx.front_turn (nested n))
 front_eats n = km.front_eats n (nested n) (all_of n)

@@ -2,4 +2,3 @@ pub mod Answered
 pub mod Deeper
 pub mod Ending
 pub mod FrontSteps
-pub mod Stepping

@@ -41,10 +41,10 @@ impl<
         tokens: &mut Cursor<'_>,
         first: Identifier,
     ) -> Result<Declaration, Stopped>
-        requires { Nests self.now.level.depth (F.pre self.now.level.stmt) (F.post self.now.level.stmt) (G.pre self.now.level.expr) (G.post self.now.level.expr) (H.pre self.now.level.type_exp) (H.post self.now.level.type_exp) }
-        ensures { Reads (spec.declaration (nested self.now.level.depth) first tokens.old.rest.now) result tokens.new.rest.now }
+        requires { Nests self.now.statements.level.depth (F.pre self.now.statements.level.stmt) (F.post self.now.statements.level.stmt) (G.pre self.now.statements.level.expr) (G.post self.now.statements.level.expr) (H.pre self.now.statements.level.type_exp) (H.post self.now.statements.level.type_exp) }
+        ensures { Reads (spec.declaration (nested self.now.statements.level.depth) first tokens.old.rest.now) result tokens.new.rest.now }
     {
-        let names = names_from(self.level.alloc, tokens, first)?;
+        let names = names_from(self.statements.level.alloc, tokens, first)?;
         tokens.need_mark(Mark::Colon)?;
         let access = access(tokens)?;
         let declared = self.declared(tokens)?;
@@ -63,10 +63,10 @@ impl<
         tokens: &mut Cursor<'_>,
         all: Declarations,
     ) -> Result<(Declarations, Statements), Stopped>
-        requires { Nests self.now.level.depth (F.pre self.now.level.stmt) (F.post self.now.level.stmt) (G.pre self.now.level.expr) (G.post self.now.level.expr) (H.pre self.now.level.type_exp) (H.post self.now.level.type_exp) }
-        ensures { Reads (and_then (st.body (nested self.now.level.depth) tokens.old.rest.now) (λ ss. pure (all, ss))) result tokens.new.rest.now }
+        requires { Nests self.now.statements.level.depth (F.pre self.now.statements.level.stmt) (F.post self.now.statements.level.stmt) (G.pre self.now.statements.level.expr) (G.post self.now.statements.level.expr) (H.pre self.now.statements.level.type_exp) (H.post self.now.statements.level.type_exp) }
+        ensures { Reads (and_then (st.body (nested self.now.statements.level.depth) tokens.old.rest.now) (λ ss. pure (all, ss))) result tokens.new.rest.now }
     {
-        let statements = self.body(tokens)?;
+        let statements = self.statements.body(tokens)?;
         Ok((all, statements))
     }
 
@@ -77,18 +77,18 @@ impl<
         tokens: &mut Cursor<'_>,
         mut all: Declarations,
     ) -> Result<(Declarations, Statements), Stopped>
-        requires { Nests self.now.level.depth (F.pre self.now.level.stmt) (F.post self.now.level.stmt) (G.pre self.now.level.expr) (G.post self.now.level.expr) (H.pre self.now.level.type_exp) (H.post self.now.level.type_exp) }
-        ensures { Reads (repeat (spec.front_turn (nested self.now.level.depth)) all tokens.old.rest.now) result tokens.new.rest.now }
+        requires { Nests self.now.statements.level.depth (F.pre self.now.statements.level.stmt) (F.post self.now.statements.level.stmt) (G.pre self.now.statements.level.expr) (G.post self.now.statements.level.expr) (H.pre self.now.statements.level.type_exp) (H.post self.now.statements.level.type_exp) }
+        ensures { Reads (repeat (spec.front_turn (nested self.now.statements.level.depth)) all tokens.old.rest.now) result tokens.new.rest.now }
     {
         'declarations: loop {
-            if !self.level.can() {
+            if !self.statements.level.can() {
                 return self.behind_front(tokens, all);
             }
-            let Some(first) = tokens.takes_name(self.level.alloc)? else {
+            let Some(first) = tokens.takes_name(self.statements.level.alloc)? else {
                 return self.behind_front(tokens, all);
             };
             if !tokens.declares() {
-                let statements = self.stmts(tokens, Some(first))?;
+                let statements = self.statements.stmts(tokens, Some(first))?;
                 return Ok((all, statements));
             }
             all.push(self.declaration(tokens, first)?)?;
@@ -97,12 +97,15 @@ impl<
 
     #[tactic(auto, unfolding(module_productions::specs::Texts::inner))]
     pub fn inner(&self, tokens: &mut Cursor<'_>) -> Result<Inner, Stopped>
-        requires { Nests self.now.level.depth (F.pre self.now.level.stmt) (F.post self.now.level.stmt) (G.pre self.now.level.expr) (G.post self.now.level.expr) (H.pre self.now.level.type_exp) (H.post self.now.level.type_exp) }
-        ensures { Reads (spec.inner (nested self.now.level.depth) tokens.old.rest.now) result tokens.new.rest.now }
+        requires { Nests self.now.statements.level.depth (F.pre self.now.statements.level.stmt) (F.post self.now.statements.level.stmt) (G.pre self.now.statements.level.expr) (G.post self.now.statements.level.expr) (H.pre self.now.statements.level.type_exp) (H.post self.now.statements.level.type_exp) }
+        ensures { Reads (spec.inner (nested self.now.statements.level.depth) tokens.old.rest.now) result tokens.new.rest.now }
     {
-        let enable = self.enabling(tokens)?;
-        let (declarations, statements) = self.front(tokens, List::new(self.level.alloc))?;
-        let exits = self.exit_part(tokens)?;
+        let enable = self.statements.enabling(tokens)?;
+        let (declarations, statements) = self.front(
+            tokens,
+            List::new(self.statements.level.alloc),
+        )?;
+        let exits = self.statements.exit_part(tokens)?;
         Ok(Inner {
             enable,
             declarations,

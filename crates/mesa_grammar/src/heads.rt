@@ -6,11 +6,11 @@ ghost use Rattle.expression_parser.specs.Nests.{Nests};
 ghost use Rattle.module_productions.specs.Statements.{nested};
 ghost use Rattle.module_productions.specs.Texts as spec;
 
-use crate::blocks::BlockEnd;
 use crate::nesting::Grammar;
 use mesa_lexer::{Mark, Word};
 use mesa_types::syntax::{Block, Declared, Expr, FieldList, Head, Identifier, Statement, TypeExp};
 use module_productions::Begun;
+use statement_parser::BlockEnd;
 use std::alloc::Global;
 use token_cursor::{Cursor, Stopped};
 
@@ -22,13 +22,13 @@ impl<
     /// Parameters behind their bracket.
     #[tactic(auto, using(token_cursor::proofs::Choosing::choose_none, token_cursor::proofs::Choosing::choose_some), unfolding(module_productions::specs::Texts::in_params))]
     fn in_params(&self, tokens: &mut Cursor<'_>) -> Result<Option<FieldList>, Stopped>
-        requires { Nests self.now.level.depth (F.pre self.now.level.stmt) (F.post self.now.level.stmt) (G.pre self.now.level.expr) (G.post self.now.level.expr) (H.pre self.now.level.type_exp) (H.post self.now.level.type_exp) }
-        ensures { Reads (spec.in_params (nested self.now.level.depth) tokens.old.rest.now) result tokens.new.rest.now }
+        requires { Nests self.now.statements.level.depth (F.pre self.now.statements.level.stmt) (F.post self.now.statements.level.stmt) (G.pre self.now.statements.level.expr) (G.post self.now.statements.level.expr) (H.pre self.now.statements.level.type_exp) (H.post self.now.statements.level.type_exp) }
+        ensures { Reads (spec.in_params (nested self.now.statements.level.depth) tokens.old.rest.now) result tokens.new.rest.now }
     {
         match tokens.takes_mark(Mark::RightBracket) {
             Some(_) => Ok(None),
             None => {
-                let fields = self.level.field_list(tokens)?;
+                let fields = self.statements.level.field_list(tokens)?;
                 tokens.need_mark(Mark::RightBracket)?;
                 Ok(Some(fields))
             }
@@ -37,8 +37,8 @@ impl<
 
     #[tactic(auto, using(token_cursor::proofs::Choosing::choose_none, token_cursor::proofs::Choosing::choose_some), unfolding(module_productions::specs::Texts::params))]
     pub fn params(&self, tokens: &mut Cursor<'_>) -> Result<Option<FieldList>, Stopped>
-        requires { Nests self.now.level.depth (F.pre self.now.level.stmt) (F.post self.now.level.stmt) (G.pre self.now.level.expr) (G.post self.now.level.expr) (H.pre self.now.level.type_exp) (H.post self.now.level.type_exp) }
-        ensures { Reads (spec.params (nested self.now.level.depth) tokens.old.rest.now) result tokens.new.rest.now }
+        requires { Nests self.now.statements.level.depth (F.pre self.now.statements.level.stmt) (F.post self.now.statements.level.stmt) (G.pre self.now.statements.level.expr) (G.post self.now.statements.level.expr) (H.pre self.now.statements.level.type_exp) (H.post self.now.statements.level.type_exp) }
+        ensures { Reads (spec.params (nested self.now.statements.level.depth) tokens.old.rest.now) result tokens.new.rest.now }
     {
         match tokens.takes_mark(Mark::LeftBracket) {
             Some(_) => self.in_params(tokens),
@@ -48,8 +48,8 @@ impl<
 
     #[tactic(auto, using(token_cursor::proofs::Choosing::choose_none, token_cursor::proofs::Choosing::choose_some), unfolding(module_productions::specs::Texts::returns))]
     fn results(&self, tokens: &mut Cursor<'_>) -> Result<Option<FieldList>, Stopped>
-        requires { Nests self.now.level.depth (F.pre self.now.level.stmt) (F.post self.now.level.stmt) (G.pre self.now.level.expr) (G.post self.now.level.expr) (H.pre self.now.level.type_exp) (H.post self.now.level.type_exp) }
-        ensures { Reads (spec.returns (nested self.now.level.depth) tokens.old.rest.now) result tokens.new.rest.now }
+        requires { Nests self.now.statements.level.depth (F.pre self.now.statements.level.stmt) (F.post self.now.statements.level.stmt) (G.pre self.now.statements.level.expr) (G.post self.now.statements.level.expr) (H.pre self.now.statements.level.type_exp) (H.post self.now.statements.level.type_exp) }
+        ensures { Reads (spec.returns (nested self.now.statements.level.depth) tokens.old.rest.now) result tokens.new.rest.now }
     {
         match tokens.takes_word(Word::ReturnsWord) {
             Some(_) => {
@@ -62,8 +62,8 @@ impl<
 
     #[tactic(auto, unfolding(module_productions::specs::Texts::head))]
     pub fn head(&self, tokens: &mut Cursor<'_>) -> Result<Head, Stopped>
-        requires { Nests self.now.level.depth (F.pre self.now.level.stmt) (F.post self.now.level.stmt) (G.pre self.now.level.expr) (G.post self.now.level.expr) (H.pre self.now.level.type_exp) (H.post self.now.level.type_exp) }
-        ensures { Reads (spec.head (nested self.now.level.depth) tokens.old.rest.now) result tokens.new.rest.now }
+        requires { Nests self.now.statements.level.depth (F.pre self.now.statements.level.stmt) (F.post self.now.statements.level.stmt) (G.pre self.now.statements.level.expr) (G.post self.now.statements.level.expr) (H.pre self.now.statements.level.type_exp) (H.post self.now.statements.level.type_exp) }
+        ensures { Reads (spec.head (nested self.now.statements.level.depth) tokens.old.rest.now) result tokens.new.rest.now }
     {
         let takes = self.params(tokens)?;
         let gives = self.results(tokens)?;
@@ -72,22 +72,22 @@ impl<
 
     #[tactic(auto, using(token_cursor::proofs::Choosing::choose_none, token_cursor::proofs::Choosing::choose_some), unfolding(module_productions::specs::Texts::block))]
     fn any_block(&self, tokens: &mut Cursor<'_>) -> Result<Block, Stopped>
-        requires { Nests self.now.level.depth (F.pre self.now.level.stmt) (F.post self.now.level.stmt) (G.pre self.now.level.expr) (G.post self.now.level.expr) (H.pre self.now.level.type_exp) (H.post self.now.level.type_exp) }
-        ensures { Reads (spec.block (nested self.now.level.depth) tokens.old.rest.now) result tokens.new.rest.now }
+        requires { Nests self.now.statements.level.depth (F.pre self.now.statements.level.stmt) (F.post self.now.statements.level.stmt) (G.pre self.now.statements.level.expr) (G.post self.now.statements.level.expr) (H.pre self.now.statements.level.type_exp) (H.post self.now.statements.level.type_exp) }
+        ensures { Reads (spec.block (nested self.now.statements.level.depth) tokens.old.rest.now) result tokens.new.rest.now }
     {
         if let Some(place) = tokens.takes_word(Word::BeginWord) {
-            return self.block(tokens, BlockEnd::ByWord, place);
+            return self.statements.block(tokens, BlockEnd::ByWord, place);
         }
         match tokens.takes_mark(Mark::LeftBrace) {
-            Some(place) => self.block(tokens, BlockEnd::ByBrace, place),
+            Some(place) => self.statements.block(tokens, BlockEnd::ByBrace, place),
             None => Err(Stopped::Unexpected),
         }
     }
 
     #[tactic(auto, unfolding(module_productions::specs::Texts::procedure))]
     fn procedure(&self, tokens: &mut Cursor<'_>) -> Result<Declared, Stopped>
-        requires { Nests self.now.level.depth (F.pre self.now.level.stmt) (F.post self.now.level.stmt) (G.pre self.now.level.expr) (G.post self.now.level.expr) (H.pre self.now.level.type_exp) (H.post self.now.level.type_exp) }
-        ensures { Reads (spec.procedure (nested self.now.level.depth) tokens.old.rest.now) result tokens.new.rest.now }
+        requires { Nests self.now.statements.level.depth (F.pre self.now.statements.level.stmt) (F.post self.now.statements.level.stmt) (G.pre self.now.statements.level.expr) (G.post self.now.statements.level.expr) (H.pre self.now.statements.level.type_exp) (H.post self.now.statements.level.type_exp) }
+        ensures { Reads (spec.procedure (nested self.now.statements.level.depth) tokens.old.rest.now) result tokens.new.rest.now }
     {
         let head = self.head(tokens)?;
         tokens.need_mark(Mark::Equal)?;
@@ -97,8 +97,8 @@ impl<
 
     #[tactic(auto, unfolding(module_productions::specs::Texts::signal))]
     fn signal(&self, tokens: &mut Cursor<'_>) -> Result<Declared, Stopped>
-        requires { Nests self.now.level.depth (F.pre self.now.level.stmt) (F.post self.now.level.stmt) (G.pre self.now.level.expr) (G.post self.now.level.expr) (H.pre self.now.level.type_exp) (H.post self.now.level.type_exp) }
-        ensures { Reads (spec.signal (nested self.now.level.depth) tokens.old.rest.now) result tokens.new.rest.now }
+        requires { Nests self.now.statements.level.depth (F.pre self.now.statements.level.stmt) (F.post self.now.statements.level.stmt) (G.pre self.now.statements.level.expr) (G.post self.now.statements.level.expr) (H.pre self.now.statements.level.type_exp) (H.post self.now.statements.level.type_exp) }
+        ensures { Reads (spec.signal (nested self.now.statements.level.depth) tokens.old.rest.now) result tokens.new.rest.now }
     {
         let head = self.head(tokens)?;
         tokens.need_mark(Mark::Equal)?;
@@ -108,8 +108,8 @@ impl<
 
     #[tactic(auto, unfolding(module_productions::specs::Texts::error))]
     fn error(&self, tokens: &mut Cursor<'_>) -> Result<Declared, Stopped>
-        requires { Nests self.now.level.depth (F.pre self.now.level.stmt) (F.post self.now.level.stmt) (G.pre self.now.level.expr) (G.post self.now.level.expr) (H.pre self.now.level.type_exp) (H.post self.now.level.type_exp) }
-        ensures { Reads (spec.error (nested self.now.level.depth) tokens.old.rest.now) result tokens.new.rest.now }
+        requires { Nests self.now.statements.level.depth (F.pre self.now.statements.level.stmt) (F.post self.now.statements.level.stmt) (G.pre self.now.statements.level.expr) (G.post self.now.statements.level.expr) (H.pre self.now.statements.level.type_exp) (H.post self.now.statements.level.type_exp) }
+        ensures { Reads (spec.error (nested self.now.statements.level.depth) tokens.old.rest.now) result tokens.new.rest.now }
     {
         let takes = self.params(tokens)?;
         tokens.need_mark(Mark::Equal)?;
@@ -119,8 +119,8 @@ impl<
 
     #[tactic(auto, using(token_cursor::proofs::Choosing::choose_none, token_cursor::proofs::Choosing::choose_some), unfolding(module_productions::specs::Texts::declared))]
     pub fn declared(&self, tokens: &mut Cursor<'_>) -> Result<Declared, Stopped>
-        requires { Nests self.now.level.depth (F.pre self.now.level.stmt) (F.post self.now.level.stmt) (G.pre self.now.level.expr) (G.post self.now.level.expr) (H.pre self.now.level.type_exp) (H.post self.now.level.type_exp) }
-        ensures { Reads (spec.declared (nested self.now.level.depth) tokens.old.rest.now) result tokens.new.rest.now }
+        requires { Nests self.now.statements.level.depth (F.pre self.now.statements.level.stmt) (F.post self.now.statements.level.stmt) (G.pre self.now.statements.level.expr) (G.post self.now.statements.level.expr) (H.pre self.now.statements.level.type_exp) (H.post self.now.statements.level.type_exp) }
+        ensures { Reads (spec.declared (nested self.now.statements.level.depth) tokens.old.rest.now) result tokens.new.rest.now }
     {
         if let Some(_) = tokens.takes_procedure_word() {
             return self.procedure(tokens);
@@ -131,7 +131,7 @@ impl<
         match tokens.takes_word(Word::ErrorWord) {
             Some(_) => self.error(tokens),
             None => {
-                let plain = self.plain(tokens)?;
+                let plain = self.statements.plain(tokens)?;
                 Ok(Declared::Data(plain))
             }
         }

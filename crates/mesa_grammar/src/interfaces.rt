@@ -5,7 +5,7 @@ ghost use Rattle.token_cursor.specs.Running.{Reads};
 ghost use Rattle.expression_parser.specs.Nests.{Nests};
 ghost use Rattle.module_productions.specs.Statements.{nested};
 ghost use Rattle.module_productions.specs.Texts as spec;
-ghost use Rattle.mesa_grammar.specs.StatementTails as tails;
+ghost use Rattle.statement_parser.specs.StatementTails as tails;
 
 use crate::nesting::Grammar;
 use mesa_base::List;
@@ -23,30 +23,30 @@ impl<
 > Grammar<F, G, H> {
     #[tactic(auto, unfolding(module_productions::specs::Texts::constant))]
     fn constant(&self, tokens: &mut Cursor<'_>) -> Result<Defined, Stopped>
-        requires { Nests self.now.level.depth (F.pre self.now.level.stmt) (F.post self.now.level.stmt) (G.pre self.now.level.expr) (G.post self.now.level.expr) (H.pre self.now.level.type_exp) (H.post self.now.level.type_exp) }
-        ensures { Reads (spec.constant (nested self.now.level.depth) tokens.old.rest.now) result tokens.new.rest.now }
+        requires { Nests self.now.statements.level.depth (F.pre self.now.statements.level.stmt) (F.post self.now.statements.level.stmt) (G.pre self.now.statements.level.expr) (G.post self.now.statements.level.expr) (H.pre self.now.statements.level.type_exp) (H.post self.now.statements.level.type_exp) }
+        ensures { Reads (spec.constant (nested self.now.statements.level.depth) tokens.old.rest.now) result tokens.new.rest.now }
     {
-        let of = self.level.type_exp(tokens, None)?;
+        let of = self.statements.level.type_exp(tokens, None)?;
         tokens.need_mark(Mark::Equal)?;
-        let value = self.level.expr(tokens, Begun::Fresh)?;
+        let value = self.statements.level.expr(tokens, Begun::Fresh)?;
         Ok(Defined::ConstantItem(of, value))
     }
 
     #[tactic(auto, unfolding(module_productions::specs::Texts::type_item))]
     fn type_item(&self, tokens: &mut Cursor<'_>) -> Result<Defined, Stopped>
-        requires { Nests self.now.level.depth (F.pre self.now.level.stmt) (F.post self.now.level.stmt) (G.pre self.now.level.expr) (G.post self.now.level.expr) (H.pre self.now.level.type_exp) (H.post self.now.level.type_exp) }
-        ensures { Reads (spec.type_item (nested self.now.level.depth) tokens.old.rest.now) result tokens.new.rest.now }
+        requires { Nests self.now.statements.level.depth (F.pre self.now.statements.level.stmt) (F.post self.now.statements.level.stmt) (G.pre self.now.statements.level.expr) (G.post self.now.statements.level.expr) (H.pre self.now.statements.level.type_exp) (H.post self.now.statements.level.type_exp) }
+        ensures { Reads (spec.type_item (nested self.now.statements.level.depth) tokens.old.rest.now) result tokens.new.rest.now }
     {
         tokens.need_mark(Mark::Equal)?;
-        let is = self.level.type_exp(tokens, None)?;
+        let is = self.statements.level.type_exp(tokens, None)?;
         Ok(Defined::TypeItem(is))
     }
 
     /// An item that is an error, a type or a constant.
-    #[tactic(auto, using(token_cursor::proofs::Choosing::choose_none, token_cursor::proofs::Choosing::choose_some), unfolding(crate::specs::StatementTails::other_item))]
+    #[tactic(auto, using(token_cursor::proofs::Choosing::choose_none, token_cursor::proofs::Choosing::choose_some), unfolding(statement_parser::specs::StatementTails::other_item))]
     fn other_item(&self, tokens: &mut Cursor<'_>) -> Result<Defined, Stopped>
-        requires { Nests self.now.level.depth (F.pre self.now.level.stmt) (F.post self.now.level.stmt) (G.pre self.now.level.expr) (G.post self.now.level.expr) (H.pre self.now.level.type_exp) (H.post self.now.level.type_exp) }
-        ensures { Reads (tails.other_item (nested self.now.level.depth) tokens.old.rest.now) result tokens.new.rest.now }
+        requires { Nests self.now.statements.level.depth (F.pre self.now.statements.level.stmt) (F.post self.now.statements.level.stmt) (G.pre self.now.statements.level.expr) (G.post self.now.statements.level.expr) (H.pre self.now.statements.level.type_exp) (H.post self.now.statements.level.type_exp) }
+        ensures { Reads (tails.other_item (nested self.now.statements.level.depth) tokens.old.rest.now) result tokens.new.rest.now }
     {
         if let Some(_) = tokens.takes_word(Word::ErrorWord) {
             let takes = self.params(tokens)?;
@@ -58,10 +58,10 @@ impl<
         }
     }
 
-    #[tactic(auto, using(token_cursor::proofs::Choosing::choose_none, token_cursor::proofs::Choosing::choose_some), unfolding(module_productions::specs::Texts::defined, crate::specs::StatementTails::other_item))]
+    #[tactic(auto, using(token_cursor::proofs::Choosing::choose_none, token_cursor::proofs::Choosing::choose_some), unfolding(module_productions::specs::Texts::defined, statement_parser::specs::StatementTails::other_item))]
     fn defined(&self, tokens: &mut Cursor<'_>) -> Result<Defined, Stopped>
-        requires { Nests self.now.level.depth (F.pre self.now.level.stmt) (F.post self.now.level.stmt) (G.pre self.now.level.expr) (G.post self.now.level.expr) (H.pre self.now.level.type_exp) (H.post self.now.level.type_exp) }
-        ensures { Reads (spec.defined (nested self.now.level.depth) tokens.old.rest.now) result tokens.new.rest.now }
+        requires { Nests self.now.statements.level.depth (F.pre self.now.statements.level.stmt) (F.post self.now.statements.level.stmt) (G.pre self.now.statements.level.expr) (G.post self.now.statements.level.expr) (H.pre self.now.statements.level.type_exp) (H.post self.now.statements.level.type_exp) }
+        ensures { Reads (spec.defined (nested self.now.statements.level.depth) tokens.old.rest.now) result tokens.new.rest.now }
     {
         if let Some(_) = tokens.takes_procedure_word() {
             let head = self.head(tokens)?;
@@ -84,10 +84,10 @@ impl<
         mut all: Definitions,
         first: Identifier,
     ) -> Result<Definitions, Stopped>
-        requires { Nests self.now.level.depth (F.pre self.now.level.stmt) (F.post self.now.level.stmt) (G.pre self.now.level.expr) (G.post self.now.level.expr) (H.pre self.now.level.type_exp) (H.post self.now.level.type_exp) }
-        ensures { Reads (spec.definitions_step (nested self.now.level.depth) all first.name first.place tokens.old.rest.now) result tokens.new.rest.now }
+        requires { Nests self.now.statements.level.depth (F.pre self.now.statements.level.stmt) (F.post self.now.statements.level.stmt) (G.pre self.now.statements.level.expr) (G.post self.now.statements.level.expr) (H.pre self.now.statements.level.type_exp) (H.post self.now.statements.level.type_exp) }
+        ensures { Reads (spec.definitions_step (nested self.now.statements.level.depth) all first.name first.place tokens.old.rest.now) result tokens.new.rest.now }
     {
-        let labels = names_from(self.level.alloc, tokens, first)?;
+        let labels = names_from(self.statements.level.alloc, tokens, first)?;
         tokens.need_mark(Mark::Colon)?;
         let item = self.defined(tokens)?;
         all.push(Labeled { labels, item })?;
@@ -97,11 +97,11 @@ impl<
 
     #[tactic(auto, using(token_cursor::proofs::Taking::many_by, crate::proofs::FrontSteps::definitions_eats), unfolding(module_productions::specs::Texts::definitions))]
     pub fn definitions(&self, tokens: &mut Cursor<'_>) -> Result<Definitions, Stopped>
-        requires { Nests self.now.level.depth (F.pre self.now.level.stmt) (F.post self.now.level.stmt) (G.pre self.now.level.expr) (G.post self.now.level.expr) (H.pre self.now.level.type_exp) (H.post self.now.level.type_exp) }
-        ensures { Reads (spec.definitions (nested self.now.level.depth) tokens.old.rest.now) result tokens.new.rest.now }
+        requires { Nests self.now.statements.level.depth (F.pre self.now.statements.level.stmt) (F.post self.now.statements.level.stmt) (G.pre self.now.statements.level.expr) (G.post self.now.statements.level.expr) (H.pre self.now.statements.level.type_exp) (H.post self.now.statements.level.type_exp) }
+        ensures { Reads (spec.definitions (nested self.now.statements.level.depth) tokens.old.rest.now) result tokens.new.rest.now }
     {
-        let mut all = List::new(self.level.alloc);
-        'definitions: while let Some(first) = tokens.takes_name(self.level.alloc)? {
+        let mut all = List::new(self.statements.level.alloc);
+        'definitions: while let Some(first) = tokens.takes_name(self.statements.level.alloc)? {
             all = self.definition(tokens, all, first)?;
         }
         Ok(all)

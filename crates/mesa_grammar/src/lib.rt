@@ -2,17 +2,12 @@
 //! it.
 #![tactic(auto)]
 
-mod blocks;
 mod declarations;
 mod directory;
-mod exits;
 mod heads;
 mod interfaces;
-mod loops;
 mod modules;
 mod nesting;
 mod parser;
-mod selections;
-mod statements;
 
 pub use parser::module;

@@ -24,14 +24,14 @@ impl<
     /// A program behind its word.
     #[tactic(auto, unfolding(module_productions::specs::Texts::program))]
     fn program(&self, tokens: &mut Cursor<'_>, place: Place) -> Result<ModuleKind, Stopped>
-        requires { Nests self.now.level.depth (F.pre self.now.level.stmt) (F.post self.now.level.stmt) (G.pre self.now.level.expr) (G.post self.now.level.expr) (H.pre self.now.level.type_exp) (H.post self.now.level.type_exp) }
-        ensures { Reads (spec.program (nested self.now.level.depth) place tokens.old.rest.now) result tokens.new.rest.now }
+        requires { Nests self.now.statements.level.depth (F.pre self.now.statements.level.stmt) (F.post self.now.statements.level.stmt) (G.pre self.now.statements.level.expr) (G.post self.now.statements.level.expr) (H.pre self.now.statements.level.type_exp) (H.post self.now.statements.level.type_exp) }
+        ensures { Reads (spec.program (nested self.now.statements.level.depth) place tokens.old.rest.now) result tokens.new.rest.now }
     {
-        let imports = listed(self.level.alloc, tokens, Word::ImportsWord)?;
-        let exports = listed(self.level.alloc, tokens, Word::ExportsWord)?;
+        let imports = listed(self.statements.level.alloc, tokens, Word::ImportsWord)?;
+        let exports = listed(self.statements.level.alloc, tokens, Word::ExportsWord)?;
         tokens.need_mark(Mark::Equal)?;
         tokens.need_word(Word::BeginWord)?;
-        let opens = opened(self.level.alloc, tokens)?;
+        let opens = opened(self.statements.level.alloc, tokens)?;
         let inner = self.inner(tokens)?;
         tokens.need_word(Word::EndWord)?;
         Ok(ModuleKind::Program(place, imports, exports, opens, inner))
@@ -40,12 +40,12 @@ impl<
     /// An interface behind its word.
     #[tactic(auto, unfolding(module_productions::specs::Texts::interface))]
     fn interface(&self, tokens: &mut Cursor<'_>, place: Place) -> Result<ModuleKind, Stopped>
-        requires { Nests self.now.level.depth (F.pre self.now.level.stmt) (F.post self.now.level.stmt) (G.pre self.now.level.expr) (G.post self.now.level.expr) (H.pre self.now.level.type_exp) (H.post self.now.level.type_exp) }
-        ensures { Reads (spec.interface (nested self.now.level.depth) place tokens.old.rest.now) result tokens.new.rest.now }
+        requires { Nests self.now.statements.level.depth (F.pre self.now.statements.level.stmt) (F.post self.now.statements.level.stmt) (G.pre self.now.statements.level.expr) (G.post self.now.statements.level.expr) (H.pre self.now.statements.level.type_exp) (H.post self.now.statements.level.type_exp) }
+        ensures { Reads (spec.interface (nested self.now.statements.level.depth) place tokens.old.rest.now) result tokens.new.rest.now }
     {
         tokens.need_mark(Mark::Equal)?;
         tokens.need_word(Word::BeginWord)?;
-        let opens = opened(self.level.alloc, tokens)?;
+        let opens = opened(self.statements.level.alloc, tokens)?;
         let all = self.definitions(tokens)?;
         tokens.need_word(Word::EndWord)?;
         Ok(ModuleKind::Interface(place, opens, all))
@@ -53,8 +53,8 @@ impl<
 
     #[tactic(auto, using(token_cursor::proofs::Choosing::choose_none, token_cursor::proofs::Choosing::choose_some), unfolding(module_productions::specs::Texts::kind))]
     fn module_kind(&self, tokens: &mut Cursor<'_>) -> Result<ModuleKind, Stopped>
-        requires { Nests self.now.level.depth (F.pre self.now.level.stmt) (F.post self.now.level.stmt) (G.pre self.now.level.expr) (G.post self.now.level.expr) (H.pre self.now.level.type_exp) (H.post self.now.level.type_exp) }
-        ensures { Reads (spec.kind (nested self.now.level.depth) tokens.old.rest.now) result tokens.new.rest.now }
+        requires { Nests self.now.statements.level.depth (F.pre self.now.statements.level.stmt) (F.post self.now.statements.level.stmt) (G.pre self.now.statements.level.expr) (G.post self.now.statements.level.expr) (H.pre self.now.statements.level.type_exp) (H.post self.now.statements.level.type_exp) }
+        ensures { Reads (spec.kind (nested self.now.statements.level.depth) tokens.old.rest.now) result tokens.new.rest.now }
     {
         if let Some(place) = tokens.takes_word(Word::ProgramWord) {
             return self.program(tokens, place);
@@ -67,11 +67,11 @@ impl<
 
     #[tactic(auto, unfolding(module_productions::specs::Texts::module_text))]
     pub fn module_text(&self, tokens: &mut Cursor<'_>) -> Result<Module, Stopped>
-        requires { Nests self.now.level.depth (F.pre self.now.level.stmt) (F.post self.now.level.stmt) (G.pre self.now.level.expr) (G.post self.now.level.expr) (H.pre self.now.level.type_exp) (H.post self.now.level.type_exp) }
-        ensures { Reads (spec.module_text (nested self.now.level.depth) tokens.old.rest.now) result tokens.new.rest.now }
+        requires { Nests self.now.statements.level.depth (F.pre self.now.statements.level.stmt) (F.post self.now.statements.level.stmt) (G.pre self.now.statements.level.expr) (G.post self.now.statements.level.expr) (H.pre self.now.statements.level.type_exp) (H.post self.now.statements.level.type_exp) }
+        ensures { Reads (spec.module_text (nested self.now.statements.level.depth) tokens.old.rest.now) result tokens.new.rest.now }
     {
-        let directory = interfaces(self.level.alloc, tokens)?;
-        let name = named(self.level.alloc, tokens)?;
+        let directory = interfaces(self.statements.level.alloc, tokens)?;
+        let name = named(self.statements.level.alloc, tokens)?;
         tokens.need_mark(Mark::Colon)?;
         let kind = self.module_kind(tokens)?;
         tokens.need_mark(Mark::Dot)?;

@@ -1,7 +1,7 @@
-use expression_parser::Level;
+use statement_parser::StatementParser;
 
-/// The parsers of statements and declarations, over those of one level of nesting.
+/// The parsers of declarations and modules, over those of statements.
 #[derive(Clone, Copy)]
 pub struct Grammar<F, G, H> {
-    pub level: Level<F, G, H>,
+    pub statements: StatementParser<F, G, H>,
 }

@@ -14,6 +14,7 @@ use mesa_lexer::{SyntaxFault, Tokens};
 use mesa_types::Module;
 use mesa_types::syntax::{Expr, Identifier, Statement, TypeExp};
 use module_productions::Begun;
+use statement_parser::StatementParser;
 use std::alloc::Global;
 use token_cursor::{Cursor, Stopped};
 
@@ -43,7 +44,7 @@ fn stmt(
     if depth == 0 {
         return Err(too_deep(tokens.begins_stmt()));
     }
-    Grammar {
+    StatementParser {
         level: Level {
             alloc,
             depth: depth - 1,
@@ -98,7 +99,7 @@ fn type_exp(
 fn text(alloc: Global, tokens: &mut Cursor<'_>) -> Result<Module, Stopped>
     ensures { Reads (texts.text tokens.old.rest.now) result tokens.new.rest.now }
 {
-    let module = Grammar {
+    let statements = StatementParser {
         level: Level {
             alloc,
             depth: LIMIT,
@@ -106,8 +107,8 @@ fn text(alloc: Global, tokens: &mut Cursor<'_>) -> Result<Module, Stopped>
             expr,
             type_exp,
         },
-    }
-    .module_text(tokens)?;
+    };
+    let module = Grammar { statements }.module_text(tokens)?;
     match tokens.peek() {
         None => Ok(module),
         Some(_) => Err(Stopped::Unexpected),

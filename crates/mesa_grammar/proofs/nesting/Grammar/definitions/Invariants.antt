@@ -5,7 +5,7 @@ use Rattle.module_productions.specs.Texts.{definitions_step}
 use Rattle.mesa_grammar.proofs.nesting.Grammar.definitions.Given as goal
 
 abbrev pub invariant-definitions : goal.invariant-definitions
-invariant-definitions g l = many a_name (definitions_step (nested l.self.level.depth)) [] l.fn.tokens.rest.now ≡ many a_name (definitions_step (nested l.self.level.depth)) l.all l.tokens.rest.now
+invariant-definitions g l = many a_name (definitions_step (nested l.self.statements.level.depth)) [] l.fn.tokens.rest.now ≡ many a_name (definitions_step (nested l.self.statements.level.depth)) l.all l.tokens.rest.now
 
 abbrev pub decreases-definitions : goal.decreases-definitions
 decreases-definitions g l = length l.tokens.rest.now

@@ -1,0 +1,5 @@
+pub mod FirstKinds
+pub mod FirstLists
+pub mod FirstStatements
+pub mod FirstText
+pub mod FirstTree

@@ -1,0 +1,220 @@
+//! The parts of the typed tree that the first program's language has.
+
+ghost use Rattle.std.specs.Prelude.{◌≡◌, [], ◌∷◌, true, map, IfOk};
+ghost use Rattle.mesa_types.specs.Plain as plain;
+ghost use Rattle.mesa_types.specs.Plain.{expr, operation, stmt};
+ghost use Rattle.first_program.specs.FirstTree as spec;
+
+use interface_records::iodefs;
+use mesa_base::{Boxed, List, Name, OutOfMemory};
+use mesa_types::{
+    Base, Callee, Condition, FieldType, Fields, Home, Import, Imports, Loop, Operation, Operator,
+    Phrase, Range, Relation, TypeTree, TypedBody, TypedExpr, TypedModule, TypedStmt, syntax,
+};
+use std::alloc::Global;
+
+/// The links of a module with IODefs.
+pub const LINK_OF_WRITE_CHAR: u32 = 0;
+
+pub const LINK_OF_WRITE_DECIMAL: u32 = 1;
+
+pub fn number(value: u16) -> TypedExpr
+    ensures { expr result ≡ spec.number value }
+{
+    TypedExpr::Number(value)
+}
+
+pub fn variable(alloc: Global, home: u16) -> TypedExpr
+    ensures { expr result ≡ spec.variable home }
+{
+    TypedExpr::Variable(Home::Global(home), List::new(alloc), 1)
+}
+
+/// None where the operator is neither addition nor subtraction.
+pub fn operator(written: syntax::Operator) -> Option<Operator>
+    ensures { result ≡ spec.operator written }
+{
+    match written {
+        syntax::Operator::Add => Some(Operator::Plus),
+        syntax::Operator::Subtract => Some(Operator::Minus),
+        _ => None,
+    }
+}
+
+pub fn operation(operator: Operator, right: TypedExpr) -> Operation
+    ensures { operation result ≡ spec.operation operator (expr right) }
+{
+    Operation {
+        check: Range::Every,
+        operator,
+        right,
+    }
+}
+
+pub fn operated(
+    alloc: Global,
+    first: TypedExpr,
+    operations: List<Operation>,
+) -> Result<TypedExpr, OutOfMemory>
+    ensures { IfOk result (λ made. expr made ≡ spec.operated (expr first) (map operation operations)) }
+{
+    Ok(TypedExpr::Operate(Boxed::new(alloc, first)?, operations))
+}
+
+fn relation(written: syntax::Relation) -> Relation
+    ensures { result ≡ spec.relation written }
+{
+    match written {
+        syntax::Relation::Equal => Relation::Equal,
+        syntax::Relation::NotEqual => Relation::Differs,
+        syntax::Relation::Less => Relation::Less,
+        syntax::Relation::AtMost => Relation::AtMost,
+        syntax::Relation::Greater => Relation::More,
+        syntax::Relation::AtLeast => Relation::AtLeast,
+    }
+}
+
+pub fn related(
+    alloc: Global,
+    written: syntax::Relation,
+    left: TypedExpr,
+    right: TypedExpr,
+) -> Result<TypedExpr, OutOfMemory>
+    ensures { IfOk result (λ made. expr made ≡ spec.related written (expr left) (expr right)) }
+{
+    Ok(TypedExpr::Relate(
+        Base::Signed,
+        relation(written),
+        Boxed::new(alloc, left)?,
+        Boxed::new(alloc, right)?,
+    ))
+}
+
+fn one_expr(alloc: Global, item: TypedExpr) -> Result<List<TypedExpr>, OutOfMemory>
+    ensures { IfOk result (λ list. list ≡ item ∷ []) }
+{
+    let mut list = List::new(alloc);
+    list.push(item)?;
+    Ok(list)
+}
+
+fn one_global(alloc: Global, home: u16) -> Result<List<Home>, OutOfMemory>
+    ensures { IfOk result (λ list. list ≡ Home.Global home ∷ []) }
+{
+    let mut list = List::new(alloc);
+    list.push(Home::Global(home))?;
+    Ok(list)
+}
+
+/// The statement that calls a link.
+pub fn call_of(alloc: Global, link: u32, argument: TypedExpr) -> Result<TypedStmt, OutOfMemory>
+    ensures { IfOk result (λ made. stmt made ≡ spec.call_of link (expr argument)) }
+{
+    let arguments = one_expr(alloc, argument)?;
+    let catching = Boxed::new(alloc, Phrase::NoPhrase)?;
+    Ok(TypedStmt::Perform(TypedExpr::Call(
+        Callee::LinkedProcedure(link),
+        List::new(alloc),
+        arguments,
+        0,
+        catching,
+    )))
+}
+
+pub fn assign(alloc: Global, home: u16, value: TypedExpr) -> TypedStmt
+    ensures { stmt result ≡ spec.assign home (expr value) }
+{
+    TypedStmt::Assign(Home::Global(home), List::new(alloc), value)
+}
+
+pub fn declare(alloc: Global, home: u16) -> Result<TypedStmt, OutOfMemory>
+    ensures { IfOk result (λ made. stmt made ≡ spec.declare home) }
+{
+    Ok(TypedStmt::Declare(one_global(alloc, home)?, 1))
+}
+
+pub fn declare_as(alloc: Global, home: u16, value: TypedExpr) -> Result<TypedStmt, OutOfMemory>
+    ensures { IfOk result (λ made. stmt made ≡ spec.declare_as home (expr value)) }
+{
+    Ok(TypedStmt::DeclareAs(one_global(alloc, home)?, value))
+}
+
+fn block(alloc: Global, statements: List<TypedStmt>) -> Result<TypedStmt, OutOfMemory>
+    ensures { IfOk result (λ made. stmt made ≡ spec.block (map stmt statements)) }
+{
+    let catching = Boxed::new(alloc, Phrase::NoPhrase)?;
+    Ok(TypedStmt::Block(catching, statements, List::new(alloc)))
+}
+
+pub fn while_loop(
+    alloc: Global,
+    condition: TypedExpr,
+    statements: List<TypedStmt>,
+) -> Result<TypedStmt, OutOfMemory>
+    ensures { IfOk result (λ made. stmt made ≡ spec.while_loop (expr condition) (map stmt statements)) }
+{
+    let body = block(alloc, statements)?;
+    let whole = Loop {
+        condition: Condition::While(condition),
+        body,
+        exits: List::new(alloc),
+        finished: TypedStmt::Null,
+    };
+    Ok(TypedStmt::Repeat(Boxed::new(alloc, whole)?))
+}
+
+/// A variable of type INTEGER.
+pub fn integer(alloc: Global, name: &Name) -> Result<FieldType, OutOfMemory>
+    ensures { IfOk result (λ field. field ≡ spec.integer name.now) }
+{
+    Ok(FieldType {
+        name: Some(name.copy(alloc)?),
+        kind: TypeTree::Integer,
+    })
+}
+
+/// Of IODefs, WriteChar and WriteDecimal.
+fn host(alloc: Global) -> Result<Import, OutOfMemory>
+    ensures { IfOk result (λ one. one ∷ [] ≡ spec.imports true) }
+{
+    Ok(Import {
+        face: iodefs(alloc)?.face,
+        used: List::from_slice(alloc, &[0, 2])?,
+    })
+}
+
+fn imports(alloc: Global, has_host: bool) -> Result<Imports, OutOfMemory>
+    ensures { IfOk result (λ all. all ≡ spec.imports has_host) }
+{
+    let mut all = List::new(alloc);
+    if has_host {
+        all.push(host(alloc)?)?;
+    }
+    Ok(all)
+}
+
+pub fn module_of(
+    alloc: Global,
+    name: Name,
+    has_host: bool,
+    globals: Fields,
+    statements: List<TypedStmt>,
+) -> Result<TypedModule, OutOfMemory>
+    ensures { IfOk result (λ made. plain.plain made ≡ spec.module_of name has_host globals (map stmt statements)) }
+{
+    let imports = imports(alloc, has_host)?;
+    let does = block(alloc, statements)?;
+    Ok(TypedModule {
+        name,
+        imports,
+        exports: List::new(alloc),
+        globals,
+        signals: List::new(alloc),
+        strings: List::new(alloc),
+        procedures: List::new(alloc),
+        body: TypedBody {
+            variables: List::new(alloc),
+            does,
+        },
+    })
+}

@@ -1,0 +1,11 @@
+pub mod Exprs
+pub mod Globals
+pub mod Lies
+pub mod Patch
+pub mod Results
+pub mod Seen
+pub mod Stmts
+pub mod Stores
+pub mod Whole
+pub mod Within
+pub mod Worth

@@ -1,0 +1,141 @@
+-- The image of a module runs as the module.
+use Rattle.std.proofs.Common.{◌≡◌, ℕ, zero, suc, ◌+◌, List, [], ◌∷◌, length, None, refl, ap, sym, ◌∙◌, subst, arith}
+use Rattle.std.proofs.lemmas.List.{length-replicate}
+use Rattle.std.specs.Prelude.{slice_get, replicate}
+use Rattle.mesa_types.specs.Typed.{Kinds, Module}
+use Rattle.mesa_types.specs.Shapes.{words_in_all}
+use Rattle.mesa_types.specs.Sound.{Sound, links_of, scope_of}
+use Rattle.mesa_types.specs.declared.faces.Item.{Item}
+use Rattle.source_meaning.specs.Value.{nth, word, zeros}
+use Rattle.source_meaning.specs.Program.{Instance, or_else, instance_of, link_of, module_of, targets_of, single}
+use Rattle.source_meaning.specs.FirstProgram.{AreOrdinal, FirstProgram, IsFirstInstance}
+use Rattle.source_meaning.specs.State.{State, Result, Answer, Normal, Gives, Spent, FrameLimit, NoRow, Ending, give, carry, change, look, after, spend, spend_of, enter, enter_if, leave, branch, normal_then, on_normal}
+use Rattle.source_meaning.specs.Calls.{Where, globals, zero_at, push, pop, in_frame, is_started, mark_started, start}
+use Rattle.source_meaning.specs.Meaning.{meaning}
+use Rattle.source_meaning.specs.Means.{control, first_state, outcome}
+use Rattle.frame_machine.specs.declared.image.Instruction.{Instruction}
+use Rattle.frame_machine.specs.declared.outcome.End.TheVariants as end
+use Rattle.frame_machine.specs.Steps as machine
+use Rattle.linked_run.specs.Code.{code_of_stmt, image_of}
+use Rattle.linked_run.specs.Simulation.{RunsTo, ImagesRunAsTheirSource}
+use Rattle.linked_run.proofs.Lies.{lies_whole}
+use Rattle.source_meaning.proofs.First.{zeros_of_words, zero_of_word, first_block, host_target}
+use Rattle.linked_run.proofs.Worth.{words}
+use Rattle.linked_run.proofs.Stores.{Room, words_copies}
+use Rattle.linked_run.proofs.Within.{Within, words_are, within}
+use Rattle.linked_run.proofs.Stmts.{Linked, between, Does, all_follow}
+
+-- where the body of the one instance is run
+abbrev body_place : Where
+body_place = record { frame = 0; instance = 0; chain = [] }
+
+-- the state in which it begins
+abbrev body_state : Module → List ℕ → Ending → ℕ → State
+body_state m input ending t = record {
+  store = push (zeros m.body.variables) (mark_started 0 (first_state (single m) input ending (suc t)).store);
+  input = input;
+  ending = ending;
+  output = [];
+  turns = t;
+  standing = 0 + 1;
+}
+
+-- the end of the body is the end of the run
+abbrev closed : Answer → State → Result
+closed a σ = carry (leave (carry (record { answer = a; state = σ }) (λ b. change pop (give b)))) (normal_then (give Normal))
+
+-- its code, and how many words its variables have
+abbrev code : Module → List Instruction
+code m = code_of_stmt (links_of m.imports) m.body.does
+
+abbrev size : Module → ℕ
+size m = words_in_all m.globals
+
+opened : (m : Module) (input : List ℕ) (ending : Ending) (t : ℕ) → let r = meaning (single m) (suc (suc t)) m.body.does body_place (body_state m input ending t) in outcome (single m) input ending (suc t) ≡ closed r.answer r.state
+unfolding outcome control first_state single instance_of module_of or_else look branch is_started on_normal after carry start change spend spend_of enter enter_if leave in_frame push mark_started give
+opened m input ending t = refl
+
+get_end : (xs : List Instruction) → slice_get xs (length xs) ≡ None
+get_end [] = refl
+get_end (x ∷ xs) = get_end xs
+
+ends_done : (whole : List Instruction) (s : machine.State) → s.at ≡ length whole → machine.Ends whole (machine.Goes s) end.Done s
+unfolding machine.step machine.fetched
+ends_done whole s e =
+    let none : slice_get whole s.at ≡ None = ap (λ n. slice_get whole n) e ∙ get_end whole in
+    machine.goes s end.Done s (subst (λ x. machine.Ends whole x end.Done s) (sym (ap (λ o. machine.fetched o s) none)) (machine.stops end.Done s))
+
+words_of_zeros : (ks : Kinds) → AreOrdinal ks → words (zeros ks) ≡ replicate (words_in_all ks) 0
+words_of_zeros ks q = ap words (zeros_of_words ks q) ∙ words_copies _ ∙ ap (λ n. replicate n 0) (sym (words_are ks q))
+
+begins : (m : Module) (input : List ℕ) (ending : Ending) (t : ℕ) → FirstProgram m → machine.start (image_of m) (suc t) ≡ machine.Goes (between (code m) body_place (size m) 0 (body_state m input ending t))
+unfolding machine.start machine.spend globals or_else push mark_started first_state single
+begins m input ending t first = ap (λ l. machine.Goes (record { at = 0; globals = l; operands = []; turns = t; output = [] })) (sym (words_of_zeros m.globals first.globals))
+
+room : (m : Module) (input : List ℕ) (ending : Ending) (t : ℕ) → FirstProgram m → Room body_place (size m) (body_state m input ending t).store
+unfolding globals or_else push mark_started first_state single
+room m input ending t first = record { instance_is = omega arith; size = ap length (words_of_zeros m.globals first.globals) ∙ length-replicate (size m) 0 }
+
+linked : (m : Module) → FirstProgram m → Linked (single m) body_place (links_of m.imports)
+unfolding link_of instance_of module_of single or_else zero_at word
+linked m first =
+    let i : Instance = record { code = m; links = targets_of m } in
+    let f : IsFirstInstance i = record { is_first = first; is_linked = refl } in
+    record {
+      host = λ k l. host_target i f k l;
+      zero = λ k. ap word (zero_of_word m.globals first.globals k);
+    }
+
+finished : (m : Module) (input : List ℕ) (ending : Ending) (t bound : ℕ) (a : Answer) (σ : State) → FirstProgram m →
+    Does (code m) body_place (size m) (between (code m) body_place (size m) 0 (body_state m input ending t)) (length (code m)) input bound a σ → RunsTo (image_of m) (suc t) input (closed a σ)
+unfolding carry leave change pop give normal_then
+finished m input ending t bound Normal σ first d =
+    let last = between (code m) body_place (size m) (length (code m)) σ in
+    record {
+      end = end.Done;
+      its_answer = refl;
+      its_steps = record {
+        last = last;
+        ends = subst (λ x. machine.Ends (code m) x end.Done last) (sym (begins m input ending t first)) (d.comes.by end.Done last (ends_done (code m) last refl));
+        its_output = refl;
+        its_turns = refl;
+      };
+      its_input = d.same_input;
+    }
+finished m input ending t bound (Gives vs) σ first d = absurd d
+finished m input ending t bound Spent σ first d =
+    record {
+      end = end.Spent;
+      its_answer = refl;
+      its_steps = record {
+        last = d.last;
+        ends = subst (λ x. machine.Ends (code m) x end.Spent d.last) (sym (begins m input ending t first)) d.ends;
+        its_output = d.same_output;
+        its_turns = d.same_turns;
+      };
+      its_input = d.same_input;
+    }
+finished m input ending t bound FrameLimit σ first d = absurd d
+finished m input ending t bound NoRow σ first d = absurd d
+
+stays_within : (m : Module) → Sound m → FirstProgram m → Within (size m) m.body.does
+unfolding scope_of
+stays_within m sound first =
+    within (links_of m.imports) (size m) (scope_of m [] [] m.body) m.body.does (sym (words_are m.globals first.globals)) sound.body.does (first_block (links_of m.imports) m.body.does first.does)
+
+pub simulation : ImagesRunAsTheirSource
+unfolding outcome control first_state single or_else look branch is_started on_normal after carry start change spend spend_of mark_started give normal_then machine.start machine.spend
+simulation m input ending zero sound first =
+    record {
+      end = end.Spent;
+      its_answer = refl;
+      its_steps = record { last = record { at = 0; globals = replicate (size m) 0; operands = []; turns = 0; output = [] }; ends = machine.stops end.Spent _; its_output = refl; its_turns = refl };
+      its_input = refl;
+    }
+simulation m input ending (suc t) sound first =
+    let links = links_of m.imports in
+    let σ = body_state m input ending t in
+    let r = meaning (single m) (suc (suc t)) m.body.does body_place σ in
+    subst (λ x. RunsTo (image_of m) (suc t) input x) (sym (opened m input ending t))
+    (finished m input ending t (suc (suc t)) r.answer r.state first
+    ((all_follow (code m) body_place (size m) (single m) links (linked m first) (suc (suc t))).by m.body.does 0 (length (code m)) input σ (stays_within m sound first) (first_block links m.body.does first.does) (lies_whole (code m)) (room m input ending t first) refl (omega arith)))

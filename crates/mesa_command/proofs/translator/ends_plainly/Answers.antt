@@ -1,6 +1,0 @@
-use Rattle.mesa_types.specs.Plain.{stmt}
-use Rattle.mesa_command.proofs.Seen.{exits_stand}
-use Rattle.mesa_command.proofs.translator.ends_plainly.Goals as goal
-
-pub returns-in_default-2 : goal.returns-in_default-2
-returns-in_default-2 c = exits_stand c.args.exits.now (stmt c.args.finished.now) c.in_default.len_at_least

@@ -1,0 +1,11 @@
+use Rattle.std.proofs.Common.{◌≡◌, length}
+use Rattle.mesa_lexer.specs.Parsing.{repeat}
+use Rattle.module_productions.specs.Statements.{nested}
+use Rattle.module_productions.specs.Statements.{head_turn}
+use Rattle.statement_parser.proofs.nesting.StatementParser.locals.Given as goal
+
+abbrev pub invariant-locals : goal.invariant-locals
+invariant-locals g l = repeat (head_turn (nested l.self.level.depth)) l.fn.all l.fn.tokens.rest.now ≡ repeat (head_turn (nested l.self.level.depth)) l.all l.tokens.rest.now
+
+abbrev pub decreases-locals : goal.decreases-locals
+decreases-locals g l = length l.tokens.rest.now

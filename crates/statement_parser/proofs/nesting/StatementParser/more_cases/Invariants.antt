@@ -1,0 +1,11 @@
+use Rattle.std.proofs.Common.{◌≡◌, length}
+use Rattle.mesa_lexer.specs.Parsing.{ended}
+use Rattle.module_productions.specs.Nested.{begins_test}
+use Rattle.module_productions.specs.Statements.{nested, semicolon, cases_step}
+use Rattle.statement_parser.proofs.nesting.StatementParser.more_cases.Given as goal
+
+abbrev pub invariant-cases : goal.invariant-cases
+invariant-cases g l = ended semicolon begins_test (cases_step (nested l.self.level.depth)) l.fn.all l.fn.tokens.rest.now ≡ ended semicolon begins_test (cases_step (nested l.self.level.depth)) l.all l.tokens.rest.now
+
+abbrev pub decreases-cases : goal.decreases-cases
+decreases-cases g l = length l.tokens.rest.now

@@ -1,0 +1,10 @@
+use Rattle.std.proofs.Common.{rules, arith}
+use Rattle.std.proofs.lemmas.Grind.{common_steps}
+use Rattle.module_productions.specs.Nested.{begins_stmt}
+use Rattle.module_productions.specs.Statements.{nested, semicolon, stmts_step}
+use Rattle.module_productions.proofs.Parts.{stmts_eats}
+use Rattle.token_cursor.proofs.Taking.{ended_falls}
+use Rattle.statement_parser.proofs.nesting.StatementParser.more_stmts.Goals as goal
+
+pub statements-smaller : goal.statements-smaller
+statements-smaller g c = ended_falls semicolon begins_stmt (stmts_step (nested c.args.self.now.level.depth)) (stmts_eats c.args.self.now.level.depth) c.statements.all c.push.new.self _ _ (first_of (search rules, grind (arith, common_steps)))

@@ -1,0 +1,171 @@
+//! What a block or loop has besides its statements: the arms that it enables, and its exits.
+
+ghost use Rattle.std.specs.Prelude.{◌≡◌};
+ghost use Rattle.token_cursor.specs.Running.{Reads};
+ghost use Rattle.expression_parser.specs.Nests.{Nests};
+ghost use Rattle.mesa_lexer.specs.Parsing.{ended, many, repeat};
+ghost use Rattle.module_productions.specs.Nested.{begins_repeat};
+ghost use Rattle.module_productions.specs.Statements.{nested, semicolon, begins_label};
+ghost use Rattle.module_productions.specs.Statements as spec;
+ghost use Rattle.std.specs.Prelude.{[], ◌∷◌, MatchResult};
+ghost use Rattle.token_cursor.specs.declared.fault.Stopped.TheVariants.{Memory};
+
+use crate::nesting::StatementParser;
+use mesa_base::{List, Place};
+use mesa_lexer::{Mark, Word};
+use mesa_types::syntax::{
+    Arm, Arms, Exit, Exits, Expr, Identifier, Labeled, Phrase, Placed, Repeat, Repeats, Statement,
+    TypeExp,
+};
+use module_productions::Begun;
+use std::alloc::Global;
+use token_cursor::naming::{names, repeat_labels};
+use token_cursor::{Cursor, Stopped};
+
+/// A list of this arm alone.
+fn one_arm(alloc: Global, arm: Arm) -> Result<Arms, Stopped>
+    ensures { MatchResult result (λ all. all ≡ arm ∷ []) (λ e. e ≡ Memory) }
+{
+    let mut all = List::new(alloc);
+    all.push(arm)?;
+    Ok(all)
+}
+
+impl<
+    F: Fn(Global, &mut Cursor<'_>, usize, Option<Identifier>) -> Result<Statement, Stopped>,
+    G: Fn(Global, &mut Cursor<'_>, usize, Begun) -> Result<Expr, Stopped>,
+    H: Fn(Global, &mut Cursor<'_>, usize, Option<Identifier>) -> Result<TypeExp, Stopped>,
+> StatementParser<F, G, H> {
+    #[tactic(auto, unfolding(module_productions::specs::Statements::exit))]
+    fn exit(&self, tokens: &mut Cursor<'_>) -> Result<Exit, Stopped>
+        requires { Nests self.now.level.depth (F.pre self.now.level.stmt) (F.post self.now.level.stmt) (G.pre self.now.level.expr) (G.post self.now.level.expr) (H.pre self.now.level.type_exp) (H.post self.now.level.type_exp) }
+        ensures { Reads (spec.exit (nested self.now.level.depth) tokens.old.rest.now) result tokens.new.rest.now }
+    {
+        let labels = names(self.level.alloc, tokens)?;
+        tokens.need_mark(Mark::DoubleArrow)?;
+        let item = self.level.stmt(tokens, None)?;
+        Ok(Labeled { labels, item })
+    }
+
+    /// Further exits behind these.
+    #[tactic(auto, using(token_cursor::proofs::Taking::ended_by, module_productions::proofs::Parts::exits_eats))]
+    fn more_exits(&self, tokens: &mut Cursor<'_>, mut all: Exits) -> Result<Exits, Stopped>
+        requires { Nests self.now.level.depth (F.pre self.now.level.stmt) (F.post self.now.level.stmt) (G.pre self.now.level.expr) (G.post self.now.level.expr) (H.pre self.now.level.type_exp) (H.post self.now.level.type_exp) }
+        ensures { Reads (ended semicolon begins_label (spec.exits_step (nested self.now.level.depth)) all tokens.old.rest.now) result tokens.new.rest.now }
+    {
+        'exits: while tokens.takes_mark(Mark::Semicolon).is_some() {
+            if !tokens.begins_name() {
+                break;
+            }
+            all.push(self.exit(tokens)?)?;
+        }
+        Ok(all)
+    }
+
+    #[tactic(auto, unfolding(module_productions::specs::Statements::exits))]
+    fn exits(&self, tokens: &mut Cursor<'_>) -> Result<Exits, Stopped>
+        requires { Nests self.now.level.depth (F.pre self.now.level.stmt) (F.post self.now.level.stmt) (G.pre self.now.level.expr) (G.post self.now.level.expr) (H.pre self.now.level.type_exp) (H.post self.now.level.type_exp) }
+        ensures { Reads (spec.exits (nested self.now.level.depth) tokens.old.rest.now) result tokens.new.rest.now }
+    {
+        let mut all = List::new(self.level.alloc);
+        all.push(self.exit(tokens)?)?;
+        self.more_exits(tokens, all)
+    }
+
+    /// The EXITS of a block, if there are any.
+    #[tactic(auto, using(token_cursor::proofs::Choosing::choose_none, token_cursor::proofs::Choosing::choose_some), unfolding(module_productions::specs::Statements::exit_part))]
+    pub fn exit_part(&self, tokens: &mut Cursor<'_>) -> Result<Exits, Stopped>
+        requires { Nests self.now.level.depth (F.pre self.now.level.stmt) (F.post self.now.level.stmt) (G.pre self.now.level.expr) (G.post self.now.level.expr) (H.pre self.now.level.type_exp) (H.post self.now.level.type_exp) }
+        ensures { Reads (spec.exit_part (nested self.now.level.depth) tokens.old.rest.now) result tokens.new.rest.now }
+    {
+        match tokens.takes_word(Word::ExitsWord) {
+            Some(_) => self.exits(tokens),
+            None => Ok(List::new(self.level.alloc)),
+        }
+    }
+
+    /// What a loop does that was left by some labels, or at its end.
+    #[tactic(auto, unfolding(module_productions::specs::Statements::an_end))]
+    fn an_end(&self, tokens: &mut Cursor<'_>) -> Result<Repeat, Stopped>
+        requires { Nests self.now.level.depth (F.pre self.now.level.stmt) (F.post self.now.level.stmt) (G.pre self.now.level.expr) (G.post self.now.level.expr) (H.pre self.now.level.type_exp) (H.post self.now.level.type_exp) }
+        ensures { Reads (spec.an_end (nested self.now.level.depth) tokens.old.rest.now) result tokens.new.rest.now }
+    {
+        let labels = repeat_labels(self.level.alloc, tokens)?;
+        tokens.need_mark(Mark::DoubleArrow)?;
+        let item = self.level.stmt(tokens, None)?;
+        Ok(Labeled { labels, item })
+    }
+
+    /// Further ends behind these.
+    #[tactic(auto, using(token_cursor::proofs::Taking::ended_by, module_productions::proofs::Parts::repeats_eats))]
+    fn more_ends(&self, tokens: &mut Cursor<'_>, mut all: Repeats) -> Result<Repeats, Stopped>
+        requires { Nests self.now.level.depth (F.pre self.now.level.stmt) (F.post self.now.level.stmt) (G.pre self.now.level.expr) (G.post self.now.level.expr) (H.pre self.now.level.type_exp) (H.post self.now.level.type_exp) }
+        ensures { Reads (ended semicolon begins_repeat (spec.repeats_step (nested self.now.level.depth)) all tokens.old.rest.now) result tokens.new.rest.now }
+    {
+        'ends: while tokens.takes_mark(Mark::Semicolon).is_some() {
+            if !tokens.begins_repeat() {
+                break;
+            }
+            all.push(self.an_end(tokens)?)?;
+        }
+        Ok(all)
+    }
+
+    #[tactic(auto, unfolding(module_productions::specs::Statements::repeats))]
+    fn repeats(&self, tokens: &mut Cursor<'_>) -> Result<Repeats, Stopped>
+        requires { Nests self.now.level.depth (F.pre self.now.level.stmt) (F.post self.now.level.stmt) (G.pre self.now.level.expr) (G.post self.now.level.expr) (H.pre self.now.level.type_exp) (H.post self.now.level.type_exp) }
+        ensures { Reads (spec.repeats (nested self.now.level.depth) tokens.old.rest.now) result tokens.new.rest.now }
+    {
+        let mut all = List::new(self.level.alloc);
+        all.push(self.an_end(tokens)?)?;
+        self.more_ends(tokens, all)
+    }
+
+    /// The ends of a loop behind REPEAT, if there are any.
+    #[tactic(auto, using(token_cursor::proofs::Choosing::choose_none, token_cursor::proofs::Choosing::choose_some), unfolding(module_productions::specs::Statements::repeat_part))]
+    pub fn repeat_part(&self, tokens: &mut Cursor<'_>) -> Result<Repeats, Stopped>
+        requires { Nests self.now.level.depth (F.pre self.now.level.stmt) (F.post self.now.level.stmt) (G.pre self.now.level.expr) (G.post self.now.level.expr) (H.pre self.now.level.type_exp) (H.post self.now.level.type_exp) }
+        ensures { Reads (spec.repeat_part (nested self.now.level.depth) tokens.old.rest.now) result tokens.new.rest.now }
+    {
+        match tokens.takes_word(Word::RepeatWord) {
+            Some(_) => self.repeats(tokens),
+            None => Ok(List::new(self.level.alloc)),
+        }
+    }
+
+    #[tactic(auto, unfolding(module_productions::specs::Statements::enable_many))]
+    fn enable_many(&self, tokens: &mut Cursor<'_>, place: Place) -> Result<Option<Phrase>, Stopped>
+        requires { Nests self.now.level.depth (F.pre self.now.level.stmt) (F.post self.now.level.stmt) (G.pre self.now.level.expr) (G.post self.now.level.expr) (H.pre self.now.level.type_exp) (H.post self.now.level.type_exp) }
+        ensures { Reads (spec.enable_many (nested self.now.level.depth) place tokens.old.rest.now) result tokens.new.rest.now }
+    {
+        let item = self.level.arm_list(tokens)?;
+        tokens.need_word(Word::EndWord)?;
+        tokens.need_mark(Mark::Semicolon)?;
+        Ok(Some(Placed { place, item }))
+    }
+
+    #[tactic(auto, unfolding(module_productions::specs::Statements::enable_one))]
+    fn enable_one(&self, tokens: &mut Cursor<'_>, place: Place) -> Result<Option<Phrase>, Stopped>
+        requires { Nests self.now.level.depth (F.pre self.now.level.stmt) (F.post self.now.level.stmt) (G.pre self.now.level.expr) (G.post self.now.level.expr) (H.pre self.now.level.type_exp) (H.post self.now.level.type_exp) }
+        ensures { Reads (spec.enable_one (nested self.now.level.depth) place tokens.old.rest.now) result tokens.new.rest.now }
+    {
+        let item = one_arm(self.level.alloc, self.level.arm(tokens)?)?;
+        tokens.need_mark(Mark::Semicolon)?;
+        Ok(Some(Placed { place, item }))
+    }
+
+    /// The catch phrase of an ENABLE, if there is one.
+    #[tactic(auto, using(token_cursor::proofs::Choosing::choose_none, token_cursor::proofs::Choosing::choose_some), unfolding(module_productions::specs::Statements::enabling))]
+    pub fn enabling(&self, tokens: &mut Cursor<'_>) -> Result<Option<Phrase>, Stopped>
+        requires { Nests self.now.level.depth (F.pre self.now.level.stmt) (F.post self.now.level.stmt) (G.pre self.now.level.expr) (G.post self.now.level.expr) (H.pre self.now.level.type_exp) (H.post self.now.level.type_exp) }
+        ensures { Reads (spec.enabling (nested self.now.level.depth) tokens.old.rest.now) result tokens.new.rest.now }
+    {
+        let Some(place) = tokens.takes_word(Word::EnableWord) else {
+            return Ok(None);
+        };
+        match tokens.takes_word(Word::BeginWord) {
+            Some(_) => self.enable_many(tokens, place),
+            None => self.enable_one(tokens, place),
+        }
+    }
+}

@@ -1,0 +1,110 @@
+//! Loops, and what stands before their DO.
+
+ghost use Rattle.std.specs.Prelude.{◌≡◌};
+ghost use Rattle.token_cursor.specs.Running.{Reads};
+ghost use Rattle.expression_parser.specs.Nests.{Nests};
+ghost use Rattle.module_productions.specs.Statements.{nested};
+ghost use Rattle.module_productions.specs.Statements as spec;
+
+use crate::nesting::StatementParser;
+use mesa_base::{Boxed, Place};
+use mesa_lexer::Word;
+use mesa_types::syntax::{Condition, Control, Count, Expr, Identifier, Statement, TypeExp};
+use module_productions::Begun;
+use std::alloc::Global;
+use token_cursor::naming::named;
+use token_cursor::{Cursor, Stopped};
+
+#[tactic(auto, using(token_cursor::proofs::Choosing::choose_none, token_cursor::proofs::Choosing::choose_some), unfolding(module_productions::specs::Statements::decreasing))]
+fn decreasing(tokens: &mut Cursor<'_>) -> Result<bool, Stopped>
+    ensures { Reads (spec.decreasing tokens.old.rest.now) result tokens.new.rest.now }
+{
+    match tokens.takes_word(Word::DecreasingWord) {
+        Some(_) => Ok(true),
+        None => Ok(false),
+    }
+}
+
+impl<
+    F: Fn(Global, &mut Cursor<'_>, usize, Option<Identifier>) -> Result<Statement, Stopped>,
+    G: Fn(Global, &mut Cursor<'_>, usize, Begun) -> Result<Expr, Stopped>,
+    H: Fn(Global, &mut Cursor<'_>, usize, Option<Identifier>) -> Result<TypeExp, Stopped>,
+> StatementParser<F, G, H> {
+    #[tactic(auto, using(crate::proofs::Stepping::for_by))]
+    fn for_count(&self, tokens: &mut Cursor<'_>, place: Place) -> Result<Option<Count>, Stopped>
+        requires { Nests self.now.level.depth (F.pre self.now.level.stmt) (F.post self.now.level.stmt) (G.pre self.now.level.expr) (G.post self.now.level.expr) (H.pre self.now.level.type_exp) (H.post self.now.level.type_exp) }
+        ensures { Reads (spec.for (nested self.now.level.depth) place tokens.old.rest.now) result tokens.new.rest.now }
+    {
+        let variable = named(self.level.alloc, tokens)?;
+        let is_decreasing = decreasing(tokens)?;
+        tokens.need_word(Word::InWord)?;
+        let interval = self.level.interval(tokens)?;
+        Ok(Some(Count::For(place, variable, is_decreasing, interval)))
+    }
+
+    #[tactic(auto, unfolding(module_productions::specs::Statements::through))]
+    fn through_count(&self, tokens: &mut Cursor<'_>, place: Place) -> Result<Option<Count>, Stopped>
+        requires { Nests self.now.level.depth (F.pre self.now.level.stmt) (F.post self.now.level.stmt) (G.pre self.now.level.expr) (G.post self.now.level.expr) (H.pre self.now.level.type_exp) (H.post self.now.level.type_exp) }
+        ensures { Reads (spec.through (nested self.now.level.depth) place tokens.old.rest.now) result tokens.new.rest.now }
+    {
+        let interval = self.level.interval(tokens)?;
+        Ok(Some(Count::Through(place, interval)))
+    }
+
+    #[tactic(auto, using(token_cursor::proofs::Choosing::choose_none, token_cursor::proofs::Choosing::choose_some), unfolding(module_productions::specs::Statements::count))]
+    fn count(&self, tokens: &mut Cursor<'_>) -> Result<Option<Count>, Stopped>
+        requires { Nests self.now.level.depth (F.pre self.now.level.stmt) (F.post self.now.level.stmt) (G.pre self.now.level.expr) (G.post self.now.level.expr) (H.pre self.now.level.type_exp) (H.post self.now.level.type_exp) }
+        ensures { Reads (spec.count (nested self.now.level.depth) tokens.old.rest.now) result tokens.new.rest.now }
+    {
+        if let Some(place) = tokens.takes_word(Word::ForWord) {
+            return self.for_count(tokens, place);
+        }
+        match tokens.takes_word(Word::ThroughWord) {
+            Some(place) => self.through_count(tokens, place),
+            None => Ok(None),
+        }
+    }
+
+    #[tactic(auto, using(token_cursor::proofs::Choosing::choose_none, token_cursor::proofs::Choosing::choose_some), unfolding(module_productions::specs::Statements::condition))]
+    fn condition(&self, tokens: &mut Cursor<'_>) -> Result<Option<Condition>, Stopped>
+        requires { Nests self.now.level.depth (F.pre self.now.level.stmt) (F.post self.now.level.stmt) (G.pre self.now.level.expr) (G.post self.now.level.expr) (H.pre self.now.level.type_exp) (H.post self.now.level.type_exp) }
+        ensures { Reads (spec.condition (nested self.now.level.depth) tokens.old.rest.now) result tokens.new.rest.now }
+    {
+        if let Some(place) = tokens.takes_word(Word::WhileWord) {
+            let test = self.level.expr(tokens, Begun::Fresh)?;
+            return Ok(Some(Condition::While(place, test)));
+        }
+        match tokens.takes_word(Word::UntilWord) {
+            Some(place) => {
+                let test = self.level.expr(tokens, Begun::Fresh)?;
+                Ok(Some(Condition::Until(place, test)))
+            }
+            None => Ok(None),
+        }
+    }
+
+    #[tactic(auto, unfolding(module_productions::specs::Statements::control))]
+    fn control(&self, tokens: &mut Cursor<'_>) -> Result<Control, Stopped>
+        requires { Nests self.now.level.depth (F.pre self.now.level.stmt) (F.post self.now.level.stmt) (G.pre self.now.level.expr) (G.post self.now.level.expr) (H.pre self.now.level.type_exp) (H.post self.now.level.type_exp) }
+        ensures { Reads (spec.control (nested self.now.level.depth) tokens.old.rest.now) result tokens.new.rest.now }
+    {
+        let count = self.count(tokens)?;
+        let condition = self.condition(tokens)?;
+        Ok(Control { count, condition })
+    }
+
+    /// A loop, from its first word on.
+    #[tactic(auto, using(crate::proofs::Stepping::loop_by))]
+    pub fn loop_statement(&self, tokens: &mut Cursor<'_>) -> Result<Statement, Stopped>
+        requires { Nests self.now.level.depth (F.pre self.now.level.stmt) (F.post self.now.level.stmt) (G.pre self.now.level.expr) (G.post self.now.level.expr) (H.pre self.now.level.type_exp) (H.post self.now.level.type_exp) }
+        ensures { Reads (spec.loop (nested self.now.level.depth) tokens.old.rest.now) result tokens.new.rest.now }
+    {
+        let control = Boxed::new(self.level.alloc, self.control(tokens)?)?;
+        let place = tokens.need_word(Word::DoWord)?;
+        let enable = self.enabling(tokens)?;
+        let body = self.body(tokens)?;
+        let ends = self.repeat_part(tokens)?;
+        tokens.need_word(Word::EndloopWord)?;
+        Ok(Statement::Loop(control, place, enable, body, ends))
+    }
+}

@@ -1,0 +1,171 @@
+//! SELECT.
+
+ghost use Rattle.std.specs.Prelude.{◌≡◌};
+ghost use Rattle.token_cursor.specs.Running.{Reads};
+ghost use Rattle.expression_parser.specs.Nests.{Nests};
+ghost use Rattle.mesa_lexer.specs.Parsing.{ended, many};
+ghost use Rattle.module_productions.specs.Nested.{begins_test, comma};
+ghost use Rattle.module_productions.specs.Statements.{nested, semicolon};
+ghost use Rattle.module_productions.specs.Statements as spec;
+
+use crate::nesting::StatementParser;
+use mesa_base::{Boxed, List, Place};
+use mesa_lexer::{Mark, Word};
+use mesa_types::syntax::{Case, Cases, Expr, Identifier, Statement, Test, Tests, TypeExp};
+use module_productions::Begun;
+use std::alloc::Global;
+use token_cursor::{Cursor, Stopped};
+
+impl<
+    F: Fn(Global, &mut Cursor<'_>, usize, Option<Identifier>) -> Result<Statement, Stopped>,
+    G: Fn(Global, &mut Cursor<'_>, usize, Begun) -> Result<Expr, Stopped>,
+    H: Fn(Global, &mut Cursor<'_>, usize, Option<Identifier>) -> Result<TypeExp, Stopped>,
+> StatementParser<F, G, H> {
+    /// A test behind NOT.
+    #[tactic(auto, using(token_cursor::proofs::Choosing::choose_none, token_cursor::proofs::Choosing::choose_some), unfolding(module_productions::specs::Statements::after_not))]
+    fn after_not(&self, tokens: &mut Cursor<'_>, place: Place) -> Result<Test, Stopped>
+        requires { Nests self.now.level.depth (F.pre self.now.level.stmt) (F.post self.now.level.stmt) (G.pre self.now.level.expr) (G.post self.now.level.expr) (H.pre self.now.level.type_exp) (H.post self.now.level.type_exp) }
+        ensures { Reads (spec.after_not (nested self.now.level.depth) place tokens.old.rest.now) result tokens.new.rest.now }
+    {
+        if let Some((relation, at)) = tokens.takes_relating() {
+            let right = self.level.sum(tokens, None)?;
+            return Ok(Test::Compared(true, relation, at, right));
+        }
+        match tokens.takes_word(Word::InWord) {
+            Some(at) => {
+                let interval = self.level.interval(tokens)?;
+                Ok(Test::Inside(true, at, interval))
+            }
+            None => {
+                let value = self.level.expr(tokens, Begun::AtNot(place))?;
+                Ok(Test::Value(value))
+            }
+        }
+    }
+
+    /// A test that begins with no NOT, or where NOT may not be taken.
+    #[tactic(auto, using(token_cursor::proofs::Choosing::choose_none, token_cursor::proofs::Choosing::choose_some), unfolding(module_productions::specs::Statements::unnegated))]
+    fn unnegated(&self, tokens: &mut Cursor<'_>) -> Result<Test, Stopped>
+        requires { Nests self.now.level.depth (F.pre self.now.level.stmt) (F.post self.now.level.stmt) (G.pre self.now.level.expr) (G.post self.now.level.expr) (H.pre self.now.level.type_exp) (H.post self.now.level.type_exp) }
+        ensures { Reads (spec.unnegated (nested self.now.level.depth) tokens.old.rest.now) result tokens.new.rest.now }
+    {
+        if let Some((relation, at)) = tokens.takes_relating() {
+            let right = self.level.sum(tokens, None)?;
+            return Ok(Test::Compared(false, relation, at, right));
+        }
+        match tokens.takes_word(Word::InWord) {
+            Some(at) => {
+                let interval = self.level.interval(tokens)?;
+                Ok(Test::Inside(false, at, interval))
+            }
+            None => {
+                let value = self.level.expr(tokens, Begun::Fresh)?;
+                Ok(Test::Value(value))
+            }
+        }
+    }
+
+    #[tactic(auto, using(crate::proofs::Stepping::test_by, token_cursor::proofs::Choosing::choose_none, token_cursor::proofs::Choosing::choose_some, token_cursor::proofs::Choosing::if_true, token_cursor::proofs::Choosing::if_false))]
+    fn test(&self, tokens: &mut Cursor<'_>) -> Result<Test, Stopped>
+        requires { Nests self.now.level.depth (F.pre self.now.level.stmt) (F.post self.now.level.stmt) (G.pre self.now.level.expr) (G.post self.now.level.expr) (H.pre self.now.level.type_exp) (H.post self.now.level.type_exp) }
+        ensures { Reads (spec.test (nested self.now.level.depth) tokens.old.rest.now) result tokens.new.rest.now }
+    {
+        if !self.level.can() {
+            return self.unnegated(tokens);
+        }
+        match tokens.takes_negating() {
+            Some(place) => self.after_not(tokens, place),
+            None => self.unnegated(tokens),
+        }
+    }
+
+    /// Further tests behind these.
+    #[tactic(auto, using(token_cursor::proofs::Taking::many_by, module_productions::proofs::Parts::tests_eats))]
+    fn more_tests(&self, tokens: &mut Cursor<'_>, mut all: Tests) -> Result<Tests, Stopped>
+        requires { Nests self.now.level.depth (F.pre self.now.level.stmt) (F.post self.now.level.stmt) (G.pre self.now.level.expr) (G.post self.now.level.expr) (H.pre self.now.level.type_exp) (H.post self.now.level.type_exp) }
+        ensures { Reads (many comma (spec.tests_step (nested self.now.level.depth)) all tokens.old.rest.now) result tokens.new.rest.now }
+    {
+        'tests: while tokens.takes_mark(Mark::Comma).is_some() {
+            all.push(self.test(tokens)?)?;
+        }
+        Ok(all)
+    }
+
+    #[tactic(auto, unfolding(module_productions::specs::Statements::case))]
+    fn case(&self, tokens: &mut Cursor<'_>) -> Result<Case, Stopped>
+        requires { Nests self.now.level.depth (F.pre self.now.level.stmt) (F.post self.now.level.stmt) (G.pre self.now.level.expr) (G.post self.now.level.expr) (H.pre self.now.level.type_exp) (H.post self.now.level.type_exp) }
+        ensures { Reads (spec.case (nested self.now.level.depth) tokens.old.rest.now) result tokens.new.rest.now }
+    {
+        let mut tests = List::new(self.level.alloc);
+        tests.push(self.test(tokens)?)?;
+        let tests = self.more_tests(tokens, tests)?;
+        tokens.need_mark(Mark::DoubleArrow)?;
+        let body = self.level.stmt(tokens, None)?;
+        Ok(Case { tests, body })
+    }
+
+    /// Further cases behind these.
+    #[tactic(auto, using(token_cursor::proofs::Taking::ended_by, module_productions::proofs::Parts::cases_eats))]
+    fn more_cases(&self, tokens: &mut Cursor<'_>, mut all: Cases) -> Result<Cases, Stopped>
+        requires { Nests self.now.level.depth (F.pre self.now.level.stmt) (F.post self.now.level.stmt) (G.pre self.now.level.expr) (G.post self.now.level.expr) (H.pre self.now.level.type_exp) (H.post self.now.level.type_exp) }
+        ensures { Reads (ended semicolon begins_test (spec.cases_step (nested self.now.level.depth)) all tokens.old.rest.now) result tokens.new.rest.now }
+    {
+        'cases: while tokens.takes_mark(Mark::Semicolon).is_some() {
+            if !tokens.begins_test() {
+                break;
+            }
+            all.push(self.case(tokens)?)?;
+        }
+        Ok(all)
+    }
+
+    #[tactic(auto, unfolding(module_productions::specs::Statements::cases))]
+    fn cases(&self, tokens: &mut Cursor<'_>) -> Result<Cases, Stopped>
+        requires { Nests self.now.level.depth (F.pre self.now.level.stmt) (F.post self.now.level.stmt) (G.pre self.now.level.expr) (G.post self.now.level.expr) (H.pre self.now.level.type_exp) (H.post self.now.level.type_exp) }
+        ensures { Reads (spec.cases (nested self.now.level.depth) tokens.old.rest.now) result tokens.new.rest.now }
+    {
+        let mut all = List::new(self.level.alloc);
+        all.push(self.case(tokens)?)?;
+        self.more_cases(tokens, all)
+    }
+
+    #[tactic(auto, using(token_cursor::proofs::Choosing::when_true, token_cursor::proofs::Choosing::when_false), unfolding(module_productions::specs::Statements::case_list))]
+    fn case_list(&self, tokens: &mut Cursor<'_>) -> Result<Cases, Stopped>
+        requires { Nests self.now.level.depth (F.pre self.now.level.stmt) (F.post self.now.level.stmt) (G.pre self.now.level.expr) (G.post self.now.level.expr) (H.pre self.now.level.type_exp) (H.post self.now.level.type_exp) }
+        ensures { Reads (spec.case_list (nested self.now.level.depth) tokens.old.rest.now) result tokens.new.rest.now }
+    {
+        if !tokens.begins_test() {
+            return Ok(List::new(self.level.alloc));
+        }
+        self.cases(tokens)
+    }
+
+    /// The statement for no case, behind ENDCASE.
+    #[tactic(auto, using(token_cursor::proofs::Choosing::choose_none, token_cursor::proofs::Choosing::choose_some), unfolding(module_productions::specs::Statements::otherwise))]
+    fn otherwise(&self, tokens: &mut Cursor<'_>) -> Result<Option<Boxed<Statement>>, Stopped>
+        requires { Nests self.now.level.depth (F.pre self.now.level.stmt) (F.post self.now.level.stmt) (G.pre self.now.level.expr) (G.post self.now.level.expr) (H.pre self.now.level.type_exp) (H.post self.now.level.type_exp) }
+        ensures { Reads (spec.otherwise (nested self.now.level.depth) tokens.old.rest.now) result tokens.new.rest.now }
+    {
+        match tokens.takes_mark(Mark::DoubleArrow) {
+            Some(_) => {
+                let body = self.level.stmt(tokens, None)?;
+                Ok(Some(Boxed::new(self.level.alloc, body)?))
+            }
+            None => Ok(None),
+        }
+    }
+
+    /// A selection behind its SELECT, which stands at the place.
+    #[tactic(auto, unfolding(module_productions::specs::Statements::select))]
+    pub fn select(&self, tokens: &mut Cursor<'_>, place: Place) -> Result<Statement, Stopped>
+        requires { Nests self.now.level.depth (F.pre self.now.level.stmt) (F.post self.now.level.stmt) (G.pre self.now.level.expr) (G.post self.now.level.expr) (H.pre self.now.level.type_exp) (H.post self.now.level.type_exp) }
+        ensures { Reads (spec.select (nested self.now.level.depth) place tokens.old.rest.now) result tokens.new.rest.now }
+    {
+        let selector = self.level.expr(tokens, Begun::Fresh)?;
+        tokens.need_word(Word::FromWord)?;
+        let cases = self.case_list(tokens)?;
+        tokens.need_word(Word::EndcaseWord)?;
+        let otherwise = self.otherwise(tokens)?;
+        Ok(Statement::Select(place, selector, cases, otherwise))
+    }
+}
