@@ -1,7 +1,7 @@
 //! The program: it makes the real folder and streams, and hands them with its words to `mesa`.
 #![tactic(auto)]
 
-ghost use Rattle.std.specs.Prelude.{◌≡◌, ◌<◌};
+ghost use Rattle.std.specs.Prelude.{◌≡◌, ◌<◌, [], IsUtf8};
 
 mod cause;
 mod forms;
@@ -73,7 +73,11 @@ fn words_after_name<R: Env>(rt: &R, alloc: Global) -> Result<Words, OutOfMemory>
     Ok(words)
 }
 
-fn text_or_empty(word: &[u8]) -> &[u8] {
+/// The word where it is UTF-8, else the empty word.
+fn text_or_empty(word: &[u8]) -> &[u8]
+    ensures text { IsUtf8 word.now → result.now ≡ word.now }
+    ensures empty { ¬ (IsUtf8 word.now) → result.now ≡ [] }
+{
     match str::from_utf8(word) {
         Ok(_) => word,
         Err(_) => &[],
