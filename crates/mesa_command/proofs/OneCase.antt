@@ -8,12 +8,12 @@ use Rattle.mesa_base.specs.declared.status.Status.TheVariants as status
 use Rattle.source_meaning.specs.Program.{single}
 use Rattle.source_meaning.specs.Means.{outcome}
 use Rattle.source_meaning.specs.State.{End, Answer, Normal, Spent as TurnsSpent}
-use Rattle.mesa_command.specs.Text.{Reads, IsRefusedAs, text_too_long, bad_byte, open_string, number_too_large, token_too_long, unexpected, too_deep, not_yet}
+use Rattle.mesa_command.specs.Text.{IsRefusedAs, text_too_long, bad_byte, open_string, number_too_large, token_too_long, unexpected, too_deep, not_yet}
 use Rattle.mesa_command.specs.Forms.{IsGo, HasNoForm, file_of}
 use Rattle.mesa_command.specs.Outputs.{Stream, HasFaulted, Receives}
 use Rattle.mesa_command.specs.Comes.{OfText, done, spent, write_fault, refused, memory_before, memory_in_run, Does, Comes, of_text, absent, folder_fault, memory, usage, Shelf}
 use Rattle.mesa_command.specs.Case.{Case, Done, Spent, Fault, TextTooLong, NotYet, Absent, WriteFault, FolderFault, Memory, Usage, status_of, line_of}
-use Rattle.mesa_command.specs.Complete.{NoFault, Asks, AsksInVain, IsStatusOf, IsComplete, IsAnswer, IsRefused, IsAbsent, OneCaseComes}
+use Rattle.mesa_command.specs.Complete.{Asks, IsStatusOf, IsComplete, IsAnswer, IsRefused, IsAbsent, OneCaseComes}
 use Rattle.mesa_command.proofs.Verdicts.{one_module, one_refusal, never_both}
 
 -- words are `go` of one file and one number of turns

@@ -1,5 +1,5 @@
 -- A line that is written in two pieces.
-use Rattle.std.proofs.Common.{◌≡◌, ℕ, ◌+◌, ◌≤◌, List, ◌++◌, length, take, Bool, true, false, Option, Some, None, IfSome, refl, inl, inr, append_assoc, arith, sym, subst, ◌∙◌, ap, length-append, append-nil, []}
+use Rattle.std.proofs.Common.{◌≡◌, ℕ, ◌+◌, ◌≤◌, List, ◌++◌, length, take, Option, Some, None, IfSome, inl, inr, append_assoc, arith, sym, subst, ◌∙◌, ap, length-append, append-nil, []}
 use Rattle.std.proofs.Math.Seq.{take-append-add}
 use Rattle.std.proofs.lemmas.List.{take-append-le}
 use Rattle.mesa_base.specs.Outside.{AppendsPrefix, Rose}

@@ -11,7 +11,7 @@ use Rattle.mesa_lexer.specs.declared.fault.LexFault.TheVariants as lex
 use Rattle.mesa_lexer.proofs.Walks as w
 use Rattle.mesa_types.specs.Typed as t
 use Rattle.mesa_types.specs.declared.syntax.Module.{Module}
-use Rattle.module_productions.specs.Answer.{Parses, IsFault, HasSyntaxFault, unexpected as unexpected_token, too_deep as too_deep_token, place_of, Answer, Tree, Fault as Stops, Answers}
+use Rattle.module_productions.specs.Answer.{IsFault, HasSyntaxFault, unexpected as unexpected_token, too_deep as too_deep_token, place_of, Answer, Tree, Fault as Stops, Answers}
 use Rattle.module_productions.proofs.Whole as g
 use Rattle.first_program.specs.FirstText.{first_module}
 use Rattle.mesa_command.specs.Case as c

@@ -2,13 +2,17 @@
 ghost use Rattle.std.specs.Prelude.{◌≡◌, ◌<◌};
 
 use crate::tests::{is_left, left_by};
+use first_program::first_module;
+use mesa_grammar::module;
+use mesa_lexer::tokens;
+use mesa_types::nodes;
 use std::alloc::{AllocError, Global};
 use std::test::Fail;
 
 const NOT_YET: &str = "M.mesa: NotYet\n";
 
 /// What stands behind OPEN in a module that imports the built-in interface.
-const INSIDES: [&str; 26] = [
+const INSIDES: [&str; 30] = [
     "n: INTEGER ← 0; UNTIL EndOfInput[] DO n ← n + (ReadChar[] - '0) ENDLOOP; WriteDecimal[n];",
     "i: INTEGER; FOR i IN [3..3) DO WriteDecimal[i] ENDLOOP; \
         FOR i DECREASING IN [1..3] DO WriteDecimal[i] ENDLOOP;",
@@ -16,7 +20,9 @@ const INSIDES: [&str; 26] = [
     "E: ERROR = CODE; C: PROCEDURE = BEGIN ENABLE UNWIND => WriteChar['c]; ERROR E; END; \
         B: PROCEDURE = BEGIN ENABLE UNWIND => WriteChar['b]; C[]; END; \
         A: PROCEDURE = BEGIN B[! E => BEGIN WriteChar['a]; CONTINUE END]; WriteChar['d]; END; A[];",
-    "E: ERROR = CODE; A: PROCEDURE = BEGIN ENABLE E => BEGIN WriteChar['a]; CONTINUE END; \
+    "E: ERROR = CODE; C: PROCEDURE = BEGIN ENABLE UNWIND => WriteChar['c]; ERROR E; END; \
+        B: PROCEDURE = BEGIN ENABLE UNWIND => WriteChar['b]; C[]; END; \
+        A: PROCEDURE = BEGIN ENABLE E => BEGIN WriteChar['a]; CONTINUE END; \
         BEGIN ENABLE UNWIND => WriteChar['x]; B[] END; END; A[]; WriteChar['d];",
     "k: INTEGER ← 0; E: ERROR = CODE; P: PROCEDURE = BEGIN WriteChar['p]; ERROR E; END; \
         P[! E => BEGIN k ← k + 1; IF k < 4 THEN RETRY ELSE CONTINUE END]; WriteDecimal[k];",
@@ -25,8 +31,15 @@ const INSIDES: [&str; 26] = [
         Q[! S => BEGIN WriteChar['o]; RESUME END]; WriteChar['e];",
     "E: ERROR = CODE; T: ERROR = CODE; D: PROCEDURE = BEGIN ERROR T; END; \
         C: PROCEDURE = BEGIN ENABLE UNWIND => D[]; ERROR E; END; \
-        B: PROCEDURE = BEGIN C[! T => BEGIN WriteChar['t]; CONTINUE END]; WriteChar['b]; END;",
+        B: PROCEDURE = BEGIN C[! T => BEGIN WriteChar['t]; CONTINUE END]; WriteChar['b]; END; \
+        A: PROCEDURE = BEGIN B[! E => BEGIN WriteChar['a]; CONTINUE END]; WriteChar['d]; END; A[];",
+    "E: ERROR = CODE; T: ERROR = CODE; D: PROCEDURE = BEGIN ERROR T; END; \
+        C: PROCEDURE = BEGIN ENABLE UNWIND => WriteChar['c]; ERROR E; END; \
+        B: PROCEDURE = BEGIN ENABLE UNWIND => WriteChar['b]; C[! E => D[]]; END; \
+        A: PROCEDURE = BEGIN B[! T => BEGIN WriteChar['t]; CONTINUE END]; WriteChar['d]; END; A[];",
+    "E: ERROR = CODE; P: PROCEDURE = BEGIN WriteChar['p]; ERROR E; END; P[]; WriteChar['q];",
     "P: PROCEDURE [n: INTEGER] = BEGIN IF n > 1 THEN P[n - 1]; END; P[8191];",
+    "P: PROCEDURE [n: INTEGER] = BEGIN IF n > 1 THEN P[n - 1]; END; P[8192];",
     "E: ERROR = CODE; Q: PROCEDURE = BEGIN ERROR E END; \
         P: PROCEDURE RETURNS [r: INTEGER] = BEGIN Q[! E => RETURN[3]]; r ← 9 END; WriteDecimal[P[]]; \
         DO Q[! E => EXIT]; WriteChar['n] ENDLOOP; WriteChar['x];",
@@ -49,12 +62,14 @@ const INSIDES: [&str; 26] = [
     "[] ← F[]; [x: a, y: b.c] ← F[]; x ← ([1, 2]); y ← [x: 1, y: 2]; z ← SIGNAL S[1] + ERROR J.E; w ← []; v ← FALSE;",
     "{ENABLE ANY => NULL; x: INTEGER; x ← 1 EXITS l => NULL}",
     "IF a THEN IF b THEN c[] ELSE d[]",
-    "ERROR E[! E => RESUME]",
+    "E: ERROR = CODE; ERROR E[! E => RESUME]",
+    "E: ERROR [n: INTEGER] = CODE; a: INTEGER [0..9]; b: BOOLEAN = a IN (0..9) OR a NOT = 3; \
+        SELECT a FROM IN [1..2] => NULL ENDCASE; DO LOOP ENDLOOP; RETURN[]",
     "RETURN; RESUME[1]; SELECT a FROM ENDCASE; IF a # b THEN x ← a >= b ELSE y ← a NOT IN (1..2];",
 ];
 
 /// Whole texts.
-const TEXTS: [&str; 22] = [
+const TEXTS: [&str; 28] = [
     "AskDefs: DEFINITIONS = BEGIN Ask: PROCEDURE [x: INTEGER] RETURNS [INTEGER]; \
         S: SIGNAL [x: INTEGER] RETURNS [INTEGER]; END.",
     "DIRECTORY AskDefs: FROM \"AskDefs\"; Server: PROGRAM EXPORTS AskDefs = BEGIN \
@@ -74,11 +89,23 @@ const TEXTS: [&str; 22] = [
     "DIRECTORY CounterDefs: FROM \"CounterDefs\", OtherDefs: FROM \"OtherDefs\", IODefs: FROM \"IODefs\"; \
         Main: PROGRAM IMPORTS CounterDefs, OtherDefs, IODefs = BEGIN OPEN IODefs; WriteDecimal[CounterDefs.Next[]]; \
         OtherDefs.Go[! CounterDefs.Full => BEGIN WriteChar['x]; CONTINUE END]; END.",
+    "DIRECTORY CounterDefs: FROM \"CounterDefs\", OtherDefs: FROM \"OtherDefs\", IODefs: FROM \"IODefs\"; \
+        Main: PROGRAM IMPORTS CounterDefs, OtherDefs, IODefs = BEGIN OPEN IODefs; WriteDecimal[CounterDefs.Next[]]; \
+        OtherDefs.Go[! CounterDefs.Full => WriteChar['x]]; END.",
     "AllocDefs: DEFINITIONS = BEGIN Get: PROCEDURE RETURNS [INTEGER]; END.",
     "LogDefs: DEFINITIONS = BEGIN Put: PROCEDURE [c: CHARACTER]; END.",
     "DIRECTORY LogDefs: FROM \"LogDefs\", IODefs: FROM \"IODefs\"; Logger: PROGRAM IMPORTS IODefs EXPORTS LogDefs = BEGIN \
         Put: PUBLIC PROCEDURE [c: CHARACTER] = BEGIN IODefs.WriteChar[c]; END; END.",
+    "StoreDefs: DEFINITIONS = BEGIN Save: PROCEDURE [c: CHARACTER]; END.",
+    "DIRECTORY LogDefs: FROM \"LogDefs\", StoreDefs: FROM \"StoreDefs\"; \
+        Store: PROGRAM IMPORTS LogDefs EXPORTS StoreDefs = BEGIN \
+        Save: PUBLIC PROCEDURE [c: CHARACTER] = BEGIN LogDefs.Put[c]; END; END.",
     "DIRECTORY StoreDefs: FROM \"StoreDefs\"; Main: PROGRAM IMPORTS StoreDefs = BEGIN StoreDefs.Save['q]; END.",
+    "DIRECTORY AllocDefs: FROM \"AllocDefs\"; One: PROGRAM EXPORTS AllocDefs = BEGIN \
+        Get: PUBLIC PROCEDURE RETURNS [INTEGER] = BEGIN RETURN[1]; END; END.",
+    "DIRECTORY AllocDefs: FROM \"AllocDefs\"; Main: PROGRAM IMPORTS AllocDefs = BEGIN \
+        n: INTEGER ← AllocDefs.Get[]; END.",
+    "One: DEFINITIONS = BEGIN Get: PROCEDURE RETURNS [INTEGER]; END.",
     "Two: DEFINITIONS = BEGIN Size: CARDINAL = 3; Full: ERROR; END.",
     "StepDefs: DEFINITIONS = BEGIN\nStep: PROCEDURE [n: INTEGER] RETURNS [INTEGER]; END.\n",
     "SigDefs: DEFINITIONS = BEGIN\nOdd: SIGNAL [n: INTEGER] RETURNS [INTEGER]; END.\n",
@@ -269,6 +296,32 @@ fn mutated_texts(rt: HostRuntime) -> Result<(), Fail> {
                 "{mutated} left {left:?}"
             );
         }
+    }
+    Ok(())
+}
+
+/// How many nodes the typed tree of this text has.
+fn nodes_of(alloc: Global, text: &str) -> Result<u32, Fail> {
+    let tokens = tokens(alloc, text.as_bytes())?;
+    let tree = module(alloc, &tokens)?;
+    let typed = first_module(alloc, &tree)?;
+    Ok(nodes(typed.get()))
+}
+
+/// The module and its block; `i` where it is declared and where it is assigned; assignments and loops, a loop with its body
+/// and what stands for FINISHED; numbers, sums and relations.
+#[test]
+fn nodes_of_modules(rt: HostRuntime) -> Result<(), Fail> {
+    let rows = [
+        ("M: PROGRAM = BEGIN END.", 2),
+        ("M: PROGRAM = BEGIN i: INTEGER; i ← 1 + 2 END.", 8),
+        (
+            "M: PROGRAM = BEGIN i: INTEGER ← 3; WHILE i > 0 DO i ← i - 1 ENDLOOP END.",
+            15,
+        ),
+    ];
+    for (text, count) in rows {
+        assert_eq!(rt; nodes_of(rt.alloc(), text)?, count, "{text}");
     }
     Ok(())
 }

@@ -1,8 +1,8 @@
 -- What stands behind a text, in the words of the cursor.
-use Rattle.std.proofs.Common.{◌≡◌, List, [], ◌∷◌, Option, Some, None, refl}
+use Rattle.std.proofs.Common.{◌≡◌, List, [], ◌∷◌, Some, None, refl}
 use Rattle.mesa_base.specs.declared.place.Place.{Place}
 use Rattle.mesa_lexer.specs.declared.token.Token.{Token}
-use Rattle.mesa_lexer.specs.Parsing.{Out, Got, Stop, Unexpected}
+use Rattle.mesa_lexer.specs.Parsing.{Got, Stop, Unexpected}
 use Rattle.mesa_types.specs.declared.syntax.Module.{Module}
 use Rattle.module_productions.specs.Answer.{place_at}
 use Rattle.token_cursor.specs.Running.{next}

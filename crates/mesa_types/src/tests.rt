@@ -1,10 +1,9 @@
 use crate::{
-    Export, Face, FieldType, Fields, Home, Import, Item, ItemKind, Names, Operation, Operator,
-    Origin, Phrase, Range, Shape, TypeTree, TypedBody, TypedExpr, TypedModule, TypedStmt, base,
-    conforms, depth, elements, fields_words, is_within_limits, nodes, same_fields, same_type,
-    same_types, size_words,
+    Export, Face, FieldType, Fields, Import, Item, ItemKind, Names, Origin, Shape, TypeTree, base,
+    conforms, depth, elements, fields_words, is_within_limits, same_fields, same_type, same_types,
+    size_words,
 };
-use mesa_base::{Boxed, List, Name, Stamp, Texts};
+use mesa_base::{Boxed, List, Name, Stamp};
 use std::alloc::Global;
 use std::process::Abort;
 use std::test::Fail;
@@ -218,56 +217,5 @@ fn copies(rt: HostRuntime) -> Result<(), Fail> {
     let copy = shape(alloc)?.copy(alloc)?;
     assert_eq!(rt; copy.imports.len(), 1);
     assert_eq!(rt; copy.exports.len(), 1);
-    Ok(())
-}
-
-fn sum(alloc: Global) -> Result<TypedExpr, Fail> {
-    let mut operations = List::new(alloc);
-    operations.push(Operation {
-        check: Range::Every,
-        operator: Operator::Plus,
-        right: TypedExpr::Number(2),
-    })?;
-    Ok(TypedExpr::Operate(Boxed::new(alloc, TypedExpr::Number(1))?, operations))
-}
-
-fn block(alloc: Global, s: TypedStmt) -> Result<TypedStmt, Fail> {
-    let mut all = List::new(alloc);
-    all.push(s)?;
-    Ok(TypedStmt::Block(Boxed::new(alloc, Phrase::NoPhrase)?, all, List::new(alloc)))
-}
-
-fn typed_module(alloc: Global, name: Name, does: TypedStmt) -> TypedModule {
-    TypedModule {
-        name,
-        imports: List::new(alloc),
-        exports: List::new(alloc),
-        globals: List::new(alloc),
-        signals: List::new(alloc),
-        strings: Texts::new(alloc),
-        procedures: List::new(alloc),
-        body: TypedBody {
-            variables: List::new(alloc),
-            does,
-        },
-    }
-}
-
-fn assignment(alloc: Global) -> Result<TypedStmt, Fail> {
-    let e = sum(alloc)?;
-    Ok(TypedStmt::Assign(Home::Global(0), List::new(alloc), e))
-}
-
-fn assigning(alloc: Global) -> Result<Boxed<TypedModule>, Fail> {
-    let name = name(alloc, b"M")?;
-    let does = block(alloc, assignment(alloc)?)?;
-    Ok(Boxed::new(alloc, typed_module(alloc, name, does))?)
-}
-
-/// The module, its block, `i`, its assignment, two numbers and a sum.
-#[test]
-fn nodes_of_a_module(rt: HostRuntime) -> Result<(), Fail> {
-    let typed = assigning(rt.alloc())?;
-    assert_eq!(rt; nodes(typed.get()), 7);
     Ok(())
 }

@@ -1,5 +1,5 @@
-use Rattle.std.proofs.Common.{◌≤◌, arith}
-use Rattle.mesa_command.specs.Outputs.{Stream, stream}
+use Rattle.std.proofs.Common.{arith}
+use Rattle.mesa_command.specs.Outputs.{stream}
 use Rattle.mesa_command.proofs.Received.{prints-more, prints-nothing, receives-part, receives-all}
 use Rattle.mesa_command.proofs.Pieces.{joined-next, joined-split, joined-whole}
 use Rattle.mesa_command.proofs.reply.say_all.Goals as goal

@@ -1,4 +1,4 @@
-use Rattle.std.proofs.Common.{ap, arith}
+use Rattle.std.proofs.Common.{arith}
 use Rattle.module_productions.specs.Nested.{begins_expr, begins_stmt, begins_type}
 use Rattle.module_productions.specs.Statements.{nested}
 use Rattle.mesa_grammar.proofs.Deeper.{deeper, too_deep_by}
