@@ -1,5 +1,5 @@
 -- Function values that parse statements, expressions and types at a level.
-use Rattle.std.specs.Prelude.{ℕ, Result, List, Option}
+use Rattle.std.specs.Prelude.{ℕ, Result, Option}
 use Rattle.std.specs.declared.alloc.Global.{Global}
 use denote.Ref.{MutBor}
 use Rattle.mesa_types.specs.declared.syntax.Identifier.{Identifier}

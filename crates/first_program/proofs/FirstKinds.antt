@@ -1,14 +1,13 @@
 -- The shapes of the first program's variables and of the arguments of its calls; what its links are for.
-use Rattle.std.proofs.Common.{◌≡◌, ℕ, zero, suc, ◌+◌, ◌<◌, List, [], ◌∷◌, ◌++◌, true, Some, codes, refl, ap, sym, ◌∙◌, arith}
+use Rattle.std.proofs.Common.{◌≡◌, ℕ, zero, suc, ◌<◌, List, [], ◌∷◌, true, Some, codes, refl, ap, sym, ◌∙◌, arith}
 use Rattle.std.specs.Prelude.{slice_get}
-use Rattle.mesa_types.specs.Typed.{Kind, Ordinal, Kinds, NoKinds, AndKind}
+use Rattle.mesa_types.specs.Typed.{Kind, Ordinal, NoKinds, AndKind}
 use Rattle.mesa_types.specs.Plain.{Shaped, shape_step, field_kind_step, kind_of, field_kind, kinds_of}
 use Rattle.mesa_types.specs.Shapes.{words_in, words_in_all, one, copies, KindAt}
 use Rattle.mesa_types.specs.Sound.{items_used, links_of, a_word}
 use Rattle.mesa_types.specs.declared.faces.Item.{Item}
 use Rattle.mesa_types.specs.declared.faces.ItemKind.TheVariants.{Procedure}
-use Rattle.mesa_types.specs.declared.types.FieldType.{FieldType, roll-FieldType}
-use Rattle.mesa_types.specs.declared.types.TypeTree.{TypeTree}
+use Rattle.mesa_types.specs.declared.types.FieldType.{FieldType}
 use Rattle.mesa_types.specs.declared.types.TypeTree.TheOpen.{TypeTree-F}
 use Rattle.mesa_types.specs.declared.types.TypeTree.TheVariants as v
 use Rattle.mesa_types.specs.declared.types.TypeTree.TheFolds.{fold-roll-TypeTree, fold-roll-FieldType}

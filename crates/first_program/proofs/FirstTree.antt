@@ -1,15 +1,13 @@
 -- What the parts of the first program's typed trees keep: their variables are among the first n, they have few operands and no
 -- hidden words, and calls stand only where the first program has them.
 use Rattle.std.specs.Prelude.{slice_get}
-use Rattle.std.proofs.Common.{◌≡◌, ℕ, zero, suc, ◌+◌, ◌<◌, ◌≤◌, Bool, true, false, List, [], ◌∷◌, ◌++◌, length, All, refl, sym, ap, ◌∙◌, subst, arith}
+use Rattle.std.proofs.Common.{◌≡◌, ℕ, zero, suc, ◌+◌, ◌<◌, ◌≤◌, Bool, true, false, List, [], ◌∷◌, ◌++◌, All, refl, sym, ap, ◌∙◌, subst, arith}
 use Rattle.mesa_types.specs.Typed as t
 use Rattle.mesa_types.specs.Typed.{Ordinal, NoKinds, NoExits}
 use Rattle.mesa_types.specs.Plain.{chain, stmts, kinds_of}
 use Rattle.mesa_types.specs.Counts.{hidden, hidden_expr, hidden_exprs, hidden_suffixes, hidden_operations, hidden_stmts, hidden_phrase, hidden_exits, hidden_loop, hidden_condition, operands, operands_of, operands_in, operands_of_run, operands_of_condition, operands_of_loop, operands_of_stmt, words_of}
 use Rattle.mesa_types.specs.Shapes.{words_in, words_in_all, one, join, copies, KindAt}
 use Rattle.mesa_types.specs.Sound.{Scope, VariableIn, RangeIn, Fits, CountIn, CalleeIs, Arranged, labels_in, in_labelled, AllDiffer, LabelsIn, a_word, ExprIn, ExprsIn, SuffixesIn, OperationsIn, PhraseIn, StmtIn, StmtsIn, ExitsIn, LoopIn, ConditionIn, ImportIn, links_of, scope_of, Sound}
-use Rattle.mesa_types.specs.declared.faces.Item.{Item}
-use Rattle.mesa_types.specs.declared.syntax.Operator.{Operator}
 use Rattle.mesa_types.specs.declared.syntax.Relation.{Relation}
 use Rattle.mesa_types.specs.declared.typed_parts.Home.{Home}
 use Rattle.mesa_types.specs.declared.typed_parts.Home.TheVariants.{Global}
@@ -256,6 +254,7 @@ module _ (name : List ℕ) (host : Bool) (n : ℕ) (globals : List FieldType) (s
       record {
         globals = omega (arith, ap words_in_all are_words, words_of_copies n);
         strings = omega arith;
+        short_strings = all_none _;
         imports = used_are_there host;
         exports = all_none _;
         signals = all_none _;

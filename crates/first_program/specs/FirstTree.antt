@@ -1,5 +1,5 @@
 -- The parts of the typed tree that the first program's language has, each with its rule's own words.
-use Rattle.std.specs.Prelude.{ℕ, Bool, true, false, List, [], ◌∷◌, map, Option, Some, None}
+use Rattle.std.specs.Prelude.{ℕ, Bool, true, false, List, [], ◌∷◌, Option, Some, None}
 use Rattle.mesa_types.specs.Typed as t
 use Rattle.mesa_types.specs.Plain.{chain, stmts, kinds_of}
 use Rattle.mesa_types.specs.declared.faces.Import.{Import}

@@ -1,11 +1,11 @@
 -- What stands behind a name, and the exits of a block or loop, are seen in the plain twin.
 use Rattle.std.proofs.Common.{◌≡◌, ℕ, ◌<◌, List, [], ◌∷◌, map, length, false, None, refl, arith}
-use Rattle.mesa_types.specs.Typed.{Suffixes, NoSuffix, Exits, NoExits, Phrase, NoPhrase, Catch, Stmt}
+use Rattle.mesa_types.specs.Typed.{Suffixes, NoSuffix, NoExits, Phrase, NoPhrase, Catch, Stmt}
 use Rattle.mesa_types.specs.Plain.{Layer, chain, exit, suffix, suffix_step}
 use Rattle.mesa_types.specs.declared.typed_parts.Home.{Home}
 use Rattle.mesa_types.specs.declared.typed_parts.Home.TheVariants.{Global, Local}
 use Rattle.mesa_types.specs.declared.typed_tree.Exit.{Exit}
-use Rattle.mesa_types.specs.declared.typed_tree.Suffix.{Suffix, out-Suffix}
+use Rattle.mesa_types.specs.declared.typed_tree.Suffix.{Suffix}
 use Rattle.mesa_types.specs.declared.typed_tree.Condition.TheOpen.{Suffix-F}
 use Rattle.mesa_types.specs.declared.typed_tree.Condition.TheFolds.{fold_out-Exit, fold_out-Suffix}
 use Rattle.linked_run.specs.Rows.{global_at, is_plain, ends_plainly}

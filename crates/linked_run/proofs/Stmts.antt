@@ -2,16 +2,16 @@
 use Rattle.std.proofs.Common.{◌≡◌, ℕ, zero, suc, ◌+◌, ◌-◌, ◌<◌, ◌≤◌, List, [], ◌∷◌, ◌++◌, length, Some, refl, ap, sym, ◌∙◌, subst, arith}
 use Rattle.std.specs.Prelude.{slice_get, slice_set, if◌then◌else◌}
 use Rattle.std.proofs.Math.Dec.{eqb-suc-zero}
-use Rattle.mesa_types.specs.Typed.{Endless, Expr, Number, Variable, Operate, Relate, Call, Exprs, NoExprs, AndExpr, NoSuffix, NoPhrase, Stmt, Null, Declare, DeclareAs, Assign, Perform, Block, Repeat, Stmts, NoStmts, AndStmt, NoExits, LoopOf, While}
+use Rattle.mesa_types.specs.Typed.{Endless, Expr, Call, NoExprs, AndExpr, NoSuffix, NoPhrase, Stmt, Null, Declare, DeclareAs, Assign, Perform, Block, Repeat, Stmts, NoStmts, AndStmt, NoExits, LoopOf, While}
 use Rattle.mesa_types.specs.declared.faces.Item.{Item}
 use Rattle.mesa_types.specs.declared.typed_parts.Home.TheVariants.{Global}
 use Rattle.mesa_types.specs.declared.typed_parts.Callee.TheVariants.{LinkedProcedure}
 use Rattle.source_meaning.specs.Value.{Value, NoValues, AndValue, is_true, nth, word}
-use Rattle.source_meaning.specs.Program.{Host, WriteChar, WriteDecimal, ToHost, Program, link_of, callee_of, host_of}
+use Rattle.source_meaning.specs.Program.{Host, WriteChar, WriteDecimal, ToHost, Program, link_of, callee_of}
 use Rattle.source_meaning.specs.State.{State, Result, Run, Answer, Normal, Gives, Spent, FrameLimit, NoRow, give, carry, change, spend, spend_of, put, branch, normal_then, on_normal, on_value, on_values, dropped, dropped_of, after, value_then}
 use Rattle.source_meaning.specs.Calls.{Where, Next, globals, store, zero_at, call, call_to, written}
 use Rattle.source_meaning.specs.Meaning.{value, values, does, sequence, loop, condition, meaning}
-use Rattle.source_meaning.specs.FirstProgram.{IsQuiet, IsHostLink, IsHostCall, IsFirst, AreFirst}
+use Rattle.source_meaning.specs.FirstProgram.{IsQuiet, IsHostLink, IsFirst, AreFirst}
 use Rattle.frame_machine.specs.declared.image.Instruction.{Instruction}
 use Rattle.frame_machine.specs.declared.image.Instruction.TheVariants as i
 use Rattle.frame_machine.specs.declared.outcome.End.TheVariants as end

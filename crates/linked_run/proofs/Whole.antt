@@ -5,8 +5,7 @@ use Rattle.std.specs.Prelude.{slice_get, replicate}
 use Rattle.mesa_types.specs.Typed.{Kinds, Module}
 use Rattle.mesa_types.specs.Shapes.{words_in_all}
 use Rattle.mesa_types.specs.Sound.{Sound, links_of, scope_of}
-use Rattle.mesa_types.specs.declared.faces.Item.{Item}
-use Rattle.source_meaning.specs.Value.{nth, word, zeros}
+use Rattle.source_meaning.specs.Value.{word, zeros}
 use Rattle.source_meaning.specs.Program.{Instance, or_else, instance_of, link_of, module_of, targets_of, single}
 use Rattle.source_meaning.specs.FirstProgram.{AreOrdinal, FirstProgram, IsFirstInstance}
 use Rattle.source_meaning.specs.State.{State, Result, Answer, Normal, Gives, Spent, FrameLimit, NoRow, Ending, give, carry, change, look, after, spend, spend_of, enter, enter_if, leave, branch, normal_then, on_normal}

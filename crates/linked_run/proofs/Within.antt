@@ -1,5 +1,5 @@
 -- The variables that a checked first program stores to are there.
-use Rattle.std.proofs.Common.{◌≡◌, ℕ, zero, suc, ◌+◌, ◌<◌, List, [], ◌∷◌, length, refl, ap, sym, ◌∙◌, subst, arith}
+use Rattle.std.proofs.Common.{◌≡◌, ℕ, zero, suc, ◌+◌, ◌<◌, List, [], ◌∷◌, refl, ap, subst, arith}
 use Rattle.mesa_types.specs.Typed.{Kind, Ordinal, Kinds, NoKinds, AndKind, Endless, NoSuffix, NoPhrase, Stmt, Null, Declare, DeclareAs, Assign, Perform, Block, Repeat, Stmts, NoStmts, AndStmt, NoExits, LoopOf, While}
 use Rattle.mesa_types.specs.Shapes.{words_in, words_in_all, count_in, KindAt}
 use Rattle.mesa_types.specs.Sound.{Scope, VariableIn, in_labelled, StmtIn, StmtsIn, LoopIn}

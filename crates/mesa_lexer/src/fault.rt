@@ -24,7 +24,7 @@ pub enum LexFault {
 pub enum SyntaxFault {
     /// The tokens up to this one begin no text of the grammar, or at the text's end they are none.
     Unexpected(Place),
-    /// Here begins what stands inside too many others of its sort.
+    /// Here begins what stands inside too many others.
     TooDeep(Place),
     Memory,
 }

@@ -6,7 +6,7 @@ use Rattle.mesa_lexer.specs.declared.token.Kind.{Kind}
 use Rattle.mesa_lexer.specs.declared.token.Kind.TheVariants as k
 use Rattle.mesa_lexer.specs.declared.word.Word.TheVariants.{ArrayWord, BeginWord, BooleanWord, CardinalWord, CharacterWord, ContinueWord, DoWord, ElseWord, EnableWord, EndWord, EndcaseWord, EndloopWord, ErrorWord, ExitWord, ExitsWord, FalseWord, ForWord, FromWord, GoWord, GotoWord, IfWord, InWord, IntegerWord, LoopWord, NullWord, OfWord, RecordWord, RejectWord, RepeatWord, ResumeWord, RetryWord, ReturnWord, SelectWord, SignalWord, StringWord, ThenWord, ThroughWord, ToWord, TrueWord, TypeWord, UntilWord, WhileWord}
 use Rattle.mesa_lexer.specs.declared.mark.Mark.TheVariants.{Arrow, Semicolon, Colon, Comma, Dot, DotDot, LeftBracket, RightBracket, LeftParenthesis, RightParenthesis, LeftBrace, RightBrace, Equal, Bang, DoubleArrow}
-use Rattle.mesa_lexer.specs.Parsing.{token, word, mark, Out, Got, Parser, and_then, ◌>>=◌, ◌>>◌, pure, refuse, first, only, exactly, found, finds, among, a_name, choose, option, need, when, Go, Done, repeat, many_turn, many, ended_turn, ended}
+use Rattle.mesa_lexer.specs.Parsing.{token, word, mark, Out, and_then, ◌>>=◌, ◌>>◌, pure, refuse, first, only, exactly, finds, among, a_name, choose, need, Go, repeat}
 use Rattle.mesa_lexer.specs.Parsing.{Step as Turned}
 use Rattle.mesa_lexer.specs.Parsing as w
 use Rattle.mesa_types.specs.declared.syntax.Identifier.{Identifier}
@@ -51,19 +51,19 @@ use Rattle.mesa_types.specs.declared.syntax.Plain.{Plain}
 use Rattle.mesa_types.specs.declared.syntax.Plain.TheVariants.{TypeIs, Variable, Initial, Constant}
 use Rattle.module_productions.specs.Signs.{spelled, disjoining, conjoining, adding, multiplying, signing, relating, negating, opening, closing}
 use Rattle.module_productions.specs.Grammar as g
-use Rattle.module_productions.specs.Grammar.{run, step, interval, left, brackets, keyed, labeled, qualified, arm, case, control, block, NoElse, IsNames, IsQName, IsQNames, IsLabels, IsRepeatLabels, IsBase, IsNot, IsDecreasing, IsType, IsFields, IsTypes, IsGroups, IsInterval, IsExpr, IsOrs, IsConj, IsAnds, IsNeg, IsRel, IsSum, IsSums, IsProduct, IsProducts, IsFactor, IsPrimary, IsList, IsListOption, IsLeft, IsBrackets, IsBracketsOption, IsArgs, IsExprs, IsKeys, IsCatch, IsArmList, IsArms, IsArm, IsRaise, IsStmt, IsTargets, IsLefts, IsKeyLefts, IsOtherwise, IsCaseList, IsCases, IsCase, IsTests, IsTest, IsControl, IsCount, IsCondition, IsBody, IsStmts, IsRepeatPart, IsRepeats, IsRepeat, IsExitPart, IsExits, IsExit, IsEnabling, IsBlock, IsLocals, IsLocal, IsPlain}
+use Rattle.module_productions.specs.Grammar.{run, step, interval, left, brackets, keyed, labeled, arm, case, control, block, NoElse, IsNames, IsQName, IsLabels, IsRepeatLabels, IsBase, IsNot, IsDecreasing, IsType, IsFields, IsTypes, IsGroups, IsInterval, IsExpr, IsOrs, IsConj, IsAnds, IsNeg, IsRel, IsSum, IsSums, IsProduct, IsProducts, IsFactor, IsPrimary, IsListOption, IsLeft, IsBracketsOption, IsExprs, IsKeys, IsArmList, IsArms, IsArm, IsRaise, IsStmt, IsTargets, IsLefts, IsKeyLefts, IsOtherwise, IsCaseList, IsCases, IsCase, IsTests, IsTest, IsControl, IsCount, IsCondition, IsBody, IsStmts, IsRepeatPart, IsRepeats, IsRepeat, IsExits, IsExit, IsEnabling}
 use Rattle.module_productions.specs.Grammar.{placed as placing}
 use Rattle.mesa_lexer.proofs.Exact.{Free, first_none}
 use Rattle.mesa_lexer.proofs.Branches.{passed, when_false, chosen}
 use Rattle.mesa_lexer.proofs.Leading.{Leads, stand, onto, under, comp, last, ahead, via, placed, many_more, many_end, ended_more, ended_bare, ended_closed, Begins, when_begins}
-use Rattle.module_productions.specs.Nested.{Fresh, Nested, begins_expr, begins_stmt, begins_arm, begins_test, begins_repeat, begins_type, comma, identifier}
+use Rattle.module_productions.specs.Nested.{Fresh, Nested, begins_stmt, begins_arm, begins_test, begins_repeat, comma, identifier}
 use Rattle.module_productions.specs.Nested as nr
 use Rattle.module_productions.specs.Expressions as ex
-use Rattle.module_productions.specs.Expressions.{suffixing, all_names}
+use Rattle.module_productions.specs.Expressions.{suffixing}
 use Rattle.module_productions.specs.Statements as st
-use Rattle.module_productions.specs.Statements.{nested, Local, Exit, Repeat, Head, begins_label, semicolon}
+use Rattle.module_productions.specs.Statements.{nested, Local, Exit, Head, begins_label, semicolon}
 use Rattle.module_productions.proofs.Follows as fo
-use Rattle.module_productions.proofs.Follows.{more_primary, more_product, more_sum, more_rel, more_conj, more_expr, more_stmt, more_type, more_items, more_fields, more_plain, declares, tails, free_left, free_right, free_only, apart_kinds}
+use Rattle.module_productions.proofs.Follows.{more_primary, more_product, more_sum, more_rel, more_conj, more_expr, more_stmt, more_type, more_items, more_fields, more_plain, declares, tails, free_left, free_only}
 use Rattle.module_productions.proofs.Turns.{names_all, qname_c, labels_c, repeat_labels_c, args_goes}
 use Rattle.module_productions.proofs.Seconds.{behind_first, Second, exprs_second, names_second}
 use Rattle.module_productions.proofs.Goes as go

@@ -4,7 +4,7 @@ use Rattle.mesa_base.specs.declared.place.Place.{Place}
 use Rattle.mesa_lexer.specs.declared.token.Token.{Token}
 use Rattle.mesa_lexer.specs.declared.token.Kind.TheVariants as k
 use Rattle.mesa_lexer.specs.declared.mark.Mark.TheVariants.{Colon, Comma, Dot}
-use Rattle.mesa_lexer.specs.Parsing.{token, mark, Out, Got, Parser, and_then, ◌>>=◌, pure, exactly, found, finds, a_name, choose, Step, Go, Done, go_on, repeat, many}
+use Rattle.mesa_lexer.specs.Parsing.{mark, Got, Parser, and_then, ◌>>=◌, pure, exactly, finds, a_name, choose, Go, Done, go_on, repeat}
 use Rattle.mesa_lexer.specs.Parsing as w
 use Rattle.mesa_lexer.proofs.Exact.{Free}
 use Rattle.mesa_lexer.proofs.Branches.{passed}
@@ -20,7 +20,7 @@ use Rattle.module_productions.specs.Signs.{spelled, opening}
 use Rattle.module_productions.specs.Grammar as g
 use Rattle.module_productions.specs.Grammar.{qualified}
 use Rattle.module_productions.specs.Depth.{deep_type}
-use Rattle.module_productions.specs.Nested.{Nested, identifier, comma, begins_type}
+use Rattle.module_productions.specs.Nested.{identifier, comma, begins_type}
 use Rattle.module_productions.specs.Nested as nr
 use Rattle.module_productions.specs.Expressions as ex
 use Rattle.module_productions.specs.Expressions.{Undecided, all_names, called}

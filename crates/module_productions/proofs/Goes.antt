@@ -31,7 +31,7 @@ use Rattle.mesa_types.specs.declared.syntax.Test.{Test as TestTree}
 use Rattle.mesa_types.specs.declared.syntax.Test.TheVariants.{Value, Compared, Inside}
 use Rattle.module_productions.specs.Signs.{spelled, relating, negating, opening, closing}
 use Rattle.module_productions.specs.Grammar as g
-use Rattle.module_productions.specs.Nested.{Fresh, AtName, AtNot, Nested, loop_starts, raise_starts, begins_expr, begins_stmt, identifier}
+use Rattle.module_productions.specs.Nested.{Fresh, AtNot, Nested, loop_starts, raise_starts, begins_expr, begins_stmt, identifier}
 use Rattle.module_productions.specs.Nested as nr
 use Rattle.module_productions.specs.Expressions as ex
 use Rattle.module_productions.specs.Expressions.{suffixing}

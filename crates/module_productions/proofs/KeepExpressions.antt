@@ -6,7 +6,7 @@ use Rattle.mesa_lexer.specs.declared.token.Kind.{Kind}
 use Rattle.mesa_lexer.specs.declared.token.Kind.TheVariants as k
 use Rattle.mesa_lexer.specs.declared.word.Word.TheVariants.{ErrorWord, FalseWord, InWord, SignalWord, TrueWord}
 use Rattle.mesa_lexer.specs.declared.mark.Mark.TheVariants.{Semicolon, Colon, Comma, Dot, DotDot, LeftBracket, RightBracket, LeftParenthesis, RightParenthesis, Bang, DoubleArrow}
-use Rattle.mesa_lexer.specs.Parsing.{token, mark, Got, Parser, ◌>>=◌, ◌>>◌, pure, refuse, first, finds, a_name, choose, option, need, when, Step, Go, Done, repeat, many_turn, many, ended_turn, ended}
+use Rattle.mesa_lexer.specs.Parsing.{token, mark, Parser, ◌>>=◌, ◌>>◌, pure, refuse, a_name, choose, option, many_turn, ended_turn}
 use Rattle.mesa_lexer.specs.Parsing as w
 use Rattle.mesa_lexer.proofs.Exact.{Rel, Keeps, Took, Then, Pre, bind, done, imply, Plainly, bind_plain, alone, single, both, either}
 use Rattle.mesa_lexer.proofs.Branches.{somewhere, choose_or, choose_must, option_or, option_must, word, when_keeps, of_kind}
@@ -24,10 +24,10 @@ use Rattle.mesa_types.specs.declared.syntax.Raise.TheVariants.{SignalRaise, Erro
 use Rattle.mesa_types.specs.declared.syntax.Arm.{Arm}
 use Rattle.module_productions.specs.Signs.{spelled, disjoining, conjoining, adding, multiplying, relating, negating, opening, closing}
 use Rattle.module_productions.specs.Grammar as g
-use Rattle.module_productions.specs.Grammar.{run, placed, keyed, labeled, qualified}
+use Rattle.module_productions.specs.Grammar.{run, placed, keyed}
 use Rattle.module_productions.specs.Nested.{Begun, Fresh, AtName, AtNot, Nested, a_number, a_char, a_text, begins_expr, begins_arm, identifier, comma}
 use Rattle.module_productions.specs.Expressions as r
-use Rattle.module_productions.specs.Expressions.{Undecided, all_names, called, suffixing}
+use Rattle.module_productions.specs.Expressions.{suffixing}
 use Rattle.module_productions.proofs.Readings.{cut, Inner, Interval_at, Expr_at, Ors_at, Conj_at, Ands_at, Neg_at, Rel_at, Sum_at, Sums_at, Product_at, Products_at, Factor_at, Primary_at, List_at, ListOption_at, Left_at, Brackets_at, BracketsOption_at, Args_at, Exprs_at, Keys_at, Catch_at, ArmList_at, Arms_at, Arm_at, Raise_at}
 use Rattle.module_productions.proofs.Names as nm
 

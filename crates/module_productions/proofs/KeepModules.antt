@@ -7,7 +7,7 @@ use Rattle.mesa_lexer.specs.declared.token.Kind.TheVariants as k
 use Rattle.mesa_lexer.specs.declared.word.Word.{Word}
 use Rattle.mesa_lexer.specs.declared.word.Word.TheVariants.{BeginWord, CodeWord, DefinitionsWord, DirectoryWord, EndWord, ErrorWord, ExportsWord, FromWord, ImportsWord, OpenWord, ProgramWord, ReturnsWord, SignalWord, TypeWord, UsingWord}
 use Rattle.mesa_lexer.specs.declared.mark.Mark.TheVariants.{Semicolon, Colon, Comma, Dot, LeftBracket, RightBracket, LeftBrace, Equal}
-use Rattle.mesa_lexer.specs.Parsing.{token, mark, Got, Parser, ◌>>=◌, ◌>>◌, pure, refuse, first, exactly, a_name, choose, option, need, when, Step, Go, Done, repeat, many_turn, many}
+use Rattle.mesa_lexer.specs.Parsing.{token, mark, first, a_name, Go, Done, repeat, many_turn}
 use Rattle.mesa_lexer.specs.Parsing as w
 use Rattle.mesa_lexer.proofs.Exact.{Rel, first_none, first_assoc, Sample, Keeps, Took, Then, bind, done, imply, Plainly, bind_plain, alone, both, four, either}
 use Rattle.mesa_lexer.proofs.Branches.{name_is, choose_or, choose_must, option_or, option_must, word, when_keeps, of_kind}

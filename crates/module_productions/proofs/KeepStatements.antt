@@ -6,7 +6,7 @@ use Rattle.mesa_lexer.specs.declared.token.Kind.{Kind}
 use Rattle.mesa_lexer.specs.declared.token.Kind.TheVariants as k
 use Rattle.mesa_lexer.specs.declared.word.Word.TheVariants.{BeginWord, ContinueWord, DecreasingWord, DoWord, ElseWord, EnableWord, EndWord, EndcaseWord, EndloopWord, ExitWord, ExitsWord, ForWord, FromWord, GoWord, GotoWord, IfWord, InWord, LoopWord, NullWord, RejectWord, RepeatWord, ResumeWord, RetryWord, ReturnWord, SelectWord, ThenWord, ThroughWord, ToWord, TypeWord, UntilWord, WhileWord}
 use Rattle.mesa_lexer.specs.declared.mark.Mark.TheVariants.{Arrow, Semicolon, Colon, Comma, LeftBracket, RightBracket, LeftBrace, RightBrace, Equal, DoubleArrow}
-use Rattle.mesa_lexer.specs.Parsing.{token, mark, Got, Parser, ◌>>=◌, ◌>>◌, pure, refuse, first, only, exactly, found, among, finds, a_name, choose, option, need, when, Step, Go, Done, repeat, many_turn, many, ended_turn, ended}
+use Rattle.mesa_lexer.specs.Parsing.{token, mark, Parser, first, exactly, found, among, finds, Go, Done, repeat, many_turn, ended_turn}
 use Rattle.mesa_lexer.specs.Parsing as w
 use Rattle.mesa_lexer.proofs.Exact.{Rel, first_none, first_assoc, Free, After, Sample, Keeps, Took, Then, Pre, bind, done, ready, imply, Plainly, bind_plain, alone, single, both, three, four, either}
 use Rattle.mesa_lexer.proofs.Branches.{somewhere, choose_or, option_or, option_at, word, when_keeps, of_kind}

@@ -6,7 +6,7 @@ use Rattle.mesa_lexer.specs.declared.token.Kind.{Kind}
 use Rattle.mesa_lexer.specs.declared.token.Kind.TheVariants as k
 use Rattle.mesa_lexer.specs.declared.word.Word.TheVariants.{ArrayWord, BooleanWord, CardinalWord, CharacterWord, IntegerWord, OfWord, RecordWord, StringWord}
 use Rattle.mesa_lexer.specs.declared.mark.Mark.TheVariants.{Colon, Comma, LeftBracket, RightBracket, LeftBrace, RightBrace}
-use Rattle.mesa_lexer.specs.Parsing.{token, mark, Got, Parser, ◌>>=◌, ◌>>◌, pure, refuse, first, finds, a_name, choose, option, need, when, Step, Go, Done, repeat, many_turn, many, ended_turn, ended}
+use Rattle.mesa_lexer.specs.Parsing.{token, mark, first, finds, Go, repeat, many_turn}
 use Rattle.mesa_lexer.specs.Parsing as w
 use Rattle.mesa_lexer.proofs.Exact.{Rel, first_none, first_assoc, Sample, Keeps, Took, Then, bind, done, imply, Past, bind_plain, alone, single, both, either}
 use Rattle.mesa_lexer.proofs.Branches.{option_or, word, when_keeps, of_kind}
@@ -22,10 +22,10 @@ use Rattle.mesa_types.specs.declared.syntax.FieldList.{FieldList}
 use Rattle.mesa_types.specs.declared.syntax.FieldList.TheVariants.{WithNames, Unnamed}
 use Rattle.module_productions.specs.Signs.{spelled, opening}
 use Rattle.module_productions.specs.Grammar as g
-use Rattle.module_productions.specs.Grammar.{run, placed, keyed, labeled, qualified}
+use Rattle.module_productions.specs.Grammar.{labeled, qualified}
 use Rattle.module_productions.specs.Nested.{Nested, comma}
 use Rattle.module_productions.specs.Expressions as r
-use Rattle.module_productions.specs.Expressions.{Undecided, all_names, called, suffixing}
+use Rattle.module_productions.specs.Expressions.{Undecided, all_names, called}
 use Rattle.module_productions.proofs.Readings.{cut, Inner, Type_at, Fields_at, Types_at, Groups_at, Interval_at}
 use Rattle.module_productions.proofs.Names as nm
 use Rattle.module_productions.proofs.KeepExpressions as ke

@@ -7,7 +7,7 @@ use Rattle.mesa_lexer.specs.declared.token.Kind.TheVariants as k
 use Rattle.mesa_lexer.specs.declared.word.Word.{Word}
 use Rattle.mesa_lexer.specs.declared.word.Word.TheVariants.{DirectoryWord, EnableWord, EndWord, ErrorWord, ExportsWord, ImportsWord, OpenWord, ProcWord, ProcedureWord, ReturnsWord, SignalWord, TypeWord, UsingWord}
 use Rattle.mesa_lexer.specs.declared.mark.Mark.TheVariants.{Semicolon, Colon, Comma, LeftBracket, RightBracket, RightBrace, Equal}
-use Rattle.mesa_lexer.specs.Parsing.{token, mark, Out, Got, Stop, Parser, and_then, ◌>>=◌, ◌>>◌, pure, refuse, first, exactly, found, finds, among, a_name, choose, option, need, when, Step, Go, Done, go_on, repeat, many_turn, many}
+use Rattle.mesa_lexer.specs.Parsing.{token, mark, Out, Got, Stop, Parser, and_then, ◌>>=◌, ◌>>◌, pure, first, exactly, found, finds, among, a_name, choose, option, need, when, Step, Go, Done, go_on, repeat, many_turn, many}
 use Rattle.mesa_lexer.specs.Parsing as w
 use Rattle.mesa_lexer.proofs.Exact.{Free, first_none}
 use Rattle.mesa_lexer.proofs.Branches.{or_true, among_every, passed, when_false, chosen}
@@ -37,7 +37,7 @@ use Rattle.module_productions.specs.Grammar as g
 use Rattle.module_productions.specs.Grammar.{labeled}
 use Rattle.module_productions.specs.Depth as dp
 use Rattle.module_productions.specs.Modules as m
-use Rattle.module_productions.specs.Nested.{Fresh, Nested, a_text, identifier, comma, begins_stmt, begins_type, type_starts, stmt_starts}
+use Rattle.module_productions.specs.Nested.{Fresh, identifier, comma, begins_stmt, begins_type, type_starts, stmt_starts}
 use Rattle.module_productions.specs.Nested as nr
 use Rattle.module_productions.specs.Expressions as ex
 use Rattle.module_productions.specs.Statements as st

@@ -6,7 +6,7 @@ use Rattle.mesa_lexer.specs.declared.token.Kind.{Kind}
 use Rattle.mesa_lexer.specs.declared.token.Kind.TheVariants as k
 use Rattle.mesa_lexer.specs.declared.word.Word.TheVariants.{DoWord, EnableWord, EndWord, EndcaseWord, EndloopWord}
 use Rattle.mesa_lexer.specs.declared.mark.Mark.TheVariants.{Semicolon, LeftBracket, RightBracket, RightBrace}
-use Rattle.mesa_lexer.specs.Parsing.{token, mark, Out, Got, Parser, and_then, ◌>>=◌, ◌>>◌, pure, refuse, first, only, exactly, found, finds, among, a_name, choose, option, need, when, Step, Go, Done, repeat, many_turn, many, ended_turn, ended}
+use Rattle.mesa_lexer.specs.Parsing.{token, mark, pure, first, exactly, finds, among, Step, Go, repeat}
 use Rattle.mesa_lexer.specs.Parsing as w
 use Rattle.mesa_lexer.proofs.Exact.{Free, first_none}
 use Rattle.mesa_lexer.proofs.Leading.{Leads, stand, comp, via, placed, turn_leads, Begins}
@@ -34,14 +34,13 @@ use Rattle.mesa_types.specs.declared.syntax.Test.{Test as TestTree}
 use Rattle.mesa_types.specs.declared.syntax.Plain.{Plain}
 use Rattle.module_productions.specs.Signs.{disjoining, conjoining, adding, multiplying}
 use Rattle.module_productions.specs.Grammar as g
-use Rattle.module_productions.specs.Grammar.{run, keyed, labeled, placed as placing}
 use Rattle.module_productions.specs.Nested.{Fresh, begins_stmt, begins_arm}
 use Rattle.module_productions.specs.Expressions as ex
-use Rattle.module_productions.specs.Expressions.{suffixing, all_names}
+use Rattle.module_productions.specs.Expressions.{suffixing}
 use Rattle.module_productions.specs.Statements as st
-use Rattle.module_productions.specs.Statements.{nested, Local, Exit, Repeat, Head, begins_label, semicolon}
+use Rattle.module_productions.specs.Statements.{nested, Local, Exit, Repeat, Head}
 use Rattle.module_productions.proofs.Follows as fo
-use Rattle.module_productions.proofs.Follows.{more_primary, more_product, more_sum, more_rel, more_conj, more_expr, more_stmt, more_type, more_items, more_fields, more_plain, declares, tails, free_left, free_right, free_only, apart_kinds}
+use Rattle.module_productions.proofs.Follows.{more_primary, more_product, more_sum, more_rel, more_conj, more_expr, more_stmt, more_type, more_items, more_fields, more_plain, tails, free_right}
 use Rattle.module_productions.proofs.Seconds.{behind_first, body_second}
 use Rattle.module_productions.proofs.FieldTurns as ft
 use Rattle.module_productions.proofs.Sealed as sd

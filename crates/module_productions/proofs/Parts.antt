@@ -6,7 +6,7 @@ use Rattle.mesa_lexer.specs.declared.token.Kind.{Kind}
 use Rattle.mesa_lexer.specs.declared.token.Kind.TheVariants as k
 use Rattle.mesa_lexer.specs.declared.word.Word.TheVariants.{ArrayWord, BooleanWord, CardinalWord, CharacterWord, ContinueWord, ExitWord, FalseWord, GoWord, GotoWord, IfWord, IntegerWord, LoopWord, NullWord, RecordWord, RejectWord, ResumeWord, RetryWord, ReturnWord, SelectWord, StringWord, TrueWord, AnyWord, BeginWord, DoWord, ElseWord, EnableWord, EndWord, ExitsWord, ForWord, InWord, ThroughWord, TypeWord, UntilWord, UnwindWord, WhileWord}
 use Rattle.mesa_lexer.specs.declared.mark.Mark.TheVariants.{Arrow, Colon, Comma, Dot, LeftParenthesis, LeftBracket, RightBracket, LeftBrace, RightBrace, Equal, Bang, DoubleArrow}
-use Rattle.mesa_lexer.specs.Parsing.{token, mark, Out, Got, Parser, and_then, ◌>>=◌, ◌>>◌, pure, refuse, first, only, exactly, found, finds, among, a_name, choose, option, need, when, Step, Go, Done, repeat, many_turn, many, ended_turn, ended}
+use Rattle.mesa_lexer.specs.Parsing.{token, mark, Got, Parser, and_then, ◌>>=◌, ◌>>◌, pure, refuse, first, only, exactly, finds, among, a_name, choose, option, need, repeat, many_turn, many, ended_turn, ended}
 use Rattle.mesa_lexer.specs.Parsing as w
 use Rattle.mesa_lexer.proofs.Exact.{Test, Free, Took, Then}
 use Rattle.mesa_lexer.proofs.Branches.{Every, among_every, only_is, passed, chosen}
@@ -45,7 +45,7 @@ use Rattle.module_productions.specs.Nested as nr
 use Rattle.module_productions.specs.Expressions as ex
 use Rattle.module_productions.specs.Expressions.{suffixing, all_names}
 use Rattle.module_productions.specs.Statements as st
-use Rattle.module_productions.specs.Statements.{nested, Local, Exit, Repeat, Head, begins_label, semicolon}
+use Rattle.module_productions.specs.Statements.{nested, Local, Exit, Repeat, begins_label, semicolon}
 use Rattle.module_productions.proofs.Readings.{Ors_at, Ands_at, Sums_at, Products_at}
 use Rattle.module_productions.proofs.KeepExpressions as ke
 use Rattle.module_productions.proofs.KeepTypes as kt

@@ -19,7 +19,7 @@ use Rattle.mesa_types.specs.declared.syntax.RepeatLabels.TheVariants.{Named as W
 use Rattle.module_productions.specs.Signs.{spelled, disjoining, conjoining, negating}
 use Rattle.module_productions.specs.Grammar as g
 use Rattle.module_productions.specs.Grammar.{qualified}
-use Rattle.module_productions.specs.Nested.{Fresh, AtName, AtNot, Nested, begins_type, begins_expr, begins_stmt, identifier, comma}
+use Rattle.module_productions.specs.Nested.{Fresh, AtName, AtNot, Nested, begins_expr, identifier, comma}
 use Rattle.module_productions.specs.Nested as nr
 use Rattle.module_productions.specs.Expressions as ex
 use Rattle.module_productions.specs.Statements as st
