@@ -278,24 +278,29 @@ fn texts_that_nest(rt: HostRuntime) -> Result<(), Fail> {
     Ok(())
 }
 
-/// Texts with a piece put in at every third place are refused.
+/// The text with a piece put in at every third place is refused.
+fn check_mutations(rt: &HostRuntime, text: &str) -> Result<(), Fail> {
+    let pieces = ["?", ";", "END", " 1 ", "["];
+    for third in 0..text.len() / 3 {
+        let at = third.saturating_mul(3);
+        let (Some(before), Some(behind)) = (text.get(..at), text.get(at..)) else {
+            continue;
+        };
+        let piece = pieces[at % 5];
+        let mutated = format!(in rt.alloc(); "{before}{piece}{behind}")?;
+        let left = left_by(rt, "go M.mesa 9", mutated.as_str())?;
+        assert!(rt;
+            left.status == 4 && left.out.is_empty(),
+            "{mutated} left {left:?}"
+        );
+    }
+    Ok(())
+}
+
 #[test]
 fn mutated_texts(rt: HostRuntime) -> Result<(), Fail> {
-    let pieces = ["?", ";", "END", " 1 ", "["];
     for text in TEXTS {
-        for third in 0..text.len() / 3 {
-            let at = 3 * third;
-            let piece = pieces[at % 5];
-            let (Some(before), Some(behind)) = (text.get(..at), text.get(at..)) else {
-                continue;
-            };
-            let mutated = format!(in rt.alloc(); "{before}{piece}{behind}")?;
-            let left = left_by(&rt, "go M.mesa 9", mutated.as_str())?;
-            assert!(rt;
-                left.status == 4 && left.out.is_empty(),
-                "{mutated} left {left:?}"
-            );
-        }
+        check_mutations(&rt, text)?;
     }
     Ok(())
 }
