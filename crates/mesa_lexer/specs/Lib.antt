@@ -8,4 +8,5 @@ pub mod Pieces
 pub mod Positions
 pub mod Steps
 pub mod Answer
+pub mod Faults
 pub mod Parsing

@@ -1,4 +1,5 @@
 ghost use Rattle.std.specs.Prelude.{◌≡◌};
+ghost use Rattle.mesa_lexer.specs.Faults.{lexical_name, lexical_place, syntax_name, syntax_place};
 
 use mesa_base::{OutOfMemory, Place};
 use std::alloc::{AllocError, AllocFailed};
@@ -29,6 +30,35 @@ pub enum SyntaxFault {
     Memory,
 }
 
+impl LexFault {
+    /// The cause as a line that names it shows it.
+    pub fn name(&self) -> &'static str
+        ensures { result.now ≡ lexical_name self.now }
+    {
+        match self {
+            LexFault::BadByte(_) => "BadByte",
+            LexFault::OpenString(_) => "OpenString",
+            LexFault::NumberTooLarge(_) => "NumberTooLarge",
+            LexFault::TokenTooLong(_) => "TokenTooLong",
+            LexFault::TextTooLong => "TextTooLong",
+            LexFault::Memory => "Memory",
+        }
+    }
+
+    /// Where the fault stands; a text that is too long and want of memory stand nowhere.
+    pub fn place(&self) -> Option<Place>
+        ensures { result ≡ lexical_place self.now }
+    {
+        match self {
+            LexFault::BadByte(place)
+            | LexFault::OpenString(place)
+            | LexFault::NumberTooLarge(place)
+            | LexFault::TokenTooLong(place) => Some(*place),
+            LexFault::TextTooLong | LexFault::Memory => None,
+        }
+    }
+}
+
 impl From<OutOfMemory> for LexFault {
     ghost use Rattle.mesa_lexer.specs.declared.fault.LexFault.TheVariants.{Memory};
 
@@ -56,6 +86,29 @@ impl<T: Drop> From<AllocFailed<T>> for LexFault {
 
     fn from(_: AllocFailed<T>) -> LexFault {
         LexFault::Memory
+    }
+}
+
+impl SyntaxFault {
+    /// The cause as a line that names it shows it.
+    pub fn name(&self) -> &'static str
+        ensures { result.now ≡ syntax_name self.now }
+    {
+        match self {
+            SyntaxFault::Unexpected(_) => "Unexpected",
+            SyntaxFault::TooDeep(_) => "TooDeep",
+            SyntaxFault::Memory => "Memory",
+        }
+    }
+
+    /// Where the fault stands; want of memory stands nowhere.
+    pub fn place(&self) -> Option<Place>
+        ensures { result ≡ syntax_place self.now }
+    {
+        match self {
+            SyntaxFault::Unexpected(place) | SyntaxFault::TooDeep(place) => Some(*place),
+            SyntaxFault::Memory => None,
+        }
     }
 }
 
