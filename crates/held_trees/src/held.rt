@@ -1,0 +1,53 @@
+//! Values that are held while more is read: where the reading fails they are let go.
+ghost use Rattle.std.specs.Prelude.{◌≡◌, ◌++◌, ◌∷◌, [], IfOk, MatchResult, Ok, Err};
+
+use crate::letting::{InBox, InList, LetGo};
+use mesa_base::{Boxed, List, OutOfMemory};
+use std::alloc::{AllocFailed, Global};
+
+/// The first beside what was read. Where nothing was, the first is let go.
+pub fn both<A: LetGo, B, E>(first: A, second: Result<B, E>) -> Result<(A, B), E>
+    ensures { MatchResult result (λ read. (read.0 ≡ first) × (second ≡ Ok read.1)) (λ why. second ≡ Err why) }
+{
+    match second {
+        Ok(second) => Ok((first, second)),
+        Err(why) => {
+            first.let_go();
+            Err(why)
+        }
+    }
+}
+
+/// A box of the part.
+pub fn boxed<T: InBox>(alloc: Global, part: T) -> Result<Boxed<T>, OutOfMemory>
+    ensures { IfOk result (λ made. made ≡ part) }
+{
+    T::boxed(alloc, part)
+}
+
+/// A box of each of the two.
+pub fn boxed_pair<T: InBox>(
+    alloc: Global,
+    first: T,
+    second: T,
+) -> Result<(Boxed<T>, Boxed<T>), OutOfMemory>
+    ensures { IfOk result (λ made. (made.0 ≡ first) × (made.1 ≡ second)) }
+{
+    let (second, first) = both(second, T::boxed(alloc, first))?;
+    both(first, T::boxed(alloc, second))
+}
+
+/// The list with the part at its end.
+pub fn pushed<T: InList>(mut list: List<T>, part: T) -> Result<List<T>, OutOfMemory>
+    ensures { IfOk result (λ longer. longer ≡ list ++ part ∷ []) }
+{
+    match list.push(part) {
+        Ok(()) => Ok(list),
+        Err(failed) => {
+            let AllocFailed { value } = failed;
+            value.let_go();
+            T::let_list_go(list);
+            Err(OutOfMemory)
+        }
+    }
+}

@@ -1,0 +1,50 @@
+//! What may be let go.
+ghost use Rattle.std.specs.Prelude.{◌≡◌, IfOk};
+
+use mesa_base::{Boxed, List, OutOfMemory};
+use std::alloc::Global;
+
+/// What may be let go by a call.
+pub trait LetGo {
+    fn let_go(self);
+}
+
+/// What lists are made of.
+pub trait InList: LetGo {
+    fn let_list_go(list: List<Self>);
+}
+
+/// What is put in boxes.
+pub trait InBox: LetGo {
+    fn boxed(alloc: Global, part: Self) -> Result<Boxed<Self>, OutOfMemory>
+        ensures { IfOk result (λ made. made ≡ part) };
+}
+
+impl<T: InList> LetGo for List<T> {
+    fn let_go(self) {
+        T::let_list_go(self);
+    }
+}
+
+impl<T: LetGo> LetGo for Boxed<T> {
+    fn let_go(self) {
+        self.into_inner().let_go();
+    }
+}
+
+impl<T: LetGo> LetGo for Option<T> {
+    fn let_go(self) {
+        match self {
+            Some(part) => part.let_go(),
+            None => (),
+        }
+    }
+}
+
+impl<A: LetGo, B: LetGo> LetGo for (A, B) {
+    fn let_go(self) {
+        let (first, second) = self;
+        first.let_go();
+        second.let_go();
+    }
+}

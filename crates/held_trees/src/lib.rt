@@ -1,0 +1,13 @@
+//! Trees that are held while more is read. That a tree may be let go takes long to prove, and each crate that lets one go
+//! would prove it again: here it is proved once, and the crates above let trees go by these calls alone.
+#![tactic(auto)]
+
+mod expressions;
+mod held;
+mod letting;
+mod modules;
+mod statements;
+mod types;
+
+pub use held::{both, boxed, boxed_pair, pushed};
+pub use letting::{InBox, InList, LetGo};
