@@ -1,0 +1,9 @@
+pub mod Depths
+pub mod Instructions
+pub mod Jumps
+pub mod Operands
+pub mod Phrases
+pub mod Ranges
+pub mod Regions
+pub mod Routine
+pub mod Valid
