@@ -5,9 +5,9 @@ use Rattle.mesa_lexer.specs.declared.token.Token.{Token}
 use Rattle.mesa_lexer.specs.declared.token.Kind.{Kind}
 use Rattle.mesa_lexer.specs.declared.token.Kind.TheVariants as k
 use Rattle.mesa_lexer.specs.declared.mark.Mark.TheVariants.{Colon, Comma}
-use Rattle.mesa_lexer.specs.Parsing.{Out, Got, Stop, Parser, ◌>>=◌, and_then, pure, exactly, found, a_name, picked, choose, option, Step, Go, Done, go_on, repeat, many_turn}
-use Rattle.mesa_lexer.proofs.Loops.{Eats, unroll}
-use Rattle.mesa_types.specs.declared.syntax.Identifier.{Identifier}
+use Rattle.token_cursor.specs.Parsing.{Out, Got, Stop, Parser, ◌>>=◌, and_then, pure, exactly, found, a_name, picked, choose, option, Step, Go, Done, go_on, repeat, many_turn}
+use Rattle.token_cursor.proofs.Loops.{Eats, unroll}
+use Rattle.mesa_base.specs.declared.identifier.Identifier.{Identifier}
 use Rattle.mesa_types.specs.declared.syntax.FieldList.{FieldList}
 use Rattle.module_productions.specs.Nested.{Nested, identifier, comma}
 use Rattle.module_productions.specs.Expressions as x

@@ -2,7 +2,7 @@
 use Rattle.std.specs.Prelude.{ℕ, Result, Option}
 use Rattle.std.specs.declared.alloc.Global.{Global}
 use denote.Ref.{MutBor}
-use Rattle.mesa_types.specs.declared.syntax.Identifier.{Identifier}
+use Rattle.mesa_base.specs.declared.identifier.Identifier.{Identifier}
 use Rattle.mesa_types.specs.declared.syntax.Statement.{Statement}
 use Rattle.mesa_types.specs.declared.syntax.Expr.{Expr}
 use Rattle.mesa_types.specs.declared.syntax.TypeExp.{TypeExp}

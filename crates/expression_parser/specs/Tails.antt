@@ -5,8 +5,8 @@ use Rattle.mesa_lexer.specs.declared.token.Kind.TheVariants as k
 use Rattle.mesa_lexer.specs.declared.mark.Mark.TheVariants.{Colon, LeftBrace, LeftBracket, LeftParenthesis}
 use Rattle.mesa_lexer.specs.declared.word.Word.TheVariants.{ArrayWord, BooleanWord, FalseWord, RecordWord, StringWord, TrueWord}
 use Rattle.mesa_lexer.specs.declared.word.Word.TheVariants as w
-use Rattle.mesa_lexer.specs.Parsing.{Parser, ◌>>=◌, pure, a_name, choose, option}
-use Rattle.mesa_types.specs.declared.syntax.Identifier.{Identifier}
+use Rattle.token_cursor.specs.Parsing.{Parser, ◌>>=◌, pure, a_name, choose, option}
+use Rattle.mesa_base.specs.declared.identifier.Identifier.{Identifier}
 use Rattle.mesa_types.specs.declared.syntax.TypeBase.TheVariants.{Unsaid}
 use Rattle.mesa_types.specs.declared.syntax.TypeBase.TheVariants as b
 use Rattle.mesa_types.specs.declared.syntax.TypeExp.{TypeExp}

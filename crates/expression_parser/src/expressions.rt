@@ -1,6 +1,6 @@
 //! Expressions.
 ghost use Rattle.std.specs.Prelude.{◌≡◌, IfOk, cond};
-ghost use Rattle.mesa_lexer.specs.Parsing.{and_then, many, pure, refuse};
+ghost use Rattle.token_cursor.specs.Parsing.{and_then, many, pure, refuse};
 ghost use Rattle.module_productions.specs.Expressions as spec;
 ghost use Rattle.module_productions.specs.Grammar as g;
 ghost use Rattle.expression_parser.specs.Nests.{Nests};
@@ -11,10 +11,14 @@ ghost use Rattle.expression_parser.specs.Tails as tails;
 ghost use Rattle.mesa_types.specs.declared.syntax.Expr.TheVariants as e;
 
 use crate::nesting::Level;
-use mesa_base::{Boxed, List, OutOfMemory, Place};
+use mesa_base::{Boxed, Identifier, List, OutOfMemory, Place};
 use mesa_lexer::{Mark, Word};
-use mesa_types::syntax::{Expr, Identifier, Left, Relation, Sign, Statement, Step, Steps, TypeExp};
+use mesa_types::syntax::{Expr, Left, Relation, Sign, Statement, Step, Steps, TypeExp};
 use module_productions::Begun;
+use module_tokens::signs::{
+    takes_adding, takes_conjoining, takes_disjoining, takes_multiplying, takes_negating,
+    takes_relating, takes_signing,
+};
 use std::alloc::Global;
 use token_cursor::{Cursor, Stopped};
 
@@ -141,7 +145,7 @@ impl<
         requires { Nests self.now.depth (F.pre self.now.stmt) (F.post self.now.stmt) (G.pre self.now.expr) (G.post self.now.expr) (H.pre self.now.type_exp) (H.post self.now.type_exp) }
         ensures { Reads (spec.factor (nested self.now.depth) None tokens.old.rest.now) result tokens.new.rest.now }
     {
-        match tokens.takes_signing() {
+        match takes_signing(tokens) {
             Some((sign, place)) => self.signed(tokens, sign, place),
             None => self.fresh_primary(tokens),
         }
@@ -163,7 +167,7 @@ impl<
         requires { Nests self.now.depth (F.pre self.now.stmt) (F.post self.now.stmt) (G.pre self.now.expr) (G.post self.now.expr) (H.pre self.now.type_exp) (H.post self.now.type_exp) }
         ensures { Reads (many multiplying (spec.products_step (nested self.now.depth)) steps tokens.old.rest.now) result tokens.new.rest.now }
     {
-        'factors: while let Some((operator, place)) = tokens.takes_multiplying() {
+        'factors: while let Some((operator, place)) = takes_multiplying(tokens) {
             let right = self.fresh_factor(tokens)?;
             steps.push(Step {
                 operator,
@@ -189,7 +193,7 @@ impl<
         requires { Nests self.now.depth (F.pre self.now.stmt) (F.post self.now.stmt) (G.pre self.now.expr) (G.post self.now.expr) (H.pre self.now.type_exp) (H.post self.now.type_exp) }
         ensures { Reads (many adding (spec.sums_step (nested self.now.depth)) steps tokens.old.rest.now) result tokens.new.rest.now }
     {
-        'products: while let Some((operator, place)) = tokens.takes_adding() {
+        'products: while let Some((operator, place)) = takes_adding(tokens) {
             let right = self.product(tokens, None)?;
             steps.push(Step {
                 operator,
@@ -259,7 +263,7 @@ impl<
         requires { Nests self.now.depth (F.pre self.now.stmt) (F.post self.now.stmt) (G.pre self.now.expr) (G.post self.now.expr) (H.pre self.now.type_exp) (H.post self.now.type_exp) }
         ensures { Reads (spec.relation (nested self.now.depth) left is_negated (cond is_negated refuse (pure left)) tokens.old.rest.now) result tokens.new.rest.now }
     {
-        if let Some((relation, place)) = tokens.takes_relating() {
+        if let Some((relation, place)) = takes_relating(tokens) {
             return self.compared(tokens, left, is_negated, relation, place);
         }
         if let Some(place) = tokens.takes_word(Word::InWord) {
@@ -276,7 +280,7 @@ impl<
         requires { Nests self.now.depth (F.pre self.now.stmt) (F.post self.now.stmt) (G.pre self.now.expr) (G.post self.now.expr) (H.pre self.now.type_exp) (H.post self.now.type_exp) }
         ensures { Reads (spec.related (nested self.now.depth) left tokens.old.rest.now) result tokens.new.rest.now }
     {
-        match tokens.takes_negating() {
+        match takes_negating(tokens) {
             Some(_) => self.relation(tokens, left, true),
             None => self.relation(tokens, left, false),
         }
@@ -306,7 +310,7 @@ impl<
         requires { Nests self.now.depth (F.pre self.now.stmt) (F.post self.now.stmt) (G.pre self.now.expr) (G.post self.now.expr) (H.pre self.now.type_exp) (H.post self.now.type_exp) }
         ensures { Reads (spec.neg (nested self.now.depth) Begun.Fresh tokens.old.rest.now) result tokens.new.rest.now }
     {
-        match tokens.takes_negating() {
+        match takes_negating(tokens) {
             Some(place) => self.negation(tokens, place),
             None => self.rel(tokens, None),
         }
@@ -329,7 +333,7 @@ impl<
         requires { Nests self.now.depth (F.pre self.now.stmt) (F.post self.now.stmt) (G.pre self.now.expr) (G.post self.now.expr) (H.pre self.now.type_exp) (H.post self.now.type_exp) }
         ensures { Reads (many conjoining (spec.ands_step (nested self.now.depth)) steps tokens.old.rest.now) result tokens.new.rest.now }
     {
-        'negs: while let Some((operator, place)) = tokens.takes_conjoining() {
+        'negs: while let Some((operator, place)) = takes_conjoining(tokens) {
             let right = self.fresh_neg(tokens)?;
             steps.push(Step {
                 operator,
@@ -355,7 +359,7 @@ impl<
         requires { Nests self.now.depth (F.pre self.now.stmt) (F.post self.now.stmt) (G.pre self.now.expr) (G.post self.now.expr) (H.pre self.now.type_exp) (H.post self.now.type_exp) }
         ensures { Reads (many disjoining (spec.ors_step (nested self.now.depth)) steps tokens.old.rest.now) result tokens.new.rest.now }
     {
-        'conjs: while let Some((operator, place)) = tokens.takes_disjoining() {
+        'conjs: while let Some((operator, place)) = takes_disjoining(tokens) {
             let right = self.conj(tokens, Begun::Fresh)?;
             steps.push(Step {
                 operator,

@@ -1,6 +1,6 @@
 //! Intervals, arms, bracket lists, and names with what follows them.
 ghost use Rattle.std.specs.Prelude.{◌≡◌, IfOk};
-ghost use Rattle.mesa_lexer.specs.Parsing.{ended, many};
+ghost use Rattle.token_cursor.specs.Parsing.{ended, many};
 ghost use Rattle.mesa_lexer.specs.declared.mark.Mark.TheVariants.{Semicolon};
 ghost use Rattle.mesa_lexer.specs.declared.token.Kind.TheVariants as k;
 ghost use Rattle.module_productions.specs.Expressions as spec;
@@ -11,22 +11,25 @@ ghost use Rattle.token_cursor.specs.Running.{Reads};
 ghost use Rattle.module_productions.specs.Statements.{nested};
 
 use crate::nesting::Level;
-use mesa_base::{Boxed, List, OutOfMemory, Place};
+use mesa_base::{Boxed, Identifier, List, OutOfMemory, Place, Placed};
 use mesa_lexer::{Mark, Word};
 use mesa_types::syntax::{
-    Arm, Arms, Brackets, Entries, Expr, Exprs, Identifier, Interval, Keyed, ListExpr, Phrase,
-    Placed, Raise, Statement, Suffix, Suffixes, TypeExp,
+    Arm, Arms, Brackets, Entries, Expr, Exprs, Interval, Keyed, ListExpr, Phrase, Raise, Statement,
+    Suffix, Suffixes, TypeExp,
 };
 use module_productions::Begun;
+use module_tokens::begins::{begins_arm, begins_expr};
+use module_tokens::naming::{labels, qname, qname_from};
+use module_tokens::signs::{takes_closing, takes_opening, takes_suffixing};
 use std::alloc::Global;
-use token_cursor::naming::{labels, named, qname, qname_from};
+use token_cursor::naming::named;
 use token_cursor::{Cursor, Stopped};
 
 #[tactic(auto, using(token_cursor::proofs::Taking::choose_by), unfolding(module_productions::specs::Expressions::closed))]
 fn closed(tokens: &mut Cursor<'_>) -> Result<bool, Stopped>
     ensures { Reads (spec.closed tokens.old.rest.now) result tokens.new.rest.now }
 {
-    match tokens.takes_closing() {
+    match takes_closing(tokens) {
         Some((is_open, _)) => Ok(is_open),
         None => Err(Stopped::Unexpected),
     }
@@ -81,7 +84,7 @@ impl<
         requires { Nests self.now.depth (F.pre self.now.stmt) (F.post self.now.stmt) (G.pre self.now.expr) (G.post self.now.expr) (H.pre self.now.type_exp) (H.post self.now.type_exp) }
         ensures { Reads (spec.interval (nested self.now.depth) tokens.old.rest.now) result tokens.new.rest.now }
     {
-        match tokens.takes_opening() {
+        match takes_opening(tokens) {
             Some((is_open, place)) => self.bounds(tokens, is_open, place),
             None => Err(Stopped::Unexpected),
         }
@@ -105,7 +108,7 @@ impl<
         ensures { Reads (ended (k.Mark Semicolon) begins_arm (spec.arms_step (nested self.now.depth)) all tokens.old.rest.now) result tokens.new.rest.now }
     {
         'arms: while tokens.takes_mark(Mark::Semicolon).is_some() {
-            if !tokens.begins_arm() {
+            if !begins_arm(tokens) {
                 break;
             }
             all.push(self.arm(tokens)?)?;
@@ -213,7 +216,7 @@ impl<
         requires { Nests self.now.depth (F.pre self.now.stmt) (F.post self.now.stmt) (G.pre self.now.expr) (G.post self.now.expr) (H.pre self.now.type_exp) (H.post self.now.type_exp) }
         ensures { Reads (spec.unkeyed (nested self.now.depth) tokens.old.rest.now) result tokens.new.rest.now }
     {
-        if !tokens.begins_expr() {
+        if !begins_expr(tokens) {
             return Ok(Entries::Nothing);
         }
         self.in_order(tokens, Begun::Fresh)
@@ -309,7 +312,7 @@ impl<
         requires { Nests self.now.depth (F.pre self.now.stmt) (F.post self.now.stmt) (G.pre self.now.expr) (G.post self.now.expr) (H.pre self.now.type_exp) (H.post self.now.type_exp) }
         ensures { Reads (many spec.suffixing (spec.suffixes_step (nested self.now.depth)) all tokens.old.rest.now) result tokens.new.rest.now }
     {
-        'suffixes: while let Some((is_bracket, place)) = tokens.takes_suffixing() {
+        'suffixes: while let Some((is_bracket, place)) = takes_suffixing(tokens) {
             all = self.suffix(tokens, all, is_bracket, place)?;
         }
         Ok(all)

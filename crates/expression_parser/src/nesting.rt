@@ -4,7 +4,8 @@ ghost use Rattle.expression_parser.specs.Nests.{Nests};
 ghost use Rattle.token_cursor.specs.Running.{Reads};
 ghost use Rattle.module_productions.specs.Statements.{nested};
 
-use mesa_types::syntax::{Expr, Identifier, Statement, TypeExp};
+use mesa_base::Identifier;
+use mesa_types::syntax::{Expr, Statement, TypeExp};
 use module_productions::Begun;
 use std::alloc::Global;
 use token_cursor::{Cursor, Stopped};

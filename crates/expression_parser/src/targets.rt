@@ -3,15 +3,15 @@
 ghost use Rattle.std.specs.Prelude.{◌≡◌};
 ghost use Rattle.token_cursor.specs.Running.{Reads};
 ghost use Rattle.expression_parser.specs.Nests.{Nests};
-ghost use Rattle.mesa_lexer.specs.Parsing.{many};
+ghost use Rattle.token_cursor.specs.Parsing.{many};
 ghost use Rattle.module_productions.specs.Nested.{comma};
 ghost use Rattle.module_productions.specs.Statements.{nested};
 ghost use Rattle.module_productions.specs.Statements as spec;
 
 use crate::nesting::Level;
-use mesa_base::{List, Place};
+use mesa_base::{Identifier, List, Place};
 use mesa_lexer::Mark;
-use mesa_types::syntax::{Entries, Expr, Identifier, Keyed, Left, Statement, TypeExp};
+use mesa_types::syntax::{Entries, Expr, Keyed, Left, Statement, TypeExp};
 use module_productions::Begun;
 use std::alloc::Global;
 use token_cursor::naming::named;

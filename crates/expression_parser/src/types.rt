@@ -1,6 +1,6 @@
 //! Types and lists of fields.
 ghost use Rattle.std.specs.Prelude.{◌≡◌, IfOk};
-ghost use Rattle.mesa_lexer.specs.Parsing.{many, repeat};
+ghost use Rattle.token_cursor.specs.Parsing.{many, repeat};
 ghost use Rattle.module_productions.specs.Expressions as spec;
 ghost use Rattle.module_productions.specs.Nested.{comma};
 ghost use Rattle.expression_parser.specs.Nests.{Nests};
@@ -9,15 +9,16 @@ ghost use Rattle.module_productions.specs.Statements.{nested};
 ghost use Rattle.expression_parser.specs.Tails as tails;
 
 use crate::nesting::Level;
-use mesa_base::{Boxed, List, OutOfMemory, Place};
+use mesa_base::{Boxed, Identifier, Identifiers, List, OutOfMemory, Place};
 use mesa_lexer::{Mark, Word};
 use mesa_types::syntax::{
-    Expr, FieldList, Identifier, Identifiers, Labeled, QualifiedName, Statement, TypeBase, TypeExp,
-    TypeExps,
+    Expr, FieldList, Labeled, QualifiedName, Statement, TypeBase, TypeExp, TypeExps,
 };
 use module_productions::Begun;
+use module_tokens::begins::begins_interval;
+use module_tokens::naming::qname_from;
 use std::alloc::Global;
-use token_cursor::naming::{names, qname_from};
+use token_cursor::naming::names;
 use token_cursor::{Cursor, Stopped};
 
 fn called(alloc: Global, name: &Identifier) -> Result<TypeExp, OutOfMemory>
@@ -63,7 +64,7 @@ impl<
         requires { Nests self.now.depth (F.pre self.now.stmt) (F.post self.now.stmt) (G.pre self.now.expr) (G.post self.now.expr) (H.pre self.now.type_exp) (H.post self.now.type_exp) }
         ensures { Reads (spec.after_base (nested self.now.depth) base alone tokens.old.rest.now) result tokens.new.rest.now }
     {
-        if !tokens.begins_interval() {
+        if !begins_interval(tokens) {
             return Ok(alone);
         }
         let interval = self.interval(tokens)?;
@@ -77,7 +78,7 @@ impl<
         ensures { Reads (spec.type_from (nested self.now.depth) first tokens.old.rest.now) result tokens.new.rest.now }
     {
         let name = qname_from(self.alloc, tokens, first)?;
-        if !tokens.begins_interval() {
+        if !begins_interval(tokens) {
             return Ok(TypeExp::Called(name));
         }
         let interval = self.interval(tokens)?;

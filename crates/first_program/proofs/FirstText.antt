@@ -13,7 +13,7 @@ use Rattle.mesa_types.specs.declared.syntax.Declaration.{Declaration}
 use Rattle.mesa_types.specs.declared.syntax.Declared.{Declared}
 use Rattle.mesa_types.specs.declared.syntax.Declared.TheVariants.{Data}
 use Rattle.mesa_types.specs.declared.syntax.Expr.{Expr, out-Expr}
-use Rattle.mesa_types.specs.declared.syntax.Identifier.{Identifier}
+use Rattle.mesa_base.specs.declared.identifier.Identifier.{Identifier}
 use Rattle.mesa_types.specs.declared.syntax.Inner.{Inner}
 use Rattle.mesa_types.specs.declared.syntax.Left.{Left, out-Left}
 use Rattle.mesa_types.specs.declared.syntax.Operator.{Operator}

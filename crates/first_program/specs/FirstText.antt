@@ -16,7 +16,7 @@ use Rattle.mesa_types.specs.declared.syntax.DirectoryItem.{DirectoryItem}
 use Rattle.mesa_types.specs.declared.syntax.Entries.{Entries}
 use Rattle.mesa_types.specs.declared.syntax.Entries.TheVariants.{InOrder}
 use Rattle.mesa_types.specs.declared.syntax.Expr.{Expr, out-Expr}
-use Rattle.mesa_types.specs.declared.syntax.Identifier.{Identifier}
+use Rattle.mesa_base.specs.declared.identifier.Identifier.{Identifier}
 use Rattle.mesa_types.specs.declared.syntax.Inner.{Inner}
 use Rattle.mesa_types.specs.declared.syntax.Left.{Left, out-Left}
 use Rattle.mesa_types.specs.declared.syntax.Module.{Module}

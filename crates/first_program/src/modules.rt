@@ -12,8 +12,8 @@ use crate::first_declarations::{Known, declarations};
 use crate::first_fault::FirstFault;
 use crate::first_statements::Statements;
 use crate::first_tree::{integer, module_of};
-use mesa_base::{Boxed, List, Name, OutOfMemory};
-use mesa_types::syntax::{Declaration, DirectoryItem, Identifier, Inner, ModuleKind};
+use mesa_base::{Boxed, Identifier, List, Name, OutOfMemory};
+use mesa_types::syntax::{Declaration, DirectoryItem, Inner, ModuleKind};
 use mesa_types::{Fields, Module, TypedModule, TypedStmt};
 use std::alloc::Global;
 

@@ -1,10 +1,9 @@
 //! Modules and their parts, which hold trees.
 
 use crate::letting::{InList, LetGo};
-use mesa_base::List;
+use mesa_base::{Identifiers, List};
 use mesa_types::syntax::{
-    Declaration, Declared, Defined, DirectoryItem, Head, Identifiers, Inner, Labeled, Module,
-    ModuleKind,
+    Declaration, Declared, Defined, DirectoryItem, Head, Inner, Labeled, Module, ModuleKind,
 };
 use std::mem::drop;
 

@@ -2,10 +2,9 @@
 ghost use Rattle.std.specs.Prelude.{◌≡◌, IfOk};
 
 use crate::letting::{InBox, InList, LetGo};
-use mesa_base::{Boxed, List, OutOfMemory};
+use mesa_base::{Boxed, Identifier, Identifiers, List, OutOfMemory};
 use mesa_types::syntax::{
-    FieldList, Identifier, Identifiers, Labeled, Labels, QualifiedName, RepeatLabels, TypeBase,
-    TypeExp,
+    FieldList, Labeled, Labels, QualifiedName, RepeatLabels, TypeBase, TypeExp,
 };
 use std::alloc::Global;
 use std::mem::drop;

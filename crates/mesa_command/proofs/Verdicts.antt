@@ -2,7 +2,7 @@
 use Rattle.std.proofs.Common.{◌≡◌, ℕ, List, Option, Some, None, refl, sym, ap, subst, ◌∙◌}
 use Rattle.mesa_base.specs.declared.place.Place.{Place}
 use Rattle.mesa_lexer.specs.Tokens.{HasTokens, HasLexFault}
-use Rattle.mesa_lexer.specs.Parsing.{Why, Unexpected, TooDeep}
+use Rattle.token_cursor.specs.Parsing.{Why, Unexpected, TooDeep}
 use Rattle.mesa_lexer.specs.declared.token.Token.{Token}
 use Rattle.mesa_lexer.specs.declared.token.Tokens.{Tokens}
 use Rattle.mesa_lexer.specs.declared.fault.SyntaxFault.TheVariants as s

@@ -5,7 +5,7 @@ use Rattle.mesa_base.specs.declared.place.Place.{Place}
 use Rattle.mesa_lexer.specs.declared.token.Token.{Token}
 use Rattle.mesa_lexer.specs.declared.fault.SyntaxFault.{SyntaxFault}
 use Rattle.mesa_lexer.specs.declared.fault.SyntaxFault.TheVariants as f
-use Rattle.mesa_lexer.specs.Parsing.{Why, Unexpected, TooDeep, Got, Stop}
+use Rattle.token_cursor.specs.Parsing.{Why, Unexpected, TooDeep, Got, Stop}
 use Rattle.mesa_types.specs.declared.syntax.Module.{Module}
 use Rattle.module_productions.specs.Texts as r
 use Rattle.token_cursor.specs.declared.fault.Stopped.{Stopped}

@@ -2,7 +2,7 @@
 use Rattle.std.proofs.Common.{◌≡◌, ℕ, suc, ◌-◌, ◌<◌, Bool, true, false, if◌then◌else◌, List, ap, sym, ◌∙◌, arith}
 use Rattle.mesa_lexer.specs.declared.token.Token.{Token}
 use Rattle.mesa_lexer.specs.declared.token.Kind.{Kind}
-use Rattle.mesa_lexer.specs.Parsing.{Stop, TooDeep, refuse, too_deep}
+use Rattle.token_cursor.specs.Parsing.{Stop, TooDeep, refuse, too_deep}
 use Rattle.token_cursor.specs.declared.fault.Stopped.{Stopped}
 use Rattle.token_cursor.specs.declared.fault.Stopped.TheVariants as f
 use Rattle.token_cursor.specs.Running.{next_is, why_of}

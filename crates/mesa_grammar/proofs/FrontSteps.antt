@@ -2,8 +2,8 @@
 use Rattle.std.proofs.Common.{◌≡◌, ℕ, ◌<◌, length, true, false, List, [], ◌∷◌, ◌++◌, Some, ap, ◌∙◌}
 use Rattle.mesa_base.specs.declared.place.Place.{Place}
 use Rattle.mesa_lexer.specs.declared.token.Token.{Token}
-use Rattle.mesa_lexer.specs.Parsing.{Got, and_then, pure, a_name, Go, go_on, repeat, many_turn}
-use Rattle.mesa_lexer.proofs.Loops.{Eats, unroll}
+use Rattle.token_cursor.specs.Parsing.{Got, and_then, pure, a_name, Go, go_on, repeat, many_turn}
+use Rattle.token_cursor.proofs.Loops.{Eats, unroll}
 use Rattle.mesa_types.specs.declared.syntax.Declaration.{Declaration}
 use Rattle.token_cursor.specs.Running.{next_is, taken, behind}
 use Rattle.module_productions.specs.Nested.{identifier}

@@ -3,18 +3,20 @@
 ghost use Rattle.std.specs.Prelude.{◌≡◌};
 ghost use Rattle.token_cursor.specs.Running.{Reads};
 ghost use Rattle.expression_parser.specs.Nests.{Nests};
-ghost use Rattle.mesa_lexer.specs.Parsing.{repeat, and_then, pure};
+ghost use Rattle.token_cursor.specs.Parsing.{repeat, and_then, pure};
 ghost use Rattle.module_productions.specs.Statements.{nested};
 ghost use Rattle.module_productions.specs.Texts as spec;
 ghost use Rattle.module_productions.specs.Statements as st;
 
 use crate::nesting::Grammar;
-use mesa_base::List;
+use mesa_base::{Identifier, List};
 use mesa_lexer::Mark;
 use mesa_types::syntax::{
-    Access, Declaration, Declarations, Expr, Identifier, Inner, Statement, Statements, TypeExp,
+    Access, Declaration, Declarations, Expr, Inner, Statement, Statements, TypeExp,
 };
 use module_productions::Begun;
+use module_tokens::begins::declares;
+use module_tokens::signs::takes_accessing;
 use std::alloc::Global;
 use token_cursor::naming::names_from;
 use token_cursor::{Cursor, Stopped};
@@ -23,7 +25,7 @@ use token_cursor::{Cursor, Stopped};
 fn access(tokens: &mut Cursor<'_>) -> Result<Option<Access>, Stopped>
     ensures { Reads (spec.access tokens.old.rest.now) result tokens.new.rest.now }
 {
-    match tokens.takes_accessing() {
+    match takes_accessing(tokens) {
         Some((access, _)) => Ok(Some(access)),
         None => Ok(None),
     }
@@ -87,7 +89,7 @@ impl<
             let Some(first) = tokens.takes_name(self.statements.level.alloc)? else {
                 return self.behind_front(tokens, all);
             };
-            if !tokens.declares() {
+            if !declares(tokens) {
                 let statements = self.statements.stmts(tokens, Some(first))?;
                 return Ok((all, statements));
             }

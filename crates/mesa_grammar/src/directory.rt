@@ -2,13 +2,13 @@
 
 ghost use Rattle.std.specs.Prelude.{◌≡◌};
 ghost use Rattle.token_cursor.specs.Running.{Reads};
-ghost use Rattle.mesa_lexer.specs.Parsing.{many};
+ghost use Rattle.token_cursor.specs.Parsing.{many};
 ghost use Rattle.module_productions.specs.Nested.{comma};
 ghost use Rattle.module_productions.specs.Texts as spec;
 
-use mesa_base::List;
+use mesa_base::{Identifiers, List, Placed};
 use mesa_lexer::{Mark, Word};
-use mesa_types::syntax::{Directory, DirectoryItem, Identifiers, Placed};
+use mesa_types::syntax::{Directory, DirectoryItem};
 use std::alloc::Global;
 use token_cursor::naming::{named, names};
 use token_cursor::{Cursor, Stopped};

@@ -7,9 +7,11 @@ ghost use Rattle.module_productions.specs.Statements.{nested};
 ghost use Rattle.module_productions.specs.Texts as spec;
 
 use crate::nesting::Grammar;
+use mesa_base::Identifier;
 use mesa_lexer::{Mark, Word};
-use mesa_types::syntax::{Block, Declared, Expr, FieldList, Head, Identifier, Statement, TypeExp};
+use mesa_types::syntax::{Block, Declared, Expr, FieldList, Head, Statement, TypeExp};
 use module_productions::Begun;
+use module_tokens::signs::takes_procedure_word;
 use statement_parser::BlockEnd;
 use std::alloc::Global;
 use token_cursor::{Cursor, Stopped};
@@ -122,7 +124,7 @@ impl<
         requires { Nests self.now.statements.level.depth (F.pre self.now.statements.level.stmt) (F.post self.now.statements.level.stmt) (G.pre self.now.statements.level.expr) (G.post self.now.statements.level.expr) (H.pre self.now.statements.level.type_exp) (H.post self.now.statements.level.type_exp) }
         ensures { Reads (spec.declared (nested self.now.statements.level.depth) tokens.old.rest.now) result tokens.new.rest.now }
     {
-        if let Some(_) = tokens.takes_procedure_word() {
+        if let Some(_) = takes_procedure_word(tokens) {
             return self.procedure(tokens);
         }
         if let Some(_) = tokens.takes_word(Word::SignalWord) {

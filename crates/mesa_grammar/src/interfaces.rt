@@ -8,10 +8,11 @@ ghost use Rattle.module_productions.specs.Texts as spec;
 ghost use Rattle.statement_parser.specs.StatementTails as tails;
 
 use crate::nesting::Grammar;
-use mesa_base::List;
+use mesa_base::{Identifier, List};
 use mesa_lexer::{Mark, Word};
-use mesa_types::syntax::{Defined, Definitions, Expr, Identifier, Labeled, Statement, TypeExp};
+use mesa_types::syntax::{Defined, Definitions, Expr, Labeled, Statement, TypeExp};
 use module_productions::Begun;
+use module_tokens::signs::takes_procedure_word;
 use std::alloc::Global;
 use token_cursor::naming::names_from;
 use token_cursor::{Cursor, Stopped};
@@ -63,7 +64,7 @@ impl<
         requires { Nests self.now.statements.level.depth (F.pre self.now.statements.level.stmt) (F.post self.now.statements.level.stmt) (G.pre self.now.statements.level.expr) (G.post self.now.statements.level.expr) (H.pre self.now.statements.level.type_exp) (H.post self.now.statements.level.type_exp) }
         ensures { Reads (spec.defined (nested self.now.statements.level.depth) tokens.old.rest.now) result tokens.new.rest.now }
     {
-        if let Some(_) = tokens.takes_procedure_word() {
+        if let Some(_) = takes_procedure_word(tokens) {
             let head = self.head(tokens)?;
             return Ok(Defined::ProcedureItem(head));
         }

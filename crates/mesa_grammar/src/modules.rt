@@ -8,9 +8,9 @@ ghost use Rattle.module_productions.specs.Texts as spec;
 
 use crate::directory::{interfaces, listed, opened};
 use crate::nesting::Grammar;
-use mesa_base::Place;
+use mesa_base::{Identifier, Place};
 use mesa_lexer::{Mark, Word};
-use mesa_types::syntax::{Expr, Identifier, Module, ModuleKind, Statement, TypeExp};
+use mesa_types::syntax::{Expr, Module, ModuleKind, Statement, TypeExp};
 use module_productions::Begun;
 use std::alloc::Global;
 use token_cursor::naming::named;

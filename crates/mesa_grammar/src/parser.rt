@@ -9,11 +9,12 @@ ghost use Rattle.module_productions.specs.Texts as texts;
 
 use crate::nesting::Grammar;
 use expression_parser::Level;
-use mesa_base::Place;
+use mesa_base::{Identifier, Place};
 use mesa_lexer::{SyntaxFault, Tokens};
 use mesa_types::Module;
-use mesa_types::syntax::{Expr, Identifier, Statement, TypeExp};
+use mesa_types::syntax::{Expr, Statement, TypeExp};
 use module_productions::Begun;
+use module_tokens::begins::{begins_expr, begins_stmt, begins_type};
 use statement_parser::StatementParser;
 use std::alloc::Global;
 use token_cursor::{Cursor, Stopped};
@@ -42,7 +43,7 @@ fn stmt(
     ensures { Reads ((nested depth).stmt begun tokens.old.rest.now) result tokens.new.rest.now }
 {
     if depth == 0 {
-        return Err(too_deep(tokens.begins_stmt()));
+        return Err(too_deep(begins_stmt(tokens)));
     }
     StatementParser {
         level: Level {
@@ -61,7 +62,7 @@ fn expr(alloc: Global, tokens: &mut Cursor<'_>, depth: usize, begun: Begun) -> R
     ensures { Reads ((nested depth).expr begun tokens.old.rest.now) result tokens.new.rest.now }
 {
     if depth == 0 {
-        return Err(too_deep(tokens.begins_expr()));
+        return Err(too_deep(begins_expr(tokens)));
     }
     Level {
         alloc,
@@ -83,7 +84,7 @@ fn type_exp(
     ensures { Reads ((nested depth).type begun tokens.old.rest.now) result tokens.new.rest.now }
 {
     if depth == 0 {
-        return Err(too_deep(tokens.begins_type()));
+        return Err(too_deep(begins_type(tokens)));
     }
     Level {
         alloc,

@@ -16,7 +16,3 @@ pub mod Initials
 pub mod Behind
 pub mod Choices
 pub mod Scanning
-pub mod Exact
-pub mod Branches
-pub mod Loops
-pub mod Leading

@@ -9,4 +9,3 @@ pub mod Positions
 pub mod Steps
 pub mod Answer
 pub mod Faults
-pub mod Parsing

@@ -6,12 +6,12 @@ use Rattle.mesa_lexer.specs.declared.token.Kind.{Kind}
 use Rattle.mesa_lexer.specs.declared.token.Kind.TheVariants as k
 use Rattle.mesa_lexer.specs.declared.word.Word.TheVariants.{ArrayWord, BeginWord, BooleanWord, CardinalWord, CharacterWord, ContinueWord, DoWord, ElseWord, EnableWord, EndWord, EndcaseWord, EndloopWord, ErrorWord, ExitWord, ExitsWord, FalseWord, ForWord, FromWord, GoWord, GotoWord, IfWord, InWord, IntegerWord, LoopWord, NullWord, OfWord, RecordWord, RejectWord, RepeatWord, ResumeWord, RetryWord, ReturnWord, SelectWord, SignalWord, StringWord, ThenWord, ThroughWord, ToWord, TrueWord, TypeWord, UntilWord, WhileWord}
 use Rattle.mesa_lexer.specs.declared.mark.Mark.TheVariants.{Arrow, Semicolon, Colon, Comma, Dot, DotDot, LeftBracket, RightBracket, LeftParenthesis, RightParenthesis, LeftBrace, RightBrace, Equal, Bang, DoubleArrow}
-use Rattle.mesa_lexer.specs.Parsing.{token, word, mark, Out, and_then, ◌>>=◌, ◌>>◌, pure, refuse, first, only, exactly, finds, among, a_name, choose, need, Go, repeat}
-use Rattle.mesa_lexer.specs.Parsing.{Step as Turned}
-use Rattle.mesa_lexer.specs.Parsing as w
-use Rattle.mesa_types.specs.declared.syntax.Identifier.{Identifier}
+use Rattle.token_cursor.specs.Parsing.{token, word, mark, Out, and_then, ◌>>=◌, ◌>>◌, pure, refuse, first, only, exactly, finds, among, a_name, choose, need, Go, repeat}
+use Rattle.token_cursor.specs.Parsing.{Step as Turned}
+use Rattle.token_cursor.specs.Parsing as w
+use Rattle.mesa_base.specs.declared.identifier.Identifier.{Identifier}
 use Rattle.mesa_types.specs.declared.syntax.QualifiedName.{QualifiedName}
-use Rattle.mesa_types.specs.declared.syntax.Placed.{Placed}
+use Rattle.mesa_base.specs.declared.placed.Placed.{Placed}
 use Rattle.mesa_types.specs.declared.syntax.Keyed.{Keyed}
 use Rattle.mesa_types.specs.declared.syntax.Labeled.{Labeled}
 use Rattle.mesa_types.specs.declared.syntax.Entries.{Entries}
@@ -53,9 +53,9 @@ use Rattle.module_productions.specs.Signs.{spelled, disjoining, conjoining, addi
 use Rattle.module_productions.specs.Grammar as g
 use Rattle.module_productions.specs.Grammar.{run, step, interval, left, brackets, keyed, labeled, arm, case, control, block, NoElse, IsNames, IsQName, IsLabels, IsRepeatLabels, IsBase, IsNot, IsDecreasing, IsType, IsFields, IsTypes, IsGroups, IsInterval, IsExpr, IsOrs, IsConj, IsAnds, IsNeg, IsRel, IsSum, IsSums, IsProduct, IsProducts, IsFactor, IsPrimary, IsListOption, IsLeft, IsBracketsOption, IsExprs, IsKeys, IsArmList, IsArms, IsArm, IsRaise, IsStmt, IsTargets, IsLefts, IsKeyLefts, IsOtherwise, IsCaseList, IsCases, IsCase, IsTests, IsTest, IsControl, IsCount, IsCondition, IsBody, IsStmts, IsRepeatPart, IsRepeats, IsRepeat, IsExits, IsExit, IsEnabling}
 use Rattle.module_productions.specs.Grammar.{placed as placing}
-use Rattle.mesa_lexer.proofs.Exact.{Free, first_none}
-use Rattle.mesa_lexer.proofs.Branches.{passed, when_false, chosen}
-use Rattle.mesa_lexer.proofs.Leading.{Leads, stand, onto, under, comp, last, ahead, via, placed, many_more, many_end, ended_more, ended_bare, ended_closed, Begins, when_begins}
+use Rattle.token_cursor.proofs.Exact.{Free, first_none}
+use Rattle.token_cursor.proofs.Branches.{passed, when_false, chosen}
+use Rattle.token_cursor.proofs.Leading.{Leads, stand, onto, under, comp, last, ahead, via, placed, many_more, many_end, ended_more, ended_bare, ended_closed, Begins, when_begins}
 use Rattle.module_productions.specs.Nested.{Fresh, Nested, begins_stmt, begins_arm, begins_test, begins_repeat, comma, identifier}
 use Rattle.module_productions.specs.Nested as nr
 use Rattle.module_productions.specs.Expressions as ex

@@ -5,10 +5,10 @@ use Rattle.mesa_lexer.specs.declared.token.Token.{Token}
 use Rattle.mesa_lexer.specs.declared.token.Kind.{Kind}
 use Rattle.mesa_lexer.specs.declared.word.Word.TheVariants.{DoWord, ElseWord, EndWord, EndcaseWord, EndloopWord, FromWord, InWord, OfWord, ThenWord}
 use Rattle.mesa_lexer.specs.declared.mark.Mark.TheVariants.{Arrow, Semicolon, Colon, Comma, Dot, DotDot, RightBracket, RightParenthesis, RightBrace, Equal, DoubleArrow}
-use Rattle.mesa_lexer.specs.Parsing.{token, word, mark, first}
-use Rattle.mesa_types.specs.declared.syntax.Identifier.{Identifier}
+use Rattle.token_cursor.specs.Parsing.{token, word, mark, first}
+use Rattle.mesa_base.specs.declared.identifier.Identifier.{Identifier}
 use Rattle.mesa_types.specs.declared.syntax.QualifiedName.{QualifiedName}
-use Rattle.mesa_types.specs.declared.syntax.Placed.{Placed}
+use Rattle.mesa_base.specs.declared.placed.Placed.{Placed}
 use Rattle.mesa_types.specs.declared.syntax.Keyed.{Keyed}
 use Rattle.mesa_types.specs.declared.syntax.Labeled.{Labeled}
 use Rattle.mesa_types.specs.declared.syntax.Entries.{Entries}

@@ -6,9 +6,9 @@ use Rattle.mesa_lexer.specs.declared.word.Word.{Word}
 use Rattle.mesa_lexer.specs.declared.mark.Mark.{Mark}
 use Rattle.mesa_lexer.specs.declared.word.Word.TheVariants.{ArrayWord, BeginWord, CodeWord, ContinueWord, DecreasingWord, DefinitionsWord, DirectoryWord, DoWord, ElseWord, EnableWord, EndWord, EndloopWord, ErrorWord, ExitWord, ExportsWord, ForWord, FromWord, IfWord, ImportsWord, InWord, IntegerWord, ModWord, OfWord, OpenWord, ProcedureWord, ProgramWord, PublicWord, RecordWord, ResumeWord, RetryWord, ReturnWord, ReturnsWord, SignalWord, ThenWord, TypeWord, UntilWord, UnwindWord}
 use Rattle.mesa_lexer.specs.declared.mark.Mark.TheVariants.{Arrow, Bang, Colon, Comma, Dot, DotDot, DoubleArrow, Equal, LeftBracket, LeftParenthesis, Less, Minus, Plus, RightBracket, RightParenthesis, Semicolon, Star}
-use Rattle.mesa_lexer.specs.Parsing.{token, word, mark, Got}
-use Rattle.mesa_lexer.specs.Parsing as w
-use Rattle.mesa_lexer.proofs.Branches.{somewhere}
+use Rattle.token_cursor.specs.Parsing.{token, word, mark, Got}
+use Rattle.token_cursor.specs.Parsing as w
+use Rattle.token_cursor.proofs.Branches.{somewhere}
 use Rattle.mesa_types.specs.declared.syntax.Module.{Module}
 use Rattle.module_productions.specs.Nested as nr
 use Rattle.module_productions.specs.Expressions as ex

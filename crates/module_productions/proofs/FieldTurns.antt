@@ -4,13 +4,13 @@ use Rattle.mesa_base.specs.declared.place.Place.{Place}
 use Rattle.mesa_lexer.specs.declared.token.Token.{Token}
 use Rattle.mesa_lexer.specs.declared.token.Kind.TheVariants as k
 use Rattle.mesa_lexer.specs.declared.mark.Mark.TheVariants.{Colon, Comma, Dot}
-use Rattle.mesa_lexer.specs.Parsing.{mark, Got, Parser, and_then, ◌>>=◌, pure, exactly, finds, a_name, choose, Go, Done, go_on, repeat}
-use Rattle.mesa_lexer.specs.Parsing as w
-use Rattle.mesa_lexer.proofs.Exact.{Free}
-use Rattle.mesa_lexer.proofs.Branches.{passed}
-use Rattle.mesa_lexer.proofs.Loops.{Eats, unroll}
-use Rattle.mesa_lexer.proofs.Leading.{Leads, stand, finish, onto, under, comp, last, ahead, via, placed, turn_leads, many_more, many_end, Begins, stops_deep, done_on}
-use Rattle.mesa_types.specs.declared.syntax.Identifier.{Identifier}
+use Rattle.token_cursor.specs.Parsing.{mark, Got, Parser, and_then, ◌>>=◌, pure, exactly, finds, a_name, choose, Go, Done, go_on, repeat}
+use Rattle.token_cursor.specs.Parsing as w
+use Rattle.token_cursor.proofs.Exact.{Free}
+use Rattle.token_cursor.proofs.Branches.{passed}
+use Rattle.token_cursor.proofs.Loops.{Eats, unroll}
+use Rattle.token_cursor.proofs.Leading.{Leads, stand, finish, onto, under, comp, last, ahead, via, placed, turn_leads, many_more, many_end, Begins, stops_deep, done_on}
+use Rattle.mesa_base.specs.declared.identifier.Identifier.{Identifier}
 use Rattle.mesa_types.specs.declared.syntax.FieldList.{FieldList}
 use Rattle.mesa_types.specs.declared.syntax.FieldList.TheVariants.{Unnamed}
 use Rattle.mesa_types.specs.declared.syntax.TypeExp.{TypeExp}

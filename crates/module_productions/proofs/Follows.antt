@@ -6,13 +6,13 @@ use Rattle.mesa_lexer.specs.declared.token.Kind.{Kind}
 use Rattle.mesa_lexer.specs.declared.token.Kind.TheVariants as k
 use Rattle.mesa_lexer.specs.declared.word.Word.TheVariants.{AndWord, ModWord, NotWord, OrWord, DoWord, EnableWord, EndWord, EndloopWord, ExitsWord, InWord, RepeatWord}
 use Rattle.mesa_lexer.specs.declared.mark.Mark.TheVariants.{Arrow, Semicolon, Colon, Comma, Dot, LeftBracket, RightBracket, LeftParenthesis, RightParenthesis, RightBrace, Equal, Sharp, Less, Greater, AtMost, AtLeast, Plus, Minus, Star, Slash, DoubleArrow, Tilde}
-use Rattle.mesa_lexer.specs.Parsing.{token, word, only, exactly, found, finds, among, a_name}
-use Rattle.mesa_lexer.proofs.Exact.{Test, Free}
-use Rattle.mesa_lexer.proofs.Branches.{Every, or_true, or_false, among_every, named_every}
-use Rattle.mesa_lexer.proofs.Leading.{Begins}
-use Rattle.mesa_types.specs.declared.syntax.Identifier.{Identifier}
+use Rattle.token_cursor.specs.Parsing.{token, word, only, exactly, found, finds, among, a_name}
+use Rattle.token_cursor.proofs.Exact.{Test, Free}
+use Rattle.token_cursor.proofs.Branches.{Every, or_true, or_false, among_every, named_every}
+use Rattle.token_cursor.proofs.Leading.{Begins}
+use Rattle.mesa_base.specs.declared.identifier.Identifier.{Identifier}
 use Rattle.mesa_types.specs.declared.syntax.QualifiedName.{QualifiedName}
-use Rattle.mesa_types.specs.declared.syntax.Placed.{Placed}
+use Rattle.mesa_base.specs.declared.placed.Placed.{Placed}
 use Rattle.mesa_types.specs.declared.syntax.Labeled.{Labeled}
 use Rattle.mesa_types.specs.declared.syntax.Entries.{Entries}
 use Rattle.mesa_types.specs.declared.syntax.RepeatLabels.{RepeatLabels}

@@ -6,12 +6,12 @@ use Rattle.mesa_lexer.specs.declared.token.Kind.{Kind}
 use Rattle.mesa_lexer.specs.declared.token.Kind.TheVariants as k
 use Rattle.mesa_lexer.specs.declared.word.Word.TheVariants.{InWord}
 use Rattle.mesa_lexer.specs.declared.mark.Mark.TheVariants.{Colon, Dot, LeftBracket, LeftParenthesis}
-use Rattle.mesa_lexer.specs.Parsing.{token, word, mark, Out, Got, Stop, Parser, and_then, ◌>>=◌, ◌>>◌, pure, refuse, only, exactly, found, finds, among, a_name, choose, option, need, when, too_deep, Step, Go, Done, go_on, repeat}
-use Rattle.mesa_lexer.proofs.Exact.{Free}
-use Rattle.mesa_lexer.proofs.Branches.{among_every, chosen, passed, when_false}
-use Rattle.mesa_lexer.proofs.Loops.{unroll}
-use Rattle.mesa_lexer.proofs.Leading.{Leads, finish, onto, ahead, at_once, via, Begins, when_begins, stops_deep}
-use Rattle.mesa_types.specs.declared.syntax.Identifier.{Identifier}
+use Rattle.token_cursor.specs.Parsing.{token, word, mark, Out, Got, Stop, Parser, and_then, ◌>>=◌, ◌>>◌, pure, refuse, only, exactly, found, finds, among, a_name, choose, option, need, when, too_deep, Step, Go, Done, go_on, repeat}
+use Rattle.token_cursor.proofs.Exact.{Free}
+use Rattle.token_cursor.proofs.Branches.{among_every, chosen, passed, when_false}
+use Rattle.token_cursor.proofs.Loops.{unroll}
+use Rattle.token_cursor.proofs.Leading.{Leads, finish, onto, ahead, at_once, via, Begins, when_begins, stops_deep}
+use Rattle.mesa_base.specs.declared.identifier.Identifier.{Identifier}
 use Rattle.mesa_types.specs.declared.syntax.Entries.{Entries}
 use Rattle.mesa_types.specs.declared.syntax.TypeBase.{TypeBase}
 use Rattle.mesa_types.specs.declared.syntax.TypeBase.TheVariants.{Unsaid, OfName}

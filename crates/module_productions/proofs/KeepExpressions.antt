@@ -6,12 +6,12 @@ use Rattle.mesa_lexer.specs.declared.token.Kind.{Kind}
 use Rattle.mesa_lexer.specs.declared.token.Kind.TheVariants as k
 use Rattle.mesa_lexer.specs.declared.word.Word.TheVariants.{ErrorWord, FalseWord, InWord, SignalWord, TrueWord}
 use Rattle.mesa_lexer.specs.declared.mark.Mark.TheVariants.{Semicolon, Colon, Comma, Dot, DotDot, LeftBracket, RightBracket, LeftParenthesis, RightParenthesis, Bang, DoubleArrow}
-use Rattle.mesa_lexer.specs.Parsing.{token, mark, Parser, ◌>>=◌, ◌>>◌, pure, refuse, a_name, choose, option, many_turn, ended_turn}
-use Rattle.mesa_lexer.specs.Parsing as w
-use Rattle.mesa_lexer.proofs.Exact.{Rel, Keeps, Took, Then, Pre, bind, done, imply, Plainly, bind_plain, alone, single, both, either}
-use Rattle.mesa_lexer.proofs.Branches.{somewhere, choose_or, choose_must, option_or, option_must, word, when_keeps, of_kind}
-use Rattle.mesa_lexer.proofs.Loops.{Eats, many_eats, many_keeps, ended_eats, ended_keeps, listed, series}
-use Rattle.mesa_types.specs.declared.syntax.Identifier.{Identifier}
+use Rattle.token_cursor.specs.Parsing.{token, mark, Parser, ◌>>=◌, ◌>>◌, pure, refuse, a_name, choose, option, many_turn, ended_turn}
+use Rattle.token_cursor.specs.Parsing as w
+use Rattle.token_cursor.proofs.Exact.{Rel, Keeps, Took, Then, Pre, bind, done, imply, Plainly, bind_plain, alone, single, both, either}
+use Rattle.token_cursor.proofs.Branches.{somewhere, choose_or, choose_must, option_or, option_must, word, when_keeps, of_kind}
+use Rattle.token_cursor.proofs.Loops.{Eats, many_eats, many_keeps, ended_eats, ended_keeps, listed, series}
+use Rattle.mesa_base.specs.declared.identifier.Identifier.{Identifier}
 use Rattle.mesa_types.specs.declared.syntax.Keyed.{Keyed}
 use Rattle.mesa_types.specs.declared.syntax.Entries.TheVariants.{Nothing, InOrder, ByKey}
 use Rattle.mesa_types.specs.declared.syntax.Operator.{Operator}

@@ -7,12 +7,12 @@ use Rattle.mesa_lexer.specs.declared.token.Kind.TheVariants as k
 use Rattle.mesa_lexer.specs.declared.word.Word.{Word}
 use Rattle.mesa_lexer.specs.declared.word.Word.TheVariants.{BeginWord, CodeWord, DefinitionsWord, DirectoryWord, EndWord, ErrorWord, ExportsWord, FromWord, ImportsWord, OpenWord, ProgramWord, ReturnsWord, SignalWord, TypeWord, UsingWord}
 use Rattle.mesa_lexer.specs.declared.mark.Mark.TheVariants.{Semicolon, Colon, Comma, Dot, LeftBracket, RightBracket, LeftBrace, Equal}
-use Rattle.mesa_lexer.specs.Parsing.{token, mark, first, a_name, Go, Done, repeat, many_turn}
-use Rattle.mesa_lexer.specs.Parsing as w
-use Rattle.mesa_lexer.proofs.Exact.{Rel, first_none, first_assoc, Sample, Keeps, Took, Then, bind, done, imply, Plainly, bind_plain, alone, both, four, either}
-use Rattle.mesa_lexer.proofs.Branches.{name_is, choose_or, choose_must, option_or, option_must, word, when_keeps, of_kind}
-use Rattle.mesa_lexer.proofs.Loops.{Steps, Eats, growing, many_eats, many_keeps, eats_by, less_done, less_choose, less_either, no_more_done, no_more_goes, no_more_when}
-use Rattle.mesa_types.specs.declared.syntax.Identifier.{Identifier}
+use Rattle.token_cursor.specs.Parsing.{token, mark, first, a_name, Go, Done, repeat, many_turn}
+use Rattle.token_cursor.specs.Parsing as w
+use Rattle.token_cursor.proofs.Exact.{Rel, first_none, first_assoc, Sample, Keeps, Took, Then, bind, done, imply, Plainly, bind_plain, alone, both, four, either}
+use Rattle.token_cursor.proofs.Branches.{name_is, choose_or, choose_must, option_or, option_must, word, when_keeps, of_kind}
+use Rattle.token_cursor.proofs.Loops.{Steps, Eats, growing, many_eats, many_keeps, eats_by, less_done, less_choose, less_either, no_more_done, no_more_goes, no_more_when}
+use Rattle.mesa_base.specs.declared.identifier.Identifier.{Identifier}
 use Rattle.mesa_types.specs.declared.syntax.Labeled.{Labeled}
 use Rattle.mesa_types.specs.declared.syntax.FieldList.{FieldList}
 use Rattle.mesa_types.specs.declared.syntax.Head.{Head}

@@ -6,13 +6,13 @@ use Rattle.mesa_lexer.specs.declared.token.Kind.{Kind}
 use Rattle.mesa_lexer.specs.declared.token.Kind.TheVariants as k
 use Rattle.mesa_lexer.specs.declared.word.Word.TheVariants.{BeginWord, ContinueWord, DecreasingWord, DoWord, ElseWord, EnableWord, EndWord, EndcaseWord, EndloopWord, ExitWord, ExitsWord, ForWord, FromWord, GoWord, GotoWord, IfWord, InWord, LoopWord, NullWord, RejectWord, RepeatWord, ResumeWord, RetryWord, ReturnWord, SelectWord, ThenWord, ThroughWord, ToWord, TypeWord, UntilWord, WhileWord}
 use Rattle.mesa_lexer.specs.declared.mark.Mark.TheVariants.{Arrow, Semicolon, Colon, Comma, LeftBracket, RightBracket, LeftBrace, RightBrace, Equal, DoubleArrow}
-use Rattle.mesa_lexer.specs.Parsing.{token, mark, Parser, first, exactly, found, among, finds, Go, Done, repeat, many_turn, ended_turn}
-use Rattle.mesa_lexer.specs.Parsing as w
-use Rattle.mesa_lexer.proofs.Exact.{Rel, first_none, first_assoc, Free, After, Sample, Keeps, Took, Then, Pre, bind, done, ready, imply, Plainly, bind_plain, alone, single, both, three, four, either}
-use Rattle.mesa_lexer.proofs.Branches.{somewhere, choose_or, option_or, option_at, word, when_keeps, of_kind}
-use Rattle.mesa_lexer.proofs.Loops.{Steps, Eats, growing, many_eats, many_keeps, ended_eats, ended_keeps, listed, series, eats_by, less_done, less_choose, less_either, no_more_done, no_more_goes, no_more_when}
-use Rattle.mesa_types.specs.declared.syntax.Identifier.{Identifier}
-use Rattle.mesa_types.specs.declared.syntax.Placed.{Placed}
+use Rattle.token_cursor.specs.Parsing.{token, mark, Parser, first, exactly, found, among, finds, Go, Done, repeat, many_turn, ended_turn}
+use Rattle.token_cursor.specs.Parsing as w
+use Rattle.token_cursor.proofs.Exact.{Rel, first_none, first_assoc, Free, After, Sample, Keeps, Took, Then, Pre, bind, done, ready, imply, Plainly, bind_plain, alone, single, both, three, four, either}
+use Rattle.token_cursor.proofs.Branches.{somewhere, choose_or, option_or, option_at, word, when_keeps, of_kind}
+use Rattle.token_cursor.proofs.Loops.{Steps, Eats, growing, many_eats, many_keeps, ended_eats, ended_keeps, listed, series, eats_by, less_done, less_choose, less_either, no_more_done, no_more_goes, no_more_when}
+use Rattle.mesa_base.specs.declared.identifier.Identifier.{Identifier}
+use Rattle.mesa_base.specs.declared.placed.Placed.{Placed}
 use Rattle.mesa_types.specs.declared.syntax.Keyed.{Keyed}
 use Rattle.mesa_types.specs.declared.syntax.Entries.TheVariants.{Nothing, InOrder, ByKey}
 use Rattle.mesa_types.specs.declared.syntax.TypeExp.{TypeExp}

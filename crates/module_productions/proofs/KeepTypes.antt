@@ -6,12 +6,12 @@ use Rattle.mesa_lexer.specs.declared.token.Kind.{Kind}
 use Rattle.mesa_lexer.specs.declared.token.Kind.TheVariants as k
 use Rattle.mesa_lexer.specs.declared.word.Word.TheVariants.{ArrayWord, BooleanWord, CardinalWord, CharacterWord, IntegerWord, OfWord, RecordWord, StringWord}
 use Rattle.mesa_lexer.specs.declared.mark.Mark.TheVariants.{Colon, Comma, LeftBracket, RightBracket, LeftBrace, RightBrace}
-use Rattle.mesa_lexer.specs.Parsing.{token, mark, first, finds, Go, repeat, many_turn}
-use Rattle.mesa_lexer.specs.Parsing as w
-use Rattle.mesa_lexer.proofs.Exact.{Rel, first_none, first_assoc, Sample, Keeps, Took, Then, bind, done, imply, Past, bind_plain, alone, single, both, either}
-use Rattle.mesa_lexer.proofs.Branches.{option_or, word, when_keeps, of_kind}
-use Rattle.mesa_lexer.proofs.Loops.{Steps, Eats, growing, many_eats, many_keeps, stopping, eats_by, less_done, no_more_done, no_more_pure, less_choose, no_more_choose}
-use Rattle.mesa_types.specs.declared.syntax.Identifier.{Identifier}
+use Rattle.token_cursor.specs.Parsing.{token, mark, first, finds, Go, repeat, many_turn}
+use Rattle.token_cursor.specs.Parsing as w
+use Rattle.token_cursor.proofs.Exact.{Rel, first_none, first_assoc, Sample, Keeps, Took, Then, bind, done, imply, Past, bind_plain, alone, single, both, either}
+use Rattle.token_cursor.proofs.Branches.{option_or, word, when_keeps, of_kind}
+use Rattle.token_cursor.proofs.Loops.{Steps, Eats, growing, many_eats, many_keeps, stopping, eats_by, less_done, no_more_done, no_more_pure, less_choose, no_more_choose}
+use Rattle.mesa_base.specs.declared.identifier.Identifier.{Identifier}
 use Rattle.mesa_types.specs.declared.syntax.Labeled.{Labeled}
 use Rattle.mesa_types.specs.declared.syntax.TypeBase.{TypeBase}
 use Rattle.mesa_types.specs.declared.syntax.TypeBase.TheVariants.{Unsaid, OfInteger, OfCardinal, OfCharacter, OfName}

@@ -7,13 +7,13 @@ use Rattle.mesa_lexer.specs.declared.token.Kind.TheVariants as k
 use Rattle.mesa_lexer.specs.declared.word.Word.{Word}
 use Rattle.mesa_lexer.specs.declared.word.Word.TheVariants.{DirectoryWord, EnableWord, EndWord, ErrorWord, ExportsWord, ImportsWord, OpenWord, ProcWord, ProcedureWord, ReturnsWord, SignalWord, TypeWord, UsingWord}
 use Rattle.mesa_lexer.specs.declared.mark.Mark.TheVariants.{Semicolon, Colon, Comma, LeftBracket, RightBracket, RightBrace, Equal}
-use Rattle.mesa_lexer.specs.Parsing.{token, mark, Out, Got, Stop, Parser, and_then, ◌>>=◌, ◌>>◌, pure, first, exactly, found, finds, among, a_name, choose, option, need, when, Step, Go, Done, go_on, repeat, many_turn, many}
-use Rattle.mesa_lexer.specs.Parsing as w
-use Rattle.mesa_lexer.proofs.Exact.{Free, first_none}
-use Rattle.mesa_lexer.proofs.Branches.{or_true, among_every, passed, when_false, chosen}
-use Rattle.mesa_lexer.proofs.Loops.{Eats, unroll}
-use Rattle.mesa_lexer.proofs.Leading.{Leads, stand, finish, onto, under, comp, last, ahead, via, placed, at_once, turn_leads, many_more, many_end, Begins, when_begins}
-use Rattle.mesa_types.specs.declared.syntax.Identifier.{Identifier}
+use Rattle.token_cursor.specs.Parsing.{token, mark, Out, Got, Stop, Parser, and_then, ◌>>=◌, ◌>>◌, pure, first, exactly, found, finds, among, a_name, choose, option, need, when, Step, Go, Done, go_on, repeat, many_turn, many}
+use Rattle.token_cursor.specs.Parsing as w
+use Rattle.token_cursor.proofs.Exact.{Free, first_none}
+use Rattle.token_cursor.proofs.Branches.{or_true, among_every, passed, when_false, chosen}
+use Rattle.token_cursor.proofs.Loops.{Eats, unroll}
+use Rattle.token_cursor.proofs.Leading.{Leads, stand, finish, onto, under, comp, last, ahead, via, placed, at_once, turn_leads, many_more, many_end, Begins, when_begins}
+use Rattle.mesa_base.specs.declared.identifier.Identifier.{Identifier}
 use Rattle.mesa_types.specs.declared.syntax.Labeled.{Labeled}
 use Rattle.mesa_types.specs.declared.syntax.FieldList.{FieldList}
 use Rattle.mesa_types.specs.declared.syntax.TypeExp.{TypeExp}

@@ -6,12 +6,12 @@ use Rattle.mesa_lexer.specs.declared.token.Kind.{Kind}
 use Rattle.mesa_lexer.specs.declared.token.Kind.TheVariants as k
 use Rattle.mesa_lexer.specs.declared.word.Word.TheVariants.{DoWord, EnableWord, EndWord, EndcaseWord, EndloopWord}
 use Rattle.mesa_lexer.specs.declared.mark.Mark.TheVariants.{Semicolon, LeftBracket, RightBracket, RightBrace}
-use Rattle.mesa_lexer.specs.Parsing.{token, mark, pure, first, exactly, finds, among, Step, Go, repeat}
-use Rattle.mesa_lexer.specs.Parsing as w
-use Rattle.mesa_lexer.proofs.Exact.{Free, first_none}
-use Rattle.mesa_lexer.proofs.Leading.{Leads, stand, comp, via, placed, turn_leads, Begins}
-use Rattle.mesa_types.specs.declared.syntax.Identifier.{Identifier}
-use Rattle.mesa_types.specs.declared.syntax.Placed.{Placed}
+use Rattle.token_cursor.specs.Parsing.{token, mark, pure, first, exactly, finds, among, Step, Go, repeat}
+use Rattle.token_cursor.specs.Parsing as w
+use Rattle.token_cursor.proofs.Exact.{Free, first_none}
+use Rattle.token_cursor.proofs.Leading.{Leads, stand, comp, via, placed, turn_leads, Begins}
+use Rattle.mesa_base.specs.declared.identifier.Identifier.{Identifier}
+use Rattle.mesa_base.specs.declared.placed.Placed.{Placed}
 use Rattle.mesa_types.specs.declared.syntax.Keyed.{Keyed}
 use Rattle.mesa_types.specs.declared.syntax.Labeled.{Labeled}
 use Rattle.mesa_types.specs.declared.syntax.Entries.{Entries}

@@ -8,9 +8,9 @@ use Rattle.mesa_lexer.specs.declared.word.Word.{Word}
 use Rattle.mesa_lexer.specs.declared.mark.Mark.{Mark}
 use Rattle.mesa_lexer.specs.declared.word.Word.TheVariants.{DoWord, EndWord, EndcaseWord, EndloopWord, FromWord, InWord, IntegerWord, NullWord, OfWord, ThenWord, ToWord}
 use Rattle.mesa_lexer.specs.declared.mark.Mark.TheVariants.{Arrow, DotDot, LeftBracket, RightBracket, RightParenthesis, RightBrace}
-use Rattle.mesa_lexer.specs.Parsing.{token, word, mark, found, finds, a_name, among}
-use Rattle.mesa_lexer.proofs.Branches.{somewhere, Deep, deep_keeps, Every, or_true, among_every, named_every}
-use Rattle.mesa_types.specs.declared.syntax.Identifier.{Identifier}
+use Rattle.token_cursor.specs.Parsing.{token, word, mark, found, finds, a_name, among}
+use Rattle.token_cursor.proofs.Branches.{somewhere, Deep, deep_keeps, Every, or_true, among_every, named_every}
+use Rattle.mesa_base.specs.declared.identifier.Identifier.{Identifier}
 use Rattle.mesa_types.specs.declared.syntax.Entries.TheVariants.{Nothing}
 use Rattle.mesa_types.specs.declared.syntax.TypeBase.TheVariants.{Unsaid}
 use Rattle.mesa_types.specs.declared.syntax.Sign.TheVariants.{Positive, Negative}

@@ -6,15 +6,17 @@ use Rattle.mesa_lexer.specs.declared.token.Kind.{Kind}
 use Rattle.mesa_lexer.specs.declared.token.Kind.TheVariants as k
 use Rattle.mesa_lexer.specs.declared.word.Word.TheVariants.{AnyWord, UnwindWord, FinishedWord}
 use Rattle.mesa_lexer.specs.declared.mark.Mark.TheVariants.{Comma, Dot}
-use Rattle.mesa_lexer.specs.Parsing.{token, Parser, ◌>>=◌, refuse, a_name, choose, many_turn}
-use Rattle.mesa_lexer.proofs.Exact.{Test, Rel, first_none, Keeps, Took, Then, done, imply, Plainly, bind_plain}
-use Rattle.mesa_lexer.proofs.Branches.{name_is, choose_or, choose_must, option_or, of_kind}
-use Rattle.mesa_lexer.proofs.Loops.{Eats, many_eats, many_keeps, listed}
-use Rattle.mesa_types.specs.declared.syntax.Identifier.{Identifier}
+use Rattle.token_cursor.specs.Parsing.{token, Parser, ◌>>=◌, many_turn}
+use Rattle.token_cursor.proofs.Exact.{Test, Rel, first_none, Keeps, Took, Then, done, imply, Plainly, bind_plain}
+use Rattle.token_cursor.proofs.Branches.{option_or, of_kind}
+use Rattle.token_cursor.proofs.Loops.{Eats, many_eats, many_keeps, listed}
+use Rattle.mesa_base.specs.declared.identifier.Identifier.{Identifier}
 use Rattle.mesa_types.specs.declared.syntax.QualifiedName.{QualifiedName}
 use Rattle.mesa_types.specs.declared.syntax.Labels.TheVariants.{Any, Unwind, Signals}
 use Rattle.mesa_types.specs.declared.syntax.RepeatLabels.TheVariants.{Named, Finished}
 use Rattle.module_productions.specs.Signs.{spelled}
+pub use Rattle.token_cursor.proofs.Names.{name_or, name_must, NameIs, names_eats}
+use Rattle.token_cursor.proofs.Names as n
 use Rattle.module_productions.specs.Grammar as g
 use Rattle.module_productions.specs.Grammar.{qualified}
 use Rattle.module_productions.specs.Nested as r
@@ -23,25 +25,12 @@ use Rattle.module_productions.proofs.Readings.{cut}
 
 -- ---- a name that is taken
 
-named_kind : {X : Type 0} {l c : Test} (R : Rel X) (p : Identifier → Parser X) → ((i : Identifier) → Keeps l c (Took (spelled i) R) (p i)) → (n : List ℕ) (place : Place) (kind : Kind) → a_name kind ≡ Some n → Keeps l c (Took (token kind place) R) (p (identifier n place))
-named_kind {l = l} {c = c} R p h n place kind e = subst (λ z. Keeps l c (Took (token z place) R) (p (identifier n place))) (sym (name_is kind n e)) (h (identifier n place))
-
-pub name_or : {X : Type 0} {k l c : Test} {R : Rel X} {p : Identifier → Parser X} {q : Parser X} → ((i : Identifier) → Keeps l c (Took (spelled i) R) (p i)) → Keeps k c R q → Keeps k c R (choose a_name (λ n place. p (identifier n place)) q)
-name_or {R = R} {p = p} h g = choose_or (named_kind R p h) g
-
-pub name_must : {X : Type 0} {j l c : Test} {R : Rel X} {p : Identifier → Parser X} → j (k.Name []) ≡ false → ((i : Identifier) → Keeps l c (Took (spelled i) R) (p i)) → Keeps j c R (choose a_name (λ n place. p (identifier n place)) refuse)
-name_must {l = l} {R = R} {p = p} free h = choose_must {l = l} (k.Name []) [] refl free (named_kind R p h)
-
-abbrev pub NameIs : List Token → Identifier → List Token → Type 0
-NameIs ts i rest = ts ≡ spelled i ∷ rest
-
 pub named : Keeps cut cut (Plainly NameIs) r.named
-unfolding r.named
-named = name_must {l = cut} refl (λ i. done i (λ ws. (refl, refl)))
+named = n.named refl
 
 -- a name that must come, and then the rest
 pub by_name : {X : Type 0} {R : Rel X} {q : Identifier → Parser X} → ((i : Identifier) → Keeps cut cut (Took (spelled i) R) (q i)) → Keeps cut cut R (r.named >>= q)
-by_name {R = R} h = bind_plain named (λ i. imply (λ ts x rest o d us e. subst (λ z. R z x rest o) (sym e) d) (h i))
+by_name h = n.by_name {l = cut} refl h
 
 -- ---- names
 
@@ -49,18 +38,13 @@ abbrev pub Names : Rel (List Identifier)
 Names = Plainly g.IsNames
 
 pub names_step : (all : List Identifier) (o : Unit {0}) (place : Place) (kind : Kind) → comma kind ≡ Some o → Keeps cut cut (Took (token kind place) (Then Names Names all)) (r.names_step all o place)
-names_step all = of_kind cut cut (Then Names Names all) (r.names_step all tt) (k.Mark Comma) (λ place. by_name (λ i. done (all ++ i ∷ []) (λ ws us o d. (g.names d.0, first_none o ∙ d.1))))
-
-pub names_eats : Eats (many_turn comma r.names_step)
-names_eats = many_eats (λ all t. Took t (Then Names Names all)) comma r.names_step names_step
+names_step = n.names_step refl
 
 pub names_from : (i : Identifier) → Keeps cut cut (Took (spelled i) Names) (r.names_from i)
-unfolding r.names_from
-names_from i = imply (λ ts y rest o d. d (spelled i ∷ ts) None (g.name, refl)) (many_keeps Names comma r.names_step names_step (i ∷ []))
+names_from = n.names_from refl
 
 pub names : Keeps cut cut Names r.names
-unfolding r.names
-names = by_name names_from
+names = n.names refl
 
 pub qname_from : (i : Identifier) → Keeps cut cut (Took (spelled i) (Plainly g.IsQName)) (r.qname_from i)
 unfolding r.qname_from

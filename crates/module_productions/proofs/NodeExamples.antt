@@ -6,9 +6,9 @@ use Rattle.mesa_lexer.specs.declared.word.Word.{Word}
 use Rattle.mesa_lexer.specs.declared.mark.Mark.{Mark}
 use Rattle.mesa_lexer.specs.declared.word.Word.TheVariants.{BeginWord, EnableWord, EndWord, EndcaseWord, ExitsWord, FromWord, GotoWord, InWord, IntegerWord, NullWord, ProcedureWord, ProgramWord, SelectWord}
 use Rattle.mesa_lexer.specs.declared.mark.Mark.TheVariants.{Arrow, Colon, Comma, Dot, DotDot, DoubleArrow, Equal, LeftBracket, Minus, Plus, RightBracket, Semicolon, Sharp}
-use Rattle.mesa_lexer.specs.Parsing.{token, word, mark, Got}
-use Rattle.mesa_lexer.specs.Parsing as w
-use Rattle.mesa_lexer.proofs.Branches.{somewhere}
+use Rattle.token_cursor.specs.Parsing.{token, word, mark, Got}
+use Rattle.token_cursor.specs.Parsing as w
+use Rattle.token_cursor.proofs.Branches.{somewhere}
 use Rattle.mesa_types.specs.declared.syntax.Module.{Module}
 use Rattle.mesa_types.specs.SyntaxNodes.{head_nodes, declared_nodes, declaration_nodes, inner_nodes, defined_nodes, kind_nodes, directory_item_nodes, nodes}
 use Rattle.mesa_types.proofs.SyntaxForms as of

@@ -6,14 +6,14 @@ use Rattle.mesa_lexer.specs.declared.token.Kind.{Kind}
 use Rattle.mesa_lexer.specs.declared.token.Kind.TheVariants as k
 use Rattle.mesa_lexer.specs.declared.word.Word.TheVariants.{ArrayWord, BooleanWord, CardinalWord, CharacterWord, ContinueWord, ExitWord, FalseWord, GoWord, GotoWord, IfWord, IntegerWord, LoopWord, NullWord, RecordWord, RejectWord, ResumeWord, RetryWord, ReturnWord, SelectWord, StringWord, TrueWord, AnyWord, BeginWord, DoWord, ElseWord, EnableWord, EndWord, ExitsWord, ForWord, InWord, ThroughWord, TypeWord, UntilWord, UnwindWord, WhileWord}
 use Rattle.mesa_lexer.specs.declared.mark.Mark.TheVariants.{Arrow, Colon, Comma, Dot, LeftParenthesis, LeftBracket, RightBracket, LeftBrace, RightBrace, Equal, Bang, DoubleArrow}
-use Rattle.mesa_lexer.specs.Parsing.{token, mark, Got, Parser, and_then, ◌>>=◌, ◌>>◌, pure, refuse, first, only, exactly, finds, among, a_name, choose, option, need, repeat, many_turn, many, ended_turn, ended}
-use Rattle.mesa_lexer.specs.Parsing as w
-use Rattle.mesa_lexer.proofs.Exact.{Test, Free, Took, Then}
-use Rattle.mesa_lexer.proofs.Branches.{Every, among_every, only_is, passed, chosen}
-use Rattle.mesa_lexer.proofs.Loops.{Eats, many_eats}
-use Rattle.mesa_lexer.proofs.Leading.{Leads, stand, finish, onto, under, comp, ahead, via, at_once, many_end, Begins, stops_deep, own_place}
-use Rattle.mesa_types.specs.declared.syntax.Identifier.{Identifier}
-use Rattle.mesa_types.specs.declared.syntax.Placed.{Placed}
+use Rattle.token_cursor.specs.Parsing.{token, mark, Got, Parser, and_then, ◌>>=◌, ◌>>◌, pure, refuse, first, only, exactly, finds, among, a_name, choose, option, need, repeat, many_turn, many, ended_turn, ended}
+use Rattle.token_cursor.specs.Parsing as w
+use Rattle.token_cursor.proofs.Exact.{Test, Free, Took, Then}
+use Rattle.token_cursor.proofs.Branches.{Every, among_every, only_is, passed, chosen}
+use Rattle.token_cursor.proofs.Loops.{Eats, many_eats}
+use Rattle.token_cursor.proofs.Leading.{Leads, stand, finish, onto, under, comp, ahead, via, at_once, many_end, Begins, stops_deep, own_place}
+use Rattle.mesa_base.specs.declared.identifier.Identifier.{Identifier}
+use Rattle.mesa_base.specs.declared.placed.Placed.{Placed}
 use Rattle.mesa_types.specs.declared.syntax.Keyed.{Keyed}
 use Rattle.mesa_types.specs.declared.syntax.Labeled.{Labeled}
 use Rattle.mesa_types.specs.declared.syntax.Entries.{Entries}

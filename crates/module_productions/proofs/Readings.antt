@@ -4,10 +4,10 @@ use Rattle.mesa_base.specs.declared.place.Place.{Place}
 use Rattle.mesa_lexer.specs.declared.token.Kind.{Kind}
 use Rattle.mesa_lexer.specs.declared.token.Kind.TheVariants as k
 use Rattle.mesa_lexer.specs.declared.word.Word.TheVariants.{ElseWord}
-use Rattle.mesa_lexer.specs.Parsing.{token, only}
-use Rattle.mesa_lexer.proofs.Exact.{Test, Rel, Keeps, Took}
-use Rattle.mesa_types.specs.declared.syntax.Identifier.{Identifier}
-use Rattle.mesa_types.specs.declared.syntax.Placed.{Placed}
+use Rattle.token_cursor.specs.Parsing.{token, only}
+use Rattle.token_cursor.proofs.Exact.{Test, Rel, Keeps, Took}
+use Rattle.mesa_base.specs.declared.identifier.Identifier.{Identifier}
+use Rattle.mesa_base.specs.declared.placed.Placed.{Placed}
 use Rattle.mesa_types.specs.declared.syntax.Keyed.{Keyed}
 use Rattle.mesa_types.specs.declared.syntax.Labeled.{Labeled}
 use Rattle.mesa_types.specs.declared.syntax.Entries.{Entries}

@@ -1,8 +1,8 @@
 -- The nesting of readings, sealed: terms that speak of it stay small.
 use Rattle.std.proofs.Common.{◌≡◌, ℕ, List, Option, refl}
 use Rattle.mesa_lexer.specs.declared.token.Token.{Token}
-use Rattle.mesa_types.specs.declared.syntax.Identifier.{Identifier}
-use Rattle.mesa_types.specs.declared.syntax.Placed.{Placed}
+use Rattle.mesa_base.specs.declared.identifier.Identifier.{Identifier}
+use Rattle.mesa_base.specs.declared.placed.Placed.{Placed}
 use Rattle.mesa_types.specs.declared.syntax.Keyed.{Keyed}
 use Rattle.mesa_types.specs.declared.syntax.Labeled.{Labeled}
 use Rattle.mesa_types.specs.declared.syntax.Entries.{Entries}

@@ -5,11 +5,11 @@ use Rattle.mesa_lexer.specs.declared.token.Kind.{Kind}
 use Rattle.mesa_lexer.specs.declared.token.Kind.TheVariants as k
 use Rattle.mesa_lexer.specs.declared.word.Word.TheVariants.{ModWord}
 use Rattle.mesa_lexer.specs.declared.mark.Mark.TheVariants.{Colon, Dot, LeftBracket, Plus, Minus, Star, Slash}
-use Rattle.mesa_lexer.specs.Parsing.{only, exactly, found, finds, among, a_name}
-use Rattle.mesa_lexer.proofs.Exact.{Test, Free}
-use Rattle.mesa_lexer.proofs.Branches.{only_is}
-use Rattle.mesa_lexer.proofs.Leading.{Begins}
-use Rattle.mesa_types.specs.declared.syntax.Identifier.{Identifier}
+use Rattle.token_cursor.specs.Parsing.{only, exactly, found, finds, among, a_name}
+use Rattle.token_cursor.proofs.Exact.{Test, Free}
+use Rattle.token_cursor.proofs.Branches.{only_is}
+use Rattle.token_cursor.proofs.Leading.{Begins}
+use Rattle.mesa_base.specs.declared.identifier.Identifier.{Identifier}
 use Rattle.mesa_types.specs.declared.syntax.Operator.{Operator}
 use Rattle.mesa_types.specs.declared.syntax.Relation.{Relation}
 use Rattle.mesa_types.specs.declared.syntax.Sign.{Sign}

@@ -5,11 +5,11 @@ use Rattle.mesa_lexer.specs.declared.token.Token.{Token}
 use Rattle.mesa_lexer.specs.declared.token.Kind.{Kind}
 use Rattle.mesa_lexer.specs.declared.token.Kind.TheVariants as k
 use Rattle.mesa_lexer.specs.declared.mark.Mark.TheVariants.{Colon, Comma, Dot}
-use Rattle.mesa_lexer.specs.Parsing.{token, mark, Got, Parser, and_then, ◌>>=◌, pure, exactly, found, finds, a_name, choose, many}
-use Rattle.mesa_lexer.proofs.Exact.{Free}
-use Rattle.mesa_lexer.proofs.Branches.{chosen, passed, when_false}
-use Rattle.mesa_lexer.proofs.Leading.{Leads, stand, onto, comp, last, ahead, via, many_more, many_end, Begins, when_begins}
-use Rattle.mesa_types.specs.declared.syntax.Identifier.{Identifier}
+use Rattle.token_cursor.specs.Parsing.{token, mark, Got, Parser, and_then, ◌>>=◌, pure, exactly, found, finds, a_name, choose, many}
+use Rattle.token_cursor.proofs.Exact.{Free}
+use Rattle.token_cursor.proofs.Branches.{chosen, passed, when_false}
+use Rattle.token_cursor.proofs.Leading.{Leads, stand, onto, comp, last, ahead, via, many_more, many_end, Begins, when_begins}
+use Rattle.mesa_base.specs.declared.identifier.Identifier.{Identifier}
 use Rattle.mesa_types.specs.declared.syntax.QualifiedName.{QualifiedName}
 use Rattle.mesa_types.specs.declared.syntax.Entries.TheVariants.{Nothing, InOrder}
 use Rattle.mesa_types.specs.declared.syntax.Labels.{Labels}

@@ -2,14 +2,14 @@
 use Rattle.std.proofs.Common.{◌≡◌, ℕ, zero, suc, ◌+◌, ◌-◌, ◌<◌, ◌≤◌, length, take, drop, true, List, [], ◌∷◌, ◌++◌, Option, Some, None, ◌⊎◌, inl, inr, refl, sym, ap, subst, ◌∙◌, arith, append_assoc, length-append}
 use Rattle.std.proofs.Math.Seq.{take-append_seam, drop-append_seam}
 use Rattle.mesa_lexer.specs.declared.token.Token.{Token}
-use Rattle.mesa_lexer.specs.Parsing.{Why, Unexpected, TooDeep, Out, Got, Stop, pure}
+use Rattle.token_cursor.specs.Parsing.{Why, Unexpected, TooDeep, Out, Got, Stop, pure}
 use Rattle.mesa_types.specs.declared.syntax.Module.{Module}
 use Rattle.module_productions.specs.Modules.{IsModule, deep_module}
 use Rattle.module_productions.specs.Statements.{nested}
 use Rattle.module_productions.specs.Texts as r
 use Rattle.module_productions.specs.Answer.{Parses, Starts, TooDeepAt, IsShallow, UnexpectedAt, FaultAt, Answer, Tree, Fault, Answers, OneAnswer}
-use Rattle.mesa_lexer.proofs.Exact.{Test, Rel, Free, Same, same, After, Sample, Keeps, Gets, Halts, Holds, Then, bind, first_none, same_front}
-use Rattle.mesa_lexer.proofs.Leading.{Early, Leads, stand, onto, comp}
+use Rattle.token_cursor.proofs.Exact.{Test, Rel, Free, Same, same, After, Sample, Keeps, Gets, Halts, Holds, Then, bind, first_none, same_front}
+use Rattle.token_cursor.proofs.Leading.{Early, Leads, stand, onto, comp}
 use Rattle.module_productions.proofs.Readings.{cut}
 use Rattle.module_productions.proofs.Levels.{all_of}
 use Rattle.module_productions.proofs.KeepModules.{Module_at, module_text}

@@ -5,9 +5,9 @@ use Rattle.mesa_lexer.specs.declared.token.Kind.{Kind}
 use Rattle.mesa_lexer.specs.declared.token.Kind.TheVariants as k
 use Rattle.mesa_lexer.specs.declared.word.Word.TheVariants.{ArrayWord, BooleanWord, CardinalWord, CharacterWord, ErrorWord, FalseWord, InWord, IntegerWord, OfWord, RecordWord, SignalWord, StringWord, TrueWord}
 use Rattle.mesa_lexer.specs.declared.mark.Mark.TheVariants.{Semicolon, Colon, Comma, Dot, DotDot, LeftBracket, RightBracket, LeftParenthesis, RightParenthesis, LeftBrace, RightBrace, Bang, DoubleArrow}
-use Rattle.mesa_lexer.specs.Parsing.{Parser, ◌>>=◌, ◌>>◌, pure, refuse, finds, a_name, choose, option, need, when, Step, Go, Done, repeat, many, ended}
-use Rattle.mesa_types.specs.declared.syntax.Identifier.{Identifier}
-use Rattle.mesa_types.specs.declared.syntax.Placed.{Placed}
+use Rattle.token_cursor.specs.Parsing.{Parser, ◌>>=◌, ◌>>◌, pure, refuse, finds, a_name, choose, option, need, when, Step, Go, Done, repeat, many, ended}
+use Rattle.mesa_base.specs.declared.identifier.Identifier.{Identifier}
+use Rattle.mesa_base.specs.declared.placed.Placed.{Placed}
 use Rattle.mesa_types.specs.declared.syntax.Keyed.{Keyed}
 use Rattle.mesa_types.specs.declared.syntax.Labeled.{Labeled}
 use Rattle.mesa_types.specs.declared.syntax.Entries.{Entries}

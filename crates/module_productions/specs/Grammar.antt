@@ -7,10 +7,11 @@ use Rattle.mesa_lexer.specs.declared.token.Kind.{Kind}
 use Rattle.mesa_lexer.specs.declared.token.Kind.TheVariants as k
 use Rattle.mesa_lexer.specs.declared.word.Word.TheVariants.{AnyWord, ArrayWord, BeginWord, BooleanWord, CardinalWord, CharacterWord, ContinueWord, DecreasingWord, DoWord, ElseWord, EnableWord, EndWord, EndcaseWord, EndloopWord, ErrorWord, ExitWord, ExitsWord, FalseWord, FinishedWord, ForWord, FromWord, GoWord, GotoWord, IfWord, InWord, IntegerWord, LoopWord, NullWord, OfWord, RecordWord, RejectWord, RepeatWord, ResumeWord, RetryWord, ReturnWord, SelectWord, SignalWord, StringWord, ThenWord, ThroughWord, ToWord, TrueWord, TypeWord, UntilWord, UnwindWord, WhileWord}
 use Rattle.mesa_lexer.specs.declared.mark.Mark.TheVariants.{Arrow, Semicolon, Colon, Comma, Dot, DotDot, LeftBracket, RightBracket, LeftParenthesis, RightParenthesis, LeftBrace, RightBrace, Equal, Bang, DoubleArrow}
-use Rattle.mesa_lexer.specs.Parsing.{token, word, mark}
-use Rattle.mesa_types.specs.declared.syntax.Identifier.{Identifier}
+use Rattle.token_cursor.specs.Parsing.{token, word, mark}
+pub use Rattle.token_cursor.specs.Names.{IsNames, name, names}
+use Rattle.mesa_base.specs.declared.identifier.Identifier.{Identifier}
 use Rattle.mesa_types.specs.declared.syntax.QualifiedName.{QualifiedName}
-use Rattle.mesa_types.specs.declared.syntax.Placed.{Placed}
+use Rattle.mesa_base.specs.declared.placed.Placed.{Placed}
 use Rattle.mesa_types.specs.declared.syntax.Keyed.{Keyed}
 use Rattle.mesa_types.specs.declared.syntax.Labeled.{Labeled}
 use Rattle.mesa_types.specs.declared.syntax.Entries.{Entries}
@@ -98,11 +99,6 @@ abbrev pub block : Place → Option (Placed (List Arm)) → List (Labeled (List 
 block p e ls ss xs = roll-Block (record { place = p; enable = e; locals = ls; statements = ss; exits = xs })
 
 -- ---- names
-
--- Names = Name {"," Name}
-pub data IsNames : List Token → List Identifier → List Token → Type 0 where
-  name : {rest : List Token} {i : Identifier} → IsNames (spelled i ∷ rest) (i ∷ []) rest
-  names : {ts rest : List Token} {all : List Identifier} {i : Identifier} {p : Place} → IsNames ts all (mark Comma p ∷ spelled i ∷ rest) → IsNames ts (all ++ i ∷ []) rest
 
 -- QName = Name ["." Name]
 pub data IsQName : List Token → QualifiedName → List Token → Type 0 where

@@ -5,8 +5,11 @@ use Rattle.mesa_lexer.specs.declared.token.Kind.{Kind}
 use Rattle.mesa_lexer.specs.declared.token.Kind.TheVariants as k
 use Rattle.mesa_lexer.specs.declared.word.Word.TheVariants.{AnyWord, ArrayWord, BeginWord, BooleanWord, CardinalWord, CharacterWord, ContinueWord, DoWord, ErrorWord, ExitWord, FalseWord, FinishedWord, ForWord, GoWord, GotoWord, IfWord, InWord, IntegerWord, LoopWord, NotWord, NullWord, RecordWord, RejectWord, ResumeWord, RetryWord, ReturnWord, SelectWord, SignalWord, StringWord, ThroughWord, TrueWord, UntilWord, UnwindWord, WhileWord}
 use Rattle.mesa_lexer.specs.declared.mark.Mark.TheVariants.{Comma, Dot, LeftBracket, LeftParenthesis, LeftBrace, Plus, Minus, Tilde}
-use Rattle.mesa_lexer.specs.Parsing.{Parser, ◌>>=◌, pure, refuse, only, exactly, among, finds, a_name, choose, option, many}
-use Rattle.mesa_types.specs.declared.syntax.Identifier.{Identifier}
+use Rattle.token_cursor.specs.Parsing.{Parser, ◌>>=◌, pure, only, among, finds, a_name, option, many}
+pub use Rattle.token_cursor.specs.Parsing.{a_number, a_char, a_text}
+pub use Rattle.token_cursor.specs.ReadNames.{identifier, comma, names_step}
+unfoldable pub use Rattle.token_cursor.specs.ReadNames.{named, names_from, names}
+use Rattle.mesa_base.specs.declared.identifier.Identifier.{Identifier}
 use Rattle.mesa_types.specs.declared.syntax.QualifiedName.{QualifiedName}
 use Rattle.mesa_types.specs.declared.syntax.Labels.{Labels}
 use Rattle.mesa_types.specs.declared.syntax.Labels.TheVariants.{Any, Unwind, Signals}
@@ -28,18 +31,6 @@ pub record Nested : Type 0 where
   pub type : Option Identifier → Parser TypeExp
 
 -- ---- how texts begin
-
-abbrev pub a_number : Kind → Option ℕ
-a_number (k.Number n) = Some n
-a_number _ = None
-
-abbrev pub a_char : Kind → Option ℕ
-a_char (k.Char n) = Some n
-a_char _ = None
-
-abbrev pub a_text : Kind → Option (List ℕ)
-a_text (k.Text bytes) = Some bytes
-a_text _ = None
 
 abbrev pub type_starts : List Kind
 type_starts = k.Word IntegerWord ∷ k.Word CardinalWord ∷ k.Word CharacterWord ∷ k.Word BooleanWord ∷ k.Word StringWord ∷ k.Mark LeftBrace ∷ k.Word ArrayWord ∷ k.Word RecordWord ∷ k.Mark LeftBracket ∷ k.Mark LeftParenthesis ∷ []
@@ -75,29 +66,6 @@ abbrev pub begins_repeat : Kind → Bool
 begins_repeat kind = finds a_name kind || only (k.Word FinishedWord) kind
 
 -- ---- names
-
-abbrev pub identifier : List ℕ → Place → Identifier
-identifier n p = record { name = n; place = p }
-
-abbrev pub comma : Kind → Option (Unit {0})
-comma = exactly (k.Mark Comma)
-
-unfoldable pub named : Parser Identifier
-named = choose a_name (λ n p. pure (identifier n p)) refuse
-
-abbrev pub names_step : List Identifier → Unit {0} → Place → Parser (List Identifier)
-names_step all _ _ = do
-  i ← named
-  pure (all ++ i ∷ [])
-
--- names, of which the first was taken
-unfoldable pub names_from : Identifier → Parser (List Identifier)
-names_from i = many comma names_step (i ∷ [])
-
-unfoldable pub names : Parser (List Identifier)
-names = do
-  i ← named
-  names_from i
 
 unfoldable pub qname_from : Identifier → Parser QualifiedName
 qname_from i = option (k.Mark Dot) (λ _. do j ← named; pure (qualified i (Some j))) (pure (qualified i None))

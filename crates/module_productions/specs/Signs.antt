@@ -1,12 +1,10 @@
 -- Tokens of the module grammar that stand for one another or say something (Language Manual, appendix on syntax).
 use Rattle.std.specs.Prelude.{Bool, true, false, Option, Some, None}
-use Rattle.mesa_lexer.specs.declared.token.Token.{Token}
 use Rattle.mesa_lexer.specs.declared.token.Kind.{Kind}
 use Rattle.mesa_lexer.specs.declared.token.Kind.TheVariants as k
 use Rattle.mesa_lexer.specs.declared.word.Word.TheVariants.{AndWord, ModWord, NotWord, OrWord, ProcWord, ProcedureWord, PublicWord, PrivateWord}
 use Rattle.mesa_lexer.specs.declared.mark.Mark.TheVariants as m
-use Rattle.mesa_lexer.specs.Parsing.{token}
-use Rattle.mesa_types.specs.declared.syntax.Identifier.{Identifier}
+pub use Rattle.token_cursor.specs.Parsing.{spelled}
 use Rattle.mesa_types.specs.declared.syntax.Operator.{Operator}
 use Rattle.mesa_types.specs.declared.syntax.Operator.TheVariants as o
 use Rattle.mesa_types.specs.declared.syntax.Relation.{Relation}
@@ -15,10 +13,6 @@ use Rattle.mesa_types.specs.declared.syntax.Sign.{Sign}
 use Rattle.mesa_types.specs.declared.syntax.Sign.TheVariants.{Positive, Negative}
 use Rattle.mesa_types.specs.declared.syntax.Access.{Access}
 use Rattle.mesa_types.specs.declared.syntax.Access.TheVariants.{Public, Private}
-
--- the token of a name
-abbrev pub spelled : Identifier → Token
-spelled i = token (k.Name i.name) i.place
 
 abbrev pub disjoining : Kind → Option Operator
 disjoining (k.Word OrWord) = Some o.Or

@@ -5,8 +5,8 @@ use Rattle.mesa_lexer.specs.declared.token.Kind.TheVariants as k
 use Rattle.mesa_lexer.specs.declared.word.Word.{Word}
 use Rattle.mesa_lexer.specs.declared.word.Word.TheVariants.{BeginWord, CodeWord, DefinitionsWord, DirectoryWord, EndWord, ErrorWord, ExportsWord, FromWord, ImportsWord, OpenWord, ProgramWord, ReturnsWord, SignalWord, TypeWord, UsingWord}
 use Rattle.mesa_lexer.specs.declared.mark.Mark.TheVariants.{Colon, Dot, LeftBracket, RightBracket, LeftBrace, RightBrace, Equal}
-use Rattle.mesa_lexer.specs.Parsing.{Parser, Got, Stop, Unexpected, ◌>>=◌, ◌>>◌, pure, refuse, a_name, choose, option, need, when, Step, Go, Done, repeat, many}
-use Rattle.mesa_types.specs.declared.syntax.Identifier.{Identifier}
+use Rattle.token_cursor.specs.Parsing.{Parser, Got, Stop, Unexpected, ◌>>=◌, ◌>>◌, pure, refuse, a_name, choose, option, need, when, Step, Go, Done, repeat, many}
+use Rattle.mesa_base.specs.declared.identifier.Identifier.{Identifier}
 use Rattle.mesa_types.specs.declared.syntax.Labeled.{Labeled}
 use Rattle.mesa_types.specs.declared.syntax.FieldList.{FieldList}
 use Rattle.mesa_types.specs.declared.syntax.Statement.{Statement}

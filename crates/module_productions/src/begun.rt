@@ -1,5 +1,4 @@
-use mesa_base::Place;
-use mesa_types::syntax::Identifier;
+use mesa_base::{Identifier, Place};
 
 /// What of an expression was taken already, where that decided that it is one.
 #[derive(Drop)]

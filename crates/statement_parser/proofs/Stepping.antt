@@ -5,9 +5,9 @@ use Rattle.mesa_lexer.specs.declared.token.Token.{Token}
 use Rattle.mesa_lexer.specs.declared.token.Kind.{Kind}
 use Rattle.mesa_lexer.specs.declared.token.Kind.TheVariants as k
 use Rattle.mesa_lexer.specs.declared.word.Word.TheVariants.{InWord, DoWord, EndloopWord}
-use Rattle.mesa_lexer.specs.Parsing.{Out, Got, Stop, Parser, ◌>>=◌, ◌>>◌, and_then, pure, need, a_name, choose, when, Step, Go, Done, go_on, repeat}
-use Rattle.mesa_lexer.proofs.Loops.{unroll}
-use Rattle.mesa_types.specs.declared.syntax.Identifier.{Identifier}
+use Rattle.token_cursor.specs.Parsing.{Out, Got, Stop, Parser, ◌>>=◌, ◌>>◌, and_then, pure, need, a_name, choose, when, Step, Go, Done, go_on, repeat}
+use Rattle.token_cursor.proofs.Loops.{unroll}
+use Rattle.mesa_base.specs.declared.identifier.Identifier.{Identifier}
 use Rattle.mesa_types.specs.declared.syntax.Statement.TheVariants as s
 use Rattle.mesa_types.specs.declared.syntax.Count.TheVariants.{For}
 use Rattle.token_cursor.specs.Running.{taken, behind, next_is}

@@ -5,7 +5,7 @@ use Rattle.mesa_lexer.specs.declared.token.Kind.{Kind}
 use Rattle.mesa_lexer.specs.declared.token.Kind.TheVariants as k
 use Rattle.mesa_lexer.specs.declared.word.Word.TheVariants.{BeginWord, ContinueWord, EndWord, ErrorWord, IfWord, RejectWord, ResumeWord, RetryWord, ReturnWord, SelectWord, TypeWord}
 use Rattle.mesa_lexer.specs.declared.mark.Mark.TheVariants.{LeftBrace, LeftBracket, RightBrace}
-use Rattle.mesa_lexer.specs.Parsing.{Parser, ◌>>=◌, pure, among, option, when}
+use Rattle.token_cursor.specs.Parsing.{Parser, ◌>>=◌, pure, among, option, when}
 use Rattle.mesa_types.specs.declared.syntax.Defined.{Defined}
 use Rattle.mesa_types.specs.declared.syntax.Defined.TheVariants.{ErrorItem}
 use Rattle.mesa_types.specs.declared.syntax.Expr.{Expr}

@@ -3,21 +3,22 @@
 ghost use Rattle.std.specs.Prelude.{◌≡◌};
 ghost use Rattle.token_cursor.specs.Running.{Reads};
 ghost use Rattle.expression_parser.specs.Nests.{Nests};
-ghost use Rattle.mesa_lexer.specs.Parsing.{repeat, and_then, pure};
+ghost use Rattle.token_cursor.specs.Parsing.{repeat, and_then, pure};
 ghost use Rattle.module_productions.specs.Statements.{nested};
 ghost use Rattle.module_productions.specs.Statements as spec;
 ghost use Rattle.mesa_types.specs.declared.syntax.Statement.TheVariants as s;
 ghost use Rattle.statement_parser.specs.StatementTails.{last_of};
 ghost use Rattle.statement_parser.specs.StatementTails as tails;
-ghost use Rattle.mesa_lexer.specs.Parsing.{need};
+ghost use Rattle.token_cursor.specs.Parsing.{need};
 
 use crate::nesting::StatementParser;
-use mesa_base::{List, Place};
+use mesa_base::{Identifier, List, Place};
 use mesa_lexer::{Mark, Word};
 use mesa_types::syntax::{
-    Block, Expr, Identifier, Labeled, Local, Locals, Plain, Statement, Statements, TypeExp,
+    Block, Expr, Labeled, Local, Locals, Plain, Statement, Statements, TypeExp,
 };
 use module_productions::Begun;
+use module_tokens::begins::declares;
 use std::alloc::Global;
 use token_cursor::naming::names_from;
 use token_cursor::{Cursor, Stopped};
@@ -155,7 +156,7 @@ impl<
             let Some(first) = tokens.takes_name(self.level.alloc)? else {
                 return self.behind_locals(tokens, all);
             };
-            if !tokens.declares() {
+            if !declares(tokens) {
                 let statements = self.stmts(tokens, Some(first))?;
                 return Ok((all, statements));
             }

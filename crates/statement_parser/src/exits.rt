@@ -3,7 +3,7 @@
 ghost use Rattle.std.specs.Prelude.{◌≡◌};
 ghost use Rattle.token_cursor.specs.Running.{Reads};
 ghost use Rattle.expression_parser.specs.Nests.{Nests};
-ghost use Rattle.mesa_lexer.specs.Parsing.{ended, many, repeat};
+ghost use Rattle.token_cursor.specs.Parsing.{ended, many, repeat};
 ghost use Rattle.module_productions.specs.Nested.{begins_repeat};
 ghost use Rattle.module_productions.specs.Statements.{nested, semicolon, begins_label};
 ghost use Rattle.module_productions.specs.Statements as spec;
@@ -11,15 +11,16 @@ ghost use Rattle.std.specs.Prelude.{[], ◌∷◌, MatchResult};
 ghost use Rattle.token_cursor.specs.declared.fault.Stopped.TheVariants.{Memory};
 
 use crate::nesting::StatementParser;
-use mesa_base::{List, Place};
+use mesa_base::{Identifier, List, Place, Placed};
 use mesa_lexer::{Mark, Word};
 use mesa_types::syntax::{
-    Arm, Arms, Exit, Exits, Expr, Identifier, Labeled, Phrase, Placed, Repeat, Repeats, Statement,
-    TypeExp,
+    Arm, Arms, Exit, Exits, Expr, Labeled, Phrase, Repeat, Repeats, Statement, TypeExp,
 };
 use module_productions::Begun;
+use module_tokens::begins::begins_repeat;
+use module_tokens::naming::repeat_labels;
 use std::alloc::Global;
-use token_cursor::naming::{names, repeat_labels};
+use token_cursor::naming::names;
 use token_cursor::{Cursor, Stopped};
 
 /// A list of this arm alone.
@@ -103,7 +104,7 @@ impl<
         ensures { Reads (ended semicolon begins_repeat (spec.repeats_step (nested self.now.level.depth)) all tokens.old.rest.now) result tokens.new.rest.now }
     {
         'ends: while tokens.takes_mark(Mark::Semicolon).is_some() {
-            if !tokens.begins_repeat() {
+            if !begins_repeat(tokens) {
                 break;
             }
             all.push(self.an_end(tokens)?)?;

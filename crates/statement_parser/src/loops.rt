@@ -7,9 +7,9 @@ ghost use Rattle.module_productions.specs.Statements.{nested};
 ghost use Rattle.module_productions.specs.Statements as spec;
 
 use crate::nesting::StatementParser;
-use mesa_base::{Boxed, Place};
+use mesa_base::{Boxed, Identifier, Place};
 use mesa_lexer::Word;
-use mesa_types::syntax::{Condition, Control, Count, Expr, Identifier, Statement, TypeExp};
+use mesa_types::syntax::{Condition, Control, Count, Expr, Statement, TypeExp};
 use module_productions::Begun;
 use std::alloc::Global;
 use token_cursor::naming::named;

@@ -3,16 +3,18 @@
 ghost use Rattle.std.specs.Prelude.{◌≡◌};
 ghost use Rattle.token_cursor.specs.Running.{Reads};
 ghost use Rattle.expression_parser.specs.Nests.{Nests};
-ghost use Rattle.mesa_lexer.specs.Parsing.{ended, many};
+ghost use Rattle.token_cursor.specs.Parsing.{ended, many};
 ghost use Rattle.module_productions.specs.Nested.{begins_test, comma};
 ghost use Rattle.module_productions.specs.Statements.{nested, semicolon};
 ghost use Rattle.module_productions.specs.Statements as spec;
 
 use crate::nesting::StatementParser;
-use mesa_base::{Boxed, List, Place};
+use mesa_base::{Boxed, Identifier, List, Place};
 use mesa_lexer::{Mark, Word};
-use mesa_types::syntax::{Case, Cases, Expr, Identifier, Statement, Test, Tests, TypeExp};
+use mesa_types::syntax::{Case, Cases, Expr, Statement, Test, Tests, TypeExp};
 use module_productions::Begun;
+use module_tokens::begins::begins_test;
+use module_tokens::signs::{takes_negating, takes_relating};
 use std::alloc::Global;
 use token_cursor::{Cursor, Stopped};
 
@@ -27,7 +29,7 @@ impl<
         requires { Nests self.now.level.depth (F.pre self.now.level.stmt) (F.post self.now.level.stmt) (G.pre self.now.level.expr) (G.post self.now.level.expr) (H.pre self.now.level.type_exp) (H.post self.now.level.type_exp) }
         ensures { Reads (spec.after_not (nested self.now.level.depth) place tokens.old.rest.now) result tokens.new.rest.now }
     {
-        if let Some((relation, at)) = tokens.takes_relating() {
+        if let Some((relation, at)) = takes_relating(tokens) {
             let right = self.level.sum(tokens, None)?;
             return Ok(Test::Compared(true, relation, at, right));
         }
@@ -49,7 +51,7 @@ impl<
         requires { Nests self.now.level.depth (F.pre self.now.level.stmt) (F.post self.now.level.stmt) (G.pre self.now.level.expr) (G.post self.now.level.expr) (H.pre self.now.level.type_exp) (H.post self.now.level.type_exp) }
         ensures { Reads (spec.unnegated (nested self.now.level.depth) tokens.old.rest.now) result tokens.new.rest.now }
     {
-        if let Some((relation, at)) = tokens.takes_relating() {
+        if let Some((relation, at)) = takes_relating(tokens) {
             let right = self.level.sum(tokens, None)?;
             return Ok(Test::Compared(false, relation, at, right));
         }
@@ -73,7 +75,7 @@ impl<
         if !self.level.can() {
             return self.unnegated(tokens);
         }
-        match tokens.takes_negating() {
+        match takes_negating(tokens) {
             Some(place) => self.after_not(tokens, place),
             None => self.unnegated(tokens),
         }
@@ -111,7 +113,7 @@ impl<
         ensures { Reads (ended semicolon begins_test (spec.cases_step (nested self.now.level.depth)) all tokens.old.rest.now) result tokens.new.rest.now }
     {
         'cases: while tokens.takes_mark(Mark::Semicolon).is_some() {
-            if !tokens.begins_test() {
+            if !begins_test(tokens) {
                 break;
             }
             all.push(self.case(tokens)?)?;
@@ -134,7 +136,7 @@ impl<
         requires { Nests self.now.level.depth (F.pre self.now.level.stmt) (F.post self.now.level.stmt) (G.pre self.now.level.expr) (G.post self.now.level.expr) (H.pre self.now.level.type_exp) (H.post self.now.level.type_exp) }
         ensures { Reads (spec.case_list (nested self.now.level.depth) tokens.old.rest.now) result tokens.new.rest.now }
     {
-        if !tokens.begins_test() {
+        if !begins_test(tokens) {
             return Ok(List::new(self.level.alloc));
         }
         self.cases(tokens)

@@ -3,7 +3,7 @@
 ghost use Rattle.std.specs.Prelude.{◌≡◌};
 ghost use Rattle.token_cursor.specs.Running.{Reads};
 ghost use Rattle.expression_parser.specs.Nests.{Nests};
-ghost use Rattle.mesa_lexer.specs.Parsing.{ended};
+ghost use Rattle.token_cursor.specs.Parsing.{ended};
 ghost use Rattle.module_productions.specs.Nested.{begins_stmt};
 ghost use Rattle.module_productions.specs.Statements.{nested, semicolon};
 ghost use Rattle.module_productions.specs.Statements as spec;
@@ -11,10 +11,11 @@ ghost use Rattle.statement_parser.specs.StatementTails as tails;
 
 use crate::blocks::BlockEnd;
 use crate::nesting::StatementParser;
-use mesa_base::{Boxed, List, Place};
+use mesa_base::{Boxed, Identifier, List, Place};
 use mesa_lexer::{Mark, Word};
-use mesa_types::syntax::{Expr, Identifier, Statement, Statements, TypeExp};
+use mesa_types::syntax::{Expr, Statement, Statements, TypeExp};
 use module_productions::Begun;
+use module_tokens::begins::{begins_raise, begins_stmt};
 use std::alloc::Global;
 use token_cursor::naming::named;
 use token_cursor::{Cursor, Stopped};
@@ -50,7 +51,7 @@ impl<
         ensures { Reads (ended semicolon begins_stmt (spec.stmts_step (nested self.now.level.depth)) all tokens.old.rest.now) result tokens.new.rest.now }
     {
         'statements: while tokens.takes_mark(Mark::Semicolon).is_some() {
-            if !tokens.begins_stmt() {
+            if !begins_stmt(tokens) {
                 break;
             }
             all.push(self.level.stmt(tokens, None)?)?;
@@ -64,7 +65,7 @@ impl<
         requires { Nests self.now.level.depth (F.pre self.now.level.stmt) (F.post self.now.level.stmt) (G.pre self.now.level.expr) (G.post self.now.level.expr) (H.pre self.now.level.type_exp) (H.post self.now.level.type_exp) }
         ensures { Reads (spec.body (nested self.now.level.depth) tokens.old.rest.now) result tokens.new.rest.now }
     {
-        if !tokens.begins_stmt() {
+        if !begins_stmt(tokens) {
             return Ok(List::new(self.level.alloc));
         }
         self.stmts(tokens, None)
@@ -131,7 +132,7 @@ impl<
         requires { Nests self.now.level.depth (F.pre self.now.level.stmt) (F.post self.now.level.stmt) (G.pre self.now.level.expr) (G.post self.now.level.expr) (H.pre self.now.level.type_exp) (H.post self.now.level.type_exp) }
         ensures { Reads (tails.raise_or_loop (nested self.now.level.depth) tokens.old.rest.now) result tokens.new.rest.now }
     {
-        if !tokens.begins_raise() {
+        if !begins_raise(tokens) {
             return self.loop_statement(tokens);
         }
         let raise = self.level.raise(tokens)?;

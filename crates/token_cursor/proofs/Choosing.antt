@@ -3,7 +3,7 @@ use Rattle.std.proofs.Common.{◌≡◌, Bool, true, false, cond, List, Option, 
 use Rattle.mesa_base.specs.declared.place.Place.{Place}
 use Rattle.mesa_lexer.specs.declared.token.Token.{Token}
 use Rattle.mesa_lexer.specs.declared.token.Kind.{Kind}
-use Rattle.mesa_lexer.specs.Parsing.{Parser, choose, when}
+use Rattle.token_cursor.specs.Parsing.{Parser, choose, when}
 use Rattle.token_cursor.specs.Running.{next_is, taken, behind}
 use Rattle.token_cursor.proofs.Taking.{chosen, choose_by, when_by}
 

@@ -4,8 +4,8 @@ use Rattle.std.proofs.Math.Seq.{take-length}
 use Rattle.mesa_base.specs.declared.place.Place.{Place}
 use Rattle.mesa_lexer.specs.declared.token.Token.{Token}
 use Rattle.mesa_lexer.specs.declared.token.Kind.{Kind}
-use Rattle.mesa_lexer.specs.Parsing.{Out, Got, Stop, Parser, ◌>>=◌, and_then, pure, exactly, choose, when, picked, found, Step, Go, Done, go_on, goes, many_turn, many, ended_turn, ended}
-use Rattle.mesa_lexer.proofs.Loops.{Eats, unroll}
+use Rattle.token_cursor.specs.Parsing.{Out, Got, Stop, Parser, ◌>>=◌, and_then, pure, exactly, choose, when, picked, found, Step, Go, Done, go_on, goes, many_turn, many, ended_turn, ended}
+use Rattle.token_cursor.proofs.Loops.{Eats, unroll}
 use Rattle.token_cursor.specs.Running.{next, next_is, skip, taken, behind, with_place}
 
 abbrev pub chosen : {O A : Type 0} → Option (O × Place) → (O → Place → Parser A) → Parser A → Parser A

@@ -1,1 +1,4 @@
+pub mod Parsing
+pub mod Names
+pub mod ReadNames
 pub mod Running

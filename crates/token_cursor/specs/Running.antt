@@ -5,11 +5,11 @@ use Rattle.mesa_lexer.specs.declared.fault.SyntaxFault.{SyntaxFault}
 use Rattle.mesa_lexer.specs.declared.fault.SyntaxFault.TheVariants as s
 use Rattle.mesa_lexer.specs.declared.token.Token.{Token}
 use Rattle.mesa_lexer.specs.declared.token.Kind.{Kind}
-use Rattle.mesa_types.specs.declared.syntax.Identifier.{Identifier}
-use Rattle.mesa_types.specs.declared.syntax.Placed.{Placed}
+use Rattle.mesa_base.specs.declared.identifier.Identifier.{Identifier}
+use Rattle.mesa_base.specs.declared.placed.Placed.{Placed}
 use Rattle.token_cursor.specs.declared.fault.Stopped.{Stopped}
 use Rattle.token_cursor.specs.declared.fault.Stopped.TheVariants as f
-use Rattle.mesa_lexer.specs.Parsing.{Why, Unexpected, TooDeep, Out, Got, Stop, Parser, finds}
+use Rattle.token_cursor.specs.Parsing.{Why, Unexpected, TooDeep, Out, Got, Stop, Parser, finds}
 
 -- Memory has no place among the answers of a parser.
 abbrev pub why_of : Stopped → Why

@@ -2,14 +2,12 @@
 ghost use Rattle.std.specs.Prelude.{◌≡◌, IfOk};
 ghost use Rattle.std.specs.Option.{option_copied};
 ghost use Rattle.mesa_lexer.specs.declared.token.Kind.TheVariants as k;
-ghost use Rattle.mesa_lexer.specs.Parsing.{a_name, exactly, need, only};
-ghost use Rattle.token_cursor.specs.Running.{Reads, alone, as_parts, behind, next, skip, taken, text_parts};
-ghost use Rattle.module_productions.specs.Nested.{a_char, a_number, a_text};
+ghost use Rattle.token_cursor.specs.Parsing.{a_char, a_name, a_number, a_text, exactly, finds, need, only};
+ghost use Rattle.token_cursor.specs.Running.{Reads, alone, as_parts, behind, next, next_is, skip, taken, text_parts};
 
 use crate::fault::Stopped;
-use mesa_base::{Bytes, List, OutOfMemory, Place};
+use mesa_base::{Bytes, Identifier, List, OutOfMemory, Place, Placed};
 use mesa_lexer::{Kind, Mark, Token, Word};
-use mesa_types::syntax::{Identifier, Placed};
 use std::alloc::Global;
 
 /// Whether a token of this kind is the word.
@@ -83,6 +81,17 @@ impl<'a> Cursor<'a> {
         }
         self.skip();
         Some(token.place)
+    }
+
+    /// Whether a name comes next.
+    #[tactic(auto, unfolding(crate::specs::Running::next_is))]
+    pub fn begins_name(&self) -> bool
+        ensures { result ≡ next_is (finds a_name) self.now.rest.now }
+    {
+        match self.peek() {
+            Some(token) => matches!(token.kind, Kind::Name(_)),
+            None => false,
+        }
     }
 
     /// Takes a name where one comes next.
@@ -162,7 +171,7 @@ impl<'a> Cursor<'a> {
     }
 
     /// Takes the word, which must come, and tells its place. Unexpected: another token comes, or none.
-    #[tactic(auto, using(crate::proofs::Taking::choose_by), unfolding(mesa_lexer::specs::Parsing::need))]
+    #[tactic(auto, using(crate::proofs::Taking::choose_by), unfolding(crate::specs::Parsing::need))]
     pub fn need_word(&mut self, word: Word) -> Result<Place, Stopped>
         ensures { Reads (need (k.Word word) self.old.rest.now) result self.new.rest.now }
     {
@@ -173,7 +182,7 @@ impl<'a> Cursor<'a> {
     }
 
     /// Takes the mark, which must come, and tells its place. Unexpected: another token comes, or none.
-    #[tactic(auto, using(crate::proofs::Taking::choose_by), unfolding(mesa_lexer::specs::Parsing::need))]
+    #[tactic(auto, using(crate::proofs::Taking::choose_by), unfolding(crate::specs::Parsing::need))]
     pub fn need_mark(&mut self, mark: Mark) -> Result<Place, Stopped>
         ensures { Reads (need (k.Mark mark) self.old.rest.now) result self.new.rest.now }
     {

@@ -1,11 +1,10 @@
-//! A cursor over tokens: which token comes next, and names, words and marks that are taken or must come.
+//! Parsers on tokens, of which those of modules and of configurations are made: a cursor that tells which token comes next,
+//! and takes names, words and marks that may or must come.
 #![tactic(auto)]
 
-mod begins;
 mod cursor;
 mod fault;
 pub mod naming;
-mod signs;
 
-pub use cursor::Cursor;
+pub use cursor::{Cursor, is_mark, is_word};
 pub use fault::Stopped;

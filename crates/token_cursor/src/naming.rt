@@ -1,18 +1,17 @@
 //! Names and lists of names.
 ghost use Rattle.std.specs.Prelude.{◌≡◌};
-ghost use Rattle.mesa_lexer.specs.Parsing.{many};
+ghost use Rattle.token_cursor.specs.Parsing.{many};
 ghost use Rattle.token_cursor.specs.Running.{Reads};
-ghost use Rattle.module_productions.specs.Nested as spec;
+ghost use Rattle.token_cursor.specs.ReadNames as spec;
 
 use crate::cursor::Cursor;
 use crate::fault::Stopped;
-use mesa_base::List;
-use mesa_lexer::{Mark, Word};
-use mesa_types::syntax::{Identifier, Identifiers, Labels, QualifiedName, RepeatLabels};
+use mesa_base::{Identifier, Identifiers, List};
+use mesa_lexer::Mark;
 use std::alloc::Global;
 
 /// A name, which must come. Unexpected: another token comes, or none.
-#[tactic(auto, using(crate::proofs::Taking::choose_by), unfolding(module_productions::specs::Nested::named))]
+#[tactic(auto, using(crate::proofs::Taking::choose_by), unfolding(crate::specs::ReadNames::named))]
 pub fn named(alloc: Global, tokens: &mut Cursor<'_>) -> Result<Identifier, Stopped>
     ensures { Reads (spec.named tokens.old.rest.now) result tokens.new.rest.now }
 {
@@ -22,33 +21,8 @@ pub fn named(alloc: Global, tokens: &mut Cursor<'_>) -> Result<Identifier, Stopp
     }
 }
 
-/// A name that a dot and another name may follow; the first was taken. Unexpected: a dot with no name behind it.
-#[tactic(auto, using(crate::proofs::Taking::choose_by), unfolding(module_productions::specs::Nested::qname_from))]
-pub fn qname_from(
-    alloc: Global,
-    tokens: &mut Cursor<'_>,
-    first: Identifier,
-) -> Result<QualifiedName, Stopped>
-    ensures { Reads (spec.qname_from first tokens.old.rest.now) result tokens.new.rest.now }
-{
-    let second = match tokens.takes_mark(Mark::Dot) {
-        Some(_) => Some(named(alloc, tokens)?),
-        None => None,
-    };
-    Ok(QualifiedName { first, second })
-}
-
-/// A name that a dot and another name may follow. Unexpected: a name is lacking.
-#[tactic(auto, unfolding(module_productions::specs::Nested::qname))]
-pub fn qname(alloc: Global, tokens: &mut Cursor<'_>) -> Result<QualifiedName, Stopped>
-    ensures { Reads (spec.qname tokens.old.rest.now) result tokens.new.rest.now }
-{
-    let first = named(alloc, tokens)?;
-    qname_from(alloc, tokens, first)
-}
-
 /// Names, of which some were taken.
-#[tactic(auto, using(crate::proofs::Taking::many_by, module_productions::proofs::Names::names_eats))]
+#[tactic(auto, using(crate::proofs::Taking::many_by, crate::proofs::Names::names_eats))]
 fn more_names(
     alloc: Global,
     tokens: &mut Cursor<'_>,
@@ -63,7 +37,7 @@ fn more_names(
 }
 
 /// Names with commas between, of which the first was taken. Unexpected: a comma with no name behind it.
-#[tactic(auto, unfolding(module_productions::specs::Nested::names_from))]
+#[tactic(auto, unfolding(crate::specs::ReadNames::names_from))]
 pub fn names_from(
     alloc: Global,
     tokens: &mut Cursor<'_>,
@@ -77,58 +51,10 @@ pub fn names_from(
 }
 
 /// One name or more, with commas between. Unexpected: a name is lacking.
-#[tactic(auto, unfolding(module_productions::specs::Nested::names))]
+#[tactic(auto, unfolding(crate::specs::ReadNames::names))]
 pub fn names(alloc: Global, tokens: &mut Cursor<'_>) -> Result<Identifiers, Stopped>
     ensures { Reads (spec.names tokens.old.rest.now) result tokens.new.rest.now }
 {
     let first = named(alloc, tokens)?;
     names_from(alloc, tokens, first)
-}
-
-#[tactic(auto, using(crate::proofs::Taking::many_by, module_productions::proofs::Names::qnames_eats))]
-fn more_qnames(
-    alloc: Global,
-    tokens: &mut Cursor<'_>,
-    mut all: List<QualifiedName>,
-) -> Result<List<QualifiedName>, Stopped>
-    ensures { Reads (many spec.comma spec.qnames_step all tokens.old.rest.now) result tokens.new.rest.now }
-{
-    'qnames: while tokens.takes_mark(Mark::Comma).is_some() {
-        all.push(qname(alloc, tokens)?)?;
-    }
-    Ok(all)
-}
-
-#[tactic(auto, unfolding(module_productions::specs::Nested::qnames))]
-fn qnames(alloc: Global, tokens: &mut Cursor<'_>) -> Result<List<QualifiedName>, Stopped>
-    ensures { Reads (spec.qnames tokens.old.rest.now) result tokens.new.rest.now }
-{
-    let mut all = List::new(alloc);
-    all.push(qname(alloc, tokens)?)?;
-    more_qnames(alloc, tokens, all)
-}
-
-/// The labels of an arm: ANY, UNWIND, or names of signals. Unexpected: a name is lacking.
-#[tactic(auto, using(crate::proofs::Choosing::choose_none, crate::proofs::Choosing::choose_some), unfolding(module_productions::specs::Nested::labels))]
-pub fn labels(alloc: Global, tokens: &mut Cursor<'_>) -> Result<Labels, Stopped>
-    ensures { Reads (spec.labels tokens.old.rest.now) result tokens.new.rest.now }
-{
-    if let Some(place) = tokens.takes_word(Word::AnyWord) {
-        return Ok(Labels::Any(place));
-    }
-    match tokens.takes_word(Word::UnwindWord) {
-        Some(place) => Ok(Labels::Unwind(place)),
-        None => Ok(Labels::Signals(qnames(alloc, tokens)?)),
-    }
-}
-
-/// The labels of an end of a loop: FINISHED, or names. Unexpected: a name is lacking.
-#[tactic(auto, using(crate::proofs::Taking::choose_by), unfolding(module_productions::specs::Nested::repeat_labels))]
-pub fn repeat_labels(alloc: Global, tokens: &mut Cursor<'_>) -> Result<RepeatLabels, Stopped>
-    ensures { Reads (spec.repeat_labels tokens.old.rest.now) result tokens.new.rest.now }
-{
-    match tokens.takes_word(Word::FinishedWord) {
-        Some(place) => Ok(RepeatLabels::Finished(place)),
-        None => Ok(RepeatLabels::Named(names(alloc, tokens)?)),
-    }
 }

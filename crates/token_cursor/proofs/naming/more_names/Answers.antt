@@ -1,7 +1,7 @@
 use Rattle.std.proofs.Common.{rules, arith}
 use Rattle.std.proofs.lemmas.Grind.{common_steps}
-use Rattle.module_productions.specs.Nested.{comma, names_step}
-use Rattle.module_productions.proofs.Names.{names_eats}
+use Rattle.token_cursor.specs.ReadNames.{comma, names_step}
+use Rattle.token_cursor.proofs.Names.{names_eats}
 use Rattle.token_cursor.proofs.Taking.{many_falls}
 use Rattle.token_cursor.proofs.naming.more_names.Goals as goal
 

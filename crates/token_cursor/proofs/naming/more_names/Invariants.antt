@@ -1,6 +1,6 @@
 use Rattle.std.proofs.Common.{◌≡◌, length}
-use Rattle.mesa_lexer.specs.Parsing.{many}
-use Rattle.module_productions.specs.Nested.{comma, names_step}
+use Rattle.token_cursor.specs.Parsing.{many}
+use Rattle.token_cursor.specs.ReadNames.{comma, names_step}
 use Rattle.token_cursor.proofs.naming.more_names.Given as goal
 
 abbrev pub invariant-names : goal.invariant-names

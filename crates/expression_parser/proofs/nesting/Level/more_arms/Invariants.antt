@@ -1,5 +1,5 @@
 use Rattle.std.proofs.Common.{◌≡◌, length}
-use Rattle.mesa_lexer.specs.Parsing.{ended}
+use Rattle.token_cursor.specs.Parsing.{ended}
 use Rattle.mesa_lexer.specs.declared.token.Kind.TheVariants as k
 use Rattle.mesa_lexer.specs.declared.mark.Mark.TheVariants.{Semicolon}
 use Rattle.module_productions.specs.Nested.{begins_arm}

@@ -1,5 +1,5 @@
 use Rattle.std.proofs.Common.{◌≡◌, length}
-use Rattle.mesa_lexer.specs.Parsing.{many}
+use Rattle.token_cursor.specs.Parsing.{many}
 use Rattle.module_productions.specs.Nested.{comma}
 use Rattle.module_productions.specs.Expressions.{exprs_step}
 use Rattle.module_productions.specs.Statements.{nested}

@@ -1,5 +1,5 @@
 use Rattle.std.proofs.Common.{◌≡◌, length}
-use Rattle.mesa_lexer.specs.Parsing.{many}
+use Rattle.token_cursor.specs.Parsing.{many}
 use Rattle.module_productions.specs.Expressions.{suffixes_step, suffixing}
 use Rattle.module_productions.specs.Statements.{nested}
 use Rattle.expression_parser.proofs.nesting.Level.more_suffixes.Given as goal

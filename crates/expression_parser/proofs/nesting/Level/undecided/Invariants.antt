@@ -1,5 +1,5 @@
 use Rattle.std.proofs.Common.{◌≡◌, length}
-use Rattle.mesa_lexer.specs.Parsing.{repeat}
+use Rattle.token_cursor.specs.Parsing.{repeat}
 use Rattle.module_productions.specs.Expressions.{undecided_turn}
 use Rattle.module_productions.specs.Statements.{nested}
 use Rattle.expression_parser.proofs.nesting.Level.undecided.Given as goal

@@ -1,6 +1,6 @@
 use Rattle.std.proofs.Common.{rules, arith}
 use Rattle.std.proofs.lemmas.Grind.{common_steps}
-use Rattle.mesa_lexer.specs.Parsing.{a_name}
+use Rattle.token_cursor.specs.Parsing.{a_name}
 use Rattle.module_productions.specs.Statements.{nested}
 use Rattle.module_productions.specs.Texts.{definitions_step}
 use Rattle.mesa_grammar.proofs.FrontSteps.{definitions_eats}

@@ -1,5 +1,5 @@
 use Rattle.std.proofs.Common.{◌≡◌, length, []}
-use Rattle.mesa_lexer.specs.Parsing.{a_name, many}
+use Rattle.token_cursor.specs.Parsing.{a_name, many}
 use Rattle.module_productions.specs.Statements.{nested}
 use Rattle.module_productions.specs.Texts.{definitions_step}
 use Rattle.mesa_grammar.proofs.nesting.Grammar.definitions.Given as goal

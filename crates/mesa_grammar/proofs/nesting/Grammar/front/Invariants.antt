@@ -1,5 +1,5 @@
 use Rattle.std.proofs.Common.{◌≡◌, length}
-use Rattle.mesa_lexer.specs.Parsing.{repeat}
+use Rattle.token_cursor.specs.Parsing.{repeat}
 use Rattle.module_productions.specs.Statements.{nested}
 use Rattle.module_productions.specs.Texts.{front_turn}
 use Rattle.mesa_grammar.proofs.nesting.Grammar.front.Given as goal

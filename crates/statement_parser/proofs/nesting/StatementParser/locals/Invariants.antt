@@ -1,5 +1,5 @@
 use Rattle.std.proofs.Common.{◌≡◌, length}
-use Rattle.mesa_lexer.specs.Parsing.{repeat}
+use Rattle.token_cursor.specs.Parsing.{repeat}
 use Rattle.module_productions.specs.Statements.{nested}
 use Rattle.module_productions.specs.Statements.{head_turn}
 use Rattle.statement_parser.proofs.nesting.StatementParser.locals.Given as goal

@@ -1,5 +1,5 @@
 use Rattle.std.proofs.Common.{◌≡◌, length}
-use Rattle.mesa_lexer.specs.Parsing.{ended}
+use Rattle.token_cursor.specs.Parsing.{ended}
 use Rattle.module_productions.specs.Nested.{begins_stmt}
 use Rattle.module_productions.specs.Statements.{nested, semicolon, stmts_step}
 use Rattle.statement_parser.proofs.nesting.StatementParser.more_stmts.Given as goal

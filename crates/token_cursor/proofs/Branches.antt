@@ -7,8 +7,8 @@ use Rattle.mesa_lexer.specs.declared.token.Kind.{Kind}
 use Rattle.mesa_lexer.specs.declared.token.Kind.TheVariants as k
 use Rattle.mesa_lexer.specs.contracts.word.Word as words
 use Rattle.mesa_lexer.specs.contracts.mark.Mark as marks
-use Rattle.mesa_lexer.specs.Parsing.{token, TooDeep, Stop, Parser, ◌>>=◌, refuse, only, among, exactly, found, finds, a_name, picked, choose, option, need, when, too_deep}
-use Rattle.mesa_lexer.proofs.Exact.{Test, Rel, Free, Same, Holds, Sample, Keeps, At, everywhere, change, refused, done, Took, behind, imply, Plainly, Past, bind_plain}
+use Rattle.token_cursor.specs.Parsing.{token, TooDeep, Stop, Parser, ◌>>=◌, refuse, only, among, exactly, found, finds, a_name, picked, choose, option, need, when, too_deep}
+use Rattle.token_cursor.proofs.Exact.{Test, Rel, Free, Same, Holds, Sample, Keeps, At, everywhere, change, refused, done, Took, behind, imply, Plainly, Past, bind_plain}
 
 -- a place for the tokens of examples
 abbrev pub somewhere : Place

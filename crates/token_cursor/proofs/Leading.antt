@@ -3,10 +3,10 @@ use Rattle.std.proofs.Common.{◌≡◌, ◌≤◌, length, arith, cond, true, L
 use Rattle.mesa_base.specs.declared.place.Place.{Place}
 use Rattle.mesa_lexer.specs.declared.token.Token.{Token}
 use Rattle.mesa_lexer.specs.declared.token.Kind.{Kind}
-use Rattle.mesa_lexer.specs.Parsing.{token, first, TooDeep, Out, Got, Stop, Parser, and_then, pure, refuse, exactly, finds, choose, when, Step, Go, Done, go_on, repeat, goes, many_turn, many, ended_turn, ended, too_deep}
-use Rattle.mesa_lexer.proofs.Exact.{Test, Free}
-use Rattle.mesa_lexer.proofs.Branches.{chosen, passed, when_false}
-use Rattle.mesa_lexer.proofs.Loops.{Eats, unroll}
+use Rattle.token_cursor.specs.Parsing.{token, first, TooDeep, Out, Got, Stop, Parser, and_then, pure, refuse, exactly, finds, choose, when, Step, Go, Done, go_on, repeat, goes, many_turn, many, ended_turn, ended, too_deep}
+use Rattle.token_cursor.proofs.Exact.{Test, Free}
+use Rattle.token_cursor.proofs.Branches.{chosen, passed, when_false}
+use Rattle.token_cursor.proofs.Loops.{Eats, unroll}
 
 -- the parser stops, because something may be too deep, not after what is too deep in this reading
 pub record Early {Y : Type 0} (ts rest : List Token) (o : Option (List Token)) (out : Out Y) : Type 0 where

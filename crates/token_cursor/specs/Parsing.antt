@@ -2,6 +2,7 @@
 use Rattle.std.specs.Prelude.{ℕ, zero, suc, Bool, true, false, ◌||◌, cond, List, [], ◌∷◌, length, Option, Some, None}
 use denote.Enum.Bare.{sameb}
 use Rattle.mesa_base.specs.declared.place.Place.{Place}
+use Rattle.mesa_base.specs.declared.identifier.Identifier.{Identifier}
 use Rattle.mesa_lexer.specs.declared.token.Token.{Token}
 use Rattle.mesa_lexer.specs.declared.token.Kind.{Kind}
 use Rattle.mesa_lexer.specs.declared.token.Kind.TheVariants as k
@@ -19,6 +20,10 @@ word w place = token (k.Word w) place
 
 abbrev pub mark : Mark → Place → Token
 mark m place = token (k.Mark m) place
+
+-- the token of a name
+abbrev pub spelled : Identifier → Token
+spelled i = token (k.Name i.name) i.place
 
 -- why a parser stops: no text goes on with this token, or here begins what stands inside too many others
 pub data Why : Type 0 where
@@ -83,6 +88,18 @@ among (kind ∷ kinds) other = only kind other || among kinds other
 abbrev pub a_name : Kind → Option (List ℕ)
 a_name (k.Name name) = Some name
 a_name _ = None
+
+abbrev pub a_number : Kind → Option ℕ
+a_number (k.Number n) = Some n
+a_number _ = None
+
+abbrev pub a_char : Kind → Option ℕ
+a_char (k.Char n) = Some n
+a_char _ = None
+
+abbrev pub a_text : Kind → Option (List ℕ)
+a_text (k.Text bytes) = Some bytes
+a_text _ = None
 
 abbrev pub picked : {O A : Type 0} → Option O → (O → Place → Parser A) → Parser A → Token → List Token → Out A
 picked (Some o) p q t ts = p o t.place ts

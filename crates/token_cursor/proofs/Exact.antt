@@ -2,7 +2,7 @@
 use Rattle.std.proofs.Common.{◌≡◌, ◌≤◌, length, arith, Bool, cond, true, false, List, [], ◌∷◌, ◌++◌, Option, Some, None, ◌⊎◌, inl, inr, refl, sym, ap, subst, ◌∙◌, append_assoc, length-append}
 use Rattle.mesa_lexer.specs.declared.token.Token.{Token}
 use Rattle.mesa_lexer.specs.declared.token.Kind.{Kind}
-use Rattle.mesa_lexer.specs.Parsing.{first, Why, Unexpected, TooDeep, Out, Got, Stop, Parser, and_then, ◌>>=◌, pure, refuse}
+use Rattle.token_cursor.specs.Parsing.{first, Why, Unexpected, TooDeep, Out, Got, Stop, Parser, and_then, ◌>>=◌, pure, refuse}
 
 abbrev pub Test : Type 0
 Test = Kind → Bool

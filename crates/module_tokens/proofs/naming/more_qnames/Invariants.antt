@@ -1,7 +1,7 @@
 use Rattle.std.proofs.Common.{◌≡◌, length}
-use Rattle.mesa_lexer.specs.Parsing.{many}
+use Rattle.token_cursor.specs.Parsing.{many}
 use Rattle.module_productions.specs.Nested.{comma, qnames_step}
-use Rattle.token_cursor.proofs.naming.more_qnames.Given as goal
+use Rattle.module_tokens.proofs.naming.more_qnames.Given as goal
 
 abbrev pub invariant-qnames : goal.invariant-qnames
 invariant-qnames l = many comma qnames_step l.fn.all l.fn.tokens.rest.now ≡ many comma qnames_step l.all l.tokens.rest.now

@@ -3,9 +3,9 @@ use Rattle.std.proofs.Common.{◌≡◌, ℕ, zero, suc, ◌<◌, ◌≤◌, len
 use Rattle.mesa_base.specs.declared.place.Place.{Place}
 use Rattle.mesa_lexer.specs.declared.token.Token.{Token}
 use Rattle.mesa_lexer.specs.declared.token.Kind.{Kind}
-use Rattle.mesa_lexer.specs.Parsing.{token, first, Out, Got, Stop, Parser, and_then, ◌>>=◌, pure, refuse, exactly, picked, choose, when, Step, Go, Done, go_on, turns, repeat, goes, many_turn, many, ended_turn, ended}
-use Rattle.mesa_lexer.proofs.Exact.{Test, Rel, first_none, first_assoc, Holds, Sample, Keeps, bound, change, done, Then, Took, implied, imply, bind, shrinks, Pre}
-use Rattle.mesa_lexer.proofs.Branches.{somewhere, choose_or, option_or, when_keeps}
+use Rattle.token_cursor.specs.Parsing.{token, first, Out, Got, Stop, Parser, and_then, ◌>>=◌, pure, refuse, exactly, picked, choose, when, Step, Go, Done, go_on, turns, repeat, goes, many_turn, many, ended_turn, ended}
+use Rattle.token_cursor.proofs.Exact.{Test, Rel, first_none, first_assoc, Holds, Sample, Keeps, bound, change, done, Then, Took, implied, imply, bind, shrinks, Pre}
+use Rattle.token_cursor.proofs.Branches.{somewhere, choose_or, option_or, when_keeps}
 
 -- what a step tells of the state before it, where R says what the loop reads from a state
 abbrev pub Turn : {A B : Type 0} → (A → Rel B) → A → Rel (Step A B)

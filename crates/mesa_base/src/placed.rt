@@ -1,0 +1,8 @@
+use crate::place::Place;
+
+/// A part of a text and where it begins.
+#[derive(Drop)]
+pub struct Placed<T> {
+    pub place: Place,
+    pub item: T,
+}
