@@ -3,17 +3,16 @@ ghost use Rattle.std.specs.Prelude.{◌≡◌, IfOk, cond};
 ghost use Rattle.token_cursor.specs.Parsing.{and_then, many, pure, refuse};
 ghost use Rattle.module_productions.specs.Expressions as spec;
 ghost use Rattle.module_productions.specs.Grammar as g;
-ghost use Rattle.expression_parser.specs.Nests.{Nests};
 ghost use Rattle.token_cursor.specs.Running.{Reads};
 ghost use Rattle.module_productions.specs.Signs.{adding, conjoining, disjoining, multiplying};
 ghost use Rattle.module_productions.specs.Statements.{nested};
 ghost use Rattle.expression_parser.specs.Tails as tails;
 ghost use Rattle.mesa_types.specs.declared.syntax.Expr.TheVariants as e;
 
-use crate::nesting::Level;
+use crate::nesting::{Level, NestedParsers};
 use mesa_base::{Boxed, Identifier, List, OutOfMemory, Place};
 use mesa_lexer::{Mark, Word};
-use mesa_types::syntax::{Expr, Left, Relation, Sign, Statement, Step, Steps, TypeExp};
+use mesa_types::syntax::{Expr, Left, Relation, Sign, Step, Steps};
 use module_productions::Begun;
 use module_tokens::signs::{
     takes_adding, takes_conjoining, takes_disjoining, takes_multiplying, takes_negating,
@@ -33,15 +32,11 @@ fn run(alloc: Global, first: Expr, steps: Steps) -> Result<Expr, OutOfMemory>
     Ok(Expr::Run(Boxed::new(alloc, first)?, steps))
 }
 
-impl<
-    F: Fn(Global, &mut Cursor<'_>, usize, Option<Identifier>) -> Result<Statement, Stopped>,
-    G: Fn(Global, &mut Cursor<'_>, usize, Begun) -> Result<Expr, Stopped>,
-    H: Fn(Global, &mut Cursor<'_>, usize, Option<Identifier>) -> Result<TypeExp, Stopped>,
-> Level<F, G, H> {
+impl<N: NestedParsers> Level<N> {
     /// A name that was taken, with what follows it.
     #[tactic(auto, unfolding(module_productions::specs::Expressions::reference))]
     fn reference(&self, tokens: &mut Cursor<'_>, name: Identifier) -> Result<Expr, Stopped>
-        requires { Nests self.now.depth (F.pre self.now.stmt) (F.post self.now.stmt) (G.pre self.now.expr) (G.post self.now.expr) (H.pre self.now.type_exp) (H.post self.now.type_exp) }
+        requires { N.parse_at self.now.nested self.now.depth }
         ensures { Reads (spec.reference (nested self.now.depth) name tokens.old.rest.now) result tokens.new.rest.now }
     {
         let suffixes = self.suffixes(tokens)?;
@@ -51,7 +46,7 @@ impl<
     /// An expression in parentheses, behind the first.
     #[tactic(auto, unfolding(module_productions::specs::Expressions::parens))]
     fn parens(&self, tokens: &mut Cursor<'_>, place: Place) -> Result<Expr, Stopped>
-        requires { Nests self.now.depth (F.pre self.now.stmt) (F.post self.now.stmt) (G.pre self.now.expr) (G.post self.now.expr) (H.pre self.now.type_exp) (H.post self.now.type_exp) }
+        requires { N.parse_at self.now.nested self.now.depth }
         ensures { Reads (spec.parens (nested self.now.depth) place tokens.old.rest.now) result tokens.new.rest.now }
     {
         let inner = self.expr(tokens, Begun::Fresh)?;
@@ -61,7 +56,7 @@ impl<
 
     #[tactic(auto)]
     fn raised(&self, tokens: &mut Cursor<'_>) -> Result<Expr, Stopped>
-        requires { Nests self.now.depth (F.pre self.now.stmt) (F.post self.now.stmt) (G.pre self.now.expr) (G.post self.now.expr) (H.pre self.now.type_exp) (H.post self.now.type_exp) }
+        requires { N.parse_at self.now.nested self.now.depth }
         ensures { Reads (and_then (spec.raise (nested self.now.depth) tokens.old.rest.now) (λ x. pure (e.Raised x))) result tokens.new.rest.now }
     {
         let raise = self.raise(tokens)?;
@@ -71,7 +66,7 @@ impl<
     /// What begins with no literal.
     #[tactic(auto, using(token_cursor::proofs::Choosing::choose_none, token_cursor::proofs::Choosing::choose_some), unfolding(crate::specs::Tails::unit))]
     fn unit(&self, tokens: &mut Cursor<'_>) -> Result<Expr, Stopped>
-        requires { Nests self.now.depth (F.pre self.now.stmt) (F.post self.now.stmt) (G.pre self.now.expr) (G.post self.now.expr) (H.pre self.now.type_exp) (H.post self.now.type_exp) }
+        requires { N.parse_at self.now.nested self.now.depth }
         ensures { Reads (tails.unit (nested self.now.depth) tokens.old.rest.now) result tokens.new.rest.now }
     {
         if let Some(name) = tokens.takes_name(self.alloc)? {
@@ -89,7 +84,7 @@ impl<
     /// What begins with no number, character or text.
     #[tactic(auto, using(token_cursor::proofs::Choosing::choose_none, token_cursor::proofs::Choosing::choose_some), unfolding(crate::specs::Tails::truth))]
     fn truth(&self, tokens: &mut Cursor<'_>) -> Result<Expr, Stopped>
-        requires { Nests self.now.depth (F.pre self.now.stmt) (F.post self.now.stmt) (G.pre self.now.expr) (G.post self.now.expr) (H.pre self.now.type_exp) (H.post self.now.type_exp) }
+        requires { N.parse_at self.now.nested self.now.depth }
         ensures { Reads (tails.truth (nested self.now.depth) tokens.old.rest.now) result tokens.new.rest.now }
     {
         if let Some(place) = tokens.takes_word(Word::TrueWord) {
@@ -104,7 +99,7 @@ impl<
     /// A primary, of which nothing was taken.
     #[tactic(auto, using(token_cursor::proofs::Choosing::choose_none, token_cursor::proofs::Choosing::choose_some), unfolding(module_productions::specs::Expressions::primary, module_productions::specs::Expressions::literal, crate::specs::Tails::truth, crate::specs::Tails::unit))]
     fn fresh_primary(&self, tokens: &mut Cursor<'_>) -> Result<Expr, Stopped>
-        requires { Nests self.now.depth (F.pre self.now.stmt) (F.post self.now.stmt) (G.pre self.now.expr) (G.post self.now.expr) (H.pre self.now.type_exp) (H.post self.now.type_exp) }
+        requires { N.parse_at self.now.nested self.now.depth }
         ensures { Reads (spec.primary (nested self.now.depth) None tokens.old.rest.now) result tokens.new.rest.now }
     {
         if let Some((number, place)) = tokens.takes_number() {
@@ -121,7 +116,7 @@ impl<
 
     #[tactic(auto, unfolding(module_productions::specs::Expressions::primary))]
     fn primary(&self, tokens: &mut Cursor<'_>, begun: Option<Identifier>) -> Result<Expr, Stopped>
-        requires { Nests self.now.depth (F.pre self.now.stmt) (F.post self.now.stmt) (G.pre self.now.expr) (G.post self.now.expr) (H.pre self.now.type_exp) (H.post self.now.type_exp) }
+        requires { N.parse_at self.now.nested self.now.depth }
         ensures { Reads (spec.primary (nested self.now.depth) begun tokens.old.rest.now) result tokens.new.rest.now }
     {
         match begun {
@@ -132,7 +127,7 @@ impl<
 
     #[tactic(auto, unfolding(crate::specs::Tails::signed))]
     fn signed(&self, tokens: &mut Cursor<'_>, sign: Sign, place: Place) -> Result<Expr, Stopped>
-        requires { Nests self.now.depth (F.pre self.now.stmt) (F.post self.now.stmt) (G.pre self.now.expr) (G.post self.now.expr) (H.pre self.now.type_exp) (H.post self.now.type_exp) }
+        requires { N.parse_at self.now.nested self.now.depth }
         ensures { Reads (tails.signed (nested self.now.depth) sign place tokens.old.rest.now) result tokens.new.rest.now }
     {
         let operand = self.fresh_primary(tokens)?;
@@ -142,7 +137,7 @@ impl<
     /// A factor, of which nothing was taken.
     #[tactic(auto, using(token_cursor::proofs::Choosing::choose_none, token_cursor::proofs::Choosing::choose_some), unfolding(module_productions::specs::Expressions::factor, crate::specs::Tails::signed))]
     fn fresh_factor(&self, tokens: &mut Cursor<'_>) -> Result<Expr, Stopped>
-        requires { Nests self.now.depth (F.pre self.now.stmt) (F.post self.now.stmt) (G.pre self.now.expr) (G.post self.now.expr) (H.pre self.now.type_exp) (H.post self.now.type_exp) }
+        requires { N.parse_at self.now.nested self.now.depth }
         ensures { Reads (spec.factor (nested self.now.depth) None tokens.old.rest.now) result tokens.new.rest.now }
     {
         match takes_signing(tokens) {
@@ -153,7 +148,7 @@ impl<
 
     #[tactic(auto, unfolding(module_productions::specs::Expressions::factor))]
     fn factor(&self, tokens: &mut Cursor<'_>, begun: Option<Identifier>) -> Result<Expr, Stopped>
-        requires { Nests self.now.depth (F.pre self.now.stmt) (F.post self.now.stmt) (G.pre self.now.expr) (G.post self.now.expr) (H.pre self.now.type_exp) (H.post self.now.type_exp) }
+        requires { N.parse_at self.now.nested self.now.depth }
         ensures { Reads (spec.factor (nested self.now.depth) begun tokens.old.rest.now) result tokens.new.rest.now }
     {
         match begun {
@@ -164,7 +159,7 @@ impl<
 
     #[tactic(auto, using(token_cursor::proofs::Taking::many_by, module_productions::proofs::Parts::products_eats))]
     fn more_factors(&self, tokens: &mut Cursor<'_>, mut steps: Steps) -> Result<Steps, Stopped>
-        requires { Nests self.now.depth (F.pre self.now.stmt) (F.post self.now.stmt) (G.pre self.now.expr) (G.post self.now.expr) (H.pre self.now.type_exp) (H.post self.now.type_exp) }
+        requires { N.parse_at self.now.nested self.now.depth }
         ensures { Reads (many multiplying (spec.products_step (nested self.now.depth)) steps tokens.old.rest.now) result tokens.new.rest.now }
     {
         'factors: while let Some((operator, place)) = takes_multiplying(tokens) {
@@ -180,7 +175,7 @@ impl<
 
     #[tactic(auto, unfolding(module_productions::specs::Expressions::product))]
     fn product(&self, tokens: &mut Cursor<'_>, begun: Option<Identifier>) -> Result<Expr, Stopped>
-        requires { Nests self.now.depth (F.pre self.now.stmt) (F.post self.now.stmt) (G.pre self.now.expr) (G.post self.now.expr) (H.pre self.now.type_exp) (H.post self.now.type_exp) }
+        requires { N.parse_at self.now.nested self.now.depth }
         ensures { Reads (spec.product (nested self.now.depth) begun tokens.old.rest.now) result tokens.new.rest.now }
     {
         let first = self.factor(tokens, begun)?;
@@ -190,7 +185,7 @@ impl<
 
     #[tactic(auto, using(token_cursor::proofs::Taking::many_by, module_productions::proofs::Parts::sums_eats))]
     fn more_products(&self, tokens: &mut Cursor<'_>, mut steps: Steps) -> Result<Steps, Stopped>
-        requires { Nests self.now.depth (F.pre self.now.stmt) (F.post self.now.stmt) (G.pre self.now.expr) (G.post self.now.expr) (H.pre self.now.type_exp) (H.post self.now.type_exp) }
+        requires { N.parse_at self.now.nested self.now.depth }
         ensures { Reads (many adding (spec.sums_step (nested self.now.depth)) steps tokens.old.rest.now) result tokens.new.rest.now }
     {
         'products: while let Some((operator, place)) = takes_adding(tokens) {
@@ -207,7 +202,7 @@ impl<
     /// A sum, which the sides of a relation are; its first name may have been taken.
     #[tactic(auto, unfolding(module_productions::specs::Expressions::sum))]
     pub fn sum(&self, tokens: &mut Cursor<'_>, begun: Option<Identifier>) -> Result<Expr, Stopped>
-        requires { Nests self.now.depth (F.pre self.now.stmt) (F.post self.now.stmt) (G.pre self.now.expr) (G.post self.now.expr) (H.pre self.now.type_exp) (H.post self.now.type_exp) }
+        requires { N.parse_at self.now.nested self.now.depth }
         ensures { Reads (spec.sum (nested self.now.depth) begun tokens.old.rest.now) result tokens.new.rest.now }
     {
         let first = self.product(tokens, begun)?;
@@ -224,7 +219,7 @@ impl<
         relation: Relation,
         place: Place,
     ) -> Result<Expr, Stopped>
-        requires { Nests self.now.depth (F.pre self.now.stmt) (F.post self.now.stmt) (G.pre self.now.expr) (G.post self.now.expr) (H.pre self.now.type_exp) (H.post self.now.type_exp) }
+        requires { N.parse_at self.now.nested self.now.depth }
         ensures { Reads (tails.compared (nested self.now.depth) left is_negated relation place tokens.old.rest.now) result tokens.new.rest.now }
     {
         let right = self.sum(tokens, None)?;
@@ -245,7 +240,7 @@ impl<
         is_negated: bool,
         place: Place,
     ) -> Result<Expr, Stopped>
-        requires { Nests self.now.depth (F.pre self.now.stmt) (F.post self.now.stmt) (G.pre self.now.expr) (G.post self.now.expr) (H.pre self.now.type_exp) (H.post self.now.type_exp) }
+        requires { N.parse_at self.now.nested self.now.depth }
         ensures { Reads (tails.within (nested self.now.depth) left is_negated place tokens.old.rest.now) result tokens.new.rest.now }
     {
         let interval = self.interval(tokens)?;
@@ -260,7 +255,7 @@ impl<
         left: Expr,
         is_negated: bool,
     ) -> Result<Expr, Stopped>
-        requires { Nests self.now.depth (F.pre self.now.stmt) (F.post self.now.stmt) (G.pre self.now.expr) (G.post self.now.expr) (H.pre self.now.type_exp) (H.post self.now.type_exp) }
+        requires { N.parse_at self.now.nested self.now.depth }
         ensures { Reads (spec.relation (nested self.now.depth) left is_negated (cond is_negated refuse (pure left)) tokens.old.rest.now) result tokens.new.rest.now }
     {
         if let Some((relation, place)) = takes_relating(tokens) {
@@ -277,7 +272,7 @@ impl<
 
     #[tactic(auto, using(token_cursor::proofs::Choosing::choose_none, token_cursor::proofs::Choosing::choose_some), unfolding(module_productions::specs::Expressions::related))]
     fn related(&self, tokens: &mut Cursor<'_>, left: Expr) -> Result<Expr, Stopped>
-        requires { Nests self.now.depth (F.pre self.now.stmt) (F.post self.now.stmt) (G.pre self.now.expr) (G.post self.now.expr) (H.pre self.now.type_exp) (H.post self.now.type_exp) }
+        requires { N.parse_at self.now.nested self.now.depth }
         ensures { Reads (spec.related (nested self.now.depth) left tokens.old.rest.now) result tokens.new.rest.now }
     {
         match takes_negating(tokens) {
@@ -288,7 +283,7 @@ impl<
 
     #[tactic(auto, unfolding(module_productions::specs::Expressions::rel))]
     fn rel(&self, tokens: &mut Cursor<'_>, begun: Option<Identifier>) -> Result<Expr, Stopped>
-        requires { Nests self.now.depth (F.pre self.now.stmt) (F.post self.now.stmt) (G.pre self.now.expr) (G.post self.now.expr) (H.pre self.now.type_exp) (H.post self.now.type_exp) }
+        requires { N.parse_at self.now.nested self.now.depth }
         ensures { Reads (spec.rel (nested self.now.depth) begun tokens.old.rest.now) result tokens.new.rest.now }
     {
         let left = self.sum(tokens, begun)?;
@@ -297,7 +292,7 @@ impl<
 
     #[tactic(auto, unfolding(module_productions::specs::Expressions::negation))]
     fn negation(&self, tokens: &mut Cursor<'_>, place: Place) -> Result<Expr, Stopped>
-        requires { Nests self.now.depth (F.pre self.now.stmt) (F.post self.now.stmt) (G.pre self.now.expr) (G.post self.now.expr) (H.pre self.now.type_exp) (H.post self.now.type_exp) }
+        requires { N.parse_at self.now.nested self.now.depth }
         ensures { Reads (spec.negation (nested self.now.depth) place tokens.old.rest.now) result tokens.new.rest.now }
     {
         let operand = self.rel(tokens, None)?;
@@ -307,7 +302,7 @@ impl<
     /// NOT with a comparison, or one alone, of which nothing was taken.
     #[tactic(auto, using(token_cursor::proofs::Choosing::choose_none, token_cursor::proofs::Choosing::choose_some), unfolding(module_productions::specs::Expressions::neg))]
     fn fresh_neg(&self, tokens: &mut Cursor<'_>) -> Result<Expr, Stopped>
-        requires { Nests self.now.depth (F.pre self.now.stmt) (F.post self.now.stmt) (G.pre self.now.expr) (G.post self.now.expr) (H.pre self.now.type_exp) (H.post self.now.type_exp) }
+        requires { N.parse_at self.now.nested self.now.depth }
         ensures { Reads (spec.neg (nested self.now.depth) Begun.Fresh tokens.old.rest.now) result tokens.new.rest.now }
     {
         match takes_negating(tokens) {
@@ -318,7 +313,7 @@ impl<
 
     #[tactic(auto, unfolding(module_productions::specs::Expressions::neg))]
     fn neg(&self, tokens: &mut Cursor<'_>, begun: Begun) -> Result<Expr, Stopped>
-        requires { Nests self.now.depth (F.pre self.now.stmt) (F.post self.now.stmt) (G.pre self.now.expr) (G.post self.now.expr) (H.pre self.now.type_exp) (H.post self.now.type_exp) }
+        requires { N.parse_at self.now.nested self.now.depth }
         ensures { Reads (spec.neg (nested self.now.depth) begun tokens.old.rest.now) result tokens.new.rest.now }
     {
         match begun {
@@ -330,7 +325,7 @@ impl<
 
     #[tactic(auto, using(token_cursor::proofs::Taking::many_by, module_productions::proofs::Parts::ands_eats))]
     fn more_negs(&self, tokens: &mut Cursor<'_>, mut steps: Steps) -> Result<Steps, Stopped>
-        requires { Nests self.now.depth (F.pre self.now.stmt) (F.post self.now.stmt) (G.pre self.now.expr) (G.post self.now.expr) (H.pre self.now.type_exp) (H.post self.now.type_exp) }
+        requires { N.parse_at self.now.nested self.now.depth }
         ensures { Reads (many conjoining (spec.ands_step (nested self.now.depth)) steps tokens.old.rest.now) result tokens.new.rest.now }
     {
         'negs: while let Some((operator, place)) = takes_conjoining(tokens) {
@@ -346,7 +341,7 @@ impl<
 
     #[tactic(auto, unfolding(module_productions::specs::Expressions::conj))]
     fn conj(&self, tokens: &mut Cursor<'_>, begun: Begun) -> Result<Expr, Stopped>
-        requires { Nests self.now.depth (F.pre self.now.stmt) (F.post self.now.stmt) (G.pre self.now.expr) (G.post self.now.expr) (H.pre self.now.type_exp) (H.post self.now.type_exp) }
+        requires { N.parse_at self.now.nested self.now.depth }
         ensures { Reads (spec.conj (nested self.now.depth) begun tokens.old.rest.now) result tokens.new.rest.now }
     {
         let first = self.neg(tokens, begun)?;
@@ -356,7 +351,7 @@ impl<
 
     #[tactic(auto, using(token_cursor::proofs::Taking::many_by, module_productions::proofs::Parts::ors_eats))]
     fn more_conjs(&self, tokens: &mut Cursor<'_>, mut steps: Steps) -> Result<Steps, Stopped>
-        requires { Nests self.now.depth (F.pre self.now.stmt) (F.post self.now.stmt) (G.pre self.now.expr) (G.post self.now.expr) (H.pre self.now.type_exp) (H.post self.now.type_exp) }
+        requires { N.parse_at self.now.nested self.now.depth }
         ensures { Reads (many disjoining (spec.ors_step (nested self.now.depth)) steps tokens.old.rest.now) result tokens.new.rest.now }
     {
         'conjs: while let Some((operator, place)) = takes_disjoining(tokens) {
@@ -373,7 +368,7 @@ impl<
     /// An expression of this level.
     #[tactic(auto, unfolding(module_productions::specs::Expressions::expr))]
     pub fn disj(&self, tokens: &mut Cursor<'_>, begun: Begun) -> Result<Expr, Stopped>
-        requires { Nests self.now.depth (F.pre self.now.stmt) (F.post self.now.stmt) (G.pre self.now.expr) (G.post self.now.expr) (H.pre self.now.type_exp) (H.post self.now.type_exp) }
+        requires { N.parse_at self.now.nested self.now.depth }
         ensures { Reads (spec.expr (nested self.now.depth) begun tokens.old.rest.now) result tokens.new.rest.now }
     {
         let first = self.conj(tokens, begun)?;

@@ -7,4 +7,4 @@ mod nesting;
 mod targets;
 mod types;
 
-pub use nesting::Level;
+pub use nesting::{Level, NestedParsers, ParserFunctions};

@@ -6,16 +6,15 @@ ghost use Rattle.mesa_lexer.specs.declared.token.Kind.TheVariants as k;
 ghost use Rattle.module_productions.specs.Expressions as spec;
 ghost use Rattle.module_productions.specs.Grammar as g;
 ghost use Rattle.module_productions.specs.Nested.{begins_arm, comma};
-ghost use Rattle.expression_parser.specs.Nests.{Nests};
 ghost use Rattle.token_cursor.specs.Running.{Reads};
 ghost use Rattle.module_productions.specs.Statements.{nested};
 
-use crate::nesting::Level;
+use crate::nesting::{Level, NestedParsers};
 use mesa_base::{Boxed, Identifier, List, OutOfMemory, Place, Placed};
 use mesa_lexer::{Mark, Word};
 use mesa_types::syntax::{
-    Arm, Arms, Brackets, Entries, Expr, Exprs, Interval, Keyed, ListExpr, Phrase, Raise, Statement,
-    Suffix, Suffixes, TypeExp,
+    Arm, Arms, Brackets, Entries, Expr, Exprs, Interval, Keyed, ListExpr, Phrase, Raise, Suffix,
+    Suffixes,
 };
 use module_productions::Begun;
 use module_tokens::begins::{begins_arm, begins_expr};
@@ -54,11 +53,7 @@ fn bounded(
     })
 }
 
-impl<
-    F: Fn(Global, &mut Cursor<'_>, usize, Option<Identifier>) -> Result<Statement, Stopped>,
-    G: Fn(Global, &mut Cursor<'_>, usize, Begun) -> Result<Expr, Stopped>,
-    H: Fn(Global, &mut Cursor<'_>, usize, Option<Identifier>) -> Result<TypeExp, Stopped>,
-> Level<F, G, H> {
+impl<N: NestedParsers> Level<N> {
     /// An interval behind its bracket.
     #[tactic(auto, unfolding(module_productions::specs::Expressions::bounds))]
     fn bounds(
@@ -67,7 +62,7 @@ impl<
         is_open_below: bool,
         place: Place,
     ) -> Result<Interval, Stopped>
-        requires { Nests self.now.depth (F.pre self.now.stmt) (F.post self.now.stmt) (G.pre self.now.expr) (G.post self.now.expr) (H.pre self.now.type_exp) (H.post self.now.type_exp) }
+        requires { N.parse_at self.now.nested self.now.depth }
         ensures { Reads (spec.bounds (nested self.now.depth) is_open_below place tokens.old.rest.now) result tokens.new.rest.now }
     {
         let low = self.expr(tokens, Begun::Fresh)?;
@@ -81,7 +76,7 @@ impl<
     /// An interval, with its brackets.
     #[tactic(auto, using(token_cursor::proofs::Choosing::choose_none, token_cursor::proofs::Choosing::choose_some), unfolding(module_productions::specs::Expressions::interval))]
     pub fn interval(&self, tokens: &mut Cursor<'_>) -> Result<Interval, Stopped>
-        requires { Nests self.now.depth (F.pre self.now.stmt) (F.post self.now.stmt) (G.pre self.now.expr) (G.post self.now.expr) (H.pre self.now.type_exp) (H.post self.now.type_exp) }
+        requires { N.parse_at self.now.nested self.now.depth }
         ensures { Reads (spec.interval (nested self.now.depth) tokens.old.rest.now) result tokens.new.rest.now }
     {
         match takes_opening(tokens) {
@@ -93,7 +88,7 @@ impl<
     /// An arm of a catch phrase.
     #[tactic(auto, unfolding(module_productions::specs::Expressions::arm))]
     pub fn arm(&self, tokens: &mut Cursor<'_>) -> Result<Arm, Stopped>
-        requires { Nests self.now.depth (F.pre self.now.stmt) (F.post self.now.stmt) (G.pre self.now.expr) (G.post self.now.expr) (H.pre self.now.type_exp) (H.post self.now.type_exp) }
+        requires { N.parse_at self.now.nested self.now.depth }
         ensures { Reads (spec.arm (nested self.now.depth) tokens.old.rest.now) result tokens.new.rest.now }
     {
         let labels = labels(self.alloc, tokens)?;
@@ -104,7 +99,7 @@ impl<
 
     #[tactic(auto, using(token_cursor::proofs::Taking::ended_by, module_productions::proofs::Parts::arms_eats))]
     fn more_arms(&self, tokens: &mut Cursor<'_>, mut all: Arms) -> Result<Arms, Stopped>
-        requires { Nests self.now.depth (F.pre self.now.stmt) (F.post self.now.stmt) (G.pre self.now.expr) (G.post self.now.expr) (H.pre self.now.type_exp) (H.post self.now.type_exp) }
+        requires { N.parse_at self.now.nested self.now.depth }
         ensures { Reads (ended (k.Mark Semicolon) begins_arm (spec.arms_step (nested self.now.depth)) all tokens.old.rest.now) result tokens.new.rest.now }
     {
         'arms: while tokens.takes_mark(Mark::Semicolon).is_some() {
@@ -119,7 +114,7 @@ impl<
     /// Arms with semicolons between; one may follow the last.
     #[tactic(auto, unfolding(module_productions::specs::Expressions::arm_list))]
     pub fn arm_list(&self, tokens: &mut Cursor<'_>) -> Result<Arms, Stopped>
-        requires { Nests self.now.depth (F.pre self.now.stmt) (F.post self.now.stmt) (G.pre self.now.expr) (G.post self.now.expr) (H.pre self.now.type_exp) (H.post self.now.type_exp) }
+        requires { N.parse_at self.now.nested self.now.depth }
         ensures { Reads (spec.arm_list (nested self.now.depth) tokens.old.rest.now) result tokens.new.rest.now }
     {
         let mut all = List::new(self.alloc);
@@ -130,7 +125,7 @@ impl<
     /// A catch phrase in brackets, if there is one.
     #[tactic(auto, using(token_cursor::proofs::Choosing::choose_none, token_cursor::proofs::Choosing::choose_some), unfolding(module_productions::specs::Expressions::catch))]
     fn catch(&self, tokens: &mut Cursor<'_>) -> Result<Option<Phrase>, Stopped>
-        requires { Nests self.now.depth (F.pre self.now.stmt) (F.post self.now.stmt) (G.pre self.now.expr) (G.post self.now.expr) (H.pre self.now.type_exp) (H.post self.now.type_exp) }
+        requires { N.parse_at self.now.nested self.now.depth }
         ensures { Reads (spec.catch (nested self.now.depth) tokens.old.rest.now) result tokens.new.rest.now }
     {
         match tokens.takes_mark(Mark::Bang) {
@@ -144,7 +139,7 @@ impl<
 
     #[tactic(auto, using(token_cursor::proofs::Taking::many_by, module_productions::proofs::Parts::exprs_eats))]
     fn more_exprs(&self, tokens: &mut Cursor<'_>, mut all: Exprs) -> Result<Exprs, Stopped>
-        requires { Nests self.now.depth (F.pre self.now.stmt) (F.post self.now.stmt) (G.pre self.now.expr) (G.post self.now.expr) (H.pre self.now.type_exp) (H.post self.now.type_exp) }
+        requires { N.parse_at self.now.nested self.now.depth }
         ensures { Reads (many comma (spec.exprs_step (nested self.now.depth)) all tokens.old.rest.now) result tokens.new.rest.now }
     {
         'exprs: while tokens.takes_mark(Mark::Comma).is_some() {
@@ -155,7 +150,7 @@ impl<
 
     #[tactic(auto, unfolding(module_productions::specs::Expressions::in_order))]
     fn in_order(&self, tokens: &mut Cursor<'_>, begun: Begun) -> Result<Entries<Expr>, Stopped>
-        requires { Nests self.now.depth (F.pre self.now.stmt) (F.post self.now.stmt) (G.pre self.now.expr) (G.post self.now.expr) (H.pre self.now.type_exp) (H.post self.now.type_exp) }
+        requires { N.parse_at self.now.nested self.now.depth }
         ensures { Reads (spec.in_order (nested self.now.depth) begun tokens.old.rest.now) result tokens.new.rest.now }
     {
         let mut all = List::new(self.alloc);
@@ -170,7 +165,7 @@ impl<
         tokens: &mut Cursor<'_>,
         mut all: List<Keyed<Expr>>,
     ) -> Result<List<Keyed<Expr>>, Stopped>
-        requires { Nests self.now.depth (F.pre self.now.stmt) (F.post self.now.stmt) (G.pre self.now.expr) (G.post self.now.expr) (H.pre self.now.type_exp) (H.post self.now.type_exp) }
+        requires { N.parse_at self.now.nested self.now.depth }
         ensures { Reads (many comma (spec.keys_step (nested self.now.depth)) all tokens.old.rest.now) result tokens.new.rest.now }
     {
         'keys: while tokens.takes_mark(Mark::Comma).is_some() {
@@ -185,7 +180,7 @@ impl<
     /// Values with keys, of which the first and its colon were taken.
     #[tactic(auto, unfolding(module_productions::specs::Expressions::by_key))]
     fn by_key(&self, tokens: &mut Cursor<'_>, key: Identifier) -> Result<Entries<Expr>, Stopped>
-        requires { Nests self.now.depth (F.pre self.now.stmt) (F.post self.now.stmt) (G.pre self.now.expr) (G.post self.now.expr) (H.pre self.now.type_exp) (H.post self.now.type_exp) }
+        requires { N.parse_at self.now.nested self.now.depth }
         ensures { Reads (spec.by_key (nested self.now.depth) key tokens.old.rest.now) result tokens.new.rest.now }
     {
         let item = self.expr(tokens, Begun::Fresh)?;
@@ -202,7 +197,7 @@ impl<
         tokens: &mut Cursor<'_>,
         name: Identifier,
     ) -> Result<Entries<Expr>, Stopped>
-        requires { Nests self.now.depth (F.pre self.now.stmt) (F.post self.now.stmt) (G.pre self.now.expr) (G.post self.now.expr) (H.pre self.now.type_exp) (H.post self.now.type_exp) }
+        requires { N.parse_at self.now.nested self.now.depth }
         ensures { Reads (spec.after_name (nested self.now.depth) name tokens.old.rest.now) result tokens.new.rest.now }
     {
         match tokens.takes_mark(Mark::Colon) {
@@ -213,7 +208,7 @@ impl<
 
     #[tactic(auto, using(token_cursor::proofs::Choosing::when_true, token_cursor::proofs::Choosing::when_false), unfolding(module_productions::specs::Expressions::unkeyed))]
     fn unkeyed(&self, tokens: &mut Cursor<'_>) -> Result<Entries<Expr>, Stopped>
-        requires { Nests self.now.depth (F.pre self.now.stmt) (F.post self.now.stmt) (G.pre self.now.expr) (G.post self.now.expr) (H.pre self.now.type_exp) (H.post self.now.type_exp) }
+        requires { N.parse_at self.now.nested self.now.depth }
         ensures { Reads (spec.unkeyed (nested self.now.depth) tokens.old.rest.now) result tokens.new.rest.now }
     {
         if !begins_expr(tokens) {
@@ -226,7 +221,7 @@ impl<
     /// deep stops at its first token.
     #[tactic(auto, using(token_cursor::proofs::Choosing::choose_none, token_cursor::proofs::Choosing::choose_some, token_cursor::proofs::Choosing::if_true, token_cursor::proofs::Choosing::if_false), unfolding(module_productions::specs::Expressions::args))]
     fn args(&self, tokens: &mut Cursor<'_>) -> Result<Entries<Expr>, Stopped>
-        requires { Nests self.now.depth (F.pre self.now.stmt) (F.post self.now.stmt) (G.pre self.now.expr) (G.post self.now.expr) (H.pre self.now.type_exp) (H.post self.now.type_exp) }
+        requires { N.parse_at self.now.nested self.now.depth }
         ensures { Reads (spec.args (nested self.now.depth) tokens.old.rest.now) result tokens.new.rest.now }
     {
         if !self.can() {
@@ -241,7 +236,7 @@ impl<
     /// A list of values behind its bracket.
     #[tactic(auto, unfolding(module_productions::specs::Expressions::list))]
     pub fn list(&self, tokens: &mut Cursor<'_>, place: Place) -> Result<ListExpr, Stopped>
-        requires { Nests self.now.depth (F.pre self.now.stmt) (F.post self.now.stmt) (G.pre self.now.expr) (G.post self.now.expr) (H.pre self.now.type_exp) (H.post self.now.type_exp) }
+        requires { N.parse_at self.now.nested self.now.depth }
         ensures { Reads (spec.list (nested self.now.depth) place tokens.old.rest.now) result tokens.new.rest.now }
     {
         let item = self.args(tokens)?;
@@ -252,7 +247,7 @@ impl<
     /// A list of values in brackets, if a bracket comes next.
     #[tactic(auto, using(token_cursor::proofs::Choosing::choose_none, token_cursor::proofs::Choosing::choose_some), unfolding(module_productions::specs::Expressions::list_option))]
     pub fn list_option(&self, tokens: &mut Cursor<'_>) -> Result<Option<ListExpr>, Stopped>
-        requires { Nests self.now.depth (F.pre self.now.stmt) (F.post self.now.stmt) (G.pre self.now.expr) (G.post self.now.expr) (H.pre self.now.type_exp) (H.post self.now.type_exp) }
+        requires { N.parse_at self.now.nested self.now.depth }
         ensures { Reads (spec.list_option (nested self.now.depth) tokens.old.rest.now) result tokens.new.rest.now }
     {
         match tokens.takes_mark(Mark::LeftBracket) {
@@ -263,7 +258,7 @@ impl<
 
     #[tactic(auto, unfolding(module_productions::specs::Expressions::brackets))]
     fn brackets(&self, tokens: &mut Cursor<'_>, place: Place) -> Result<Brackets, Stopped>
-        requires { Nests self.now.depth (F.pre self.now.stmt) (F.post self.now.stmt) (G.pre self.now.expr) (G.post self.now.expr) (H.pre self.now.type_exp) (H.post self.now.type_exp) }
+        requires { N.parse_at self.now.nested self.now.depth }
         ensures { Reads (spec.brackets (nested self.now.depth) place tokens.old.rest.now) result tokens.new.rest.now }
     {
         let items = self.args(tokens)?;
@@ -278,7 +273,7 @@ impl<
 
     #[tactic(auto, using(token_cursor::proofs::Choosing::choose_none, token_cursor::proofs::Choosing::choose_some), unfolding(module_productions::specs::Expressions::brackets_option))]
     fn brackets_option(&self, tokens: &mut Cursor<'_>) -> Result<Option<Brackets>, Stopped>
-        requires { Nests self.now.depth (F.pre self.now.stmt) (F.post self.now.stmt) (G.pre self.now.expr) (G.post self.now.expr) (H.pre self.now.type_exp) (H.post self.now.type_exp) }
+        requires { N.parse_at self.now.nested self.now.depth }
         ensures { Reads (spec.brackets_option (nested self.now.depth) tokens.old.rest.now) result tokens.new.rest.now }
     {
         match tokens.takes_mark(Mark::LeftBracket) {
@@ -296,7 +291,7 @@ impl<
         is_bracket: bool,
         place: Place,
     ) -> Result<Suffixes, Stopped>
-        requires { Nests self.now.depth (F.pre self.now.stmt) (F.post self.now.stmt) (G.pre self.now.expr) (G.post self.now.expr) (H.pre self.now.type_exp) (H.post self.now.type_exp) }
+        requires { N.parse_at self.now.nested self.now.depth }
         ensures { Reads (spec.suffixes_step (nested self.now.depth) all is_bracket place tokens.old.rest.now) result tokens.new.rest.now }
     {
         if is_bracket {
@@ -309,7 +304,7 @@ impl<
 
     #[tactic(auto, using(token_cursor::proofs::Taking::many_by, module_productions::proofs::Parts::suffixes_eats))]
     fn more_suffixes(&self, tokens: &mut Cursor<'_>, mut all: Suffixes) -> Result<Suffixes, Stopped>
-        requires { Nests self.now.depth (F.pre self.now.stmt) (F.post self.now.stmt) (G.pre self.now.expr) (G.post self.now.expr) (H.pre self.now.type_exp) (H.post self.now.type_exp) }
+        requires { N.parse_at self.now.nested self.now.depth }
         ensures { Reads (many spec.suffixing (spec.suffixes_step (nested self.now.depth)) all tokens.old.rest.now) result tokens.new.rest.now }
     {
         'suffixes: while let Some((is_bracket, place)) = takes_suffixing(tokens) {
@@ -321,7 +316,7 @@ impl<
     /// What follows a name.
     #[tactic(auto, unfolding(module_productions::specs::Expressions::suffixes))]
     pub fn suffixes(&self, tokens: &mut Cursor<'_>) -> Result<Suffixes, Stopped>
-        requires { Nests self.now.depth (F.pre self.now.stmt) (F.post self.now.stmt) (G.pre self.now.expr) (G.post self.now.expr) (H.pre self.now.type_exp) (H.post self.now.type_exp) }
+        requires { N.parse_at self.now.nested self.now.depth }
         ensures { Reads (spec.suffixes (nested self.now.depth) tokens.old.rest.now) result tokens.new.rest.now }
     {
         self.more_suffixes(tokens, List::new(self.alloc))
@@ -335,7 +330,7 @@ impl<
         place: Place,
         first: Identifier,
     ) -> Result<Raise, Stopped>
-        requires { Nests self.now.depth (F.pre self.now.stmt) (F.post self.now.stmt) (G.pre self.now.expr) (G.post self.now.expr) (H.pre self.now.type_exp) (H.post self.now.type_exp) }
+        requires { N.parse_at self.now.nested self.now.depth }
         ensures { Reads (spec.error_raise (nested self.now.depth) place first tokens.old.rest.now) result tokens.new.rest.now }
     {
         let name = qname_from(self.alloc, tokens, first)?;
@@ -345,7 +340,7 @@ impl<
 
     #[tactic(auto, unfolding(module_productions::specs::Expressions::signal_raise))]
     fn signal_raise(&self, tokens: &mut Cursor<'_>, place: Place) -> Result<Raise, Stopped>
-        requires { Nests self.now.depth (F.pre self.now.stmt) (F.post self.now.stmt) (G.pre self.now.expr) (G.post self.now.expr) (H.pre self.now.type_exp) (H.post self.now.type_exp) }
+        requires { N.parse_at self.now.nested self.now.depth }
         ensures { Reads (spec.signal_raise (nested self.now.depth) place tokens.old.rest.now) result tokens.new.rest.now }
     {
         let name = qname(self.alloc, tokens)?;
@@ -356,7 +351,7 @@ impl<
     /// A raise of a signal, an error or the unnamed error.
     #[tactic(auto, using(token_cursor::proofs::Choosing::choose_none, token_cursor::proofs::Choosing::choose_some), unfolding(module_productions::specs::Expressions::raise))]
     pub fn raise(&self, tokens: &mut Cursor<'_>) -> Result<Raise, Stopped>
-        requires { Nests self.now.depth (F.pre self.now.stmt) (F.post self.now.stmt) (G.pre self.now.expr) (G.post self.now.expr) (H.pre self.now.type_exp) (H.post self.now.type_exp) }
+        requires { N.parse_at self.now.nested self.now.depth }
         ensures { Reads (spec.raise (nested self.now.depth) tokens.old.rest.now) result tokens.new.rest.now }
     {
         if let Some(place) = tokens.takes_word(Word::SignalWord) {

@@ -2,26 +2,20 @@
 
 ghost use Rattle.std.specs.Prelude.{◌≡◌};
 ghost use Rattle.token_cursor.specs.Running.{Reads};
-ghost use Rattle.expression_parser.specs.Nests.{Nests};
 ghost use Rattle.token_cursor.specs.Parsing.{many};
 ghost use Rattle.module_productions.specs.Nested.{comma};
 ghost use Rattle.module_productions.specs.Statements.{nested};
 ghost use Rattle.module_productions.specs.Statements as spec;
 
-use crate::nesting::Level;
+use crate::nesting::{Level, NestedParsers};
 use mesa_base::{Identifier, List, Place};
 use mesa_lexer::Mark;
-use mesa_types::syntax::{Entries, Expr, Keyed, Left, Statement, TypeExp};
+use mesa_types::syntax::{Entries, Keyed, Left, Statement};
 use module_productions::Begun;
-use std::alloc::Global;
 use token_cursor::naming::named;
 use token_cursor::{Cursor, Stopped};
 
-impl<
-    F: Fn(Global, &mut Cursor<'_>, usize, Option<Identifier>) -> Result<Statement, Stopped>,
-    G: Fn(Global, &mut Cursor<'_>, usize, Begun) -> Result<Expr, Stopped>,
-    H: Fn(Global, &mut Cursor<'_>, usize, Option<Identifier>) -> Result<TypeExp, Stopped>,
-> Level<F, G, H> {
+impl<N: NestedParsers> Level<N> {
     /// Further targets behind these.
     #[tactic(auto, using(token_cursor::proofs::Taking::many_by, module_productions::proofs::Parts::lefts_eats))]
     fn more_lefts(
@@ -29,7 +23,7 @@ impl<
         tokens: &mut Cursor<'_>,
         mut all: List<Left>,
     ) -> Result<List<Left>, Stopped>
-        requires { Nests self.now.depth (F.pre self.now.stmt) (F.post self.now.stmt) (G.pre self.now.expr) (G.post self.now.expr) (H.pre self.now.type_exp) (H.post self.now.type_exp) }
+        requires { N.parse_at self.now.nested self.now.depth }
         ensures { Reads (many comma (spec.lefts_step (nested self.now.depth)) all tokens.old.rest.now) result tokens.new.rest.now }
     {
         'lefts: while tokens.takes_mark(Mark::Comma).is_some() {
@@ -43,7 +37,7 @@ impl<
     /// Targets in order, the first of which has this name.
     #[tactic(auto, unfolding(module_productions::specs::Statements::lefts))]
     fn lefts(&self, tokens: &mut Cursor<'_>, name: Identifier) -> Result<Entries<Left>, Stopped>
-        requires { Nests self.now.depth (F.pre self.now.stmt) (F.post self.now.stmt) (G.pre self.now.expr) (G.post self.now.expr) (H.pre self.now.type_exp) (H.post self.now.type_exp) }
+        requires { N.parse_at self.now.nested self.now.depth }
         ensures { Reads (spec.lefts (nested self.now.depth) name tokens.old.rest.now) result tokens.new.rest.now }
     {
         let suffixes = self.suffixes(tokens)?;
@@ -60,7 +54,7 @@ impl<
         tokens: &mut Cursor<'_>,
         mut all: List<Keyed<Left>>,
     ) -> Result<List<Keyed<Left>>, Stopped>
-        requires { Nests self.now.depth (F.pre self.now.stmt) (F.post self.now.stmt) (G.pre self.now.expr) (G.post self.now.expr) (H.pre self.now.type_exp) (H.post self.now.type_exp) }
+        requires { N.parse_at self.now.nested self.now.depth }
         ensures { Reads (many comma (spec.key_lefts_step (nested self.now.depth)) all tokens.old.rest.now) result tokens.new.rest.now }
     {
         'key_lefts: while tokens.takes_mark(Mark::Comma).is_some() {
@@ -77,7 +71,7 @@ impl<
     /// Targets with their keys, behind the first key and its colon.
     #[tactic(auto, unfolding(module_productions::specs::Statements::key_lefts))]
     fn key_lefts(&self, tokens: &mut Cursor<'_>, key: Identifier) -> Result<Entries<Left>, Stopped>
-        requires { Nests self.now.depth (F.pre self.now.stmt) (F.post self.now.stmt) (G.pre self.now.expr) (G.post self.now.expr) (H.pre self.now.type_exp) (H.post self.now.type_exp) }
+        requires { N.parse_at self.now.nested self.now.depth }
         ensures { Reads (spec.key_lefts (nested self.now.depth) key tokens.old.rest.now) result tokens.new.rest.now }
     {
         let name = named(self.alloc, tokens)?;
@@ -95,7 +89,7 @@ impl<
         tokens: &mut Cursor<'_>,
         first: Identifier,
     ) -> Result<Entries<Left>, Stopped>
-        requires { Nests self.now.depth (F.pre self.now.stmt) (F.post self.now.stmt) (G.pre self.now.expr) (G.post self.now.expr) (H.pre self.now.type_exp) (H.post self.now.type_exp) }
+        requires { N.parse_at self.now.nested self.now.depth }
         ensures { Reads (spec.targets_from (nested self.now.depth) first tokens.old.rest.now) result tokens.new.rest.now }
     {
         match tokens.takes_mark(Mark::Colon) {
@@ -106,7 +100,7 @@ impl<
 
     #[tactic(auto, using(token_cursor::proofs::Choosing::choose_none, token_cursor::proofs::Choosing::choose_some), unfolding(module_productions::specs::Statements::targets))]
     fn all_targets(&self, tokens: &mut Cursor<'_>) -> Result<Entries<Left>, Stopped>
-        requires { Nests self.now.depth (F.pre self.now.stmt) (F.post self.now.stmt) (G.pre self.now.expr) (G.post self.now.expr) (H.pre self.now.type_exp) (H.post self.now.type_exp) }
+        requires { N.parse_at self.now.nested self.now.depth }
         ensures { Reads (spec.targets (nested self.now.depth) tokens.old.rest.now) result tokens.new.rest.now }
     {
         match tokens.takes_name(self.alloc)? {
@@ -118,7 +112,7 @@ impl<
     /// An extractor, behind its bracket.
     #[tactic(auto, unfolding(module_productions::specs::Statements::extract))]
     pub fn extract(&self, tokens: &mut Cursor<'_>, place: Place) -> Result<Statement, Stopped>
-        requires { Nests self.now.depth (F.pre self.now.stmt) (F.post self.now.stmt) (G.pre self.now.expr) (G.post self.now.expr) (H.pre self.now.type_exp) (H.post self.now.type_exp) }
+        requires { N.parse_at self.now.nested self.now.depth }
         ensures { Reads (spec.extract (nested self.now.depth) place tokens.old.rest.now) result tokens.new.rest.now }
     {
         let targets = self.all_targets(tokens)?;
@@ -131,7 +125,7 @@ impl<
     /// An assignment or a call, whose name was taken.
     #[tactic(auto, using(token_cursor::proofs::Choosing::choose_none, token_cursor::proofs::Choosing::choose_some), unfolding(module_productions::specs::Statements::assigned))]
     pub fn assigned(&self, tokens: &mut Cursor<'_>, name: Identifier) -> Result<Statement, Stopped>
-        requires { Nests self.now.depth (F.pre self.now.stmt) (F.post self.now.stmt) (G.pre self.now.expr) (G.post self.now.expr) (H.pre self.now.type_exp) (H.post self.now.type_exp) }
+        requires { N.parse_at self.now.nested self.now.depth }
         ensures { Reads (spec.assigned (nested self.now.depth) name tokens.old.rest.now) result tokens.new.rest.now }
     {
         let suffixes = self.suffixes(tokens)?;

@@ -3,18 +3,14 @@ ghost use Rattle.std.specs.Prelude.{◌≡◌, IfOk};
 ghost use Rattle.token_cursor.specs.Parsing.{many, repeat};
 ghost use Rattle.module_productions.specs.Expressions as spec;
 ghost use Rattle.module_productions.specs.Nested.{comma};
-ghost use Rattle.expression_parser.specs.Nests.{Nests};
 ghost use Rattle.token_cursor.specs.Running.{Reads};
 ghost use Rattle.module_productions.specs.Statements.{nested};
 ghost use Rattle.expression_parser.specs.Tails as tails;
 
-use crate::nesting::Level;
+use crate::nesting::{Level, NestedParsers};
 use mesa_base::{Boxed, Identifier, Identifiers, List, OutOfMemory, Place};
 use mesa_lexer::{Mark, Word};
-use mesa_types::syntax::{
-    Expr, FieldList, Labeled, QualifiedName, Statement, TypeBase, TypeExp, TypeExps,
-};
-use module_productions::Begun;
+use mesa_types::syntax::{FieldList, Labeled, QualifiedName, TypeBase, TypeExp, TypeExps};
 use module_tokens::begins::begins_interval;
 use module_tokens::naming::qname_from;
 use std::alloc::Global;
@@ -48,11 +44,7 @@ fn all_called(alloc: Global, names: &[Identifier]) -> Result<TypeExps, OutOfMemo
     Ok(all)
 }
 
-impl<
-    F: Fn(Global, &mut Cursor<'_>, usize, Option<Identifier>) -> Result<Statement, Stopped>,
-    G: Fn(Global, &mut Cursor<'_>, usize, Begun) -> Result<Expr, Stopped>,
-    H: Fn(Global, &mut Cursor<'_>, usize, Option<Identifier>) -> Result<TypeExp, Stopped>,
-> Level<F, G, H> {
+impl<N: NestedParsers> Level<N> {
     /// The base with the interval behind it, or the type that the base is where none follows.
     #[tactic(auto, using(token_cursor::proofs::Choosing::when_true, token_cursor::proofs::Choosing::when_false), unfolding(module_productions::specs::Expressions::after_base))]
     fn after_base(
@@ -61,7 +53,7 @@ impl<
         base: TypeBase,
         alone: TypeExp,
     ) -> Result<TypeExp, Stopped>
-        requires { Nests self.now.depth (F.pre self.now.stmt) (F.post self.now.stmt) (G.pre self.now.expr) (G.post self.now.expr) (H.pre self.now.type_exp) (H.post self.now.type_exp) }
+        requires { N.parse_at self.now.nested self.now.depth }
         ensures { Reads (spec.after_base (nested self.now.depth) base alone tokens.old.rest.now) result tokens.new.rest.now }
     {
         if !begins_interval(tokens) {
@@ -74,7 +66,7 @@ impl<
     /// A type of which the first name was taken.
     #[tactic(auto, using(token_cursor::proofs::Choosing::when_true, token_cursor::proofs::Choosing::when_false), unfolding(module_productions::specs::Expressions::type_from, module_productions::specs::Expressions::after_base))]
     fn type_from(&self, tokens: &mut Cursor<'_>, first: Identifier) -> Result<TypeExp, Stopped>
-        requires { Nests self.now.depth (F.pre self.now.stmt) (F.post self.now.stmt) (G.pre self.now.expr) (G.post self.now.expr) (H.pre self.now.type_exp) (H.post self.now.type_exp) }
+        requires { N.parse_at self.now.nested self.now.depth }
         ensures { Reads (spec.type_from (nested self.now.depth) first tokens.old.rest.now) result tokens.new.rest.now }
     {
         let name = qname_from(self.alloc, tokens, first)?;
@@ -87,7 +79,7 @@ impl<
 
     #[tactic(auto, unfolding(module_productions::specs::Expressions::enumeration))]
     fn enumeration(&self, tokens: &mut Cursor<'_>, place: Place) -> Result<TypeExp, Stopped>
-        requires { Nests self.now.depth (F.pre self.now.stmt) (F.post self.now.stmt) (G.pre self.now.expr) (G.post self.now.expr) (H.pre self.now.type_exp) (H.post self.now.type_exp) }
+        requires { N.parse_at self.now.nested self.now.depth }
         ensures { Reads (spec.enumeration (nested self.now.depth) place tokens.old.rest.now) result tokens.new.rest.now }
     {
         let names = names(self.alloc, tokens)?;
@@ -97,7 +89,7 @@ impl<
 
     #[tactic(auto, unfolding(module_productions::specs::Expressions::array))]
     fn array(&self, tokens: &mut Cursor<'_>, place: Place) -> Result<TypeExp, Stopped>
-        requires { Nests self.now.depth (F.pre self.now.stmt) (F.post self.now.stmt) (G.pre self.now.expr) (G.post self.now.expr) (H.pre self.now.type_exp) (H.post self.now.type_exp) }
+        requires { N.parse_at self.now.nested self.now.depth }
         ensures { Reads (spec.array (nested self.now.depth) place tokens.old.rest.now) result tokens.new.rest.now }
     {
         let index = self.type_exp(tokens, None)?;
@@ -112,7 +104,7 @@ impl<
 
     #[tactic(auto, using(token_cursor::proofs::Taking::many_by, crate::proofs::FieldLoops::types_eats))]
     fn more_types(&self, tokens: &mut Cursor<'_>, mut all: TypeExps) -> Result<TypeExps, Stopped>
-        requires { Nests self.now.depth (F.pre self.now.stmt) (F.post self.now.stmt) (G.pre self.now.expr) (G.post self.now.expr) (H.pre self.now.type_exp) (H.post self.now.type_exp) }
+        requires { N.parse_at self.now.nested self.now.depth }
         ensures { Reads (many comma (spec.types_step (nested self.now.depth)) all tokens.old.rest.now) result tokens.new.rest.now }
     {
         'types: while tokens.takes_mark(Mark::Comma).is_some() {
@@ -124,7 +116,7 @@ impl<
     /// Types without names, of which some were taken.
     #[tactic(auto, unfolding(module_productions::specs::Expressions::unnamed, module_productions::specs::Expressions::more_types))]
     fn unnamed(&self, tokens: &mut Cursor<'_>, mut all: TypeExps) -> Result<FieldList, Stopped>
-        requires { Nests self.now.depth (F.pre self.now.stmt) (F.post self.now.stmt) (G.pre self.now.expr) (G.post self.now.expr) (H.pre self.now.type_exp) (H.post self.now.type_exp) }
+        requires { N.parse_at self.now.nested self.now.depth }
         ensures { Reads (spec.unnamed (nested self.now.depth) all tokens.old.rest.now) result tokens.new.rest.now }
     {
         all.push(self.type_exp(tokens, None)?)?;
@@ -138,7 +130,7 @@ impl<
         tokens: &mut Cursor<'_>,
         mut all: List<Labeled<Identifiers, TypeExp>>,
     ) -> Result<List<Labeled<Identifiers, TypeExp>>, Stopped>
-        requires { Nests self.now.depth (F.pre self.now.stmt) (F.post self.now.stmt) (G.pre self.now.expr) (G.post self.now.expr) (H.pre self.now.type_exp) (H.post self.now.type_exp) }
+        requires { N.parse_at self.now.nested self.now.depth }
         ensures { Reads (many comma (spec.groups_step (nested self.now.depth)) all tokens.old.rest.now) result tokens.new.rest.now }
     {
         'groups: while tokens.takes_mark(Mark::Comma).is_some() {
@@ -153,7 +145,7 @@ impl<
     /// Fields with names, of which the first and their colon were taken.
     #[tactic(auto, unfolding(module_productions::specs::Expressions::with_names))]
     fn with_names(&self, tokens: &mut Cursor<'_>, labels: Identifiers) -> Result<FieldList, Stopped>
-        requires { Nests self.now.depth (F.pre self.now.stmt) (F.post self.now.stmt) (G.pre self.now.expr) (G.post self.now.expr) (H.pre self.now.type_exp) (H.post self.now.type_exp) }
+        requires { N.parse_at self.now.nested self.now.depth }
         ensures { Reads (spec.with_names (nested self.now.depth) labels tokens.old.rest.now) result tokens.new.rest.now }
     {
         let item = self.type_exp(tokens, None)?;
@@ -171,7 +163,7 @@ impl<
         before: Identifiers,
         last: Identifier,
     ) -> Result<FieldList, Stopped>
-        requires { Nests self.now.depth (F.pre self.now.stmt) (F.post self.now.stmt) (G.pre self.now.expr) (G.post self.now.expr) (H.pre self.now.type_exp) (H.post self.now.type_exp) }
+        requires { N.parse_at self.now.nested self.now.depth }
         ensures { Reads (spec.types_from (nested self.now.depth) (record { before = before; last = last }) tokens.old.rest.now) result tokens.new.rest.now }
     {
         let item = self.type_exp(tokens, Some(last))?;
@@ -189,7 +181,7 @@ impl<
         mut before: Identifiers,
         last: Identifier,
     ) -> Result<FieldList, Stopped>
-        requires { Nests self.now.depth (F.pre self.now.stmt) (F.post self.now.stmt) (G.pre self.now.expr) (G.post self.now.expr) (H.pre self.now.type_exp) (H.post self.now.type_exp) }
+        requires { N.parse_at self.now.nested self.now.depth }
         ensures { Reads (tails.decided (nested self.now.depth) (record { before = before; last = last }) tokens.old.rest.now) result tokens.new.rest.now }
     {
         match tokens.takes_mark(Mark::Colon) {
@@ -209,7 +201,7 @@ impl<
         mut before: Identifiers,
         mut last: Identifier,
     ) -> Result<FieldList, Stopped>
-        requires { Nests self.now.depth (F.pre self.now.stmt) (F.post self.now.stmt) (G.pre self.now.expr) (G.post self.now.expr) (H.pre self.now.type_exp) (H.post self.now.type_exp) }
+        requires { N.parse_at self.now.nested self.now.depth }
         ensures { Reads (repeat (spec.undecided_turn (nested self.now.depth)) (record { before = before; last = last }) tokens.old.rest.now) result tokens.new.rest.now }
     {
         'names: while tokens.takes_mark(Mark::Comma).is_some() {
@@ -226,7 +218,7 @@ impl<
     /// Fields. The depth is tested before a name is taken, since a type too deep stops at its first token.
     #[tactic(auto, using(token_cursor::proofs::Choosing::choose_none, token_cursor::proofs::Choosing::choose_some, token_cursor::proofs::Choosing::if_true, token_cursor::proofs::Choosing::if_false), unfolding(module_productions::specs::Expressions::field_list))]
     pub fn field_list(&self, tokens: &mut Cursor<'_>) -> Result<FieldList, Stopped>
-        requires { Nests self.now.depth (F.pre self.now.stmt) (F.post self.now.stmt) (G.pre self.now.expr) (G.post self.now.expr) (H.pre self.now.type_exp) (H.post self.now.type_exp) }
+        requires { N.parse_at self.now.nested self.now.depth }
         ensures { Reads (spec.field_list (nested self.now.depth) tokens.old.rest.now) result tokens.new.rest.now }
     {
         if !self.can() {
@@ -240,7 +232,7 @@ impl<
 
     #[tactic(auto, unfolding(module_productions::specs::Expressions::a_record))]
     fn a_record(&self, tokens: &mut Cursor<'_>, place: Place) -> Result<TypeExp, Stopped>
-        requires { Nests self.now.depth (F.pre self.now.stmt) (F.post self.now.stmt) (G.pre self.now.expr) (G.post self.now.expr) (H.pre self.now.type_exp) (H.post self.now.type_exp) }
+        requires { N.parse_at self.now.nested self.now.depth }
         ensures { Reads (spec.a_record (nested self.now.depth) place tokens.old.rest.now) result tokens.new.rest.now }
     {
         tokens.need_mark(Mark::LeftBracket)?;
@@ -252,7 +244,7 @@ impl<
     /// A type that begins with no word of a simple type.
     #[tactic(auto, using(token_cursor::proofs::Choosing::choose_none, token_cursor::proofs::Choosing::choose_some), unfolding(crate::specs::Tails::built_type))]
     fn built_type(&self, tokens: &mut Cursor<'_>) -> Result<TypeExp, Stopped>
-        requires { Nests self.now.depth (F.pre self.now.stmt) (F.post self.now.stmt) (G.pre self.now.expr) (G.post self.now.expr) (H.pre self.now.type_exp) (H.post self.now.type_exp) }
+        requires { N.parse_at self.now.nested self.now.depth }
         ensures { Reads (tails.built_type (nested self.now.depth) tokens.old.rest.now) result tokens.new.rest.now }
     {
         if let Some(place) = tokens.takes_mark(Mark::LeftBrace) {
@@ -270,7 +262,7 @@ impl<
     /// A type that begins with no name and is no base of an interval.
     #[tactic(auto, using(token_cursor::proofs::Choosing::choose_none, token_cursor::proofs::Choosing::choose_some), unfolding(crate::specs::Tails::other_type, crate::specs::Tails::built_type))]
     fn other_type(&self, tokens: &mut Cursor<'_>) -> Result<TypeExp, Stopped>
-        requires { Nests self.now.depth (F.pre self.now.stmt) (F.post self.now.stmt) (G.pre self.now.expr) (G.post self.now.expr) (H.pre self.now.type_exp) (H.post self.now.type_exp) }
+        requires { N.parse_at self.now.nested self.now.depth }
         ensures { Reads (tails.other_type (nested self.now.depth) tokens.old.rest.now) result tokens.new.rest.now }
     {
         if let Some(place) = tokens.takes_word(Word::BooleanWord) {
@@ -285,7 +277,7 @@ impl<
     /// A type that begins with no name.
     #[tactic(auto, using(token_cursor::proofs::Choosing::choose_none, token_cursor::proofs::Choosing::choose_some), unfolding(crate::specs::Tails::nameless_type))]
     fn nameless_type(&self, tokens: &mut Cursor<'_>) -> Result<TypeExp, Stopped>
-        requires { Nests self.now.depth (F.pre self.now.stmt) (F.post self.now.stmt) (G.pre self.now.expr) (G.post self.now.expr) (H.pre self.now.type_exp) (H.post self.now.type_exp) }
+        requires { N.parse_at self.now.nested self.now.depth }
         ensures { Reads (tails.nameless_type (nested self.now.depth) tokens.old.rest.now) result tokens.new.rest.now }
     {
         if let Some(place) = tokens.takes_word(Word::IntegerWord) {
@@ -311,7 +303,7 @@ impl<
     /// A type, of which nothing was taken.
     #[tactic(auto, using(token_cursor::proofs::Choosing::choose_none, token_cursor::proofs::Choosing::choose_some), unfolding(module_productions::specs::Expressions::type_exp, crate::specs::Tails::nameless_type, crate::specs::Tails::other_type))]
     fn fresh_type(&self, tokens: &mut Cursor<'_>) -> Result<TypeExp, Stopped>
-        requires { Nests self.now.depth (F.pre self.now.stmt) (F.post self.now.stmt) (G.pre self.now.expr) (G.post self.now.expr) (H.pre self.now.type_exp) (H.post self.now.type_exp) }
+        requires { N.parse_at self.now.nested self.now.depth }
         ensures { Reads (spec.type_exp (nested self.now.depth) None tokens.old.rest.now) result tokens.new.rest.now }
     {
         match tokens.takes_name(self.alloc)? {
@@ -327,7 +319,7 @@ impl<
         tokens: &mut Cursor<'_>,
         begun: Option<Identifier>,
     ) -> Result<TypeExp, Stopped>
-        requires { Nests self.now.depth (F.pre self.now.stmt) (F.post self.now.stmt) (G.pre self.now.expr) (G.post self.now.expr) (H.pre self.now.type_exp) (H.post self.now.type_exp) }
+        requires { N.parse_at self.now.nested self.now.depth }
         ensures { Reads (spec.type_exp (nested self.now.depth) begun tokens.old.rest.now) result tokens.new.rest.now }
     {
         match begun {

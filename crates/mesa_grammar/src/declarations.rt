@@ -2,22 +2,18 @@
 
 ghost use Rattle.std.specs.Prelude.{◌≡◌};
 ghost use Rattle.token_cursor.specs.Running.{Reads};
-ghost use Rattle.expression_parser.specs.Nests.{Nests};
 ghost use Rattle.token_cursor.specs.Parsing.{repeat, and_then, pure};
 ghost use Rattle.module_productions.specs.Statements.{nested};
 ghost use Rattle.module_productions.specs.Texts as spec;
 ghost use Rattle.module_productions.specs.Statements as st;
 
 use crate::nesting::Grammar;
+use expression_parser::NestedParsers;
 use mesa_base::{Identifier, List};
 use mesa_lexer::Mark;
-use mesa_types::syntax::{
-    Access, Declaration, Declarations, Expr, Inner, Statement, Statements, TypeExp,
-};
-use module_productions::Begun;
+use mesa_types::syntax::{Access, Declaration, Declarations, Inner, Statements};
 use module_tokens::begins::declares;
 use module_tokens::signs::takes_accessing;
-use std::alloc::Global;
 use token_cursor::naming::names_from;
 use token_cursor::{Cursor, Stopped};
 
@@ -31,11 +27,7 @@ fn access(tokens: &mut Cursor<'_>) -> Result<Option<Access>, Stopped>
     }
 }
 
-impl<
-    F: Fn(Global, &mut Cursor<'_>, usize, Option<Identifier>) -> Result<Statement, Stopped>,
-    G: Fn(Global, &mut Cursor<'_>, usize, Begun) -> Result<Expr, Stopped>,
-    H: Fn(Global, &mut Cursor<'_>, usize, Option<Identifier>) -> Result<TypeExp, Stopped>,
-> Grammar<F, G, H> {
+impl<N: NestedParsers> Grammar<N> {
     /// A declaration, whose first name was taken.
     #[tactic(auto, unfolding(module_productions::specs::Texts::declaration))]
     fn declaration(
@@ -43,7 +35,7 @@ impl<
         tokens: &mut Cursor<'_>,
         first: Identifier,
     ) -> Result<Declaration, Stopped>
-        requires { Nests self.now.statements.level.depth (F.pre self.now.statements.level.stmt) (F.post self.now.statements.level.stmt) (G.pre self.now.statements.level.expr) (G.post self.now.statements.level.expr) (H.pre self.now.statements.level.type_exp) (H.post self.now.statements.level.type_exp) }
+        requires { N.parse_at self.now.statements.level.nested self.now.statements.level.depth }
         ensures { Reads (spec.declaration (nested self.now.statements.level.depth) first tokens.old.rest.now) result tokens.new.rest.now }
     {
         let names = names_from(self.statements.level.alloc, tokens, first)?;
@@ -65,7 +57,7 @@ impl<
         tokens: &mut Cursor<'_>,
         all: Declarations,
     ) -> Result<(Declarations, Statements), Stopped>
-        requires { Nests self.now.statements.level.depth (F.pre self.now.statements.level.stmt) (F.post self.now.statements.level.stmt) (G.pre self.now.statements.level.expr) (G.post self.now.statements.level.expr) (H.pre self.now.statements.level.type_exp) (H.post self.now.statements.level.type_exp) }
+        requires { N.parse_at self.now.statements.level.nested self.now.statements.level.depth }
         ensures { Reads (and_then (st.body (nested self.now.statements.level.depth) tokens.old.rest.now) (λ ss. pure (all, ss))) result tokens.new.rest.now }
     {
         let statements = self.statements.body(tokens)?;
@@ -79,7 +71,7 @@ impl<
         tokens: &mut Cursor<'_>,
         mut all: Declarations,
     ) -> Result<(Declarations, Statements), Stopped>
-        requires { Nests self.now.statements.level.depth (F.pre self.now.statements.level.stmt) (F.post self.now.statements.level.stmt) (G.pre self.now.statements.level.expr) (G.post self.now.statements.level.expr) (H.pre self.now.statements.level.type_exp) (H.post self.now.statements.level.type_exp) }
+        requires { N.parse_at self.now.statements.level.nested self.now.statements.level.depth }
         ensures { Reads (repeat (spec.front_turn (nested self.now.statements.level.depth)) all tokens.old.rest.now) result tokens.new.rest.now }
     {
         'declarations: loop {
@@ -99,7 +91,7 @@ impl<
 
     #[tactic(auto, unfolding(module_productions::specs::Texts::inner))]
     pub fn inner(&self, tokens: &mut Cursor<'_>) -> Result<Inner, Stopped>
-        requires { Nests self.now.statements.level.depth (F.pre self.now.statements.level.stmt) (F.post self.now.statements.level.stmt) (G.pre self.now.statements.level.expr) (G.post self.now.statements.level.expr) (H.pre self.now.statements.level.type_exp) (H.post self.now.statements.level.type_exp) }
+        requires { N.parse_at self.now.statements.level.nested self.now.statements.level.depth }
         ensures { Reads (spec.inner (nested self.now.statements.level.depth) tokens.old.rest.now) result tokens.new.rest.now }
     {
         let enable = self.statements.enabling(tokens)?;

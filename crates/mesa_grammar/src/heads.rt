@@ -2,29 +2,22 @@
 
 ghost use Rattle.std.specs.Prelude.{◌≡◌};
 ghost use Rattle.token_cursor.specs.Running.{Reads};
-ghost use Rattle.expression_parser.specs.Nests.{Nests};
 ghost use Rattle.module_productions.specs.Statements.{nested};
 ghost use Rattle.module_productions.specs.Texts as spec;
 
 use crate::nesting::Grammar;
-use mesa_base::Identifier;
+use expression_parser::NestedParsers;
 use mesa_lexer::{Mark, Word};
-use mesa_types::syntax::{Block, Declared, Expr, FieldList, Head, Statement, TypeExp};
-use module_productions::Begun;
+use mesa_types::syntax::{Block, Declared, FieldList, Head};
 use module_tokens::signs::takes_procedure_word;
 use statement_parser::BlockEnd;
-use std::alloc::Global;
 use token_cursor::{Cursor, Stopped};
 
-impl<
-    F: Fn(Global, &mut Cursor<'_>, usize, Option<Identifier>) -> Result<Statement, Stopped>,
-    G: Fn(Global, &mut Cursor<'_>, usize, Begun) -> Result<Expr, Stopped>,
-    H: Fn(Global, &mut Cursor<'_>, usize, Option<Identifier>) -> Result<TypeExp, Stopped>,
-> Grammar<F, G, H> {
+impl<N: NestedParsers> Grammar<N> {
     /// Parameters behind their bracket.
     #[tactic(auto, using(token_cursor::proofs::Choosing::choose_none, token_cursor::proofs::Choosing::choose_some), unfolding(module_productions::specs::Texts::in_params))]
     fn in_params(&self, tokens: &mut Cursor<'_>) -> Result<Option<FieldList>, Stopped>
-        requires { Nests self.now.statements.level.depth (F.pre self.now.statements.level.stmt) (F.post self.now.statements.level.stmt) (G.pre self.now.statements.level.expr) (G.post self.now.statements.level.expr) (H.pre self.now.statements.level.type_exp) (H.post self.now.statements.level.type_exp) }
+        requires { N.parse_at self.now.statements.level.nested self.now.statements.level.depth }
         ensures { Reads (spec.in_params (nested self.now.statements.level.depth) tokens.old.rest.now) result tokens.new.rest.now }
     {
         match tokens.takes_mark(Mark::RightBracket) {
@@ -39,7 +32,7 @@ impl<
 
     #[tactic(auto, using(token_cursor::proofs::Choosing::choose_none, token_cursor::proofs::Choosing::choose_some), unfolding(module_productions::specs::Texts::params))]
     pub fn params(&self, tokens: &mut Cursor<'_>) -> Result<Option<FieldList>, Stopped>
-        requires { Nests self.now.statements.level.depth (F.pre self.now.statements.level.stmt) (F.post self.now.statements.level.stmt) (G.pre self.now.statements.level.expr) (G.post self.now.statements.level.expr) (H.pre self.now.statements.level.type_exp) (H.post self.now.statements.level.type_exp) }
+        requires { N.parse_at self.now.statements.level.nested self.now.statements.level.depth }
         ensures { Reads (spec.params (nested self.now.statements.level.depth) tokens.old.rest.now) result tokens.new.rest.now }
     {
         match tokens.takes_mark(Mark::LeftBracket) {
@@ -50,7 +43,7 @@ impl<
 
     #[tactic(auto, using(token_cursor::proofs::Choosing::choose_none, token_cursor::proofs::Choosing::choose_some), unfolding(module_productions::specs::Texts::returns))]
     fn results(&self, tokens: &mut Cursor<'_>) -> Result<Option<FieldList>, Stopped>
-        requires { Nests self.now.statements.level.depth (F.pre self.now.statements.level.stmt) (F.post self.now.statements.level.stmt) (G.pre self.now.statements.level.expr) (G.post self.now.statements.level.expr) (H.pre self.now.statements.level.type_exp) (H.post self.now.statements.level.type_exp) }
+        requires { N.parse_at self.now.statements.level.nested self.now.statements.level.depth }
         ensures { Reads (spec.returns (nested self.now.statements.level.depth) tokens.old.rest.now) result tokens.new.rest.now }
     {
         match tokens.takes_word(Word::ReturnsWord) {
@@ -64,7 +57,7 @@ impl<
 
     #[tactic(auto, unfolding(module_productions::specs::Texts::head))]
     pub fn head(&self, tokens: &mut Cursor<'_>) -> Result<Head, Stopped>
-        requires { Nests self.now.statements.level.depth (F.pre self.now.statements.level.stmt) (F.post self.now.statements.level.stmt) (G.pre self.now.statements.level.expr) (G.post self.now.statements.level.expr) (H.pre self.now.statements.level.type_exp) (H.post self.now.statements.level.type_exp) }
+        requires { N.parse_at self.now.statements.level.nested self.now.statements.level.depth }
         ensures { Reads (spec.head (nested self.now.statements.level.depth) tokens.old.rest.now) result tokens.new.rest.now }
     {
         let takes = self.params(tokens)?;
@@ -74,7 +67,7 @@ impl<
 
     #[tactic(auto, using(token_cursor::proofs::Choosing::choose_none, token_cursor::proofs::Choosing::choose_some), unfolding(module_productions::specs::Texts::block))]
     fn any_block(&self, tokens: &mut Cursor<'_>) -> Result<Block, Stopped>
-        requires { Nests self.now.statements.level.depth (F.pre self.now.statements.level.stmt) (F.post self.now.statements.level.stmt) (G.pre self.now.statements.level.expr) (G.post self.now.statements.level.expr) (H.pre self.now.statements.level.type_exp) (H.post self.now.statements.level.type_exp) }
+        requires { N.parse_at self.now.statements.level.nested self.now.statements.level.depth }
         ensures { Reads (spec.block (nested self.now.statements.level.depth) tokens.old.rest.now) result tokens.new.rest.now }
     {
         if let Some(place) = tokens.takes_word(Word::BeginWord) {
@@ -88,7 +81,7 @@ impl<
 
     #[tactic(auto, unfolding(module_productions::specs::Texts::procedure))]
     fn procedure(&self, tokens: &mut Cursor<'_>) -> Result<Declared, Stopped>
-        requires { Nests self.now.statements.level.depth (F.pre self.now.statements.level.stmt) (F.post self.now.statements.level.stmt) (G.pre self.now.statements.level.expr) (G.post self.now.statements.level.expr) (H.pre self.now.statements.level.type_exp) (H.post self.now.statements.level.type_exp) }
+        requires { N.parse_at self.now.statements.level.nested self.now.statements.level.depth }
         ensures { Reads (spec.procedure (nested self.now.statements.level.depth) tokens.old.rest.now) result tokens.new.rest.now }
     {
         let head = self.head(tokens)?;
@@ -99,7 +92,7 @@ impl<
 
     #[tactic(auto, unfolding(module_productions::specs::Texts::signal))]
     fn signal(&self, tokens: &mut Cursor<'_>) -> Result<Declared, Stopped>
-        requires { Nests self.now.statements.level.depth (F.pre self.now.statements.level.stmt) (F.post self.now.statements.level.stmt) (G.pre self.now.statements.level.expr) (G.post self.now.statements.level.expr) (H.pre self.now.statements.level.type_exp) (H.post self.now.statements.level.type_exp) }
+        requires { N.parse_at self.now.statements.level.nested self.now.statements.level.depth }
         ensures { Reads (spec.signal (nested self.now.statements.level.depth) tokens.old.rest.now) result tokens.new.rest.now }
     {
         let head = self.head(tokens)?;
@@ -110,7 +103,7 @@ impl<
 
     #[tactic(auto, unfolding(module_productions::specs::Texts::error))]
     fn error(&self, tokens: &mut Cursor<'_>) -> Result<Declared, Stopped>
-        requires { Nests self.now.statements.level.depth (F.pre self.now.statements.level.stmt) (F.post self.now.statements.level.stmt) (G.pre self.now.statements.level.expr) (G.post self.now.statements.level.expr) (H.pre self.now.statements.level.type_exp) (H.post self.now.statements.level.type_exp) }
+        requires { N.parse_at self.now.statements.level.nested self.now.statements.level.depth }
         ensures { Reads (spec.error (nested self.now.statements.level.depth) tokens.old.rest.now) result tokens.new.rest.now }
     {
         let takes = self.params(tokens)?;
@@ -121,7 +114,7 @@ impl<
 
     #[tactic(auto, using(token_cursor::proofs::Choosing::choose_none, token_cursor::proofs::Choosing::choose_some), unfolding(module_productions::specs::Texts::declared))]
     pub fn declared(&self, tokens: &mut Cursor<'_>) -> Result<Declared, Stopped>
-        requires { Nests self.now.statements.level.depth (F.pre self.now.statements.level.stmt) (F.post self.now.statements.level.stmt) (G.pre self.now.statements.level.expr) (G.post self.now.statements.level.expr) (H.pre self.now.statements.level.type_exp) (H.post self.now.statements.level.type_exp) }
+        requires { N.parse_at self.now.statements.level.nested self.now.statements.level.depth }
         ensures { Reads (spec.declared (nested self.now.statements.level.depth) tokens.old.rest.now) result tokens.new.rest.now }
     {
         if let Some(_) = takes_procedure_word(tokens) {

@@ -2,29 +2,24 @@
 
 ghost use Rattle.std.specs.Prelude.{◌≡◌};
 ghost use Rattle.token_cursor.specs.Running.{Reads};
-ghost use Rattle.expression_parser.specs.Nests.{Nests};
 ghost use Rattle.module_productions.specs.Statements.{nested};
 ghost use Rattle.module_productions.specs.Texts as spec;
 ghost use Rattle.statement_parser.specs.StatementTails as tails;
 
 use crate::nesting::Grammar;
+use expression_parser::NestedParsers;
 use mesa_base::{Identifier, List};
 use mesa_lexer::{Mark, Word};
-use mesa_types::syntax::{Defined, Definitions, Expr, Labeled, Statement, TypeExp};
+use mesa_types::syntax::{Defined, Definitions, Labeled};
 use module_productions::Begun;
 use module_tokens::signs::takes_procedure_word;
-use std::alloc::Global;
 use token_cursor::naming::names_from;
 use token_cursor::{Cursor, Stopped};
 
-impl<
-    F: Fn(Global, &mut Cursor<'_>, usize, Option<Identifier>) -> Result<Statement, Stopped>,
-    G: Fn(Global, &mut Cursor<'_>, usize, Begun) -> Result<Expr, Stopped>,
-    H: Fn(Global, &mut Cursor<'_>, usize, Option<Identifier>) -> Result<TypeExp, Stopped>,
-> Grammar<F, G, H> {
+impl<N: NestedParsers> Grammar<N> {
     #[tactic(auto, unfolding(module_productions::specs::Texts::constant))]
     fn constant(&self, tokens: &mut Cursor<'_>) -> Result<Defined, Stopped>
-        requires { Nests self.now.statements.level.depth (F.pre self.now.statements.level.stmt) (F.post self.now.statements.level.stmt) (G.pre self.now.statements.level.expr) (G.post self.now.statements.level.expr) (H.pre self.now.statements.level.type_exp) (H.post self.now.statements.level.type_exp) }
+        requires { N.parse_at self.now.statements.level.nested self.now.statements.level.depth }
         ensures { Reads (spec.constant (nested self.now.statements.level.depth) tokens.old.rest.now) result tokens.new.rest.now }
     {
         let of = self.statements.level.type_exp(tokens, None)?;
@@ -35,7 +30,7 @@ impl<
 
     #[tactic(auto, unfolding(module_productions::specs::Texts::type_item))]
     fn type_item(&self, tokens: &mut Cursor<'_>) -> Result<Defined, Stopped>
-        requires { Nests self.now.statements.level.depth (F.pre self.now.statements.level.stmt) (F.post self.now.statements.level.stmt) (G.pre self.now.statements.level.expr) (G.post self.now.statements.level.expr) (H.pre self.now.statements.level.type_exp) (H.post self.now.statements.level.type_exp) }
+        requires { N.parse_at self.now.statements.level.nested self.now.statements.level.depth }
         ensures { Reads (spec.type_item (nested self.now.statements.level.depth) tokens.old.rest.now) result tokens.new.rest.now }
     {
         tokens.need_mark(Mark::Equal)?;
@@ -46,7 +41,7 @@ impl<
     /// An item that is an error, a type or a constant.
     #[tactic(auto, using(token_cursor::proofs::Choosing::choose_none, token_cursor::proofs::Choosing::choose_some), unfolding(statement_parser::specs::StatementTails::other_item))]
     fn other_item(&self, tokens: &mut Cursor<'_>) -> Result<Defined, Stopped>
-        requires { Nests self.now.statements.level.depth (F.pre self.now.statements.level.stmt) (F.post self.now.statements.level.stmt) (G.pre self.now.statements.level.expr) (G.post self.now.statements.level.expr) (H.pre self.now.statements.level.type_exp) (H.post self.now.statements.level.type_exp) }
+        requires { N.parse_at self.now.statements.level.nested self.now.statements.level.depth }
         ensures { Reads (tails.other_item (nested self.now.statements.level.depth) tokens.old.rest.now) result tokens.new.rest.now }
     {
         if let Some(_) = tokens.takes_word(Word::ErrorWord) {
@@ -61,7 +56,7 @@ impl<
 
     #[tactic(auto, using(token_cursor::proofs::Choosing::choose_none, token_cursor::proofs::Choosing::choose_some), unfolding(module_productions::specs::Texts::defined, statement_parser::specs::StatementTails::other_item))]
     fn defined(&self, tokens: &mut Cursor<'_>) -> Result<Defined, Stopped>
-        requires { Nests self.now.statements.level.depth (F.pre self.now.statements.level.stmt) (F.post self.now.statements.level.stmt) (G.pre self.now.statements.level.expr) (G.post self.now.statements.level.expr) (H.pre self.now.statements.level.type_exp) (H.post self.now.statements.level.type_exp) }
+        requires { N.parse_at self.now.statements.level.nested self.now.statements.level.depth }
         ensures { Reads (spec.defined (nested self.now.statements.level.depth) tokens.old.rest.now) result tokens.new.rest.now }
     {
         if let Some(_) = takes_procedure_word(tokens) {
@@ -85,7 +80,7 @@ impl<
         mut all: Definitions,
         first: Identifier,
     ) -> Result<Definitions, Stopped>
-        requires { Nests self.now.statements.level.depth (F.pre self.now.statements.level.stmt) (F.post self.now.statements.level.stmt) (G.pre self.now.statements.level.expr) (G.post self.now.statements.level.expr) (H.pre self.now.statements.level.type_exp) (H.post self.now.statements.level.type_exp) }
+        requires { N.parse_at self.now.statements.level.nested self.now.statements.level.depth }
         ensures { Reads (spec.definitions_step (nested self.now.statements.level.depth) all first.name first.place tokens.old.rest.now) result tokens.new.rest.now }
     {
         let labels = names_from(self.statements.level.alloc, tokens, first)?;
@@ -98,7 +93,7 @@ impl<
 
     #[tactic(auto, using(token_cursor::proofs::Taking::many_by, crate::proofs::FrontSteps::definitions_eats), unfolding(module_productions::specs::Texts::definitions))]
     pub fn definitions(&self, tokens: &mut Cursor<'_>) -> Result<Definitions, Stopped>
-        requires { Nests self.now.statements.level.depth (F.pre self.now.statements.level.stmt) (F.post self.now.statements.level.stmt) (G.pre self.now.statements.level.expr) (G.post self.now.statements.level.expr) (H.pre self.now.statements.level.type_exp) (H.post self.now.statements.level.type_exp) }
+        requires { N.parse_at self.now.statements.level.nested self.now.statements.level.depth }
         ensures { Reads (spec.definitions (nested self.now.statements.level.depth) tokens.old.rest.now) result tokens.new.rest.now }
     {
         let mut all = List::new(self.statements.level.alloc);

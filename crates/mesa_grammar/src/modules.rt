@@ -2,29 +2,23 @@
 
 ghost use Rattle.std.specs.Prelude.{◌≡◌};
 ghost use Rattle.token_cursor.specs.Running.{Reads};
-ghost use Rattle.expression_parser.specs.Nests.{Nests};
 ghost use Rattle.module_productions.specs.Statements.{nested};
 ghost use Rattle.module_productions.specs.Texts as spec;
 
 use crate::directory::{interfaces, listed, opened};
 use crate::nesting::Grammar;
-use mesa_base::{Identifier, Place};
+use expression_parser::NestedParsers;
+use mesa_base::Place;
 use mesa_lexer::{Mark, Word};
-use mesa_types::syntax::{Expr, Module, ModuleKind, Statement, TypeExp};
-use module_productions::Begun;
-use std::alloc::Global;
+use mesa_types::syntax::{Module, ModuleKind};
 use token_cursor::naming::named;
 use token_cursor::{Cursor, Stopped};
 
-impl<
-    F: Fn(Global, &mut Cursor<'_>, usize, Option<Identifier>) -> Result<Statement, Stopped>,
-    G: Fn(Global, &mut Cursor<'_>, usize, Begun) -> Result<Expr, Stopped>,
-    H: Fn(Global, &mut Cursor<'_>, usize, Option<Identifier>) -> Result<TypeExp, Stopped>,
-> Grammar<F, G, H> {
+impl<N: NestedParsers> Grammar<N> {
     /// A program behind its word.
     #[tactic(auto, unfolding(module_productions::specs::Texts::program))]
     fn program(&self, tokens: &mut Cursor<'_>, place: Place) -> Result<ModuleKind, Stopped>
-        requires { Nests self.now.statements.level.depth (F.pre self.now.statements.level.stmt) (F.post self.now.statements.level.stmt) (G.pre self.now.statements.level.expr) (G.post self.now.statements.level.expr) (H.pre self.now.statements.level.type_exp) (H.post self.now.statements.level.type_exp) }
+        requires { N.parse_at self.now.statements.level.nested self.now.statements.level.depth }
         ensures { Reads (spec.program (nested self.now.statements.level.depth) place tokens.old.rest.now) result tokens.new.rest.now }
     {
         let imports = listed(self.statements.level.alloc, tokens, Word::ImportsWord)?;
@@ -40,7 +34,7 @@ impl<
     /// An interface behind its word.
     #[tactic(auto, unfolding(module_productions::specs::Texts::interface))]
     fn interface(&self, tokens: &mut Cursor<'_>, place: Place) -> Result<ModuleKind, Stopped>
-        requires { Nests self.now.statements.level.depth (F.pre self.now.statements.level.stmt) (F.post self.now.statements.level.stmt) (G.pre self.now.statements.level.expr) (G.post self.now.statements.level.expr) (H.pre self.now.statements.level.type_exp) (H.post self.now.statements.level.type_exp) }
+        requires { N.parse_at self.now.statements.level.nested self.now.statements.level.depth }
         ensures { Reads (spec.interface (nested self.now.statements.level.depth) place tokens.old.rest.now) result tokens.new.rest.now }
     {
         tokens.need_mark(Mark::Equal)?;
@@ -53,7 +47,7 @@ impl<
 
     #[tactic(auto, using(token_cursor::proofs::Choosing::choose_none, token_cursor::proofs::Choosing::choose_some), unfolding(module_productions::specs::Texts::kind))]
     fn module_kind(&self, tokens: &mut Cursor<'_>) -> Result<ModuleKind, Stopped>
-        requires { Nests self.now.statements.level.depth (F.pre self.now.statements.level.stmt) (F.post self.now.statements.level.stmt) (G.pre self.now.statements.level.expr) (G.post self.now.statements.level.expr) (H.pre self.now.statements.level.type_exp) (H.post self.now.statements.level.type_exp) }
+        requires { N.parse_at self.now.statements.level.nested self.now.statements.level.depth }
         ensures { Reads (spec.kind (nested self.now.statements.level.depth) tokens.old.rest.now) result tokens.new.rest.now }
     {
         if let Some(place) = tokens.takes_word(Word::ProgramWord) {
@@ -67,7 +61,7 @@ impl<
 
     #[tactic(auto, unfolding(module_productions::specs::Texts::module_text))]
     pub fn module_text(&self, tokens: &mut Cursor<'_>) -> Result<Module, Stopped>
-        requires { Nests self.now.statements.level.depth (F.pre self.now.statements.level.stmt) (F.post self.now.statements.level.stmt) (G.pre self.now.statements.level.expr) (G.post self.now.statements.level.expr) (H.pre self.now.statements.level.type_exp) (H.post self.now.statements.level.type_exp) }
+        requires { N.parse_at self.now.statements.level.nested self.now.statements.level.depth }
         ensures { Reads (spec.module_text (nested self.now.statements.level.depth) tokens.old.rest.now) result tokens.new.rest.now }
     {
         let directory = interfaces(self.statements.level.alloc, tokens)?;

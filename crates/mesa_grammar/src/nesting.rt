@@ -2,6 +2,6 @@ use statement_parser::StatementParser;
 
 /// The parsers of declarations and modules, over those of statements.
 #[derive(Clone, Copy)]
-pub struct Grammar<F, G, H> {
-    pub statements: StatementParser<F, G, H>,
+pub struct Grammar<N> {
+    pub statements: StatementParser<N>,
 }

@@ -8,7 +8,7 @@ ghost use Rattle.module_productions.specs.Statements.{nested};
 ghost use Rattle.module_productions.specs.Texts as texts;
 
 use crate::nesting::Grammar;
-use expression_parser::Level;
+use expression_parser::{Level, ParserFunctions};
 use mesa_base::{Identifier, Place};
 use mesa_lexer::{SyntaxFault, Tokens};
 use mesa_types::Module;
@@ -49,9 +49,11 @@ fn stmt(
         level: Level {
             alloc,
             depth: depth - 1,
-            stmt,
-            expr,
-            type_exp,
+            nested: ParserFunctions {
+                stmt,
+                expr,
+                type_exp,
+            },
         },
     }
     .statement(tokens, begun)
@@ -67,9 +69,11 @@ fn expr(alloc: Global, tokens: &mut Cursor<'_>, depth: usize, begun: Begun) -> R
     Level {
         alloc,
         depth: depth - 1,
-        stmt,
-        expr,
-        type_exp,
+        nested: ParserFunctions {
+            stmt,
+            expr,
+            type_exp,
+        },
     }
     .disj(tokens, begun)
 }
@@ -89,9 +93,11 @@ fn type_exp(
     Level {
         alloc,
         depth: depth - 1,
-        stmt,
-        expr,
-        type_exp,
+        nested: ParserFunctions {
+            stmt,
+            expr,
+            type_exp,
+        },
     }
     .any_type(tokens, begun)
 }
@@ -104,9 +110,11 @@ fn text(alloc: Global, tokens: &mut Cursor<'_>) -> Result<Module, Stopped>
         level: Level {
             alloc,
             depth: LIMIT,
-            stmt,
-            expr,
-            type_exp,
+            nested: ParserFunctions {
+                stmt,
+                expr,
+                type_exp,
+            },
         },
     };
     let module = Grammar { statements }.module_text(tokens)?;

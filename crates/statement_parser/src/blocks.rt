@@ -2,7 +2,6 @@
 
 ghost use Rattle.std.specs.Prelude.{◌≡◌};
 ghost use Rattle.token_cursor.specs.Running.{Reads};
-ghost use Rattle.expression_parser.specs.Nests.{Nests};
 ghost use Rattle.token_cursor.specs.Parsing.{repeat, and_then, pure};
 ghost use Rattle.module_productions.specs.Statements.{nested};
 ghost use Rattle.module_productions.specs.Statements as spec;
@@ -12,14 +11,12 @@ ghost use Rattle.statement_parser.specs.StatementTails as tails;
 ghost use Rattle.token_cursor.specs.Parsing.{need};
 
 use crate::nesting::StatementParser;
+use expression_parser::NestedParsers;
 use mesa_base::{Identifier, List, Place};
 use mesa_lexer::{Mark, Word};
-use mesa_types::syntax::{
-    Block, Expr, Labeled, Local, Locals, Plain, Statement, Statements, TypeExp,
-};
+use mesa_types::syntax::{Block, Labeled, Local, Locals, Plain, Statement, Statements, TypeExp};
 use module_productions::Begun;
 use module_tokens::begins::declares;
-use std::alloc::Global;
 use token_cursor::naming::names_from;
 use token_cursor::{Cursor, Stopped};
 
@@ -41,15 +38,11 @@ fn need_end(tokens: &mut Cursor<'_>, end: BlockEnd) -> Result<Place, Stopped>
     }
 }
 
-impl<
-    F: Fn(Global, &mut Cursor<'_>, usize, Option<Identifier>) -> Result<Statement, Stopped>,
-    G: Fn(Global, &mut Cursor<'_>, usize, Begun) -> Result<Expr, Stopped>,
-    H: Fn(Global, &mut Cursor<'_>, usize, Option<Identifier>) -> Result<TypeExp, Stopped>,
-> StatementParser<F, G, H> {
+impl<N: NestedParsers> StatementParser<N> {
     /// The value of a variable of this type.
     #[tactic(auto, unfolding(crate::specs::StatementTails::initial))]
     fn initial(&self, tokens: &mut Cursor<'_>, of: TypeExp) -> Result<Plain, Stopped>
-        requires { Nests self.now.level.depth (F.pre self.now.level.stmt) (F.post self.now.level.stmt) (G.pre self.now.level.expr) (G.post self.now.level.expr) (H.pre self.now.level.type_exp) (H.post self.now.level.type_exp) }
+        requires { N.parse_at self.now.level.nested self.now.level.depth }
         ensures { Reads (tails.initial (nested self.now.level.depth) of tokens.old.rest.now) result tokens.new.rest.now }
     {
         let value = self.level.expr(tokens, Begun::Fresh)?;
@@ -59,7 +52,7 @@ impl<
     /// The value of a constant of this type.
     #[tactic(auto, unfolding(crate::specs::StatementTails::fixed))]
     fn fixed(&self, tokens: &mut Cursor<'_>, of: TypeExp) -> Result<Plain, Stopped>
-        requires { Nests self.now.level.depth (F.pre self.now.level.stmt) (F.post self.now.level.stmt) (G.pre self.now.level.expr) (G.post self.now.level.expr) (H.pre self.now.level.type_exp) (H.post self.now.level.type_exp) }
+        requires { N.parse_at self.now.level.nested self.now.level.depth }
         ensures { Reads (tails.fixed (nested self.now.level.depth) of tokens.old.rest.now) result tokens.new.rest.now }
     {
         let value = self.level.expr(tokens, Begun::Fresh)?;
@@ -69,7 +62,7 @@ impl<
     /// What stands behind the type of a variable or constant.
     #[tactic(auto, using(token_cursor::proofs::Choosing::choose_none, token_cursor::proofs::Choosing::choose_some), unfolding(module_productions::specs::Statements::valued, crate::specs::StatementTails::initial, crate::specs::StatementTails::fixed))]
     fn valued(&self, tokens: &mut Cursor<'_>, of: TypeExp) -> Result<Plain, Stopped>
-        requires { Nests self.now.level.depth (F.pre self.now.level.stmt) (F.post self.now.level.stmt) (G.pre self.now.level.expr) (G.post self.now.level.expr) (H.pre self.now.level.type_exp) (H.post self.now.level.type_exp) }
+        requires { N.parse_at self.now.level.nested self.now.level.depth }
         ensures { Reads (spec.valued (nested self.now.level.depth) of tokens.old.rest.now) result tokens.new.rest.now }
     {
         if let Some(_) = tokens.takes_mark(Mark::Arrow) {
@@ -83,7 +76,7 @@ impl<
 
     #[tactic(auto, unfolding(module_productions::specs::Statements::type_is))]
     fn type_is(&self, tokens: &mut Cursor<'_>) -> Result<Plain, Stopped>
-        requires { Nests self.now.level.depth (F.pre self.now.level.stmt) (F.post self.now.level.stmt) (G.pre self.now.level.expr) (G.post self.now.level.expr) (H.pre self.now.level.type_exp) (H.post self.now.level.type_exp) }
+        requires { N.parse_at self.now.level.nested self.now.level.depth }
         ensures { Reads (spec.type_is (nested self.now.level.depth) tokens.old.rest.now) result tokens.new.rest.now }
     {
         tokens.need_mark(Mark::Equal)?;
@@ -93,7 +86,7 @@ impl<
 
     #[tactic(auto, unfolding(module_productions::specs::Statements::typed))]
     fn typed(&self, tokens: &mut Cursor<'_>) -> Result<Plain, Stopped>
-        requires { Nests self.now.level.depth (F.pre self.now.level.stmt) (F.post self.now.level.stmt) (G.pre self.now.level.expr) (G.post self.now.level.expr) (H.pre self.now.level.type_exp) (H.post self.now.level.type_exp) }
+        requires { N.parse_at self.now.level.nested self.now.level.depth }
         ensures { Reads (spec.typed (nested self.now.level.depth) tokens.old.rest.now) result tokens.new.rest.now }
     {
         let of = self.level.type_exp(tokens, None)?;
@@ -103,7 +96,7 @@ impl<
     /// What stands behind the names of a type, a variable or a constant and their colon.
     #[tactic(auto, using(token_cursor::proofs::Choosing::choose_none, token_cursor::proofs::Choosing::choose_some), unfolding(module_productions::specs::Statements::plain))]
     pub fn plain(&self, tokens: &mut Cursor<'_>) -> Result<Plain, Stopped>
-        requires { Nests self.now.level.depth (F.pre self.now.level.stmt) (F.post self.now.level.stmt) (G.pre self.now.level.expr) (G.post self.now.level.expr) (H.pre self.now.level.type_exp) (H.post self.now.level.type_exp) }
+        requires { N.parse_at self.now.level.nested self.now.level.depth }
         ensures { Reads (spec.plain (nested self.now.level.depth) tokens.old.rest.now) result tokens.new.rest.now }
     {
         match tokens.takes_word(Word::TypeWord) {
@@ -115,7 +108,7 @@ impl<
     /// A declaration, whose first name was taken.
     #[tactic(auto, unfolding(module_productions::specs::Statements::local))]
     fn local(&self, tokens: &mut Cursor<'_>, first: Identifier) -> Result<Local, Stopped>
-        requires { Nests self.now.level.depth (F.pre self.now.level.stmt) (F.post self.now.level.stmt) (G.pre self.now.level.expr) (G.post self.now.level.expr) (H.pre self.now.level.type_exp) (H.post self.now.level.type_exp) }
+        requires { N.parse_at self.now.level.nested self.now.level.depth }
         ensures { Reads (spec.local (nested self.now.level.depth) first tokens.old.rest.now) result tokens.new.rest.now }
     {
         let labels = names_from(self.level.alloc, tokens, first)?;
@@ -132,7 +125,7 @@ impl<
         tokens: &mut Cursor<'_>,
         all: Locals,
     ) -> Result<(Locals, Statements), Stopped>
-        requires { Nests self.now.level.depth (F.pre self.now.level.stmt) (F.post self.now.level.stmt) (G.pre self.now.level.expr) (G.post self.now.level.expr) (H.pre self.now.level.type_exp) (H.post self.now.level.type_exp) }
+        requires { N.parse_at self.now.level.nested self.now.level.depth }
         ensures { Reads (and_then (spec.body (nested self.now.level.depth) tokens.old.rest.now) (λ ss. pure (all, ss))) result tokens.new.rest.now }
     {
         let statements = self.body(tokens)?;
@@ -146,7 +139,7 @@ impl<
         tokens: &mut Cursor<'_>,
         mut all: Locals,
     ) -> Result<(Locals, Statements), Stopped>
-        requires { Nests self.now.level.depth (F.pre self.now.level.stmt) (F.post self.now.level.stmt) (G.pre self.now.level.expr) (G.post self.now.level.expr) (H.pre self.now.level.type_exp) (H.post self.now.level.type_exp) }
+        requires { N.parse_at self.now.level.nested self.now.level.depth }
         ensures { Reads (repeat (spec.head_turn (nested self.now.level.depth)) all tokens.old.rest.now) result tokens.new.rest.now }
     {
         'locals: loop {
@@ -172,7 +165,7 @@ impl<
         end: BlockEnd,
         place: Place,
     ) -> Result<Block, Stopped>
-        requires { Nests self.now.level.depth (F.pre self.now.level.stmt) (F.post self.now.level.stmt) (G.pre self.now.level.expr) (G.post self.now.level.expr) (H.pre self.now.level.type_exp) (H.post self.now.level.type_exp) }
+        requires { N.parse_at self.now.level.nested self.now.level.depth }
         ensures { Reads (spec.block (nested self.now.level.depth) (last_of end) place tokens.old.rest.now) result tokens.new.rest.now }
     {
         let enable = self.enabling(tokens)?;
@@ -196,7 +189,7 @@ impl<
         end: BlockEnd,
         place: Place,
     ) -> Result<Statement, Stopped>
-        requires { Nests self.now.level.depth (F.pre self.now.level.stmt) (F.post self.now.level.stmt) (G.pre self.now.level.expr) (G.post self.now.level.expr) (H.pre self.now.level.type_exp) (H.post self.now.level.type_exp) }
+        requires { N.parse_at self.now.level.nested self.now.level.depth }
         ensures { Reads (and_then (spec.block (nested self.now.level.depth) (last_of end) place tokens.old.rest.now) (λ b. pure (s.Nested b))) result tokens.new.rest.now }
     {
         let block = self.block(tokens, end, place)?;

@@ -2,7 +2,6 @@
 
 ghost use Rattle.std.specs.Prelude.{◌≡◌};
 ghost use Rattle.token_cursor.specs.Running.{Reads};
-ghost use Rattle.expression_parser.specs.Nests.{Nests};
 ghost use Rattle.token_cursor.specs.Parsing.{ended, many, repeat};
 ghost use Rattle.module_productions.specs.Nested.{begins_repeat};
 ghost use Rattle.module_productions.specs.Statements.{nested, semicolon, begins_label};
@@ -11,12 +10,10 @@ ghost use Rattle.std.specs.Prelude.{[], ◌∷◌, MatchResult};
 ghost use Rattle.token_cursor.specs.declared.fault.Stopped.TheVariants.{Memory};
 
 use crate::nesting::StatementParser;
-use mesa_base::{Identifier, List, Place, Placed};
+use expression_parser::NestedParsers;
+use mesa_base::{List, Place, Placed};
 use mesa_lexer::{Mark, Word};
-use mesa_types::syntax::{
-    Arm, Arms, Exit, Exits, Expr, Labeled, Phrase, Repeat, Repeats, Statement, TypeExp,
-};
-use module_productions::Begun;
+use mesa_types::syntax::{Arm, Arms, Exit, Exits, Labeled, Phrase, Repeat, Repeats};
 use module_tokens::begins::begins_repeat;
 use module_tokens::naming::repeat_labels;
 use std::alloc::Global;
@@ -32,14 +29,10 @@ fn one_arm(alloc: Global, arm: Arm) -> Result<Arms, Stopped>
     Ok(all)
 }
 
-impl<
-    F: Fn(Global, &mut Cursor<'_>, usize, Option<Identifier>) -> Result<Statement, Stopped>,
-    G: Fn(Global, &mut Cursor<'_>, usize, Begun) -> Result<Expr, Stopped>,
-    H: Fn(Global, &mut Cursor<'_>, usize, Option<Identifier>) -> Result<TypeExp, Stopped>,
-> StatementParser<F, G, H> {
+impl<N: NestedParsers> StatementParser<N> {
     #[tactic(auto, unfolding(module_productions::specs::Statements::exit))]
     fn exit(&self, tokens: &mut Cursor<'_>) -> Result<Exit, Stopped>
-        requires { Nests self.now.level.depth (F.pre self.now.level.stmt) (F.post self.now.level.stmt) (G.pre self.now.level.expr) (G.post self.now.level.expr) (H.pre self.now.level.type_exp) (H.post self.now.level.type_exp) }
+        requires { N.parse_at self.now.level.nested self.now.level.depth }
         ensures { Reads (spec.exit (nested self.now.level.depth) tokens.old.rest.now) result tokens.new.rest.now }
     {
         let labels = names(self.level.alloc, tokens)?;
@@ -51,7 +44,7 @@ impl<
     /// Further exits behind these.
     #[tactic(auto, using(token_cursor::proofs::Taking::ended_by, module_productions::proofs::Parts::exits_eats))]
     fn more_exits(&self, tokens: &mut Cursor<'_>, mut all: Exits) -> Result<Exits, Stopped>
-        requires { Nests self.now.level.depth (F.pre self.now.level.stmt) (F.post self.now.level.stmt) (G.pre self.now.level.expr) (G.post self.now.level.expr) (H.pre self.now.level.type_exp) (H.post self.now.level.type_exp) }
+        requires { N.parse_at self.now.level.nested self.now.level.depth }
         ensures { Reads (ended semicolon begins_label (spec.exits_step (nested self.now.level.depth)) all tokens.old.rest.now) result tokens.new.rest.now }
     {
         'exits: while tokens.takes_mark(Mark::Semicolon).is_some() {
@@ -65,7 +58,7 @@ impl<
 
     #[tactic(auto, unfolding(module_productions::specs::Statements::exits))]
     fn exits(&self, tokens: &mut Cursor<'_>) -> Result<Exits, Stopped>
-        requires { Nests self.now.level.depth (F.pre self.now.level.stmt) (F.post self.now.level.stmt) (G.pre self.now.level.expr) (G.post self.now.level.expr) (H.pre self.now.level.type_exp) (H.post self.now.level.type_exp) }
+        requires { N.parse_at self.now.level.nested self.now.level.depth }
         ensures { Reads (spec.exits (nested self.now.level.depth) tokens.old.rest.now) result tokens.new.rest.now }
     {
         let mut all = List::new(self.level.alloc);
@@ -76,7 +69,7 @@ impl<
     /// The EXITS of a block, if there are any.
     #[tactic(auto, using(token_cursor::proofs::Choosing::choose_none, token_cursor::proofs::Choosing::choose_some), unfolding(module_productions::specs::Statements::exit_part))]
     pub fn exit_part(&self, tokens: &mut Cursor<'_>) -> Result<Exits, Stopped>
-        requires { Nests self.now.level.depth (F.pre self.now.level.stmt) (F.post self.now.level.stmt) (G.pre self.now.level.expr) (G.post self.now.level.expr) (H.pre self.now.level.type_exp) (H.post self.now.level.type_exp) }
+        requires { N.parse_at self.now.level.nested self.now.level.depth }
         ensures { Reads (spec.exit_part (nested self.now.level.depth) tokens.old.rest.now) result tokens.new.rest.now }
     {
         match tokens.takes_word(Word::ExitsWord) {
@@ -88,7 +81,7 @@ impl<
     /// What a loop does that was left by some labels, or at its end.
     #[tactic(auto, unfolding(module_productions::specs::Statements::an_end))]
     fn an_end(&self, tokens: &mut Cursor<'_>) -> Result<Repeat, Stopped>
-        requires { Nests self.now.level.depth (F.pre self.now.level.stmt) (F.post self.now.level.stmt) (G.pre self.now.level.expr) (G.post self.now.level.expr) (H.pre self.now.level.type_exp) (H.post self.now.level.type_exp) }
+        requires { N.parse_at self.now.level.nested self.now.level.depth }
         ensures { Reads (spec.an_end (nested self.now.level.depth) tokens.old.rest.now) result tokens.new.rest.now }
     {
         let labels = repeat_labels(self.level.alloc, tokens)?;
@@ -100,7 +93,7 @@ impl<
     /// Further ends behind these.
     #[tactic(auto, using(token_cursor::proofs::Taking::ended_by, module_productions::proofs::Parts::repeats_eats))]
     fn more_ends(&self, tokens: &mut Cursor<'_>, mut all: Repeats) -> Result<Repeats, Stopped>
-        requires { Nests self.now.level.depth (F.pre self.now.level.stmt) (F.post self.now.level.stmt) (G.pre self.now.level.expr) (G.post self.now.level.expr) (H.pre self.now.level.type_exp) (H.post self.now.level.type_exp) }
+        requires { N.parse_at self.now.level.nested self.now.level.depth }
         ensures { Reads (ended semicolon begins_repeat (spec.repeats_step (nested self.now.level.depth)) all tokens.old.rest.now) result tokens.new.rest.now }
     {
         'ends: while tokens.takes_mark(Mark::Semicolon).is_some() {
@@ -114,7 +107,7 @@ impl<
 
     #[tactic(auto, unfolding(module_productions::specs::Statements::repeats))]
     fn repeats(&self, tokens: &mut Cursor<'_>) -> Result<Repeats, Stopped>
-        requires { Nests self.now.level.depth (F.pre self.now.level.stmt) (F.post self.now.level.stmt) (G.pre self.now.level.expr) (G.post self.now.level.expr) (H.pre self.now.level.type_exp) (H.post self.now.level.type_exp) }
+        requires { N.parse_at self.now.level.nested self.now.level.depth }
         ensures { Reads (spec.repeats (nested self.now.level.depth) tokens.old.rest.now) result tokens.new.rest.now }
     {
         let mut all = List::new(self.level.alloc);
@@ -125,7 +118,7 @@ impl<
     /// The ends of a loop behind REPEAT, if there are any.
     #[tactic(auto, using(token_cursor::proofs::Choosing::choose_none, token_cursor::proofs::Choosing::choose_some), unfolding(module_productions::specs::Statements::repeat_part))]
     pub fn repeat_part(&self, tokens: &mut Cursor<'_>) -> Result<Repeats, Stopped>
-        requires { Nests self.now.level.depth (F.pre self.now.level.stmt) (F.post self.now.level.stmt) (G.pre self.now.level.expr) (G.post self.now.level.expr) (H.pre self.now.level.type_exp) (H.post self.now.level.type_exp) }
+        requires { N.parse_at self.now.level.nested self.now.level.depth }
         ensures { Reads (spec.repeat_part (nested self.now.level.depth) tokens.old.rest.now) result tokens.new.rest.now }
     {
         match tokens.takes_word(Word::RepeatWord) {
@@ -136,7 +129,7 @@ impl<
 
     #[tactic(auto, unfolding(module_productions::specs::Statements::enable_many))]
     fn enable_many(&self, tokens: &mut Cursor<'_>, place: Place) -> Result<Option<Phrase>, Stopped>
-        requires { Nests self.now.level.depth (F.pre self.now.level.stmt) (F.post self.now.level.stmt) (G.pre self.now.level.expr) (G.post self.now.level.expr) (H.pre self.now.level.type_exp) (H.post self.now.level.type_exp) }
+        requires { N.parse_at self.now.level.nested self.now.level.depth }
         ensures { Reads (spec.enable_many (nested self.now.level.depth) place tokens.old.rest.now) result tokens.new.rest.now }
     {
         let item = self.level.arm_list(tokens)?;
@@ -147,7 +140,7 @@ impl<
 
     #[tactic(auto, unfolding(module_productions::specs::Statements::enable_one))]
     fn enable_one(&self, tokens: &mut Cursor<'_>, place: Place) -> Result<Option<Phrase>, Stopped>
-        requires { Nests self.now.level.depth (F.pre self.now.level.stmt) (F.post self.now.level.stmt) (G.pre self.now.level.expr) (G.post self.now.level.expr) (H.pre self.now.level.type_exp) (H.post self.now.level.type_exp) }
+        requires { N.parse_at self.now.level.nested self.now.level.depth }
         ensures { Reads (spec.enable_one (nested self.now.level.depth) place tokens.old.rest.now) result tokens.new.rest.now }
     {
         let item = one_arm(self.level.alloc, self.level.arm(tokens)?)?;
@@ -158,7 +151,7 @@ impl<
     /// The catch phrase of an ENABLE, if there is one.
     #[tactic(auto, using(token_cursor::proofs::Choosing::choose_none, token_cursor::proofs::Choosing::choose_some), unfolding(module_productions::specs::Statements::enabling))]
     pub fn enabling(&self, tokens: &mut Cursor<'_>) -> Result<Option<Phrase>, Stopped>
-        requires { Nests self.now.level.depth (F.pre self.now.level.stmt) (F.post self.now.level.stmt) (G.pre self.now.level.expr) (G.post self.now.level.expr) (H.pre self.now.level.type_exp) (H.post self.now.level.type_exp) }
+        requires { N.parse_at self.now.level.nested self.now.level.depth }
         ensures { Reads (spec.enabling (nested self.now.level.depth) tokens.old.rest.now) result tokens.new.rest.now }
     {
         let Some(place) = tokens.takes_word(Word::EnableWord) else {

@@ -2,16 +2,15 @@
 
 ghost use Rattle.std.specs.Prelude.{◌≡◌};
 ghost use Rattle.token_cursor.specs.Running.{Reads};
-ghost use Rattle.expression_parser.specs.Nests.{Nests};
 ghost use Rattle.module_productions.specs.Statements.{nested};
 ghost use Rattle.module_productions.specs.Statements as spec;
 
 use crate::nesting::StatementParser;
-use mesa_base::{Boxed, Identifier, Place};
+use expression_parser::NestedParsers;
+use mesa_base::{Boxed, Place};
 use mesa_lexer::Word;
-use mesa_types::syntax::{Condition, Control, Count, Expr, Statement, TypeExp};
+use mesa_types::syntax::{Condition, Control, Count, Statement};
 use module_productions::Begun;
-use std::alloc::Global;
 use token_cursor::naming::named;
 use token_cursor::{Cursor, Stopped};
 
@@ -25,14 +24,10 @@ fn decreasing(tokens: &mut Cursor<'_>) -> Result<bool, Stopped>
     }
 }
 
-impl<
-    F: Fn(Global, &mut Cursor<'_>, usize, Option<Identifier>) -> Result<Statement, Stopped>,
-    G: Fn(Global, &mut Cursor<'_>, usize, Begun) -> Result<Expr, Stopped>,
-    H: Fn(Global, &mut Cursor<'_>, usize, Option<Identifier>) -> Result<TypeExp, Stopped>,
-> StatementParser<F, G, H> {
+impl<N: NestedParsers> StatementParser<N> {
     #[tactic(auto, using(crate::proofs::Stepping::for_by))]
     fn for_count(&self, tokens: &mut Cursor<'_>, place: Place) -> Result<Option<Count>, Stopped>
-        requires { Nests self.now.level.depth (F.pre self.now.level.stmt) (F.post self.now.level.stmt) (G.pre self.now.level.expr) (G.post self.now.level.expr) (H.pre self.now.level.type_exp) (H.post self.now.level.type_exp) }
+        requires { N.parse_at self.now.level.nested self.now.level.depth }
         ensures { Reads (spec.for (nested self.now.level.depth) place tokens.old.rest.now) result tokens.new.rest.now }
     {
         let variable = named(self.level.alloc, tokens)?;
@@ -44,7 +39,7 @@ impl<
 
     #[tactic(auto, unfolding(module_productions::specs::Statements::through))]
     fn through_count(&self, tokens: &mut Cursor<'_>, place: Place) -> Result<Option<Count>, Stopped>
-        requires { Nests self.now.level.depth (F.pre self.now.level.stmt) (F.post self.now.level.stmt) (G.pre self.now.level.expr) (G.post self.now.level.expr) (H.pre self.now.level.type_exp) (H.post self.now.level.type_exp) }
+        requires { N.parse_at self.now.level.nested self.now.level.depth }
         ensures { Reads (spec.through (nested self.now.level.depth) place tokens.old.rest.now) result tokens.new.rest.now }
     {
         let interval = self.level.interval(tokens)?;
@@ -53,7 +48,7 @@ impl<
 
     #[tactic(auto, using(token_cursor::proofs::Choosing::choose_none, token_cursor::proofs::Choosing::choose_some), unfolding(module_productions::specs::Statements::count))]
     fn count(&self, tokens: &mut Cursor<'_>) -> Result<Option<Count>, Stopped>
-        requires { Nests self.now.level.depth (F.pre self.now.level.stmt) (F.post self.now.level.stmt) (G.pre self.now.level.expr) (G.post self.now.level.expr) (H.pre self.now.level.type_exp) (H.post self.now.level.type_exp) }
+        requires { N.parse_at self.now.level.nested self.now.level.depth }
         ensures { Reads (spec.count (nested self.now.level.depth) tokens.old.rest.now) result tokens.new.rest.now }
     {
         if let Some(place) = tokens.takes_word(Word::ForWord) {
@@ -67,7 +62,7 @@ impl<
 
     #[tactic(auto, using(token_cursor::proofs::Choosing::choose_none, token_cursor::proofs::Choosing::choose_some), unfolding(module_productions::specs::Statements::condition))]
     fn condition(&self, tokens: &mut Cursor<'_>) -> Result<Option<Condition>, Stopped>
-        requires { Nests self.now.level.depth (F.pre self.now.level.stmt) (F.post self.now.level.stmt) (G.pre self.now.level.expr) (G.post self.now.level.expr) (H.pre self.now.level.type_exp) (H.post self.now.level.type_exp) }
+        requires { N.parse_at self.now.level.nested self.now.level.depth }
         ensures { Reads (spec.condition (nested self.now.level.depth) tokens.old.rest.now) result tokens.new.rest.now }
     {
         if let Some(place) = tokens.takes_word(Word::WhileWord) {
@@ -85,7 +80,7 @@ impl<
 
     #[tactic(auto, unfolding(module_productions::specs::Statements::control))]
     fn control(&self, tokens: &mut Cursor<'_>) -> Result<Control, Stopped>
-        requires { Nests self.now.level.depth (F.pre self.now.level.stmt) (F.post self.now.level.stmt) (G.pre self.now.level.expr) (G.post self.now.level.expr) (H.pre self.now.level.type_exp) (H.post self.now.level.type_exp) }
+        requires { N.parse_at self.now.level.nested self.now.level.depth }
         ensures { Reads (spec.control (nested self.now.level.depth) tokens.old.rest.now) result tokens.new.rest.now }
     {
         let count = self.count(tokens)?;
@@ -96,7 +91,7 @@ impl<
     /// A loop, from its first word on.
     #[tactic(auto, using(crate::proofs::Stepping::loop_by))]
     pub fn loop_statement(&self, tokens: &mut Cursor<'_>) -> Result<Statement, Stopped>
-        requires { Nests self.now.level.depth (F.pre self.now.level.stmt) (F.post self.now.level.stmt) (G.pre self.now.level.expr) (G.post self.now.level.expr) (H.pre self.now.level.type_exp) (H.post self.now.level.type_exp) }
+        requires { N.parse_at self.now.level.nested self.now.level.depth }
         ensures { Reads (spec.loop (nested self.now.level.depth) tokens.old.rest.now) result tokens.new.rest.now }
     {
         let control = Boxed::new(self.level.alloc, self.control(tokens)?)?;

@@ -2,6 +2,6 @@ use expression_parser::Level;
 
 /// The parsers of statements and declarations, over those of one level of nesting.
 #[derive(Clone, Copy)]
-pub struct StatementParser<F, G, H> {
-    pub level: Level<F, G, H>,
+pub struct StatementParser<N> {
+    pub level: Level<N>,
 }

@@ -2,31 +2,26 @@
 
 ghost use Rattle.std.specs.Prelude.{◌≡◌};
 ghost use Rattle.token_cursor.specs.Running.{Reads};
-ghost use Rattle.expression_parser.specs.Nests.{Nests};
 ghost use Rattle.token_cursor.specs.Parsing.{ended, many};
 ghost use Rattle.module_productions.specs.Nested.{begins_test, comma};
 ghost use Rattle.module_productions.specs.Statements.{nested, semicolon};
 ghost use Rattle.module_productions.specs.Statements as spec;
 
 use crate::nesting::StatementParser;
-use mesa_base::{Boxed, Identifier, List, Place};
+use expression_parser::NestedParsers;
+use mesa_base::{Boxed, List, Place};
 use mesa_lexer::{Mark, Word};
-use mesa_types::syntax::{Case, Cases, Expr, Statement, Test, Tests, TypeExp};
+use mesa_types::syntax::{Case, Cases, Statement, Test, Tests};
 use module_productions::Begun;
 use module_tokens::begins::begins_test;
 use module_tokens::signs::{takes_negating, takes_relating};
-use std::alloc::Global;
 use token_cursor::{Cursor, Stopped};
 
-impl<
-    F: Fn(Global, &mut Cursor<'_>, usize, Option<Identifier>) -> Result<Statement, Stopped>,
-    G: Fn(Global, &mut Cursor<'_>, usize, Begun) -> Result<Expr, Stopped>,
-    H: Fn(Global, &mut Cursor<'_>, usize, Option<Identifier>) -> Result<TypeExp, Stopped>,
-> StatementParser<F, G, H> {
+impl<N: NestedParsers> StatementParser<N> {
     /// A test behind NOT.
     #[tactic(auto, using(token_cursor::proofs::Choosing::choose_none, token_cursor::proofs::Choosing::choose_some), unfolding(module_productions::specs::Statements::after_not))]
     fn after_not(&self, tokens: &mut Cursor<'_>, place: Place) -> Result<Test, Stopped>
-        requires { Nests self.now.level.depth (F.pre self.now.level.stmt) (F.post self.now.level.stmt) (G.pre self.now.level.expr) (G.post self.now.level.expr) (H.pre self.now.level.type_exp) (H.post self.now.level.type_exp) }
+        requires { N.parse_at self.now.level.nested self.now.level.depth }
         ensures { Reads (spec.after_not (nested self.now.level.depth) place tokens.old.rest.now) result tokens.new.rest.now }
     {
         if let Some((relation, at)) = takes_relating(tokens) {
@@ -48,7 +43,7 @@ impl<
     /// A test that begins with no NOT, or where NOT may not be taken.
     #[tactic(auto, using(token_cursor::proofs::Choosing::choose_none, token_cursor::proofs::Choosing::choose_some), unfolding(module_productions::specs::Statements::unnegated))]
     fn unnegated(&self, tokens: &mut Cursor<'_>) -> Result<Test, Stopped>
-        requires { Nests self.now.level.depth (F.pre self.now.level.stmt) (F.post self.now.level.stmt) (G.pre self.now.level.expr) (G.post self.now.level.expr) (H.pre self.now.level.type_exp) (H.post self.now.level.type_exp) }
+        requires { N.parse_at self.now.level.nested self.now.level.depth }
         ensures { Reads (spec.unnegated (nested self.now.level.depth) tokens.old.rest.now) result tokens.new.rest.now }
     {
         if let Some((relation, at)) = takes_relating(tokens) {
@@ -69,7 +64,7 @@ impl<
 
     #[tactic(auto, using(crate::proofs::Stepping::test_by, token_cursor::proofs::Choosing::choose_none, token_cursor::proofs::Choosing::choose_some, token_cursor::proofs::Choosing::if_true, token_cursor::proofs::Choosing::if_false))]
     fn test(&self, tokens: &mut Cursor<'_>) -> Result<Test, Stopped>
-        requires { Nests self.now.level.depth (F.pre self.now.level.stmt) (F.post self.now.level.stmt) (G.pre self.now.level.expr) (G.post self.now.level.expr) (H.pre self.now.level.type_exp) (H.post self.now.level.type_exp) }
+        requires { N.parse_at self.now.level.nested self.now.level.depth }
         ensures { Reads (spec.test (nested self.now.level.depth) tokens.old.rest.now) result tokens.new.rest.now }
     {
         if !self.level.can() {
@@ -84,7 +79,7 @@ impl<
     /// Further tests behind these.
     #[tactic(auto, using(token_cursor::proofs::Taking::many_by, module_productions::proofs::Parts::tests_eats))]
     fn more_tests(&self, tokens: &mut Cursor<'_>, mut all: Tests) -> Result<Tests, Stopped>
-        requires { Nests self.now.level.depth (F.pre self.now.level.stmt) (F.post self.now.level.stmt) (G.pre self.now.level.expr) (G.post self.now.level.expr) (H.pre self.now.level.type_exp) (H.post self.now.level.type_exp) }
+        requires { N.parse_at self.now.level.nested self.now.level.depth }
         ensures { Reads (many comma (spec.tests_step (nested self.now.level.depth)) all tokens.old.rest.now) result tokens.new.rest.now }
     {
         'tests: while tokens.takes_mark(Mark::Comma).is_some() {
@@ -95,7 +90,7 @@ impl<
 
     #[tactic(auto, unfolding(module_productions::specs::Statements::case))]
     fn case(&self, tokens: &mut Cursor<'_>) -> Result<Case, Stopped>
-        requires { Nests self.now.level.depth (F.pre self.now.level.stmt) (F.post self.now.level.stmt) (G.pre self.now.level.expr) (G.post self.now.level.expr) (H.pre self.now.level.type_exp) (H.post self.now.level.type_exp) }
+        requires { N.parse_at self.now.level.nested self.now.level.depth }
         ensures { Reads (spec.case (nested self.now.level.depth) tokens.old.rest.now) result tokens.new.rest.now }
     {
         let mut tests = List::new(self.level.alloc);
@@ -109,7 +104,7 @@ impl<
     /// Further cases behind these.
     #[tactic(auto, using(token_cursor::proofs::Taking::ended_by, module_productions::proofs::Parts::cases_eats))]
     fn more_cases(&self, tokens: &mut Cursor<'_>, mut all: Cases) -> Result<Cases, Stopped>
-        requires { Nests self.now.level.depth (F.pre self.now.level.stmt) (F.post self.now.level.stmt) (G.pre self.now.level.expr) (G.post self.now.level.expr) (H.pre self.now.level.type_exp) (H.post self.now.level.type_exp) }
+        requires { N.parse_at self.now.level.nested self.now.level.depth }
         ensures { Reads (ended semicolon begins_test (spec.cases_step (nested self.now.level.depth)) all tokens.old.rest.now) result tokens.new.rest.now }
     {
         'cases: while tokens.takes_mark(Mark::Semicolon).is_some() {
@@ -123,7 +118,7 @@ impl<
 
     #[tactic(auto, unfolding(module_productions::specs::Statements::cases))]
     fn cases(&self, tokens: &mut Cursor<'_>) -> Result<Cases, Stopped>
-        requires { Nests self.now.level.depth (F.pre self.now.level.stmt) (F.post self.now.level.stmt) (G.pre self.now.level.expr) (G.post self.now.level.expr) (H.pre self.now.level.type_exp) (H.post self.now.level.type_exp) }
+        requires { N.parse_at self.now.level.nested self.now.level.depth }
         ensures { Reads (spec.cases (nested self.now.level.depth) tokens.old.rest.now) result tokens.new.rest.now }
     {
         let mut all = List::new(self.level.alloc);
@@ -133,7 +128,7 @@ impl<
 
     #[tactic(auto, using(token_cursor::proofs::Choosing::when_true, token_cursor::proofs::Choosing::when_false), unfolding(module_productions::specs::Statements::case_list))]
     fn case_list(&self, tokens: &mut Cursor<'_>) -> Result<Cases, Stopped>
-        requires { Nests self.now.level.depth (F.pre self.now.level.stmt) (F.post self.now.level.stmt) (G.pre self.now.level.expr) (G.post self.now.level.expr) (H.pre self.now.level.type_exp) (H.post self.now.level.type_exp) }
+        requires { N.parse_at self.now.level.nested self.now.level.depth }
         ensures { Reads (spec.case_list (nested self.now.level.depth) tokens.old.rest.now) result tokens.new.rest.now }
     {
         if !begins_test(tokens) {
@@ -145,7 +140,7 @@ impl<
     /// The statement for no case, behind ENDCASE.
     #[tactic(auto, using(token_cursor::proofs::Choosing::choose_none, token_cursor::proofs::Choosing::choose_some), unfolding(module_productions::specs::Statements::otherwise))]
     fn otherwise(&self, tokens: &mut Cursor<'_>) -> Result<Option<Boxed<Statement>>, Stopped>
-        requires { Nests self.now.level.depth (F.pre self.now.level.stmt) (F.post self.now.level.stmt) (G.pre self.now.level.expr) (G.post self.now.level.expr) (H.pre self.now.level.type_exp) (H.post self.now.level.type_exp) }
+        requires { N.parse_at self.now.level.nested self.now.level.depth }
         ensures { Reads (spec.otherwise (nested self.now.level.depth) tokens.old.rest.now) result tokens.new.rest.now }
     {
         match tokens.takes_mark(Mark::DoubleArrow) {
@@ -160,7 +155,7 @@ impl<
     /// A selection behind its SELECT, which stands at the place.
     #[tactic(auto, unfolding(module_productions::specs::Statements::select))]
     pub fn select(&self, tokens: &mut Cursor<'_>, place: Place) -> Result<Statement, Stopped>
-        requires { Nests self.now.level.depth (F.pre self.now.level.stmt) (F.post self.now.level.stmt) (G.pre self.now.level.expr) (G.post self.now.level.expr) (H.pre self.now.level.type_exp) (H.post self.now.level.type_exp) }
+        requires { N.parse_at self.now.level.nested self.now.level.depth }
         ensures { Reads (spec.select (nested self.now.level.depth) place tokens.old.rest.now) result tokens.new.rest.now }
     {
         let selector = self.level.expr(tokens, Begun::Fresh)?;

@@ -2,7 +2,6 @@
 
 ghost use Rattle.std.specs.Prelude.{◌≡◌};
 ghost use Rattle.token_cursor.specs.Running.{Reads};
-ghost use Rattle.expression_parser.specs.Nests.{Nests};
 ghost use Rattle.token_cursor.specs.Parsing.{ended};
 ghost use Rattle.module_productions.specs.Nested.{begins_stmt};
 ghost use Rattle.module_productions.specs.Statements.{nested, semicolon};
@@ -11,20 +10,16 @@ ghost use Rattle.statement_parser.specs.StatementTails as tails;
 
 use crate::blocks::BlockEnd;
 use crate::nesting::StatementParser;
+use expression_parser::NestedParsers;
 use mesa_base::{Boxed, Identifier, List, Place};
 use mesa_lexer::{Mark, Word};
-use mesa_types::syntax::{Expr, Statement, Statements, TypeExp};
+use mesa_types::syntax::{Expr, Statement, Statements};
 use module_productions::Begun;
 use module_tokens::begins::{begins_raise, begins_stmt};
-use std::alloc::Global;
 use token_cursor::naming::named;
 use token_cursor::{Cursor, Stopped};
 
-impl<
-    F: Fn(Global, &mut Cursor<'_>, usize, Option<Identifier>) -> Result<Statement, Stopped>,
-    G: Fn(Global, &mut Cursor<'_>, usize, Begun) -> Result<Expr, Stopped>,
-    H: Fn(Global, &mut Cursor<'_>, usize, Option<Identifier>) -> Result<TypeExp, Stopped>,
-> StatementParser<F, G, H> {
+impl<N: NestedParsers> StatementParser<N> {
     /// Statements; of the first a name was taken or nothing.
     #[tactic(auto, unfolding(module_productions::specs::Statements::stmts))]
     pub fn stmts(
@@ -32,7 +27,7 @@ impl<
         tokens: &mut Cursor<'_>,
         begun: Option<Identifier>,
     ) -> Result<Statements, Stopped>
-        requires { Nests self.now.level.depth (F.pre self.now.level.stmt) (F.post self.now.level.stmt) (G.pre self.now.level.expr) (G.post self.now.level.expr) (H.pre self.now.level.type_exp) (H.post self.now.level.type_exp) }
+        requires { N.parse_at self.now.level.nested self.now.level.depth }
         ensures { Reads (spec.stmts (nested self.now.level.depth) begun tokens.old.rest.now) result tokens.new.rest.now }
     {
         let mut all = List::new(self.level.alloc);
@@ -47,7 +42,7 @@ impl<
         tokens: &mut Cursor<'_>,
         mut all: Statements,
     ) -> Result<Statements, Stopped>
-        requires { Nests self.now.level.depth (F.pre self.now.level.stmt) (F.post self.now.level.stmt) (G.pre self.now.level.expr) (G.post self.now.level.expr) (H.pre self.now.level.type_exp) (H.post self.now.level.type_exp) }
+        requires { N.parse_at self.now.level.nested self.now.level.depth }
         ensures { Reads (ended semicolon begins_stmt (spec.stmts_step (nested self.now.level.depth)) all tokens.old.rest.now) result tokens.new.rest.now }
     {
         'statements: while tokens.takes_mark(Mark::Semicolon).is_some() {
@@ -62,7 +57,7 @@ impl<
     /// Statements, if there are any.
     #[tactic(auto, using(token_cursor::proofs::Choosing::when_true, token_cursor::proofs::Choosing::when_false), unfolding(module_productions::specs::Statements::body))]
     pub fn body(&self, tokens: &mut Cursor<'_>) -> Result<Statements, Stopped>
-        requires { Nests self.now.level.depth (F.pre self.now.level.stmt) (F.post self.now.level.stmt) (G.pre self.now.level.expr) (G.post self.now.level.expr) (H.pre self.now.level.type_exp) (H.post self.now.level.type_exp) }
+        requires { N.parse_at self.now.level.nested self.now.level.depth }
         ensures { Reads (spec.body (nested self.now.level.depth) tokens.old.rest.now) result tokens.new.rest.now }
     {
         if !begins_stmt(tokens) {
@@ -80,7 +75,7 @@ impl<
         condition: Expr,
         first: Boxed<Statement>,
     ) -> Result<Statement, Stopped>
-        requires { Nests self.now.level.depth (F.pre self.now.level.stmt) (F.post self.now.level.stmt) (G.pre self.now.level.expr) (G.post self.now.level.expr) (H.pre self.now.level.type_exp) (H.post self.now.level.type_exp) }
+        requires { N.parse_at self.now.level.nested self.now.level.depth }
         ensures { Reads (tails.alternative (nested self.now.level.depth) place condition first tokens.old.rest.now) result tokens.new.rest.now }
     {
         let second = Boxed::new(self.level.alloc, self.level.stmt(tokens, None)?)?;
@@ -96,7 +91,7 @@ impl<
         condition: Expr,
         first: Boxed<Statement>,
     ) -> Result<Statement, Stopped>
-        requires { Nests self.now.level.depth (F.pre self.now.level.stmt) (F.post self.now.level.stmt) (G.pre self.now.level.expr) (G.post self.now.level.expr) (H.pre self.now.level.type_exp) (H.post self.now.level.type_exp) }
+        requires { N.parse_at self.now.level.nested self.now.level.depth }
         ensures { Reads (spec.else_part (nested self.now.level.depth) place condition first tokens.old.rest.now) result tokens.new.rest.now }
     {
         match tokens.takes_word(Word::ElseWord) {
@@ -107,7 +102,7 @@ impl<
 
     #[tactic(auto, unfolding(module_productions::specs::Statements::conditional))]
     fn conditional(&self, tokens: &mut Cursor<'_>, place: Place) -> Result<Statement, Stopped>
-        requires { Nests self.now.level.depth (F.pre self.now.level.stmt) (F.post self.now.level.stmt) (G.pre self.now.level.expr) (G.post self.now.level.expr) (H.pre self.now.level.type_exp) (H.post self.now.level.type_exp) }
+        requires { N.parse_at self.now.level.nested self.now.level.depth }
         ensures { Reads (spec.conditional (nested self.now.level.depth) place tokens.old.rest.now) result tokens.new.rest.now }
     {
         let condition = self.level.expr(tokens, Begun::Fresh)?;
@@ -119,7 +114,7 @@ impl<
     /// The label behind GO.
     #[tactic(auto, unfolding(module_productions::specs::Statements::go_to))]
     fn go_to(&self, tokens: &mut Cursor<'_>, place: Place) -> Result<Statement, Stopped>
-        requires { Nests self.now.level.depth (F.pre self.now.level.stmt) (F.post self.now.level.stmt) (G.pre self.now.level.expr) (G.post self.now.level.expr) (H.pre self.now.level.type_exp) (H.post self.now.level.type_exp) }
+        requires { N.parse_at self.now.level.nested self.now.level.depth }
         ensures { Reads (spec.go_to (nested self.now.level.depth) place tokens.old.rest.now) result tokens.new.rest.now }
     {
         tokens.need_word(Word::ToWord)?;
@@ -129,7 +124,7 @@ impl<
 
     #[tactic(auto, using(token_cursor::proofs::Choosing::when_true, token_cursor::proofs::Choosing::when_false), unfolding(crate::specs::StatementTails::raise_or_loop))]
     fn raise_or_loop(&self, tokens: &mut Cursor<'_>) -> Result<Statement, Stopped>
-        requires { Nests self.now.level.depth (F.pre self.now.level.stmt) (F.post self.now.level.stmt) (G.pre self.now.level.expr) (G.post self.now.level.expr) (H.pre self.now.level.type_exp) (H.post self.now.level.type_exp) }
+        requires { N.parse_at self.now.level.nested self.now.level.depth }
         ensures { Reads (tails.raise_or_loop (nested self.now.level.depth) tokens.old.rest.now) result tokens.new.rest.now }
     {
         if !begins_raise(tokens) {
@@ -142,7 +137,7 @@ impl<
     /// REJECT, RETRY and CONTINUE, or a raise or loop.
     #[tactic(auto, using(token_cursor::proofs::Choosing::choose_none, token_cursor::proofs::Choosing::choose_some), unfolding(crate::specs::StatementTails::arm_jump))]
     fn arm_jump(&self, tokens: &mut Cursor<'_>) -> Result<Statement, Stopped>
-        requires { Nests self.now.level.depth (F.pre self.now.level.stmt) (F.post self.now.level.stmt) (G.pre self.now.level.expr) (G.post self.now.level.expr) (H.pre self.now.level.type_exp) (H.post self.now.level.type_exp) }
+        requires { N.parse_at self.now.level.nested self.now.level.depth }
         ensures { Reads (tails.arm_jump (nested self.now.level.depth) (tails.raise_or_loop (nested self.now.level.depth)) tokens.old.rest.now) result tokens.new.rest.now }
     {
         if let Some(place) = tokens.takes_word(Word::RejectWord) {
@@ -160,7 +155,7 @@ impl<
     /// RETURN and RESUME with their values.
     #[tactic(auto, using(token_cursor::proofs::Choosing::choose_none, token_cursor::proofs::Choosing::choose_some), unfolding(crate::specs::StatementTails::value_jump))]
     fn value_jump(&self, tokens: &mut Cursor<'_>) -> Result<Statement, Stopped>
-        requires { Nests self.now.level.depth (F.pre self.now.level.stmt) (F.post self.now.level.stmt) (G.pre self.now.level.expr) (G.post self.now.level.expr) (H.pre self.now.level.type_exp) (H.post self.now.level.type_exp) }
+        requires { N.parse_at self.now.level.nested self.now.level.depth }
         ensures { Reads (tails.value_jump (nested self.now.level.depth) (tails.raise_or_loop (nested self.now.level.depth)) tokens.old.rest.now) result tokens.new.rest.now }
     {
         if let Some(place) = tokens.takes_word(Word::ReturnWord) {
@@ -179,7 +174,7 @@ impl<
     /// A jump to a label.
     #[tactic(auto, using(token_cursor::proofs::Choosing::choose_none, token_cursor::proofs::Choosing::choose_some), unfolding(crate::specs::StatementTails::label_jump))]
     fn label_jump(&self, tokens: &mut Cursor<'_>) -> Result<Statement, Stopped>
-        requires { Nests self.now.level.depth (F.pre self.now.level.stmt) (F.post self.now.level.stmt) (G.pre self.now.level.expr) (G.post self.now.level.expr) (H.pre self.now.level.type_exp) (H.post self.now.level.type_exp) }
+        requires { N.parse_at self.now.level.nested self.now.level.depth }
         ensures { Reads (tails.label_jump (nested self.now.level.depth) (tails.raise_or_loop (nested self.now.level.depth)) tokens.old.rest.now) result tokens.new.rest.now }
     {
         if let Some(place) = tokens.takes_word(Word::GotoWord) {
@@ -195,7 +190,7 @@ impl<
     /// A jump out of a loop or its turn, or one of the others.
     #[tactic(auto, using(token_cursor::proofs::Choosing::choose_none, token_cursor::proofs::Choosing::choose_some), unfolding(module_productions::specs::Statements::jump, crate::specs::StatementTails::label_jump, crate::specs::StatementTails::value_jump, crate::specs::StatementTails::arm_jump))]
     fn jump(&self, tokens: &mut Cursor<'_>) -> Result<Statement, Stopped>
-        requires { Nests self.now.level.depth (F.pre self.now.level.stmt) (F.post self.now.level.stmt) (G.pre self.now.level.expr) (G.post self.now.level.expr) (H.pre self.now.level.type_exp) (H.post self.now.level.type_exp) }
+        requires { N.parse_at self.now.level.nested self.now.level.depth }
         ensures { Reads (spec.jump (nested self.now.level.depth) (tails.raise_or_loop (nested self.now.level.depth)) tokens.old.rest.now) result tokens.new.rest.now }
     {
         if let Some(place) = tokens.takes_word(Word::ExitWord) {
@@ -210,7 +205,7 @@ impl<
     /// An extractor, IF and SELECT, or a jump.
     #[tactic(auto, using(token_cursor::proofs::Choosing::choose_none, token_cursor::proofs::Choosing::choose_some), unfolding(crate::specs::StatementTails::branching, crate::specs::StatementTails::raise_or_loop))]
     fn branching(&self, tokens: &mut Cursor<'_>) -> Result<Statement, Stopped>
-        requires { Nests self.now.level.depth (F.pre self.now.level.stmt) (F.post self.now.level.stmt) (G.pre self.now.level.expr) (G.post self.now.level.expr) (H.pre self.now.level.type_exp) (H.post self.now.level.type_exp) }
+        requires { N.parse_at self.now.level.nested self.now.level.depth }
         ensures { Reads (tails.branching (nested self.now.level.depth) tokens.old.rest.now) result tokens.new.rest.now }
     {
         if let Some(place) = tokens.takes_mark(Mark::LeftBracket) {
@@ -228,7 +223,7 @@ impl<
     /// A block.
     #[tactic(auto, using(token_cursor::proofs::Choosing::choose_none, token_cursor::proofs::Choosing::choose_some), unfolding(crate::specs::StatementTails::enclosed))]
     fn enclosed(&self, tokens: &mut Cursor<'_>) -> Result<Statement, Stopped>
-        requires { Nests self.now.level.depth (F.pre self.now.level.stmt) (F.post self.now.level.stmt) (G.pre self.now.level.expr) (G.post self.now.level.expr) (H.pre self.now.level.type_exp) (H.post self.now.level.type_exp) }
+        requires { N.parse_at self.now.level.nested self.now.level.depth }
         ensures { Reads (tails.enclosed (nested self.now.level.depth) tokens.old.rest.now) result tokens.new.rest.now }
     {
         if let Some(place) = tokens.takes_word(Word::BeginWord) {
@@ -242,7 +237,7 @@ impl<
 
     #[tactic(auto, using(token_cursor::proofs::Choosing::choose_none, token_cursor::proofs::Choosing::choose_some), unfolding(module_productions::specs::Statements::statement, crate::specs::StatementTails::enclosed, crate::specs::StatementTails::branching))]
     fn unnamed_statement(&self, tokens: &mut Cursor<'_>) -> Result<Statement, Stopped>
-        requires { Nests self.now.level.depth (F.pre self.now.level.stmt) (F.post self.now.level.stmt) (G.pre self.now.level.expr) (G.post self.now.level.expr) (H.pre self.now.level.type_exp) (H.post self.now.level.type_exp) }
+        requires { N.parse_at self.now.level.nested self.now.level.depth }
         ensures { Reads (spec.statement (nested self.now.level.depth) None tokens.old.rest.now) result tokens.new.rest.now }
     {
         if let Some(name) = tokens.takes_name(self.level.alloc)? {
@@ -261,7 +256,7 @@ impl<
         tokens: &mut Cursor<'_>,
         begun: Option<Identifier>,
     ) -> Result<Statement, Stopped>
-        requires { Nests self.now.level.depth (F.pre self.now.level.stmt) (F.post self.now.level.stmt) (G.pre self.now.level.expr) (G.post self.now.level.expr) (H.pre self.now.level.type_exp) (H.post self.now.level.type_exp) }
+        requires { N.parse_at self.now.level.nested self.now.level.depth }
         ensures { Reads (spec.statement (nested self.now.level.depth) begun tokens.old.rest.now) result tokens.new.rest.now }
     {
         match begun {
