@@ -12,7 +12,7 @@ use Rattle.mesa_types.specs.declared.syntax.TypeBase.TheVariants as b
 use Rattle.mesa_types.specs.declared.syntax.TypeExp.{TypeExp}
 use Rattle.mesa_types.specs.declared.syntax.TypeExp.TheVariants as t
 use Rattle.mesa_types.specs.declared.syntax.FieldList.{FieldList}
-use Rattle.mesa_types.specs.declared.syntax.Relation.{Relation}
+use Rattle.mesa_types.specs.declared.relation.Relation.{Relation}
 use Rattle.mesa_types.specs.declared.syntax.Sign.{Sign}
 use Rattle.mesa_types.specs.declared.syntax.Expr.{Expr}
 use Rattle.mesa_types.specs.declared.syntax.Expr.TheVariants as e
@@ -32,7 +32,7 @@ module _ (q : Nested) where
 
   -- a type that begins with no name and is no base of an interval
   unfoldable pub other_type : Parser TypeExp
-  other_type = option (k.Word BooleanWord) (λ p. pure (t.Boolean p)) (option (k.Word StringWord) (λ p. pure (t.Text p))
+  other_type = option (k.Word BooleanWord) (λ p. pure (t.Boolean p)) (option (k.Word StringWord) (λ p. pure (t.String p))
       (option (k.Mark LeftBrace) (enumeration q) (option (k.Word ArrayWord) (array q) (option (k.Word RecordWord) (a_record q) (do i ← interval q; pure (t.Subrange Unsaid i))))))
 
   -- a type that begins with no word of a simple type

@@ -12,7 +12,7 @@ ghost use Rattle.mesa_types.specs.declared.syntax.Expr.TheVariants as e;
 use crate::nesting::{Level, NestedParsers};
 use mesa_base::{Boxed, Identifier, List, OutOfMemory, Place};
 use mesa_lexer::{Mark, Word};
-use mesa_types::syntax::{Expr, Left, Relation, Sign, Step, Steps};
+use mesa_types::syntax::{Expr, Left, Operation, Operations, Relation, Sign};
 use module_productions::Begun;
 use module_tokens::signs::{
     takes_adding, takes_conjoining, takes_disjoining, takes_multiplying, takes_negating,
@@ -23,7 +23,7 @@ use token_cursor::{Cursor, Stopped};
 
 /// The operand with its steps; alone where there are none.
 #[tactic(auto, using(module_productions::proofs::Runs::run_none, module_productions::proofs::Runs::run_some))]
-fn run(alloc: Global, first: Expr, steps: Steps) -> Result<Expr, OutOfMemory>
+fn run(alloc: Global, first: Expr, steps: Operations) -> Result<Expr, OutOfMemory>
     ensures { IfOk result (λ whole. whole ≡ g.run first steps) }
 {
     if steps.is_empty() {
@@ -109,7 +109,7 @@ impl<N: NestedParsers> Level<N> {
             return Ok(Expr::CharacterLiteral(place, code));
         }
         match tokens.takes_text(self.alloc)? {
-            Some(text) => Ok(Expr::TextLiteral(text.place, text.item)),
+            Some(text) => Ok(Expr::StringLiteral(text.place, text.item)),
             None => self.truth(tokens),
         }
     }
@@ -158,13 +158,17 @@ impl<N: NestedParsers> Level<N> {
     }
 
     #[tactic(auto, using(token_cursor::proofs::Taking::many_by, module_productions::proofs::Parts::products_eats))]
-    fn more_factors(&self, tokens: &mut Cursor<'_>, mut steps: Steps) -> Result<Steps, Stopped>
+    fn more_factors(
+        &self,
+        tokens: &mut Cursor<'_>,
+        mut steps: Operations,
+    ) -> Result<Operations, Stopped>
         requires { N.parse_at self.now.nested self.now.depth }
         ensures { Reads (many multiplying (spec.products_step (nested self.now.depth)) steps tokens.old.rest.now) result tokens.new.rest.now }
     {
         'factors: while let Some((operator, place)) = takes_multiplying(tokens) {
             let right = self.fresh_factor(tokens)?;
-            steps.push(Step {
+            steps.push(Operation {
                 operator,
                 place,
                 right,
@@ -184,13 +188,17 @@ impl<N: NestedParsers> Level<N> {
     }
 
     #[tactic(auto, using(token_cursor::proofs::Taking::many_by, module_productions::proofs::Parts::sums_eats))]
-    fn more_products(&self, tokens: &mut Cursor<'_>, mut steps: Steps) -> Result<Steps, Stopped>
+    fn more_products(
+        &self,
+        tokens: &mut Cursor<'_>,
+        mut steps: Operations,
+    ) -> Result<Operations, Stopped>
         requires { N.parse_at self.now.nested self.now.depth }
         ensures { Reads (many adding (spec.sums_step (nested self.now.depth)) steps tokens.old.rest.now) result tokens.new.rest.now }
     {
         'products: while let Some((operator, place)) = takes_adding(tokens) {
             let right = self.product(tokens, None)?;
-            steps.push(Step {
+            steps.push(Operation {
                 operator,
                 place,
                 right,
@@ -223,13 +231,13 @@ impl<N: NestedParsers> Level<N> {
         ensures { Reads (tails.compared (nested self.now.depth) left is_negated relation place tokens.old.rest.now) result tokens.new.rest.now }
     {
         let right = self.sum(tokens, None)?;
-        Ok(Expr::Compare(
-            Boxed::new(self.alloc, left)?,
+        Ok(Expr::Compare {
+            left: Boxed::new(self.alloc, left)?,
             is_negated,
             relation,
             place,
-            Boxed::new(self.alloc, right)?,
-        ))
+            right: Boxed::new(self.alloc, right)?,
+        })
     }
 
     #[tactic(auto, unfolding(crate::specs::Tails::within))]
@@ -244,7 +252,12 @@ impl<N: NestedParsers> Level<N> {
         ensures { Reads (tails.within (nested self.now.depth) left is_negated place tokens.old.rest.now) result tokens.new.rest.now }
     {
         let interval = self.interval(tokens)?;
-        Ok(Expr::Within(Boxed::new(self.alloc, left)?, is_negated, place, interval))
+        Ok(Expr::Within {
+            value: Boxed::new(self.alloc, left)?,
+            is_negated,
+            place,
+            interval,
+        })
     }
 
     /// A comparison or IN, which must come behind NOT.
@@ -324,13 +337,17 @@ impl<N: NestedParsers> Level<N> {
     }
 
     #[tactic(auto, using(token_cursor::proofs::Taking::many_by, module_productions::proofs::Parts::ands_eats))]
-    fn more_negs(&self, tokens: &mut Cursor<'_>, mut steps: Steps) -> Result<Steps, Stopped>
+    fn more_negs(
+        &self,
+        tokens: &mut Cursor<'_>,
+        mut steps: Operations,
+    ) -> Result<Operations, Stopped>
         requires { N.parse_at self.now.nested self.now.depth }
         ensures { Reads (many conjoining (spec.ands_step (nested self.now.depth)) steps tokens.old.rest.now) result tokens.new.rest.now }
     {
         'negs: while let Some((operator, place)) = takes_conjoining(tokens) {
             let right = self.fresh_neg(tokens)?;
-            steps.push(Step {
+            steps.push(Operation {
                 operator,
                 place,
                 right,
@@ -350,13 +367,17 @@ impl<N: NestedParsers> Level<N> {
     }
 
     #[tactic(auto, using(token_cursor::proofs::Taking::many_by, module_productions::proofs::Parts::ors_eats))]
-    fn more_conjs(&self, tokens: &mut Cursor<'_>, mut steps: Steps) -> Result<Steps, Stopped>
+    fn more_conjs(
+        &self,
+        tokens: &mut Cursor<'_>,
+        mut steps: Operations,
+    ) -> Result<Operations, Stopped>
         requires { N.parse_at self.now.nested self.now.depth }
         ensures { Reads (many disjoining (spec.ors_step (nested self.now.depth)) steps tokens.old.rest.now) result tokens.new.rest.now }
     {
         'conjs: while let Some((operator, place)) = takes_disjoining(tokens) {
             let right = self.conj(tokens, Begun::Fresh)?;
-            steps.push(Step {
+            steps.push(Operation {
                 operator,
                 place,
                 right,

@@ -269,7 +269,7 @@ impl<N: NestedParsers> Level<N> {
             return Ok(TypeExp::Boolean(place));
         }
         match tokens.takes_word(Word::StringWord) {
-            Some(place) => Ok(TypeExp::Text(place)),
+            Some(place) => Ok(TypeExp::String(place)),
             None => self.built_type(tokens),
         }
     }

@@ -7,7 +7,7 @@ use Rattle.mesa_types.specs.Plain.{kinds_of, plain}
 use Rattle.mesa_types.specs.Shapes.{copies}
 use Rattle.mesa_types.specs.Sound.{Sound}
 use Rattle.mesa_types.specs.declared.syntax.Access.{Access}
-use Rattle.mesa_types.specs.declared.syntax.Condition.TheOpen.{Expr-F, Plain-F, Statement-F}
+use Rattle.mesa_types.specs.declared.syntax.Condition.TheOpen.{Expr-F, PlainItem-F, Statement-F}
 use Rattle.mesa_types.specs.declared.syntax.Control.{Control}
 use Rattle.mesa_types.specs.declared.syntax.Declaration.{Declaration}
 use Rattle.mesa_types.specs.declared.syntax.Declared.{Declared}
@@ -18,9 +18,9 @@ use Rattle.mesa_types.specs.declared.syntax.Inner.{Inner}
 use Rattle.mesa_types.specs.declared.syntax.Left.{Left, out-Left}
 use Rattle.mesa_types.specs.declared.syntax.Operator.{Operator}
 use Rattle.mesa_types.specs.declared.syntax.Operator.TheVariants.{Add, Subtract}
-use Rattle.mesa_types.specs.declared.syntax.Plain.{Plain, out-Plain}
+use Rattle.mesa_types.specs.declared.syntax.PlainItem.{PlainItem, out-PlainItem}
 use Rattle.mesa_types.specs.declared.syntax.Statement.{Statement, out-Statement}
-use Rattle.mesa_types.specs.declared.syntax.Step.{Step, out-Step}
+use Rattle.mesa_types.specs.declared.syntax.Operation.{Operation as Written, out-Operation}
 use Rattle.mesa_types.specs.declared.typed_tree.TypedModule.{TypedModule}
 use Rattle.mesa_types.specs.declared.typed_parts.Operator.{Operator as TypedOperator}
 use Rattle.mesa_types.specs.declared.typed_parts.Operator.TheVariants.{Plus, Minus}
@@ -91,24 +91,24 @@ module _ (scope : Scope) (n : ℕ) (low : IsBelow scope n) where
   unfolding s.term
   good_term x e is = good_term_of (out-Expr x) e is
 
-  good_steps : (xs : List Step) (os : List f.Operation) → all (s.step scope) xs ≡ Some os → AreGoodOperations n (length xs) os
+  good_steps : (xs : List Written) (os : List f.Operation) → all (s.step scope) xs ≡ Some os → AreGoodOperations n (length xs) os
   unfolding s.step
   good_steps [] os is = here (AreGoodOperations n 0) [] os is (no_operations n)
   good_steps (x ∷ xs) os is =
       let m = split (s.step scope x) (λ y. all (s.step scope) xs >>= (λ ys. Some (y ∷ ys))) os is in
       let r = split (all (s.step scope) xs) (λ ys. Some (m.0 ∷ ys)) os m.2 in
-      let o = split (f.operator (out-Step x).operator) (λ o. s.term scope (out-Step x).right >>= (λ e. Some (f.operation o e))) m.0 m.1 in
-      let e = split (s.term scope (out-Step x).right) (λ e. Some (f.operation o.0 e)) m.0 o.2 in
+      let o = split (f.operator (out-Operation x).operator) (λ o. s.term scope (out-Operation x).right >>= (λ e. Some (f.operation o e))) m.0 m.1 in
+      let e = split (s.term scope (out-Operation x).right) (λ e. Some (f.operation o.0 e)) m.0 o.2 in
       here (AreGoodOperations n (length (x ∷ xs))) (m.0 ∷ r.0) os r.2
       (here (λ y. AreGoodOperations n (length (x ∷ xs)) (y ∷ r.0)) (f.operation o.0 e.0) m.0 e.2
-      (good_operations n (length xs) (length (x ∷ xs)) o.0 e.0 r.0 (omega arith) (sign_of (out-Step x).operator o.0 o.1) (good_term (out-Step x).right e.0 e.1) (good_steps xs r.0 r.1)))
+      (good_operations n (length xs) (length (x ∷ xs)) o.0 e.0 r.0 (omega arith) (sign_of (out-Operation x).operator o.0 o.1) (good_term (out-Operation x).right e.0 e.1) (good_steps xs r.0 r.1)))
 
   -- up to 1,000 terms
   record IsGoodSum (v : Sum) : Type 0 where
     good : IsGoodExpr n v.terms v.value
     few : v.terms ≤ 1000
 
-  good_run : (x : Expr) (xs : List Step) (v : Sum) → s.run scope x xs ≡ Some v → IsGoodSum v
+  good_run : (x : Expr) (xs : List Written) (v : Sum) → s.run scope x xs ≡ Some v → IsGoodSum v
   unfolding s.run
   good_run x xs v is =
       let m = split (s.term scope x) (λ e. all (s.step scope) xs >>= (λ os. only_if (leb (1 + length xs) 1000) (Some (counted (f.operated e os) (1 + length xs))))) v is in
@@ -259,22 +259,22 @@ module _ (host : Bool) where
     good : (n : ℕ) → next.count ≤ n → AreGoodStmts n host known.declared → AreGoodStmts n host next.declared
 
   module _ (known : Known) (n : ℕ) (low : IsBelow known.scope n) (lt : known.count < n) where
-    good_integer_of : (x : Layer Plain-F) (u : t.Stmt) → s.integer_of known x ≡ Some u → IsGoodStmt n host u
-    good_integer_of (Plain-F.Variable ty) u is =
+    good_integer_of : (x : Layer PlainItem-F) (u : t.Stmt) → s.integer_of known x ≡ Some u → IsGoodStmt n host u
+    good_integer_of (PlainItem-F.Variable ty) u is =
         let m = kept (s.is_integer ty) (Some (f.declare known.count)) u is in
         here (IsGoodStmt n host) (f.declare known.count) u m.1 (good_declare n host known.count lt)
-    good_integer_of (Plain-F.Initial ty e) u is =
+    good_integer_of (PlainItem-F.Initial ty e) u is =
         let m = kept (s.is_integer ty) (s.sum known.scope e >>= (λ v. Some (f.declare_as known.count v.value))) u is in
         let v = split (s.sum known.scope e) (λ v. Some (f.declare_as known.count v.value)) u m.1 in
         let good = good_sum known.scope n low e v.0 v.1 in
         here (IsGoodStmt n host) (f.declare_as known.count v.0.value) u v.2 (good_declare_as n host known.count v.0.terms v.0.value lt good.few good.good)
     good_integer_of _ u is = absurd (none_some u is)
 
-    good_integer : (x : Plain) (u : t.Stmt) → s.integer known x ≡ Some u → IsGoodStmt n host u
+    good_integer : (x : PlainItem) (u : t.Stmt) → s.integer known x ≡ Some u → IsGoodStmt n host u
     unfolding s.integer
-    good_integer x u is = good_integer_of (out-Plain x) u is
+    good_integer x u is = good_integer_of (out-PlainItem x) u is
 
-  leads_one : (known : Known) → IsKept known → (x : List ℕ) (d : Plain) (next : Known) → s.variable_named known x d ≡ Some next → Leads known next
+  leads_one : (known : Known) → IsKept known → (x : List ℕ) (d : PlainItem) (next : Known) → s.variable_named known x d ≡ Some next → Leads known next
   unfolding s.variable_named s.is_free
   leads_one known is_kept x d next is =
       let m = kept (s.is_free known x) (s.integer known d >>= (λ u. Some (s.extended known x u))) next is in
@@ -310,7 +310,7 @@ nothing_kept = record { low = record { below = λ x k e. absurd (none_some k e) 
 
 -- A declaration is of one name, which has the next number.
 
-extended_count : (known : Known) (x : List ℕ) (d : Plain) (next : Known) → s.variable_named known x d ≡ Some next → next.count ≡ known.count + 1
+extended_count : (known : Known) (x : List ℕ) (d : PlainItem) (next : Known) → s.variable_named known x d ≡ Some next → next.count ≡ known.count + 1
 unfolding s.variable_named
 extended_count known x d next is =
     let m = kept (s.is_free known x) (s.integer known d >>= (λ u. Some (s.extended known x u))) next is in

@@ -8,7 +8,7 @@ use Rattle.mesa_types.specs.Plain.{chain, stmts, kinds_of}
 use Rattle.mesa_types.specs.Counts.{hidden, hidden_expr, hidden_exprs, hidden_suffixes, hidden_operations, hidden_stmts, hidden_phrase, hidden_exits, hidden_loop, hidden_condition, operands, operands_of, operands_in, operands_of_run, operands_of_condition, operands_of_loop, operands_of_stmt, words_of}
 use Rattle.mesa_types.specs.Shapes.{words_in, words_in_all, one, join, copies, KindAt}
 use Rattle.mesa_types.specs.Sound.{Scope, VariableIn, RangeIn, Fits, CountIn, CalleeIs, Arranged, labels_in, in_labelled, AllDiffer, LabelsIn, a_word, ExprIn, ExprsIn, SuffixesIn, OperationsIn, PhraseIn, StmtIn, StmtsIn, ExitsIn, LoopIn, ConditionIn, ImportIn, links_of, scope_of, Sound}
-use Rattle.mesa_types.specs.declared.syntax.Relation.{Relation}
+use Rattle.mesa_types.specs.declared.relation.Relation.{Relation}
 use Rattle.mesa_types.specs.declared.typed_parts.Home.{Home}
 use Rattle.mesa_types.specs.declared.typed_parts.Home.TheVariants.{Global}
 use Rattle.mesa_types.specs.declared.typed_parts.Operator.{Operator as TypedOperator}

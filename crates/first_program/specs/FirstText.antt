@@ -6,7 +6,7 @@ use Rattle.std.specs.Map.{update}
 use Rattle.mesa_types.specs.declared.syntax.Access.{Access}
 use Rattle.mesa_types.specs.declared.syntax.Brackets.{Brackets, out-Brackets}
 use Rattle.mesa_types.specs.declared.syntax.Condition.{Condition, out-Condition}
-use Rattle.mesa_types.specs.declared.syntax.Condition.TheOpen.{Condition-F, Expr-F, Plain-F, Statement-F, Suffix-F, TypeExp-F}
+use Rattle.mesa_types.specs.declared.syntax.Condition.TheOpen.{Condition-F, Expr-F, PlainItem-F, Statement-F, Suffix-F, TypeExp-F}
 use Rattle.mesa_types.specs.declared.syntax.Control.{Control, out-Control}
 use Rattle.mesa_types.specs.declared.syntax.Count.{Count}
 use Rattle.mesa_types.specs.declared.syntax.Declaration.{Declaration}
@@ -22,9 +22,9 @@ use Rattle.mesa_types.specs.declared.syntax.Left.{Left, out-Left}
 use Rattle.mesa_types.specs.declared.syntax.Module.{Module}
 use Rattle.mesa_types.specs.declared.syntax.ModuleKind.{ModuleKind}
 use Rattle.mesa_types.specs.declared.syntax.ModuleKind.TheVariants.{Program}
-use Rattle.mesa_types.specs.declared.syntax.Plain.{Plain, out-Plain}
+use Rattle.mesa_types.specs.declared.syntax.PlainItem.{PlainItem, out-PlainItem}
 use Rattle.mesa_types.specs.declared.syntax.Statement.{Statement, out-Statement}
-use Rattle.mesa_types.specs.declared.syntax.Step.{Step, out-Step}
+use Rattle.mesa_types.specs.declared.syntax.Operation.{Operation as Written, out-Operation}
 use Rattle.mesa_types.specs.declared.syntax.Suffix.{Suffix, out-Suffix}
 use Rattle.mesa_types.specs.declared.syntax.TypeExp.{TypeExp, out-TypeExp}
 use Rattle.mesa_types.specs.declared.types.FieldType.{FieldType}
@@ -85,14 +85,14 @@ module _ (scope : Scope) where
   term e = term_of (out-Expr e)
 
   -- plus or minus a term
-  unfoldable pub step : Step → Option Operation
+  unfoldable pub step : Written → Option Operation
   step s = do
-    o ← operator (out-Step s).operator
-    e ← term (out-Step s).right
+    o ← operator (out-Operation s).operator
+    e ← term (out-Operation s).right
     Some (operation o e)
 
   -- a term and others behind it, 1,000 at most
-  unfoldable pub run : Expr → List Step → Option Sum
+  unfoldable pub run : Expr → List Written → Option Sum
   run x ss = do
     e ← term x
     os ← all step ss
@@ -259,17 +259,17 @@ unfoldable pub is_integer : TypeExp → Bool
 is_integer ty = is_integer_of (out-TypeExp ty)
 
 -- a variable of type INTEGER, without an initial value or with a sum over the variables before it
-abbrev pub integer_of : Known → Layer Plain-F → Option t.Stmt
-integer_of known (Plain-F.Variable ty) = only_if (is_integer ty) (Some (declare known.count))
-integer_of known (Plain-F.Initial ty e) = only_if (is_integer ty) (do
+abbrev pub integer_of : Known → Layer PlainItem-F → Option t.Stmt
+integer_of known (PlainItem-F.Variable ty) = only_if (is_integer ty) (Some (declare known.count))
+integer_of known (PlainItem-F.Initial ty e) = only_if (is_integer ty) (do
   x ← sum known.scope e
   Some (declare_as known.count x.value))
 integer_of _ _ = None
 
-unfoldable pub integer : Known → Plain → Option t.Stmt
-integer known d = integer_of known (out-Plain d)
+unfoldable pub integer : Known → PlainItem → Option t.Stmt
+integer known d = integer_of known (out-PlainItem d)
 
-unfoldable pub variable_named : Known → List ℕ → Plain → Option Known
+unfoldable pub variable_named : Known → List ℕ → PlainItem → Option Known
 variable_named known x d = only_if (is_free known x) (do
   s ← integer known d
   Some (extended known x s))

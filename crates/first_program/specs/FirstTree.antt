@@ -5,8 +5,8 @@ use Rattle.mesa_types.specs.Plain.{chain, stmts, kinds_of}
 use Rattle.mesa_types.specs.declared.faces.Import.{Import}
 use Rattle.mesa_types.specs.declared.syntax.Operator.{Operator}
 use Rattle.mesa_types.specs.declared.syntax.Operator.TheVariants.{Add, Subtract}
-use Rattle.mesa_types.specs.declared.syntax.Relation.{Relation}
-use Rattle.mesa_types.specs.declared.syntax.Relation.TheVariants.{Equal, NotEqual, Less, AtMost, Greater, AtLeast}
+use Rattle.mesa_types.specs.declared.relation.Relation.{Relation}
+use Rattle.mesa_types.specs.declared.relation.Relation.TheVariants.{Equal, NotEqual, Less, AtMost, Greater, AtLeast}
 use Rattle.mesa_types.specs.declared.typed_parts.Home.TheVariants.{Global}
 use Rattle.mesa_types.specs.declared.typed_parts.Base.TheVariants.{Signed}
 use Rattle.mesa_types.specs.declared.typed_parts.Range.TheVariants.{Every}

@@ -13,7 +13,7 @@ use crate::first_tree;
 use crate::variables::{MOST_VARIABLES, Variables};
 use mesa_base::List;
 use mesa_types::TypedStmt;
-use mesa_types::syntax::{Declaration, Declared, Plain, TypeExp};
+use mesa_types::syntax::{Declaration, Declared, PlainItem, TypeExp};
 use std::alloc::Global;
 
 /// What the declarations so far declare, and the statements that do so.
@@ -42,13 +42,15 @@ fn is_integer(written: &TypeExp) -> bool
 
 /// The statement that declares a variable of type INTEGER.
 #[tactic(auto, unfolding(crate::specs::FirstText::integer))]
-fn integer(alloc: Global, known: &Known<'_>, plain: &Plain) -> Result<TypedStmt, FirstFault>
+fn integer(alloc: Global, known: &Known<'_>, plain: &PlainItem) -> Result<TypedStmt, FirstFault>
     ensures { Gives stmt (spec.integer (view.known known.now) plain.now) result }
 {
     let number = known.variables.count;
     match plain {
-        Plain::Variable(written) if is_integer(written) => Ok(first_tree::declare(alloc, number)?),
-        Plain::Initial(written, e) if is_integer(written) => {
+        PlainItem::Variable(written) if is_integer(written) => Ok(first_tree::declare(
+            alloc, number,
+        )?),
+        PlainItem::Initial(written, e) if is_integer(written) => {
             let value = sum(alloc, &known.variables, e)?.value;
             Ok(first_tree::declare_as(alloc, number, value)?)
         }
@@ -61,7 +63,7 @@ fn variable_named<'a>(
     alloc: Global,
     known: &mut Known<'a>,
     name: &'a [u8],
-    plain: &Plain,
+    plain: &PlainItem,
 ) -> Result<(), FirstFault>
     ensures { Gives (λ _. view.known known.new) (spec.variable_named (view.known known.old) name.now plain.now) result }
 {

@@ -66,7 +66,14 @@ impl<'a, 'b> Statements<'a, 'b> {
     fn condition(&self, e: &Expr) -> Result<TypedExpr, FirstFault>
         ensures { Gives expr (spec.condition (finds self.now.variables.now.places) e.now) result }
     {
-        let Expr::Compare(left, false, relation, _, right) = e else {
+        let Expr::Compare {
+            left,
+            is_negated: false,
+            relation,
+            place: _,
+            right,
+        } = e
+        else {
             return Err(FirstFault::NotYet);
         };
         let left = sum(self.alloc, self.variables, left.get())?;

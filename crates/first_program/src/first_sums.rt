@@ -11,7 +11,7 @@ use crate::first_fault::FirstFault;
 use crate::first_tree;
 use crate::variables::Variables;
 use mesa_base::List;
-use mesa_types::syntax::{Expr, Left, Step};
+use mesa_types::syntax::{Expr, Left, Operation as Written};
 use mesa_types::{Operation, TypedExpr};
 use std::alloc::Global;
 
@@ -53,7 +53,7 @@ fn term(alloc: Global, variables: &Variables<'_>, e: &Expr) -> Result<TypedExpr,
 
 /// An operator with the term to its right.
 #[tactic(auto, unfolding(crate::specs::FirstText::step))]
-fn step(alloc: Global, variables: &Variables<'_>, step: &Step) -> Result<Operation, FirstFault>
+fn step(alloc: Global, variables: &Variables<'_>, step: &Written) -> Result<Operation, FirstFault>
     ensures { Gives operation (spec.step (finds variables.now.places) step.now) result }
 {
     let Some(operator) = first_tree::operator(step.operator) else {
@@ -66,7 +66,7 @@ fn step(alloc: Global, variables: &Variables<'_>, step: &Step) -> Result<Operati
 fn steps(
     alloc: Global,
     variables: &Variables<'_>,
-    all: &[Step],
+    all: &[Written],
 ) -> Result<List<Operation>, FirstFault>
     ensures { Gives (map operation) (spec.all (spec.step (finds variables.now.places)) all.now) result }
 {
@@ -83,7 +83,7 @@ fn run(
     alloc: Global,
     variables: &Variables<'_>,
     first: &Expr,
-    rest: &[Step],
+    rest: &[Written],
 ) -> Result<CountedSum, FirstFault>
     ensures gives { Gives view.sum (spec.run (finds variables.now.places) first.now rest.now) result }
     ensures few { IfOk result (λ sum. sum.terms ≤ 1000) }

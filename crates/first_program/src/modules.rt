@@ -117,7 +117,14 @@ pub fn first_module(alloc: Global, tree: &Module) -> Result<Boxed<TypedModule>, 
     ensures sound { IfOk result (λ m. Sound (plain m)) }
     ensures first { IfOk result (λ m. FirstProgram (plain m)) }
 {
-    let ModuleKind::Program(_, imports, exports, opens, inner) = &tree.kind else {
+    let ModuleKind::Program {
+        place: _,
+        imports,
+        exports,
+        opens,
+        inner,
+    } = &tree.kind
+    else {
         return Err(FirstFault::NotYet);
     };
     if !exports.is_empty() {

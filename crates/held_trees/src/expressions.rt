@@ -4,7 +4,7 @@ ghost use Rattle.std.specs.Prelude.{◌≡◌, IfOk};
 use crate::letting::{InBox, InList, LetGo};
 use mesa_base::{Boxed, List, OutOfMemory};
 use mesa_types::syntax::{
-    Arm, Brackets, Entries, Expr, Interval, Keyed, Left, ListExpr, Phrase, Raise, Step, Suffix,
+    Arm, Brackets, Entries, Expr, Interval, Keyed, Left, ListExpr, Operation, Phrase, Raise, Suffix,
 };
 use std::alloc::Global;
 use std::mem::drop;
@@ -27,14 +27,14 @@ impl InBox for Expr {
     }
 }
 
-impl LetGo for Step {
+impl LetGo for Operation {
     fn let_go(self) {
         drop(self);
     }
 }
 
-impl InList for Step {
-    fn let_list_go(list: List<Step>) {
+impl InList for Operation {
+    fn let_list_go(list: List<Operation>) {
         drop(list);
     }
 }

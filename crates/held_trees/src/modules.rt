@@ -94,13 +94,23 @@ impl InList for Labeled<Identifiers, Defined> {
 impl LetGo for ModuleKind {
     fn let_go(self) {
         match self {
-            ModuleKind::Program(_, imports, exports, opens, inner) => {
+            ModuleKind::Program {
+                place: _,
+                imports,
+                exports,
+                opens,
+                inner,
+            } => {
                 imports.let_go();
                 exports.let_go();
                 opens.let_go();
                 inner.let_go();
             }
-            ModuleKind::Interface(_, opens, definitions) => {
+            ModuleKind::Interface {
+                place: _,
+                opens,
+                definitions,
+            } => {
                 opens.let_go();
                 definitions.let_go();
             }

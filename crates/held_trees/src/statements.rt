@@ -4,7 +4,7 @@ ghost use Rattle.std.specs.Prelude.{◌≡◌, IfOk};
 use crate::letting::{InBox, InList, LetGo};
 use mesa_base::{Boxed, List, OutOfMemory};
 use mesa_types::syntax::{
-    Block, Case, Condition, Control, Count, Exit, Local, Plain, Repeat, Statement, Test,
+    Block, Case, Condition, Control, Count, Exit, Local, PlainItem, Repeat, Statement, Test,
 };
 use std::alloc::Global;
 use std::mem::drop;
@@ -81,7 +81,7 @@ impl LetGo for Block {
     }
 }
 
-impl LetGo for Plain {
+impl LetGo for PlainItem {
     fn let_go(self) {
         drop(self);
     }

@@ -2,10 +2,8 @@
 ghost use Rattle.std.specs.Prelude.{◌≡◌, ◌<◌};
 
 use crate::tests::{is_left, left_by};
-use first_program::first_module;
 use mesa_grammar::module;
 use mesa_lexer::tokens;
-use mesa_types::nodes;
 use std::alloc::{AllocError, Global};
 use std::test::Fail;
 
@@ -300,32 +298,6 @@ fn refuses_pieces(rt: &HostRuntime, text: &str) -> Result<bool, Fail> {
 fn mutated_texts(rt: HostRuntime) -> Result<(), Fail> {
     for text in TEXTS {
         assert!(rt; refuses_pieces(&rt, text)?, "{text}");
-    }
-    Ok(())
-}
-
-/// How many nodes the typed tree of this text has.
-fn nodes_of(alloc: Global, text: &str) -> Result<u32, Fail> {
-    let tokens = tokens(alloc, text.as_bytes())?;
-    let tree = module(alloc, &tokens)?;
-    let typed = first_module(alloc, &tree)?;
-    Ok(nodes(typed.get()))
-}
-
-/// The module and its block; `i` where it is declared and where it is assigned; assignments and loops, a loop with its body
-/// and what stands for FINISHED; numbers, sums and relations.
-#[test]
-fn nodes_of_modules(rt: HostRuntime) -> Result<(), Fail> {
-    let rows = [
-        ("M: PROGRAM = BEGIN END.", 2),
-        ("M: PROGRAM = BEGIN i: INTEGER; i ← 1 + 2 END.", 8),
-        (
-            "M: PROGRAM = BEGIN i: INTEGER ← 3; WHILE i > 0 DO i ← i - 1 ENDLOOP END.",
-            15,
-        ),
-    ];
-    for (text, count) in rows {
-        assert_eq!(rt; nodes_of(rt.alloc(), text)?, count, "{text}");
     }
     Ok(())
 }

@@ -76,11 +76,14 @@ fn item(alloc: Global, tokens: &mut Cursor<'_>) -> Result<DirectoryItem, Stopped
     let Some(text) = tokens.takes_text(alloc)? else {
         return Err(Stopped::Unexpected);
     };
-    let Placed { place, item: file } = text;
+    let Placed {
+        place: file_place,
+        item: file,
+    } = text;
     let used = used(alloc, tokens)?;
     Ok(DirectoryItem {
         name,
-        place,
+        file_place,
         file,
         used,
     })

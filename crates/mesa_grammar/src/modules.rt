@@ -28,7 +28,13 @@ impl<N: NestedParsers> Grammar<N> {
         let opens = opened(self.statements.level.alloc, tokens)?;
         let inner = self.inner(tokens)?;
         tokens.need_word(Word::EndWord)?;
-        Ok(ModuleKind::Program(place, imports, exports, opens, inner))
+        Ok(ModuleKind::Program {
+            place,
+            imports,
+            exports,
+            opens,
+            inner,
+        })
     }
 
     /// An interface behind its word.
@@ -40,9 +46,13 @@ impl<N: NestedParsers> Grammar<N> {
         tokens.need_mark(Mark::Equal)?;
         tokens.need_word(Word::BeginWord)?;
         let opens = opened(self.statements.level.alloc, tokens)?;
-        let all = self.definitions(tokens)?;
+        let definitions = self.definitions(tokens)?;
         tokens.need_word(Word::EndWord)?;
-        Ok(ModuleKind::Interface(place, opens, all))
+        Ok(ModuleKind::Interface {
+            place,
+            opens,
+            definitions,
+        })
     }
 
     #[tactic(auto, using(token_cursor::proofs::Choosing::choose_none, token_cursor::proofs::Choosing::choose_some), unfolding(module_productions::specs::Texts::kind))]

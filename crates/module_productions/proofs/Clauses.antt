@@ -20,7 +20,7 @@ use Rattle.mesa_types.specs.declared.syntax.Labels.{Labels}
 use Rattle.mesa_types.specs.declared.syntax.RepeatLabels.{RepeatLabels}
 use Rattle.mesa_types.specs.declared.syntax.TypeBase.{TypeBase}
 use Rattle.mesa_types.specs.declared.syntax.Operator.{Operator}
-use Rattle.mesa_types.specs.declared.syntax.Relation.{Relation}
+use Rattle.mesa_types.specs.declared.relation.Relation.{Relation}
 use Rattle.mesa_types.specs.declared.syntax.Sign.{Sign}
 use Rattle.mesa_types.specs.declared.syntax.TypeExp.{TypeExp}
 use Rattle.mesa_types.specs.declared.syntax.TypeExp.TheVariants as t
@@ -29,7 +29,7 @@ use Rattle.mesa_types.specs.declared.syntax.FieldList.TheVariants.{WithNames, Un
 use Rattle.mesa_types.specs.declared.syntax.Interval.{Interval}
 use Rattle.mesa_types.specs.declared.syntax.Expr.{Expr}
 use Rattle.mesa_types.specs.declared.syntax.Expr.TheVariants as ev
-use Rattle.mesa_types.specs.declared.syntax.Step.{Step}
+use Rattle.mesa_types.specs.declared.syntax.Operation.{Operation}
 use Rattle.mesa_types.specs.declared.syntax.Left.{Left}
 use Rattle.mesa_types.specs.declared.syntax.Suffix.{Suffix}
 use Rattle.mesa_types.specs.declared.syntax.Suffix.TheVariants.{Field, Applied}
@@ -47,8 +47,8 @@ use Rattle.mesa_types.specs.declared.syntax.Condition.TheVariants.{While, Until}
 use Rattle.mesa_types.specs.declared.syntax.Case.{Case}
 use Rattle.mesa_types.specs.declared.syntax.Test.{Test}
 use Rattle.mesa_types.specs.declared.syntax.Test.TheVariants.{Value, Compared, Inside}
-use Rattle.mesa_types.specs.declared.syntax.Plain.{Plain}
-use Rattle.mesa_types.specs.declared.syntax.Plain.TheVariants.{TypeIs, Variable, Initial, Constant}
+use Rattle.mesa_types.specs.declared.syntax.PlainItem.{PlainItem}
+use Rattle.mesa_types.specs.declared.syntax.PlainItem.TheVariants.{TypeIs, Variable, Initial, Constant}
 use Rattle.module_productions.specs.Signs.{spelled, disjoining, conjoining, adding, multiplying, signing, relating, negating, opening, closing}
 use Rattle.module_productions.specs.Grammar as g
 use Rattle.module_productions.specs.Grammar.{run, step, interval, left, brackets, keyed, labeled, arm, case, control, block, NoElse, IsNames, IsQName, IsLabels, IsRepeatLabels, IsBase, IsNot, IsDecreasing, IsType, IsFields, IsTypes, IsGroups, IsInterval, IsExpr, IsOrs, IsConj, IsAnds, IsNeg, IsRel, IsSum, IsSums, IsProduct, IsProducts, IsFactor, IsPrimary, IsListOption, IsLeft, IsBracketsOption, IsExprs, IsKeys, IsArmList, IsArms, IsArm, IsRaise, IsStmt, IsTargets, IsLefts, IsKeyLefts, IsOtherwise, IsCaseList, IsCases, IsCase, IsTests, IsTest, IsControl, IsCount, IsCondition, IsBody, IsStmts, IsRepeatPart, IsRepeats, IsRepeat, IsExits, IsExit, IsEnabling}
@@ -87,7 +87,7 @@ pub c_character : (n : ℕ) {rest : List Token} {p : Place} (f1 : Free more_type
 unfolding need choose nr.named ex.enumeration ex.array ex.a_record
 c_character n f = via (type_character (nested n) _ _) (ahead _ (via (go.base_bare (nested n) _ _ _ (open_free _ f)) (stand _ _ (λ y. pure y))))
 
-pub c_string : (n : ℕ) {rest : List Token} {p : Place} (f1 : Free more_type rest) → Leads (word StringWord p ∷ rest) (t.Text p) rest (None) (λ y. pure y) (ex.type_exp (nested n) None (word StringWord p ∷ rest))
+pub c_string : (n : ℕ) {rest : List Token} {p : Place} (f1 : Free more_type rest) → Leads (word StringWord p ∷ rest) (t.String p) rest (None) (λ y. pure y) (ex.type_exp (nested n) None (word StringWord p ∷ rest))
 unfolding need choose nr.named ex.enumeration ex.array ex.a_record
 c_string n f = via (type_string (nested n) _ _) (ahead _ (stand _ _ (λ y. pure y)))
 
@@ -135,7 +135,7 @@ pub c_bounds : (n : ℕ) {ts us rest : List Token} {kind kind' : Kind} {a b : Bo
 unfolding need choose nr.named ex.interval ex.bounds
 c_bounds n {kind = kind} {a = a} {x = x} {y = y} {p = p} e d f h r1 r2 = via (chosen opening (ex.bounds (nested n)) refuse a (token kind p) _ e) (ahead _ (comp (onto _ r1) (ahead _ (comp (onto _ r2) (via (ap (λ out. and_then out (λ b. pure (interval p a x y b))) (go.closed_goes _ _ _ _ h)) (ahead _ (stand _ _ (λ y. pure y))))))))
 
-pub c_expr : (n : ℕ) {ts rest : List Token} {x : Expr} {ss : List Step} (b1 : IsOrs ts x ss rest) (f1 : Free more_expr rest) (r1 : Leads ts ss rest (sd.at_ors n b1) (Made (Ors n) x) (ex.expr (nested n) Fresh ts)) → Leads ts (run x ss) rest (first (sd.at_ors n b1) None) (λ y. pure y) (ex.expr (nested n) Fresh ts)
+pub c_expr : (n : ℕ) {ts rest : List Token} {x : Expr} {ss : List Operation} (b1 : IsOrs ts x ss rest) (f1 : Free more_expr rest) (r1 : Leads ts ss rest (sd.at_ors n b1) (Made (Ors n) x) (ex.expr (nested n) Fresh ts)) → Leads ts (run x ss) rest (first (sd.at_ors n b1) None) (λ y. pure y) (ex.expr (nested n) Fresh ts)
 unfolding need choose nr.named ex.expr
 c_expr n d f r1 = comp r1 (via (run_end disjoining (ex.ors_step (nested n)) (ors_eats n) _ _ _ (free_left (finds disjoining) more_conj _ f)) (stand _ _ (λ y. pure y)))
 
@@ -143,11 +143,11 @@ pub c_disjunct : (n : ℕ) {ts rest : List Token} {x : Expr} (b1 : IsConj ts x r
 unfolding need choose nr.named ex.expr
 c_disjunct n {x = x} d f r1 = comp (onto (λ y. Made (Ors n) y []) r1) (stand _ [] (Made (Ors n) x))
 
-pub c_ors : (n : ℕ) {ts us rest : List Token} {x y : Expr} {ss : List Step} {kind : Kind} {o : Operator} {p : Place} (b1 : IsOrs ts x ss (token kind p ∷ us)) (b2 : disjoining kind ≡ Some o) (b3 : IsConj us y rest) (f1 : Free more_conj rest) (r1 : Leads ts ss (token kind p ∷ us) (sd.at_ors n b1) (Made (Ors n) x) (ex.expr (nested n) Fresh ts)) (r2 : Leads us y rest (sd.at_conj n b3) (λ y. pure y) (ex.conj (nested n) Fresh us)) → Leads ts (ss ++ step o p y ∷ []) rest (first (sd.at_ors n b1) (first (sd.at_conj n b3) None)) (Made (Ors n) x) (ex.expr (nested n) Fresh ts)
+pub c_ors : (n : ℕ) {ts us rest : List Token} {x y : Expr} {ss : List Operation} {kind : Kind} {o : Operator} {p : Place} (b1 : IsOrs ts x ss (token kind p ∷ us)) (b2 : disjoining kind ≡ Some o) (b3 : IsConj us y rest) (f1 : Free more_conj rest) (r1 : Leads ts ss (token kind p ∷ us) (sd.at_ors n b1) (Made (Ors n) x) (ex.expr (nested n) Fresh ts)) (r2 : Leads us y rest (sd.at_conj n b3) (λ y. pure y) (ex.conj (nested n) Fresh us)) → Leads ts (ss ++ step o p y ∷ []) rest (first (sd.at_ors n b1) (first (sd.at_conj n b3) None)) (Made (Ors n) x) (ex.expr (nested n) Fresh ts)
 unfolding need choose nr.named ex.expr
 c_ors n {kind = kind} {o = o} {p = p} d e h f r1 r2 = comp r1 (under _ (many_more disjoining (ex.ors_step (nested n)) (ors_eats n) o (token kind p) e (last _ r2)))
 
-pub c_conj : (n : ℕ) {ts rest : List Token} {x : Expr} {ss : List Step} (b1 : IsAnds ts x ss rest) (f1 : Free more_conj rest) (r1 : Leads ts ss rest (sd.at_ands n b1) (Made (Ands n) x) (ex.conj (nested n) Fresh ts)) → Leads ts (run x ss) rest (first (sd.at_ands n b1) None) (λ y. pure y) (ex.conj (nested n) Fresh ts)
+pub c_conj : (n : ℕ) {ts rest : List Token} {x : Expr} {ss : List Operation} (b1 : IsAnds ts x ss rest) (f1 : Free more_conj rest) (r1 : Leads ts ss rest (sd.at_ands n b1) (Made (Ands n) x) (ex.conj (nested n) Fresh ts)) → Leads ts (run x ss) rest (first (sd.at_ands n b1) None) (λ y. pure y) (ex.conj (nested n) Fresh ts)
 unfolding need choose nr.named ex.conj
 c_conj n d f r1 = comp r1 (via (run_end conjoining (ex.ands_step (nested n)) (ands_eats n) _ _ _ (free_left (finds conjoining) more_rel _ f)) (stand _ _ (λ y. pure y)))
 
@@ -155,7 +155,7 @@ pub c_conjunct : (n : ℕ) {ts rest : List Token} {x : Expr} (b1 : IsNeg ts x re
 unfolding need choose nr.named ex.conj
 c_conjunct n {x = x} d f r1 = comp (onto (λ y. Made (Ands n) y []) r1) (stand _ [] (Made (Ands n) x))
 
-pub c_ands : (n : ℕ) {ts us rest : List Token} {x y : Expr} {ss : List Step} {kind : Kind} {o : Operator} {p : Place} (b1 : IsAnds ts x ss (token kind p ∷ us)) (b2 : conjoining kind ≡ Some o) (b3 : IsNeg us y rest) (f1 : Free more_rel rest) (r1 : Leads ts ss (token kind p ∷ us) (sd.at_ands n b1) (Made (Ands n) x) (ex.conj (nested n) Fresh ts)) (r2 : Leads us y rest (sd.at_neg n b3) (λ y. pure y) (ex.neg (nested n) Fresh us)) → Leads ts (ss ++ step o p y ∷ []) rest (first (sd.at_ands n b1) (first (sd.at_neg n b3) None)) (Made (Ands n) x) (ex.conj (nested n) Fresh ts)
+pub c_ands : (n : ℕ) {ts us rest : List Token} {x y : Expr} {ss : List Operation} {kind : Kind} {o : Operator} {p : Place} (b1 : IsAnds ts x ss (token kind p ∷ us)) (b2 : conjoining kind ≡ Some o) (b3 : IsNeg us y rest) (f1 : Free more_rel rest) (r1 : Leads ts ss (token kind p ∷ us) (sd.at_ands n b1) (Made (Ands n) x) (ex.conj (nested n) Fresh ts)) (r2 : Leads us y rest (sd.at_neg n b3) (λ y. pure y) (ex.neg (nested n) Fresh us)) → Leads ts (ss ++ step o p y ∷ []) rest (first (sd.at_ands n b1) (first (sd.at_neg n b3) None)) (Made (Ands n) x) (ex.conj (nested n) Fresh ts)
 unfolding need choose nr.named ex.conj
 c_ands n {kind = kind} {o = o} {p = p} d e h f r1 r2 = comp r1 (under _ (many_more conjoining (ex.ands_step (nested n)) (ands_eats n) o (token kind p) e (last _ r2)))
 
@@ -181,7 +181,7 @@ unfolding need choose nr.named ex.rel ex.relation
 c_within n {p = p} d g.affirmed h f r1 r2 = comp (onto _ r1) (via (go.related_within (nested n) _ p _) (ahead _ (last _ r2)))
 c_within n {p = p} d (g.negated {kind = k2} {p = p2} i) h f r1 r2 = comp (onto _ (r1)) (via (go.related_not (nested n) _ k2 p2 _ i) (ahead _ (ahead _ (last _ r2))))
 
-pub c_sum : (n : ℕ) {ts rest : List Token} {x : Expr} {ss : List Step} (b1 : IsSums ts x ss rest) (f1 : Free more_sum rest) (r1 : Leads ts ss rest (sd.at_sums n b1) (Made (Sums n) x) (ex.sum (nested n) None ts)) → Leads ts (run x ss) rest (first (sd.at_sums n b1) None) (λ y. pure y) (ex.sum (nested n) None ts)
+pub c_sum : (n : ℕ) {ts rest : List Token} {x : Expr} {ss : List Operation} (b1 : IsSums ts x ss rest) (f1 : Free more_sum rest) (r1 : Leads ts ss rest (sd.at_sums n b1) (Made (Sums n) x) (ex.sum (nested n) None ts)) → Leads ts (run x ss) rest (first (sd.at_sums n b1) None) (λ y. pure y) (ex.sum (nested n) None ts)
 unfolding need choose nr.named ex.sum
 c_sum n d f r1 = comp r1 (via (run_end adding (ex.sums_step (nested n)) (sums_eats n) _ _ _ (free_left (finds adding) more_product _ f)) (stand _ _ (λ y. pure y)))
 
@@ -189,11 +189,11 @@ pub c_summand : (n : ℕ) {ts rest : List Token} {x : Expr} (b1 : IsProduct ts x
 unfolding need choose nr.named ex.sum
 c_summand n {x = x} d f r1 = comp (onto (λ y. Made (Sums n) y []) r1) (stand _ [] (Made (Sums n) x))
 
-pub c_sums : (n : ℕ) {ts us rest : List Token} {x y : Expr} {ss : List Step} {kind : Kind} {o : Operator} {p : Place} (b1 : IsSums ts x ss (token kind p ∷ us)) (b2 : adding kind ≡ Some o) (b3 : IsProduct us y rest) (f1 : Free more_product rest) (r1 : Leads ts ss (token kind p ∷ us) (sd.at_sums n b1) (Made (Sums n) x) (ex.sum (nested n) None ts)) (r2 : Leads us y rest (sd.at_product n b3) (λ y. pure y) (ex.product (nested n) None us)) → Leads ts (ss ++ step o p y ∷ []) rest (first (sd.at_sums n b1) (first (sd.at_product n b3) None)) (Made (Sums n) x) (ex.sum (nested n) None ts)
+pub c_sums : (n : ℕ) {ts us rest : List Token} {x y : Expr} {ss : List Operation} {kind : Kind} {o : Operator} {p : Place} (b1 : IsSums ts x ss (token kind p ∷ us)) (b2 : adding kind ≡ Some o) (b3 : IsProduct us y rest) (f1 : Free more_product rest) (r1 : Leads ts ss (token kind p ∷ us) (sd.at_sums n b1) (Made (Sums n) x) (ex.sum (nested n) None ts)) (r2 : Leads us y rest (sd.at_product n b3) (λ y. pure y) (ex.product (nested n) None us)) → Leads ts (ss ++ step o p y ∷ []) rest (first (sd.at_sums n b1) (first (sd.at_product n b3) None)) (Made (Sums n) x) (ex.sum (nested n) None ts)
 unfolding need choose nr.named ex.sum
 c_sums n {kind = kind} {o = o} {p = p} d e h f r1 r2 = comp r1 (under _ (many_more adding (ex.sums_step (nested n)) (sums_eats n) o (token kind p) e (last _ r2)))
 
-pub c_product : (n : ℕ) {ts rest : List Token} {x : Expr} {ss : List Step} (b1 : IsProducts ts x ss rest) (f1 : Free more_product rest) (r1 : Leads ts ss rest (sd.at_products n b1) (Made (Products n) x) (ex.product (nested n) None ts)) → Leads ts (run x ss) rest (first (sd.at_products n b1) None) (λ y. pure y) (ex.product (nested n) None ts)
+pub c_product : (n : ℕ) {ts rest : List Token} {x : Expr} {ss : List Operation} (b1 : IsProducts ts x ss rest) (f1 : Free more_product rest) (r1 : Leads ts ss rest (sd.at_products n b1) (Made (Products n) x) (ex.product (nested n) None ts)) → Leads ts (run x ss) rest (first (sd.at_products n b1) None) (λ y. pure y) (ex.product (nested n) None ts)
 unfolding need choose nr.named ex.product
 c_product n d f r1 = comp r1 (via (run_end multiplying (ex.products_step (nested n)) (products_eats n) _ _ _ (free_left (finds multiplying) more_primary _ f)) (stand _ _ (λ y. pure y)))
 
@@ -201,7 +201,7 @@ pub c_factor : (n : ℕ) {ts rest : List Token} {x : Expr} (b1 : IsFactor ts x r
 unfolding need choose nr.named ex.product
 c_factor n {x = x} d f r1 = comp (onto (λ y. Made (Products n) y []) r1) (stand _ [] (Made (Products n) x))
 
-pub c_products : (n : ℕ) {ts us rest : List Token} {x y : Expr} {ss : List Step} {kind : Kind} {o : Operator} {p : Place} (b1 : IsProducts ts x ss (token kind p ∷ us)) (b2 : multiplying kind ≡ Some o) (b3 : IsFactor us y rest) (f1 : Free more_primary rest) (r1 : Leads ts ss (token kind p ∷ us) (sd.at_products n b1) (Made (Products n) x) (ex.product (nested n) None ts)) (r2 : Leads us y rest (sd.at_factor n b3) (λ y. pure y) (ex.factor (nested n) None us)) → Leads ts (ss ++ step o p y ∷ []) rest (first (sd.at_products n b1) (first (sd.at_factor n b3) None)) (Made (Products n) x) (ex.product (nested n) None ts)
+pub c_products : (n : ℕ) {ts us rest : List Token} {x y : Expr} {ss : List Operation} {kind : Kind} {o : Operator} {p : Place} (b1 : IsProducts ts x ss (token kind p ∷ us)) (b2 : multiplying kind ≡ Some o) (b3 : IsFactor us y rest) (f1 : Free more_primary rest) (r1 : Leads ts ss (token kind p ∷ us) (sd.at_products n b1) (Made (Products n) x) (ex.product (nested n) None ts)) (r2 : Leads us y rest (sd.at_factor n b3) (λ y. pure y) (ex.factor (nested n) None us)) → Leads ts (ss ++ step o p y ∷ []) rest (first (sd.at_products n b1) (first (sd.at_factor n b3) None)) (Made (Products n) x) (ex.product (nested n) None ts)
 unfolding need choose nr.named ex.product
 c_products n {kind = kind} {o = o} {p = p} d e h f r1 r2 = comp r1 (under _ (many_more multiplying (ex.products_step (nested n)) (products_eats n) o (token kind p) e (last _ r2)))
 
@@ -221,7 +221,7 @@ pub c_char : (n : ℕ) {rest : List Token} {n0 : ℕ} {p : Place} (f1 : Free mor
 unfolding need choose nr.named ex.parens ex.list ex.reference
 c_char n f = via (primary_char (nested n) _ _ _) (ahead _ (stand _ _ (λ y. pure y)))
 
-pub c_text : (n : ℕ) {rest : List Token} {bytes : List ℕ} {p : Place} (f1 : Free more_primary rest) → Leads (token (k.Text bytes) p ∷ rest) (ev.TextLiteral p bytes) rest (None) (λ y. pure y) (ex.primary (nested n) None (token (k.Text bytes) p ∷ rest))
+pub c_text : (n : ℕ) {rest : List Token} {bytes : List ℕ} {p : Place} (f1 : Free more_primary rest) → Leads (token (k.Text bytes) p ∷ rest) (ev.StringLiteral p bytes) rest (None) (λ y. pure y) (ex.primary (nested n) None (token (k.Text bytes) p ∷ rest))
 unfolding need choose nr.named ex.parens ex.list ex.reference
 c_text n f = via (primary_text (nested n) _ _ _) (ahead _ (stand _ _ (λ y. pure y)))
 
@@ -626,7 +626,7 @@ pub c_brace : (n : ℕ) (p : Place) {ts us vs ws rest : List Token} {e : Option 
     → Leads (mark LeftBrace p ∷ ts) (s.Nested (block p e ls ss xs)) rest (first (first o1 (first o2 (first o3 (first o4 None)))) None) (λ y. pure y) (st.statement (nested n) None (mark LeftBrace p ∷ ts))
 c_brace n p a b x y z = via (stmt_brace (nested n) _ _) (ahead _ (last _ (inside n (k.Mark RightBrace) p refl a b x y z)))
 
-pub c_local : (n : ℕ) (all : List Local) {ts us rest : List Token} {ns : List Identifier} {x : Plain} {p r : Place} {o : Option (List Token)} → IsNames ts ns (mark Colon p ∷ us) → Leads us x (mark Semicolon r ∷ rest) o (λ y. pure y) (st.plain (nested n) us) → Leads {X = Turned (List Local) (Head Local)} ts (Go (all ++ labeled ns x ∷ [])) rest (first o None) (λ y. pure y) (st.head_turn (nested n) all ts)
+pub c_local : (n : ℕ) (all : List Local) {ts us rest : List Token} {ns : List Identifier} {x : PlainItem} {p r : Place} {o : Option (List Token)} → IsNames ts ns (mark Colon p ∷ us) → Leads us x (mark Semicolon r ∷ rest) o (λ y. pure y) (st.plain (nested n) us) → Leads {X = Turned (List Local) (Head Local)} ts (Go (all ++ labeled ns x ∷ [])) rest (first o None) (λ y. pure y) (st.head_turn (nested n) all ts)
 unfolding need choose
 c_local n all d h = go.local_step n all _ _ _ _ (fo.names_named d) (names_second d (record { token = _; back = _; is = refl; begins = refl })) (comp (onto (go.declared n) (names_all d refl)) (ahead _ (comp (onto _ h) (ahead _ (stand _ _ (λ y. pure y))))))
 

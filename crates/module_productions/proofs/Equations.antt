@@ -16,13 +16,13 @@ use Rattle.mesa_types.specs.declared.syntax.Labels.{Labels}
 use Rattle.mesa_types.specs.declared.syntax.RepeatLabels.{RepeatLabels}
 use Rattle.mesa_types.specs.declared.syntax.TypeBase.{TypeBase}
 use Rattle.mesa_types.specs.declared.syntax.Operator.{Operator}
-use Rattle.mesa_types.specs.declared.syntax.Relation.{Relation}
+use Rattle.mesa_types.specs.declared.relation.Relation.{Relation}
 use Rattle.mesa_types.specs.declared.syntax.Sign.{Sign}
 use Rattle.mesa_types.specs.declared.syntax.TypeExp.{TypeExp}
 use Rattle.mesa_types.specs.declared.syntax.FieldList.{FieldList}
 use Rattle.mesa_types.specs.declared.syntax.Interval.{Interval}
 use Rattle.mesa_types.specs.declared.syntax.Expr.{Expr}
-use Rattle.mesa_types.specs.declared.syntax.Step.{Step}
+use Rattle.mesa_types.specs.declared.syntax.Operation.{Operation}
 use Rattle.mesa_types.specs.declared.syntax.Left.{Left}
 use Rattle.mesa_types.specs.declared.syntax.Suffix.{Suffix}
 use Rattle.mesa_types.specs.declared.syntax.Brackets.{Brackets}
@@ -35,7 +35,7 @@ use Rattle.mesa_types.specs.declared.syntax.Condition.{Condition}
 use Rattle.mesa_types.specs.declared.syntax.Case.{Case}
 use Rattle.mesa_types.specs.declared.syntax.Test.{Test}
 use Rattle.mesa_types.specs.declared.syntax.Block.{Block}
-use Rattle.mesa_types.specs.declared.syntax.Plain.{Plain}
+use Rattle.mesa_types.specs.declared.syntax.PlainItem.{PlainItem}
 use Rattle.module_productions.specs.Signs.{spelled, disjoining, conjoining, adding, multiplying, signing, relating, negating, opening, closing}
 use Rattle.module_productions.specs.Grammar as g
 use Rattle.module_productions.specs.Grammar.{NoElse, IsNames, IsQName, IsLabels, IsRepeatLabels, IsBase, IsNot, IsDecreasing, IsType, IsFields, IsTypes, IsGroups, IsInterval, IsExpr, IsOrs, IsConj, IsAnds, IsNeg, IsRel, IsSum, IsSums, IsProduct, IsProducts, IsFactor, IsPrimary, IsList, IsListOption, IsLeft, IsBrackets, IsBracketsOption, IsArgs, IsExprs, IsKeys, IsCatch, IsArmList, IsArms, IsArm, IsRaise, IsStmt, IsTargets, IsLefts, IsKeyLefts, IsOtherwise, IsCaseList, IsCases, IsCase, IsTests, IsTest, IsControl, IsCount, IsCondition, IsBody, IsStmts, IsRepeatPart, IsRepeats, IsRepeat, IsExitPart, IsExits, IsExit, IsEnabling, IsBlock, IsLocals, IsLocal, IsPlain}
@@ -117,7 +117,7 @@ pub zero_at_expr : {ts : List Token} {x : Expr} {rest : List Token} (e : IsExpr 
 unfolding at_expr
 zero_at_expr e = refl
 
-pub is_expr : (lev : ℕ) (ts rest : List Token) (x : Expr) (ss : List Step) (a1 : IsOrs ts x ss rest) → at_expr (suc lev) (g.expr {ts = ts} {rest = rest} {x = x} {ss = ss} a1) ≡ first (at_ors lev a1) None
+pub is_expr : (lev : ℕ) (ts rest : List Token) (x : Expr) (ss : List Operation) (a1 : IsOrs ts x ss rest) → at_expr (suc lev) (g.expr {ts = ts} {rest = rest} {x = x} {ss = ss} a1) ≡ first (at_ors lev a1) None
 unfolding at_expr at_ors
 is_expr lev _ _ _ _ a1 = refl
 
@@ -125,11 +125,11 @@ pub is_disjunct : (lev : ℕ) (ts rest : List Token) (x : Expr) (a1 : IsConj ts 
 unfolding at_conj at_ors
 is_disjunct lev _ _ _ a1 = refl
 
-pub is_ors : (lev : ℕ) (ts us rest : List Token) (x y : Expr) (ss : List Step) (kind : Kind) (o : Operator) (p : Place) (a1 : IsOrs ts x ss (token kind p ∷ us)) (a2 : disjoining kind ≡ Some o) (a3 : IsConj us y rest) → at_ors lev (g.ors {ts = ts} {us = us} {rest = rest} {x = x} {y = y} {ss = ss} {kind = kind} {o = o} {p = p} a1 a2 a3) ≡ first (at_ors lev a1) (first (at_conj lev a3) None)
+pub is_ors : (lev : ℕ) (ts us rest : List Token) (x y : Expr) (ss : List Operation) (kind : Kind) (o : Operator) (p : Place) (a1 : IsOrs ts x ss (token kind p ∷ us)) (a2 : disjoining kind ≡ Some o) (a3 : IsConj us y rest) → at_ors lev (g.ors {ts = ts} {us = us} {rest = rest} {x = x} {y = y} {ss = ss} {kind = kind} {o = o} {p = p} a1 a2 a3) ≡ first (at_ors lev a1) (first (at_conj lev a3) None)
 unfolding at_conj at_ors
 is_ors lev _ _ _ _ _ _ _ _ _ a1 a2 a3 = refl
 
-pub is_conj : (lev : ℕ) (ts rest : List Token) (x : Expr) (ss : List Step) (a1 : IsAnds ts x ss rest) → at_conj lev (g.conj {ts = ts} {rest = rest} {x = x} {ss = ss} a1) ≡ first (at_ands lev a1) None
+pub is_conj : (lev : ℕ) (ts rest : List Token) (x : Expr) (ss : List Operation) (a1 : IsAnds ts x ss rest) → at_conj lev (g.conj {ts = ts} {rest = rest} {x = x} {ss = ss} a1) ≡ first (at_ands lev a1) None
 unfolding at_ands at_conj
 is_conj lev _ _ _ _ a1 = refl
 
@@ -137,7 +137,7 @@ pub is_conjunct : (lev : ℕ) (ts rest : List Token) (x : Expr) (a1 : IsNeg ts x
 unfolding at_ands at_neg
 is_conjunct lev _ _ _ a1 = refl
 
-pub is_ands : (lev : ℕ) (ts us rest : List Token) (x y : Expr) (ss : List Step) (kind : Kind) (o : Operator) (p : Place) (a1 : IsAnds ts x ss (token kind p ∷ us)) (a2 : conjoining kind ≡ Some o) (a3 : IsNeg us y rest) → at_ands lev (g.ands {ts = ts} {us = us} {rest = rest} {x = x} {y = y} {ss = ss} {kind = kind} {o = o} {p = p} a1 a2 a3) ≡ first (at_ands lev a1) (first (at_neg lev a3) None)
+pub is_ands : (lev : ℕ) (ts us rest : List Token) (x y : Expr) (ss : List Operation) (kind : Kind) (o : Operator) (p : Place) (a1 : IsAnds ts x ss (token kind p ∷ us)) (a2 : conjoining kind ≡ Some o) (a3 : IsNeg us y rest) → at_ands lev (g.ands {ts = ts} {us = us} {rest = rest} {x = x} {y = y} {ss = ss} {kind = kind} {o = o} {p = p} a1 a2 a3) ≡ first (at_ands lev a1) (first (at_neg lev a3) None)
 unfolding at_ands at_neg
 is_ands lev _ _ _ _ _ _ _ _ _ a1 a2 a3 = refl
 
@@ -161,7 +161,7 @@ pub is_within : (lev : ℕ) (ts us vs rest : List Token) (x : Expr) (b : Bool) (
 unfolding at_interval at_rel at_sum
 is_within lev _ _ _ _ _ _ _ _ a1 a2 a3 = refl
 
-pub is_sum : (lev : ℕ) (ts rest : List Token) (x : Expr) (ss : List Step) (a1 : IsSums ts x ss rest) → at_sum lev (g.sum {ts = ts} {rest = rest} {x = x} {ss = ss} a1) ≡ first (at_sums lev a1) None
+pub is_sum : (lev : ℕ) (ts rest : List Token) (x : Expr) (ss : List Operation) (a1 : IsSums ts x ss rest) → at_sum lev (g.sum {ts = ts} {rest = rest} {x = x} {ss = ss} a1) ≡ first (at_sums lev a1) None
 unfolding at_sum at_sums
 is_sum lev _ _ _ _ a1 = refl
 
@@ -169,11 +169,11 @@ pub is_summand : (lev : ℕ) (ts rest : List Token) (x : Expr) (a1 : IsProduct t
 unfolding at_product at_sums
 is_summand lev _ _ _ a1 = refl
 
-pub is_sums : (lev : ℕ) (ts us rest : List Token) (x y : Expr) (ss : List Step) (kind : Kind) (o : Operator) (p : Place) (a1 : IsSums ts x ss (token kind p ∷ us)) (a2 : adding kind ≡ Some o) (a3 : IsProduct us y rest) → at_sums lev (g.sums {ts = ts} {us = us} {rest = rest} {x = x} {y = y} {ss = ss} {kind = kind} {o = o} {p = p} a1 a2 a3) ≡ first (at_sums lev a1) (first (at_product lev a3) None)
+pub is_sums : (lev : ℕ) (ts us rest : List Token) (x y : Expr) (ss : List Operation) (kind : Kind) (o : Operator) (p : Place) (a1 : IsSums ts x ss (token kind p ∷ us)) (a2 : adding kind ≡ Some o) (a3 : IsProduct us y rest) → at_sums lev (g.sums {ts = ts} {us = us} {rest = rest} {x = x} {y = y} {ss = ss} {kind = kind} {o = o} {p = p} a1 a2 a3) ≡ first (at_sums lev a1) (first (at_product lev a3) None)
 unfolding at_product at_sums
 is_sums lev _ _ _ _ _ _ _ _ _ a1 a2 a3 = refl
 
-pub is_product : (lev : ℕ) (ts rest : List Token) (x : Expr) (ss : List Step) (a1 : IsProducts ts x ss rest) → at_product lev (g.product {ts = ts} {rest = rest} {x = x} {ss = ss} a1) ≡ first (at_products lev a1) None
+pub is_product : (lev : ℕ) (ts rest : List Token) (x : Expr) (ss : List Operation) (a1 : IsProducts ts x ss rest) → at_product lev (g.product {ts = ts} {rest = rest} {x = x} {ss = ss} a1) ≡ first (at_products lev a1) None
 unfolding at_product at_products
 is_product lev _ _ _ _ a1 = refl
 
@@ -181,7 +181,7 @@ pub is_factor : (lev : ℕ) (ts rest : List Token) (x : Expr) (a1 : IsFactor ts 
 unfolding at_factor at_products
 is_factor lev _ _ _ a1 = refl
 
-pub is_products : (lev : ℕ) (ts us rest : List Token) (x y : Expr) (ss : List Step) (kind : Kind) (o : Operator) (p : Place) (a1 : IsProducts ts x ss (token kind p ∷ us)) (a2 : multiplying kind ≡ Some o) (a3 : IsFactor us y rest) → at_products lev (g.products {ts = ts} {us = us} {rest = rest} {x = x} {y = y} {ss = ss} {kind = kind} {o = o} {p = p} a1 a2 a3) ≡ first (at_products lev a1) (first (at_factor lev a3) None)
+pub is_products : (lev : ℕ) (ts us rest : List Token) (x y : Expr) (ss : List Operation) (kind : Kind) (o : Operator) (p : Place) (a1 : IsProducts ts x ss (token kind p ∷ us)) (a2 : multiplying kind ≡ Some o) (a3 : IsFactor us y rest) → at_products lev (g.products {ts = ts} {us = us} {rest = rest} {x = x} {y = y} {ss = ss} {kind = kind} {o = o} {p = p} a1 a2 a3) ≡ first (at_products lev a1) (first (at_factor lev a3) None)
 unfolding at_factor at_products
 is_products lev _ _ _ _ _ _ _ _ _ a1 a2 a3 = refl
 
@@ -601,11 +601,11 @@ pub is_enable_many : (lev : ℕ) (ts rest : List Token) (all : List Arm) (p q r 
 unfolding at_arm_list at_enabling
 is_enable_many lev _ _ _ _ _ _ _ a1 = refl
 
-pub is_begin_end : (lev : ℕ) (ts us vs ws rest : List Token) (e : Option (Placed (List Arm))) (ls : List (Labeled (List Identifier) Plain)) (ss : List Statement) (xs : List (Labeled (List Identifier) Statement)) (p q : Place) (a1 : IsEnabling ts e us) (a2 : IsLocals us ls vs) (a3 : IsBody vs ss ws) (a4 : IsExitPart ws xs (word EndWord q ∷ rest)) → at_block lev (g.begin_end {ts = ts} {us = us} {vs = vs} {ws = ws} {rest = rest} {e = e} {ls = ls} {ss = ss} {xs = xs} {p = p} {q = q} a1 a2 a3 a4) ≡ first (at_enabling lev a1) (first (at_locals lev a2) (first (at_body lev a3) (first (at_exit_part lev a4) None)))
+pub is_begin_end : (lev : ℕ) (ts us vs ws rest : List Token) (e : Option (Placed (List Arm))) (ls : List (Labeled (List Identifier) PlainItem)) (ss : List Statement) (xs : List (Labeled (List Identifier) Statement)) (p q : Place) (a1 : IsEnabling ts e us) (a2 : IsLocals us ls vs) (a3 : IsBody vs ss ws) (a4 : IsExitPart ws xs (word EndWord q ∷ rest)) → at_block lev (g.begin_end {ts = ts} {us = us} {vs = vs} {ws = ws} {rest = rest} {e = e} {ls = ls} {ss = ss} {xs = xs} {p = p} {q = q} a1 a2 a3 a4) ≡ first (at_enabling lev a1) (first (at_locals lev a2) (first (at_body lev a3) (first (at_exit_part lev a4) None)))
 unfolding at_block at_body at_enabling at_exit_part at_locals
 is_begin_end lev _ _ _ _ _ _ _ _ _ _ _ a1 a2 a3 a4 = refl
 
-pub is_braces : (lev : ℕ) (ts us vs ws rest : List Token) (e : Option (Placed (List Arm))) (ls : List (Labeled (List Identifier) Plain)) (ss : List Statement) (xs : List (Labeled (List Identifier) Statement)) (p q : Place) (a1 : IsEnabling ts e us) (a2 : IsLocals us ls vs) (a3 : IsBody vs ss ws) (a4 : IsExitPart ws xs (mark RightBrace q ∷ rest)) → at_block lev (g.braces {ts = ts} {us = us} {vs = vs} {ws = ws} {rest = rest} {e = e} {ls = ls} {ss = ss} {xs = xs} {p = p} {q = q} a1 a2 a3 a4) ≡ first (at_enabling lev a1) (first (at_locals lev a2) (first (at_body lev a3) (first (at_exit_part lev a4) None)))
+pub is_braces : (lev : ℕ) (ts us vs ws rest : List Token) (e : Option (Placed (List Arm))) (ls : List (Labeled (List Identifier) PlainItem)) (ss : List Statement) (xs : List (Labeled (List Identifier) Statement)) (p q : Place) (a1 : IsEnabling ts e us) (a2 : IsLocals us ls vs) (a3 : IsBody vs ss ws) (a4 : IsExitPart ws xs (mark RightBrace q ∷ rest)) → at_block lev (g.braces {ts = ts} {us = us} {vs = vs} {ws = ws} {rest = rest} {e = e} {ls = ls} {ss = ss} {xs = xs} {p = p} {q = q} a1 a2 a3 a4) ≡ first (at_enabling lev a1) (first (at_locals lev a2) (first (at_body lev a3) (first (at_exit_part lev a4) None)))
 unfolding at_block at_body at_enabling at_exit_part at_locals
 is_braces lev _ _ _ _ _ _ _ _ _ _ _ a1 a2 a3 a4 = refl
 
@@ -613,11 +613,11 @@ pub is_no_locals : (lev : ℕ) (rest : List Token) → at_locals lev (g.no_local
 unfolding at_locals
 is_no_locals lev _ = refl
 
-pub is_locals : (lev : ℕ) (ts us rest : List Token) (all : List (Labeled (List Identifier) Plain)) (x : Labeled (List Identifier) Plain) (p : Place) (a1 : IsLocals ts all us) (a2 : IsLocal us x (mark Semicolon p ∷ rest)) → at_locals lev (g.locals {ts = ts} {us = us} {rest = rest} {all = all} {x = x} {p = p} a1 a2) ≡ first (at_locals lev a1) (first (at_local lev a2) None)
+pub is_locals : (lev : ℕ) (ts us rest : List Token) (all : List (Labeled (List Identifier) PlainItem)) (x : Labeled (List Identifier) PlainItem) (p : Place) (a1 : IsLocals ts all us) (a2 : IsLocal us x (mark Semicolon p ∷ rest)) → at_locals lev (g.locals {ts = ts} {us = us} {rest = rest} {all = all} {x = x} {p = p} a1 a2) ≡ first (at_locals lev a1) (first (at_local lev a2) None)
 unfolding at_local at_locals
 is_locals lev _ _ _ _ _ _ a1 a2 = refl
 
-pub is_local_of : (lev : ℕ) (ts us rest : List Token) (ns : List Identifier) (x : Plain) (p : Place) (a1 : IsNames ts ns (mark Colon p ∷ us)) (a2 : IsPlain us x rest) → at_local lev (g.local_of {ts = ts} {us = us} {rest = rest} {ns = ns} {x = x} {p = p} a1 a2) ≡ first (at_plain lev a2) None
+pub is_local_of : (lev : ℕ) (ts us rest : List Token) (ns : List Identifier) (x : PlainItem) (p : Place) (a1 : IsNames ts ns (mark Colon p ∷ us)) (a2 : IsPlain us x rest) → at_local lev (g.local_of {ts = ts} {us = us} {rest = rest} {ns = ns} {x = x} {p = p} a1 a2) ≡ first (at_plain lev a2) None
 unfolding at_local at_plain
 is_local_of lev _ _ _ _ _ _ a1 a2 = refl
 

@@ -17,12 +17,12 @@ use Rattle.mesa_types.specs.declared.syntax.Labeled.{Labeled}
 use Rattle.mesa_types.specs.declared.syntax.Entries.{Entries}
 use Rattle.mesa_types.specs.declared.syntax.RepeatLabels.{RepeatLabels}
 use Rattle.mesa_types.specs.declared.syntax.Operator.{Operator}
-use Rattle.mesa_types.specs.declared.syntax.Relation.{Relation}
+use Rattle.mesa_types.specs.declared.relation.Relation.{Relation}
 use Rattle.mesa_types.specs.declared.syntax.Sign.{Sign}
 use Rattle.mesa_types.specs.declared.syntax.TypeExp.{TypeExp}
 use Rattle.mesa_types.specs.declared.syntax.Interval.{Interval}
 use Rattle.mesa_types.specs.declared.syntax.Expr.{Expr}
-use Rattle.mesa_types.specs.declared.syntax.Step.{Step}
+use Rattle.mesa_types.specs.declared.syntax.Operation.{Operation}
 use Rattle.mesa_types.specs.declared.syntax.Suffix.{Suffix}
 use Rattle.mesa_types.specs.declared.syntax.Raise.{Raise}
 use Rattle.mesa_types.specs.declared.syntax.Arm.{Arm}
@@ -31,7 +31,7 @@ use Rattle.mesa_types.specs.declared.syntax.Control.{Control}
 use Rattle.mesa_types.specs.declared.syntax.Case.{Case}
 use Rattle.mesa_types.specs.declared.syntax.Test.{Test as TestTree}
 use Rattle.mesa_types.specs.declared.syntax.Block.{Block}
-use Rattle.mesa_types.specs.declared.syntax.Plain.{Plain}
+use Rattle.mesa_types.specs.declared.syntax.PlainItem.{PlainItem}
 use Rattle.module_productions.specs.Signs.{spelled, disjoining, conjoining, adding, multiplying, signing, relating, negating, opening, closing}
 use Rattle.module_productions.specs.Grammar as g
 use Rattle.module_productions.specs.Nested.{loop_starts, raise_starts, begins_type, begins_expr, stmt_starts, begins_stmt, begins_arm, begins_test, begins_repeat}
@@ -231,14 +231,14 @@ factor_starts : {ts rest : List Token} {x : Expr} → g.IsFactor ts x rest → S
 factor_starts (g.primary d) = primary_starts d
 factor_starts (g.signed {kind = kind} {s = s} e d) = let h = signing_starts kind s e in record { token = _; back = _; is = refl; begins = h.0; unrelated = h.1; not_in = h.2; positive = h.3 }
 
-products_start : {ts rest : List Token} {x : Expr} {ss : List Step} → g.IsProducts ts x ss rest → Starts ts
+products_start : {ts rest : List Token} {x : Expr} {ss : List Operation} → g.IsProducts ts x ss rest → Starts ts
 products_start (g.factor d) = factor_starts d
 products_start (g.products d e f) = products_start d
 
 product_starts : {ts rest : List Token} {x : Expr} → g.IsProduct ts x rest → Starts ts
 product_starts (g.product d) = products_start d
 
-sums_start : {ts rest : List Token} {x : Expr} {ss : List Step} → g.IsSums ts x ss rest → Starts ts
+sums_start : {ts rest : List Token} {x : Expr} {ss : List Operation} → g.IsSums ts x ss rest → Starts ts
 sums_start (g.summand d) = product_starts d
 sums_start (g.sums d e f) = sums_start d
 
@@ -254,14 +254,14 @@ neg_begins : {ts rest : List Token} {x : Expr} → g.IsNeg ts x rest → Begins 
 neg_begins (g.rel d) = let h = rel_starts d in record { token = h.token; back = h.back; is = h.is; begins = h.begins }
 neg_begins (g.not {kind = kind} e d) = record { token = _; back = _; is = refl; begins = (negating_ends kind e).1 }
 
-ands_begin : {ts rest : List Token} {x : Expr} {ss : List Step} → g.IsAnds ts x ss rest → Begins begins_expr ts
+ands_begin : {ts rest : List Token} {x : Expr} {ss : List Operation} → g.IsAnds ts x ss rest → Begins begins_expr ts
 ands_begin (g.conjunct d) = neg_begins d
 ands_begin (g.ands d e f) = ands_begin d
 
 conj_begins : {ts rest : List Token} {x : Expr} → g.IsConj ts x rest → Begins begins_expr ts
 conj_begins (g.conj d) = ands_begin d
 
-ors_begin : {ts rest : List Token} {x : Expr} {ss : List Step} → g.IsOrs ts x ss rest → Begins begins_expr ts
+ors_begin : {ts rest : List Token} {x : Expr} {ss : List Operation} → g.IsOrs ts x ss rest → Begins begins_expr ts
 ors_begin (g.disjunct d) = conj_begins d
 ors_begin (g.ors d e f) = ors_begin d
 
@@ -392,7 +392,7 @@ pub cases_begin : {ts rest : List Token} {x : List Case} → g.IsCases ts x rest
 cases_begin (g.a_case d) = case_begins d
 cases_begin (g.cases d f) = cases_begin d
 
-pub local_named : {ts rest : List Token} {x : Labeled (List Identifier) Plain} → g.IsLocal ts x rest → Named ts
+pub local_named : {ts rest : List Token} {x : Labeled (List Identifier) PlainItem} → g.IsLocal ts x rest → Named ts
 local_named (g.local_of d f) = names_named d
 
 -- ---- what stands behind the statements of a block or loop
@@ -425,6 +425,6 @@ either_named : {ts us : List Token} → (ts ≡ us) ⊎ Named ts → Named us �
 either_named (inl e) h = record { name = h.name; back = h.back; is = e ∙ h.is }
 either_named (inr h) f = h
 
-pub locals_first : {ts rest : List Token} {x : List (Labeled (List Identifier) Plain)} → g.IsLocals ts x rest → (ts ≡ rest) ⊎ Named ts
+pub locals_first : {ts rest : List Token} {x : List (Labeled (List Identifier) PlainItem)} → g.IsLocals ts x rest → (ts ≡ rest) ⊎ Named ts
 locals_first g.no_locals = inl refl
 locals_first (g.locals d f) = inr (either_named (locals_first d) (local_named f))

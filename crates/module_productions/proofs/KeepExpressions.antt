@@ -17,7 +17,7 @@ use Rattle.mesa_types.specs.declared.syntax.Entries.TheVariants.{Nothing, InOrde
 use Rattle.mesa_types.specs.declared.syntax.Operator.{Operator}
 use Rattle.mesa_types.specs.declared.syntax.Expr.{Expr}
 use Rattle.mesa_types.specs.declared.syntax.Expr.TheVariants as e
-use Rattle.mesa_types.specs.declared.syntax.Step.{Step as Operation}
+use Rattle.mesa_types.specs.declared.syntax.Operation.{Operation}
 use Rattle.mesa_types.specs.declared.syntax.Suffix.{Suffix}
 use Rattle.mesa_types.specs.declared.syntax.Suffix.TheVariants.{Field, Applied}
 use Rattle.mesa_types.specs.declared.syntax.Raise.TheVariants.{SignalRaise, ErrorRaise, UnnamedError}
@@ -189,7 +189,7 @@ module _ (n : ℕ) (q : Nested) (inner : Inner n q) where
   literal other h =
       choose_or {l = cut} (λ m p kind f. done (e.NumberLiteral p m) (λ ws. subst (λ z. Primary_at n (token z p ∷ ws) (e.NumberLiteral p m) ws None) (sym (number_is kind m f)) (g.number, refl)))
       (choose_or {l = cut} (λ m p kind f. done (e.CharacterLiteral p m) (λ ws. subst (λ z. Primary_at n (token z p ∷ ws) (e.CharacterLiteral p m) ws None) (sym (char_is kind m f)) (g.char, refl)))
-      (choose_or {l = cut} (λ m p kind f. done (e.TextLiteral p m) (λ ws. subst (λ z. Primary_at n (token z p ∷ ws) (e.TextLiteral p m) ws None) (sym (text_is kind m f)) (g.text, refl)))
+      (choose_or {l = cut} (λ m p kind f. done (e.StringLiteral p m) (λ ws. subst (λ z. Primary_at n (token z p ∷ ws) (e.StringLiteral p m) ws None) (sym (text_is kind m f)) (g.text, refl)))
       (option_or {l = cut} (k.Word TrueWord) (λ p. done (e.Truth p true) (λ ws. (g.true_word, refl))) (option_or {l = cut} (k.Word FalseWord) (λ p. done (e.Truth p false) (λ ws. (g.false_word, refl))) h))))
 
   primary : Keeps cut cut (Primary_at n) (r.primary q None)

@@ -164,7 +164,7 @@ module _ (n : ℕ) (q : Nested) (inner : Inner n q) where
       (option_or (k.Word CardinalWord) (λ p. after_base (Took (w.word CardinalWord p) (Type_at (suc n))) (OfCardinal p) (t.Cardinal p) (λ us i rest o d. (g.subrange g.of_cardinal d.0, alone d.1)) (λ ws. (g.cardinal, refl)))
       (option_or (k.Word CharacterWord) (λ p. after_base (Took (w.word CharacterWord p) (Type_at (suc n))) (OfCharacter p) (t.Character p) (λ us i rest o d. (g.subrange g.of_character d.0, alone d.1)) (λ ws. (g.character, refl)))
       (option_or {l = cut} (k.Word BooleanWord) (λ p. done (t.Boolean p) (λ ws. (g.boolean, refl)))
-      (option_or {l = cut} (k.Word StringWord) (λ p. done (t.Text p) (λ ws. (g.string, refl)))
+      (option_or {l = cut} (k.Word StringWord) (λ p. done (t.String p) (λ ws. (g.string, refl)))
       (option_or (k.Mark LeftBrace) enumeration (option_or (k.Word ArrayWord) array (option_or (k.Word RecordWord) a_record
       (bind (ke.interval n q inner) (λ i. done (t.Subrange Unsaid i) (λ ws us o d. (g.subrange g.unsaid d.0, alone d.1))))))))))))
 

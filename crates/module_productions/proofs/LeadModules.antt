@@ -20,7 +20,7 @@ use Rattle.mesa_types.specs.declared.syntax.TypeExp.{TypeExp}
 use Rattle.mesa_types.specs.declared.syntax.Expr.{Expr}
 use Rattle.mesa_types.specs.declared.syntax.Statement.{Statement}
 use Rattle.mesa_types.specs.declared.syntax.Block.{Block}
-use Rattle.mesa_types.specs.declared.syntax.Plain.{Plain}
+use Rattle.mesa_types.specs.declared.syntax.PlainItem.{PlainItem}
 use Rattle.mesa_types.specs.declared.syntax.Access.{Access}
 use Rattle.mesa_types.specs.declared.syntax.Head.{Head}
 use Rattle.mesa_types.specs.declared.syntax.Declared.{Declared}
@@ -143,13 +143,13 @@ type_plain kind h = go (or_true (finds a_name kind) (among type_starts kind) h)
     go (inl e) = ap (λ z. z || among plain_starts kind) e
     go (inr e) = among_every (λ kind. (finds a_name kind || among plain_starts kind) ≡ true) type_starts (refl, (refl, (refl, (refl, (refl, (refl, (refl, (refl, (refl, (refl, tt)))))))))) kind e
 
-plain_begins : {ts rest : List Token} {x : Plain} → g.IsPlain ts x rest → Begins (λ kind. finds a_name kind || among plain_starts kind) ts
+plain_begins : {ts rest : List Token} {x : PlainItem} → g.IsPlain ts x rest → Begins (λ kind. finds a_name kind || among plain_starts kind) ts
 plain_begins (g.type_is d) = record { token = _; back = _; is = refl; begins = refl }
 plain_begins (g.variable d) = fo.begins_with type_plain (fo.type_begins d)
 plain_begins (g.initial d f) = fo.begins_with type_plain (fo.type_begins d)
 plain_begins (g.constant d f) = fo.begins_with type_plain (fo.type_begins d)
 
-declared_plain : (n : ℕ) {ts rest : List Token} {x : Plain} → g.IsPlain ts x rest → r.declared (nested n) ts ≡ and_then (st.plain (nested n) ts) (λ x. pure (Data x))
+declared_plain : (n : ℕ) {ts rest : List Token} {x : PlainItem} → g.IsPlain ts x rest → r.declared (nested n) ts ≡ and_then (st.plain (nested n) ts) (λ x. pure (Data x))
 unfolding r.declared
 declared_plain n {ts} d = passed procedure_word (λ _ _. r.procedure (nested n)) (option (k.Word SignalWord) (λ _. r.signal (nested n)) (option (k.Word ErrorWord) (λ _. r.error (nested n)) (st.plain (nested n) >>= (λ x. pure (Data x))))) ts (apart (finds procedure_word) plain_starts (refl, (refl, (refl, (refl, (refl, (refl, (refl, (refl, (refl, (refl, (refl, tt))))))))))) (λ name. refl) ts (plain_begins d))
     ∙ (passed (exactly (k.Word SignalWord)) (λ _ _. r.signal (nested n)) (option (k.Word ErrorWord) (λ _. r.error (nested n)) (st.plain (nested n) >>= (λ x. pure (Data x)))) ts (apart (finds (exactly (k.Word SignalWord))) plain_starts (refl, (refl, (refl, (refl, (refl, (refl, (refl, (refl, (refl, (refl, (refl, tt))))))))))) (λ name. refl) ts (plain_begins d))

@@ -19,7 +19,7 @@ use Rattle.mesa_types.specs.declared.syntax.TypeExp.{TypeExp}
 use Rattle.mesa_types.specs.declared.syntax.FieldList.{FieldList}
 use Rattle.mesa_types.specs.declared.syntax.Interval.{Interval}
 use Rattle.mesa_types.specs.declared.syntax.Expr.{Expr}
-use Rattle.mesa_types.specs.declared.syntax.Step.{Step as Operation}
+use Rattle.mesa_types.specs.declared.syntax.Operation.{Operation}
 use Rattle.mesa_types.specs.declared.syntax.Left.{Left}
 use Rattle.mesa_types.specs.declared.syntax.Suffix.{Suffix}
 use Rattle.mesa_types.specs.declared.syntax.Brackets.{Brackets}
@@ -31,7 +31,7 @@ use Rattle.mesa_types.specs.declared.syntax.Count.{Count}
 use Rattle.mesa_types.specs.declared.syntax.Condition.{Condition}
 use Rattle.mesa_types.specs.declared.syntax.Case.{Case}
 use Rattle.mesa_types.specs.declared.syntax.Test.{Test as TestTree}
-use Rattle.mesa_types.specs.declared.syntax.Plain.{Plain}
+use Rattle.mesa_types.specs.declared.syntax.PlainItem.{PlainItem}
 use Rattle.module_productions.specs.Signs.{disjoining, conjoining, adding, multiplying}
 use Rattle.module_productions.specs.Grammar as g
 use Rattle.module_productions.specs.Nested.{Fresh, begins_stmt, begins_arm}
@@ -203,7 +203,7 @@ mutual
   local_c : (n : ℕ) (all : List Local) {ts rest : List Token} {x : Local} {p : Place} (d : g.IsLocal ts x (mark Semicolon p ∷ rest)) → Leads {X = Step (List Local) (Head Local)} ts (Go (all ++ x ∷ [])) rest (sd.at_local n d) (λ y. pure y) (st.head_turn (nested n) all ts)
   local_c n all (g.local_of d h) = placed (sym (eq.is_local_of _ _ _ _ _ _ _ _ _)) (c.c_local n all d (plain_c n h refl))
 
-  pub plain_c : (n : ℕ) {ts rest : List Token} {x : Plain} (d : g.IsPlain ts x rest) → Free more_plain rest → Leads ts x rest (sd.at_plain n d) (λ y. pure y) (st.plain (nested n) ts)
+  pub plain_c : (n : ℕ) {ts rest : List Token} {x : PlainItem} (d : g.IsPlain ts x rest) → Free more_plain rest → Leads ts x rest (sd.at_plain n d) (λ y. pure y) (st.plain (nested n) ts)
   plain_c n (g.type_is d) f = placed (sym (eq.is_type_is _ _ _ _ _ _ _)) (c.c_type_is n d f (lift_type n d (λ m. type_c m d (plain_type _ f))))
   plain_c n (g.variable d) f = placed (sym (eq.is_variable _ _ _ _ _)) (c.c_variable n d f (lift_type n d (λ m. type_c m d (plain_type _ f))))
   plain_c n (g.initial d h) f = placed (sym (eq.is_initial _ _ _ _ _ _ _ _ _)) (c.c_initial n d h f (lift_type n d (λ m. type_c m d refl)) (lift_expr n h (λ m. expr_c m h (plain_expr _ f))))

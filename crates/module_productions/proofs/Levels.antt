@@ -203,7 +203,7 @@ char_deep (k.Char n) h = one _ [] (λ p. e.CharacterLiteral p n) (λ p ws. g.cha
 char_deep _ h = absurd (cc)
 
 text_deep : (kind : Kind) → found (a_text kind) ≡ true → Deep cut (Expr_at zero) kind
-text_deep (k.Text n) h = one _ [] (λ p. e.TextLiteral p n) (λ p ws. g.text)
+text_deep (k.Text n) h = one _ [] (λ p. e.StringLiteral p n) (λ p ws. g.text)
 text_deep _ h = absurd (cc)
 
 deep_expr : (kind : Kind) → begins_expr kind ≡ true → Deep cut (Expr_at zero) kind
@@ -240,7 +240,7 @@ deep_types = (
       (
         record { end = []; made = λ p. t.Boolean p; reads = λ p ws f. (g.boolean, refl) },
         (
-          record { end = []; made = λ p. t.Text p; reads = λ p ws f. (g.string, refl) },
+          record { end = []; made = λ p. t.String p; reads = λ p ws f. (g.string, refl) },
           (
             record { end = spelled an_x ∷ at_mark RightBrace ∷ []; made = λ p. t.Enumeration p (an_x ∷ []); reads = λ p ws f. (g.enumeration g.name, refl) },
             (

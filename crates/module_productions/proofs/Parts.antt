@@ -19,14 +19,14 @@ use Rattle.mesa_types.specs.declared.syntax.Labeled.{Labeled}
 use Rattle.mesa_types.specs.declared.syntax.Entries.{Entries}
 use Rattle.mesa_types.specs.declared.syntax.Entries.TheVariants.{Nothing, InOrder, ByKey}
 use Rattle.mesa_types.specs.declared.syntax.TypeBase.TheVariants.{OfInteger, OfCardinal, OfCharacter}
-use Rattle.mesa_types.specs.declared.syntax.Relation.{Relation}
+use Rattle.mesa_types.specs.declared.relation.Relation.{Relation}
 use Rattle.mesa_types.specs.declared.syntax.TypeExp.{TypeExp}
 use Rattle.mesa_types.specs.declared.syntax.TypeExp.TheVariants as t
 use Rattle.mesa_types.specs.declared.syntax.FieldList.{FieldList}
 use Rattle.mesa_types.specs.declared.syntax.FieldList.TheVariants.{WithNames}
 use Rattle.mesa_types.specs.declared.syntax.Expr.{Expr}
 use Rattle.mesa_types.specs.declared.syntax.Expr.TheVariants as ev
-use Rattle.mesa_types.specs.declared.syntax.Step.{Step as Operation}
+use Rattle.mesa_types.specs.declared.syntax.Operation.{Operation}
 use Rattle.mesa_types.specs.declared.syntax.Left.{Left}
 use Rattle.mesa_types.specs.declared.syntax.Suffix.{Suffix}
 use Rattle.mesa_types.specs.declared.syntax.Arm.{Arm}
@@ -35,7 +35,7 @@ use Rattle.mesa_types.specs.declared.syntax.Statement.TheVariants as s
 use Rattle.mesa_types.specs.declared.syntax.Condition.{Condition}
 use Rattle.mesa_types.specs.declared.syntax.Case.{Case}
 use Rattle.mesa_types.specs.declared.syntax.Test.{Test as TestTree}
-use Rattle.mesa_types.specs.declared.syntax.Plain.TheVariants.{Variable, Initial, Constant}
+use Rattle.mesa_types.specs.declared.syntax.PlainItem.TheVariants.{Variable, Initial, Constant}
 use Rattle.module_productions.specs.Signs.{spelled, disjoining, conjoining, adding, multiplying, signing, relating, negating, opening}
 use Rattle.module_productions.specs.Grammar as g
 use Rattle.module_productions.specs.Grammar.{run, keyed, labeled, placed as placing}
@@ -472,7 +472,7 @@ pub type_boolean : (q : Nested) (p : Place) (us : List Token) → ex.type_exp q 
 unfolding ex.type_exp choose
 type_boolean q p us = refl
 
-pub type_string : (q : Nested) (p : Place) (us : List Token) → ex.type_exp q None (w.word StringWord p ∷ us) ≡ pure (t.Text p) us
+pub type_string : (q : Nested) (p : Place) (us : List Token) → ex.type_exp q None (w.word StringWord p ∷ us) ≡ pure (t.String p) us
 unfolding ex.type_exp choose
 type_string q p us = refl
 
@@ -496,7 +496,7 @@ pub primary_char : (q : Nested) (m : ℕ) (p : Place) (us : List Token) → ex.p
 unfolding ex.primary ex.literal choose
 primary_char q m p us = refl
 
-pub primary_text : (q : Nested) (m : List ℕ) (p : Place) (us : List Token) → ex.primary q None (token (k.Text m) p ∷ us) ≡ pure (ev.TextLiteral p m) us
+pub primary_text : (q : Nested) (m : List ℕ) (p : Place) (us : List Token) → ex.primary q None (token (k.Text m) p ∷ us) ≡ pure (ev.StringLiteral p m) us
 unfolding ex.primary ex.literal choose
 primary_text q m p us = refl
 

@@ -15,7 +15,7 @@ use Rattle.mesa_types.specs.declared.syntax.TypeExp.{TypeExp}
 use Rattle.mesa_types.specs.declared.syntax.FieldList.{FieldList}
 use Rattle.mesa_types.specs.declared.syntax.Interval.{Interval}
 use Rattle.mesa_types.specs.declared.syntax.Expr.{Expr}
-use Rattle.mesa_types.specs.declared.syntax.Step.{Step}
+use Rattle.mesa_types.specs.declared.syntax.Operation.{Operation}
 use Rattle.mesa_types.specs.declared.syntax.Left.{Left}
 use Rattle.mesa_types.specs.declared.syntax.Suffix.{Suffix}
 use Rattle.mesa_types.specs.declared.syntax.Brackets.{Brackets}
@@ -28,7 +28,7 @@ use Rattle.mesa_types.specs.declared.syntax.Condition.{Condition}
 use Rattle.mesa_types.specs.declared.syntax.Case.{Case}
 use Rattle.mesa_types.specs.declared.syntax.Test.{Test as TestTree}
 use Rattle.mesa_types.specs.declared.syntax.Block.{Block}
-use Rattle.mesa_types.specs.declared.syntax.Plain.{Plain}
+use Rattle.mesa_types.specs.declared.syntax.PlainItem.{PlainItem}
 use Rattle.mesa_types.specs.declared.syntax.RepeatLabels.{RepeatLabels}
 use Rattle.module_productions.specs.Signs.{spelled, negating}
 use Rattle.module_productions.specs.Grammar as g
@@ -57,13 +57,13 @@ Interval_at n ts x rest o = (e : g.IsInterval ts x rest) × (d.deep_interval n e
 abbrev pub Expr_at : ℕ → Rel Expr
 Expr_at n ts x rest o = (e : g.IsExpr ts x rest) × (d.deep_expr n e ≡ o)
 
-abbrev pub Ors_at : ℕ → Expr → Rel (List Step)
+abbrev pub Ors_at : ℕ → Expr → Rel (List Operation)
 Ors_at n x ts ss rest o = (e : g.IsOrs ts x ss rest) × (d.deep_ors n e ≡ o)
 
 abbrev pub Conj_at : ℕ → Rel Expr
 Conj_at n ts x rest o = (e : g.IsConj ts x rest) × (d.deep_conj n e ≡ o)
 
-abbrev pub Ands_at : ℕ → Expr → Rel (List Step)
+abbrev pub Ands_at : ℕ → Expr → Rel (List Operation)
 Ands_at n x ts ss rest o = (e : g.IsAnds ts x ss rest) × (d.deep_ands n e ≡ o)
 
 abbrev pub Neg_at : ℕ → Rel Expr
@@ -75,13 +75,13 @@ Rel_at n ts x rest o = (e : g.IsRel ts x rest) × (d.deep_rel n e ≡ o)
 abbrev pub Sum_at : ℕ → Rel Expr
 Sum_at n ts x rest o = (e : g.IsSum ts x rest) × (d.deep_sum n e ≡ o)
 
-abbrev pub Sums_at : ℕ → Expr → Rel (List Step)
+abbrev pub Sums_at : ℕ → Expr → Rel (List Operation)
 Sums_at n x ts ss rest o = (e : g.IsSums ts x ss rest) × (d.deep_sums n e ≡ o)
 
 abbrev pub Product_at : ℕ → Rel Expr
 Product_at n ts x rest o = (e : g.IsProduct ts x rest) × (d.deep_product n e ≡ o)
 
-abbrev pub Products_at : ℕ → Expr → Rel (List Step)
+abbrev pub Products_at : ℕ → Expr → Rel (List Operation)
 Products_at n x ts ss rest o = (e : g.IsProducts ts x ss rest) × (d.deep_products n e ≡ o)
 
 abbrev pub Factor_at : ℕ → Rel Expr
@@ -198,13 +198,13 @@ Enabling_at n ts x rest o = (e : g.IsEnabling ts x rest) × (d.deep_enabling n e
 abbrev pub Block_at : ℕ → Rel Block
 Block_at n ts x rest o = (e : g.IsBlock ts x rest) × (d.deep_block n e ≡ o)
 
-abbrev pub Locals_at : ℕ → Rel (List (Labeled (List Identifier) Plain))
+abbrev pub Locals_at : ℕ → Rel (List (Labeled (List Identifier) PlainItem))
 Locals_at n ts x rest o = (e : g.IsLocals ts x rest) × (d.deep_locals n e ≡ o)
 
-abbrev pub Local_at : ℕ → Rel (Labeled (List Identifier) Plain)
+abbrev pub Local_at : ℕ → Rel (Labeled (List Identifier) PlainItem)
 Local_at n ts x rest o = (e : g.IsLocal ts x rest) × (d.deep_local n e ≡ o)
 
-abbrev pub Plain_at : ℕ → Rel Plain
+abbrev pub Plain_at : ℕ → Rel PlainItem
 Plain_at n ts x rest o = (e : g.IsPlain ts x rest) × (d.deep_plain n e ≡ o)
 
 pub record Inner (n : ℕ) (q : Nested) : Type 0 where

@@ -2,12 +2,12 @@
 use Rattle.std.proofs.Common.{◌≡◌, List, [], ◌∷◌, refl, ap}
 use Rattle.mesa_types.specs.declared.syntax.Expr.{Expr}
 use Rattle.mesa_types.specs.declared.syntax.Expr.TheVariants as e
-use Rattle.mesa_types.specs.declared.syntax.Step.{Step}
+use Rattle.mesa_types.specs.declared.syntax.Operation.{Operation}
 use Rattle.module_productions.specs.Grammar.{run}
 
-pub run_none : (x : Expr) (ss : List Step) → ss ≡ [] → run x ss ≡ x
+pub run_none : (x : Expr) (ss : List Operation) → ss ≡ [] → run x ss ≡ x
 run_none x ss e = ap (run x) e
 
-pub run_some : (x : Expr) (ss : List Step) → (ss ≡ [] → ⊥) → run x ss ≡ e.Run x ss
+pub run_some : (x : Expr) (ss : List Operation) → (ss ≡ [] → ⊥) → run x ss ≡ e.Run x ss
 run_some x [] h = absurd (h refl)
 run_some x (s ∷ ss) h = refl

@@ -11,7 +11,7 @@ use Rattle.mesa_types.specs.declared.syntax.TypeExp.{TypeExp}
 use Rattle.mesa_types.specs.declared.syntax.FieldList.{FieldList}
 use Rattle.mesa_types.specs.declared.syntax.Interval.{Interval}
 use Rattle.mesa_types.specs.declared.syntax.Expr.{Expr}
-use Rattle.mesa_types.specs.declared.syntax.Step.{Step}
+use Rattle.mesa_types.specs.declared.syntax.Operation.{Operation}
 use Rattle.mesa_types.specs.declared.syntax.Left.{Left}
 use Rattle.mesa_types.specs.declared.syntax.Suffix.{Suffix}
 use Rattle.mesa_types.specs.declared.syntax.Brackets.{Brackets}
@@ -24,7 +24,7 @@ use Rattle.mesa_types.specs.declared.syntax.Condition.{Condition}
 use Rattle.mesa_types.specs.declared.syntax.Case.{Case}
 use Rattle.mesa_types.specs.declared.syntax.Test.{Test}
 use Rattle.mesa_types.specs.declared.syntax.Block.{Block}
-use Rattle.mesa_types.specs.declared.syntax.Plain.{Plain}
+use Rattle.mesa_types.specs.declared.syntax.PlainItem.{PlainItem}
 use Rattle.module_productions.specs.Grammar.{IsType, IsFields, IsTypes, IsGroups, IsInterval, IsExpr, IsOrs, IsConj, IsAnds, IsNeg, IsRel, IsSum, IsSums, IsProduct, IsProducts, IsFactor, IsPrimary, IsList, IsListOption, IsLeft, IsBrackets, IsBracketsOption, IsArgs, IsExprs, IsKeys, IsCatch, IsArmList, IsArms, IsArm, IsRaise, IsStmt, IsTargets, IsLefts, IsKeyLefts, IsOtherwise, IsCaseList, IsCases, IsCase, IsTests, IsTest, IsControl, IsCount, IsCondition, IsBody, IsStmts, IsRepeatPart, IsRepeats, IsRepeat, IsExitPart, IsExits, IsExit, IsEnabling, IsBlock, IsLocals, IsLocal, IsPlain}
 use Rattle.module_productions.specs.Depth as dp
 
@@ -70,10 +70,10 @@ pub seal_at_expr : (n : ℕ) {ts : List Token} {x : Expr} {rest : List Token} (e
 unfolding at_expr
 seal_at_expr n e = refl
 
-unfoldable pub at_ors : ℕ → {ts : List Token} {x : Expr} {y : List Step} {rest : List Token} → IsOrs ts x y rest → Option (List Token)
+unfoldable pub at_ors : ℕ → {ts : List Token} {x : Expr} {y : List Operation} {rest : List Token} → IsOrs ts x y rest → Option (List Token)
 at_ors n e = dp.deep_ors n e
 
-pub seal_at_ors : (n : ℕ) {ts : List Token} {x : Expr} {y : List Step} {rest : List Token} (e : IsOrs ts x y rest) → at_ors n e ≡ dp.deep_ors n e
+pub seal_at_ors : (n : ℕ) {ts : List Token} {x : Expr} {y : List Operation} {rest : List Token} (e : IsOrs ts x y rest) → at_ors n e ≡ dp.deep_ors n e
 unfolding at_ors
 seal_at_ors n e = refl
 
@@ -84,10 +84,10 @@ pub seal_at_conj : (n : ℕ) {ts : List Token} {x : Expr} {rest : List Token} (e
 unfolding at_conj
 seal_at_conj n e = refl
 
-unfoldable pub at_ands : ℕ → {ts : List Token} {x : Expr} {y : List Step} {rest : List Token} → IsAnds ts x y rest → Option (List Token)
+unfoldable pub at_ands : ℕ → {ts : List Token} {x : Expr} {y : List Operation} {rest : List Token} → IsAnds ts x y rest → Option (List Token)
 at_ands n e = dp.deep_ands n e
 
-pub seal_at_ands : (n : ℕ) {ts : List Token} {x : Expr} {y : List Step} {rest : List Token} (e : IsAnds ts x y rest) → at_ands n e ≡ dp.deep_ands n e
+pub seal_at_ands : (n : ℕ) {ts : List Token} {x : Expr} {y : List Operation} {rest : List Token} (e : IsAnds ts x y rest) → at_ands n e ≡ dp.deep_ands n e
 unfolding at_ands
 seal_at_ands n e = refl
 
@@ -112,10 +112,10 @@ pub seal_at_sum : (n : ℕ) {ts : List Token} {x : Expr} {rest : List Token} (e 
 unfolding at_sum
 seal_at_sum n e = refl
 
-unfoldable pub at_sums : ℕ → {ts : List Token} {x : Expr} {y : List Step} {rest : List Token} → IsSums ts x y rest → Option (List Token)
+unfoldable pub at_sums : ℕ → {ts : List Token} {x : Expr} {y : List Operation} {rest : List Token} → IsSums ts x y rest → Option (List Token)
 at_sums n e = dp.deep_sums n e
 
-pub seal_at_sums : (n : ℕ) {ts : List Token} {x : Expr} {y : List Step} {rest : List Token} (e : IsSums ts x y rest) → at_sums n e ≡ dp.deep_sums n e
+pub seal_at_sums : (n : ℕ) {ts : List Token} {x : Expr} {y : List Operation} {rest : List Token} (e : IsSums ts x y rest) → at_sums n e ≡ dp.deep_sums n e
 unfolding at_sums
 seal_at_sums n e = refl
 
@@ -126,10 +126,10 @@ pub seal_at_product : (n : ℕ) {ts : List Token} {x : Expr} {rest : List Token}
 unfolding at_product
 seal_at_product n e = refl
 
-unfoldable pub at_products : ℕ → {ts : List Token} {x : Expr} {y : List Step} {rest : List Token} → IsProducts ts x y rest → Option (List Token)
+unfoldable pub at_products : ℕ → {ts : List Token} {x : Expr} {y : List Operation} {rest : List Token} → IsProducts ts x y rest → Option (List Token)
 at_products n e = dp.deep_products n e
 
-pub seal_at_products : (n : ℕ) {ts : List Token} {x : Expr} {y : List Step} {rest : List Token} (e : IsProducts ts x y rest) → at_products n e ≡ dp.deep_products n e
+pub seal_at_products : (n : ℕ) {ts : List Token} {x : Expr} {y : List Operation} {rest : List Token} (e : IsProducts ts x y rest) → at_products n e ≡ dp.deep_products n e
 unfolding at_products
 seal_at_products n e = refl
 
@@ -399,23 +399,23 @@ pub seal_at_block : (n : ℕ) {ts : List Token} {x : Block} {rest : List Token} 
 unfolding at_block
 seal_at_block n e = refl
 
-unfoldable pub at_locals : ℕ → {ts : List Token} {x : List (Labeled (List Identifier) Plain)} {rest : List Token} → IsLocals ts x rest → Option (List Token)
+unfoldable pub at_locals : ℕ → {ts : List Token} {x : List (Labeled (List Identifier) PlainItem)} {rest : List Token} → IsLocals ts x rest → Option (List Token)
 at_locals n e = dp.deep_locals n e
 
-pub seal_at_locals : (n : ℕ) {ts : List Token} {x : List (Labeled (List Identifier) Plain)} {rest : List Token} (e : IsLocals ts x rest) → at_locals n e ≡ dp.deep_locals n e
+pub seal_at_locals : (n : ℕ) {ts : List Token} {x : List (Labeled (List Identifier) PlainItem)} {rest : List Token} (e : IsLocals ts x rest) → at_locals n e ≡ dp.deep_locals n e
 unfolding at_locals
 seal_at_locals n e = refl
 
-unfoldable pub at_local : ℕ → {ts : List Token} {x : Labeled (List Identifier) Plain} {rest : List Token} → IsLocal ts x rest → Option (List Token)
+unfoldable pub at_local : ℕ → {ts : List Token} {x : Labeled (List Identifier) PlainItem} {rest : List Token} → IsLocal ts x rest → Option (List Token)
 at_local n e = dp.deep_local n e
 
-pub seal_at_local : (n : ℕ) {ts : List Token} {x : Labeled (List Identifier) Plain} {rest : List Token} (e : IsLocal ts x rest) → at_local n e ≡ dp.deep_local n e
+pub seal_at_local : (n : ℕ) {ts : List Token} {x : Labeled (List Identifier) PlainItem} {rest : List Token} (e : IsLocal ts x rest) → at_local n e ≡ dp.deep_local n e
 unfolding at_local
 seal_at_local n e = refl
 
-unfoldable pub at_plain : ℕ → {ts : List Token} {x : Plain} {rest : List Token} → IsPlain ts x rest → Option (List Token)
+unfoldable pub at_plain : ℕ → {ts : List Token} {x : PlainItem} {rest : List Token} → IsPlain ts x rest → Option (List Token)
 at_plain n e = dp.deep_plain n e
 
-pub seal_at_plain : (n : ℕ) {ts : List Token} {x : Plain} {rest : List Token} (e : IsPlain ts x rest) → at_plain n e ≡ dp.deep_plain n e
+pub seal_at_plain : (n : ℕ) {ts : List Token} {x : PlainItem} {rest : List Token} (e : IsPlain ts x rest) → at_plain n e ≡ dp.deep_plain n e
 unfolding at_plain
 seal_at_plain n e = refl

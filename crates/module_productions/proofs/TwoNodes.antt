@@ -15,7 +15,7 @@ use Rattle.mesa_types.specs.declared.syntax.TypeExp.{TypeExp}
 use Rattle.mesa_types.specs.declared.syntax.FieldList.{FieldList}
 use Rattle.mesa_types.specs.declared.syntax.Interval.{Interval}
 use Rattle.mesa_types.specs.declared.syntax.Expr.{Expr}
-use Rattle.mesa_types.specs.declared.syntax.Step.{Step}
+use Rattle.mesa_types.specs.declared.syntax.Operation.{Operation}
 use Rattle.mesa_types.specs.declared.syntax.Left.{Left}
 use Rattle.mesa_types.specs.declared.syntax.Suffix.{Suffix}
 use Rattle.mesa_types.specs.declared.syntax.Suffix.TheVariants.{Field, Applied}
@@ -29,7 +29,7 @@ use Rattle.mesa_types.specs.declared.syntax.Condition.{Condition}
 use Rattle.mesa_types.specs.declared.syntax.Case.{Case}
 use Rattle.mesa_types.specs.declared.syntax.Test.{Test}
 use Rattle.mesa_types.specs.declared.syntax.Block.{Block}
-use Rattle.mesa_types.specs.declared.syntax.Plain.{Plain}
+use Rattle.mesa_types.specs.declared.syntax.PlainItem.{PlainItem}
 use Rattle.mesa_types.specs.declared.syntax.Head.{Head}
 use Rattle.mesa_types.specs.declared.syntax.Access.{Access}
 use Rattle.mesa_types.specs.declared.syntax.Declared.{Declared}
@@ -39,7 +39,7 @@ use Rattle.mesa_types.specs.declared.syntax.Defined.{Defined}
 use Rattle.mesa_types.specs.declared.syntax.ModuleKind.{ModuleKind}
 use Rattle.mesa_types.specs.declared.syntax.DirectoryItem.{DirectoryItem}
 use Rattle.mesa_types.specs.declared.syntax.Module.{Module}
-use Rattle.mesa_types.specs.SyntaxNodes.{total, optional, named, keyed, entries, phrase, values, labels, repeat_labels, repeated, base, negation, condition_nodes, count_nodes, expr_nodes, field_list_nodes, plain_nodes, raise_nodes, statement_nodes, suffix_nodes, test_nodes, type_nodes, arm_nodes, block_nodes, brackets_nodes, case_nodes, control_nodes, interval_nodes, left_nodes, step_nodes, head_nodes, declared_nodes, declaration_nodes, inner_nodes, defined_nodes, kind_nodes, directory_item_nodes, nodes}
+use Rattle.mesa_types.specs.SyntaxNodes.{total, optional, named, keyed, entries, phrase, values, labels, repeat_labels, repeated, base, negation, condition_nodes, count_nodes, expr_nodes, field_list_nodes, plain_nodes, raise_nodes, statement_nodes, suffix_nodes, test_nodes, type_nodes, arm_nodes, block_nodes, brackets_nodes, case_nodes, control_nodes, interval_nodes, left_nodes, operation_nodes, head_nodes, declared_nodes, declaration_nodes, inner_nodes, defined_nodes, kind_nodes, directory_item_nodes, nodes}
 use Rattle.mesa_types.proofs.SyntaxForms as of
 use Rattle.module_productions.specs.Grammar.{run, step, left, keyed as key_of, labeled}
 use Rattle.module_productions.specs.Grammar as g
@@ -123,21 +123,21 @@ called_f h k = record { fits = omega (arith, h.fits, k.fits) }
 
 -- ---- runs of operators
 
-abbrev a_run : Expr × List Step → ℕ
-a_run q = 1 + expr_nodes q.0 + total step_nodes q.1
+abbrev a_run : Expr × List Operation → ℕ
+a_run q = 1 + expr_nodes q.0 + total operation_nodes q.1
 
-run_nodes : (x : Expr) (ss : List Step) → expr_nodes (run x ss) ≡ expr_nodes x + total step_nodes ss
+run_nodes : (x : Expr) (ss : List Operation) → expr_nodes (run x ss) ≡ expr_nodes x + total operation_nodes ss
 run_nodes x [] = omega arith
 run_nodes x (s ∷ ss) = of.of_run x (s ∷ ss)
 
-whole : {ts rest : List Token} {x : Expr} {ss : List Step} → Fits a_run ts (x, ss) rest → Fits (spare expr_nodes) ts (run x ss) rest
+whole : {ts rest : List Token} {x : Expr} {ss : List Operation} → Fits a_run ts (x, ss) rest → Fits (spare expr_nodes) ts (run x ss) rest
 whole {x = x} {ss = ss} h = record { fits = omega (arith, run_nodes x ss, h.fits) }
 
 first : {ts rest : List Token} {x : Expr} → Fits (spare expr_nodes) ts x rest → Fits a_run ts (x, []) rest
 first h = record { fits = omega (arith, h.fits) }
 
-longer : {ts us rest : List Token} {t : Token} {x y : Expr} {ss : List Step} (s : Step) → step_nodes s ≡ 1 + expr_nodes y → Fits a_run ts (x, ss) (t ∷ us) → Fits (spare expr_nodes) us y rest → Fits a_run ts (x, ss ++ s ∷ []) rest
-longer {ss = ss} s e h k = record { fits = omega (arith, e, total_push step_nodes ss s, h.fits, k.fits) }
+longer : {ts us rest : List Token} {t : Token} {x y : Expr} {ss : List Operation} (s : Operation) → operation_nodes s ≡ 1 + expr_nodes y → Fits a_run ts (x, ss) (t ∷ us) → Fits (spare expr_nodes) us y rest → Fits a_run ts (x, ss ++ s ∷ []) rest
+longer {ss = ss} s e h k = record { fits = omega (arith, e, total_push operation_nodes ss s, h.fits, k.fits) }
 
 -- one more field or pair of brackets
 suffixed : (i : Identifier) (ss : List Suffix) (s : Suffix) → left_nodes (left i (ss ++ s ∷ [])) ≡ left_nodes (left i ss) + suffix_nodes s
@@ -176,16 +176,16 @@ mutual
   expr_f : {ts rest : List Token} {x : Expr} → g.IsExpr ts x rest → Fits (spare expr_nodes) ts x rest
   expr_f (g.expr d) = whole (ors_f d)
 
-  ors_f : {ts rest : List Token} {x : Expr} {ss : List Step} → g.IsOrs ts x ss rest → Fits a_run ts (x, ss) rest
+  ors_f : {ts rest : List Token} {x : Expr} {ss : List Operation} → g.IsOrs ts x ss rest → Fits a_run ts (x, ss) rest
   ors_f (g.disjunct d) = first (conj_f d)
-  ors_f (g.ors {y = y} {o = o} {p = p} d _ f) = longer (step o p y) (of.of_step o p y) (ors_f d) (conj_f f)
+  ors_f (g.ors {y = y} {o = o} {p = p} d _ f) = longer (step o p y) (of.of_operation o p y) (ors_f d) (conj_f f)
 
   conj_f : {ts rest : List Token} {x : Expr} → g.IsConj ts x rest → Fits (spare expr_nodes) ts x rest
   conj_f (g.conj d) = whole (ands_f d)
 
-  ands_f : {ts rest : List Token} {x : Expr} {ss : List Step} → g.IsAnds ts x ss rest → Fits a_run ts (x, ss) rest
+  ands_f : {ts rest : List Token} {x : Expr} {ss : List Operation} → g.IsAnds ts x ss rest → Fits a_run ts (x, ss) rest
   ands_f (g.conjunct d) = first (neg_f d)
-  ands_f (g.ands {y = y} {o = o} {p = p} d _ f) = longer (step o p y) (of.of_step o p y) (ands_f d) (neg_f f)
+  ands_f (g.ands {y = y} {o = o} {p = p} d _ f) = longer (step o p y) (of.of_operation o p y) (ands_f d) (neg_f f)
 
   neg_f : {ts rest : List Token} {x : Expr} → g.IsNeg ts x rest → Fits (spare expr_nodes) ts x rest
   neg_f (g.rel d) = rel_f d
@@ -199,16 +199,16 @@ mutual
   sum_f : {ts rest : List Token} {x : Expr} → g.IsSum ts x rest → Fits (spare expr_nodes) ts x rest
   sum_f (g.sum d) = whole (sums_f d)
 
-  sums_f : {ts rest : List Token} {x : Expr} {ss : List Step} → g.IsSums ts x ss rest → Fits a_run ts (x, ss) rest
+  sums_f : {ts rest : List Token} {x : Expr} {ss : List Operation} → g.IsSums ts x ss rest → Fits a_run ts (x, ss) rest
   sums_f (g.summand d) = first (product_f d)
-  sums_f (g.sums {y = y} {o = o} {p = p} d _ f) = longer (step o p y) (of.of_step o p y) (sums_f d) (product_f f)
+  sums_f (g.sums {y = y} {o = o} {p = p} d _ f) = longer (step o p y) (of.of_operation o p y) (sums_f d) (product_f f)
 
   product_f : {ts rest : List Token} {x : Expr} → g.IsProduct ts x rest → Fits (spare expr_nodes) ts x rest
   product_f (g.product d) = whole (products_f d)
 
-  products_f : {ts rest : List Token} {x : Expr} {ss : List Step} → g.IsProducts ts x ss rest → Fits a_run ts (x, ss) rest
+  products_f : {ts rest : List Token} {x : Expr} {ss : List Operation} → g.IsProducts ts x ss rest → Fits a_run ts (x, ss) rest
   products_f (g.factor d) = first (factor_f d)
-  products_f (g.products {y = y} {o = o} {p = p} d _ f) = longer (step o p y) (of.of_step o p y) (products_f d) (factor_f f)
+  products_f (g.products {y = y} {o = o} {p = p} d _ f) = longer (step o p y) (of.of_operation o p y) (products_f d) (factor_f f)
 
   factor_f : {ts rest : List Token} {x : Expr} → g.IsFactor ts x rest → Fits (spare expr_nodes) ts x rest
   factor_f (g.primary d) = primary_f d
@@ -217,7 +217,7 @@ mutual
   primary_f : {ts rest : List Token} {x : Expr} → g.IsPrimary ts x rest → Fits (spare expr_nodes) ts x rest
   primary_f (g.number {n = n} {p = p}) = record { fits = omega (arith, of.of_number p n) }
   primary_f (g.char {n = n} {p = p}) = record { fits = omega (arith, of.of_character_literal p n) }
-  primary_f (g.text {bytes = bytes} {p = p}) = record { fits = omega (arith, of.of_text_literal p bytes) }
+  primary_f (g.text {bytes = bytes} {p = p}) = record { fits = omega (arith, of.of_string_literal p bytes) }
   primary_f (g.true_word {p = p}) = record { fits = omega (arith, of.of_truth p true) }
   primary_f (g.false_word {p = p}) = record { fits = omega (arith, of.of_truth p false) }
   primary_f (g.parens {x = x} {p = p} d) = record { fits = omega (arith, of.of_parenthesis p x, (expr_f d).fits) }
@@ -391,14 +391,14 @@ mutual
   block_f (g.begin_end {e = e} {ls = ls} {ss = ss} {xs = xs} {p = p} d f h i) = record { fits = omega (arith, of.of_block p e ls ss xs, (enabling_f d).fits, (locals_f f).fits, (body_f h).fits, (exit_part_f i).fits) }
   block_f (g.braces {e = e} {ls = ls} {ss = ss} {xs = xs} {p = p} d f h i) = record { fits = omega (arith, of.of_block p e ls ss xs, (enabling_f d).fits, (locals_f f).fits, (body_f h).fits, (exit_part_f i).fits) }
 
-  locals_f : {ts rest : List Token} {x : List (Labeled (List Identifier) Plain)} → g.IsLocals ts x rest → Fits (total (named plain_nodes)) ts x rest
+  locals_f : {ts rest : List Token} {x : List (Labeled (List Identifier) PlainItem)} → g.IsLocals ts x rest → Fits (total (named plain_nodes)) ts x rest
   locals_f g.no_locals = record { fits = omega arith }
   locals_f (g.locals d f) = next (locals_f d) (local_f f)
 
-  local_f : {ts rest : List Token} {x : Labeled (List Identifier) Plain} → g.IsLocal ts x rest → Fits (named plain_nodes) ts x rest
+  local_f : {ts rest : List Token} {x : Labeled (List Identifier) PlainItem} → g.IsLocal ts x rest → Fits (named plain_nodes) ts x rest
   local_f (g.local_of d f) = called_f (names_f d) (plain_f f)
 
-  plain_f : {ts rest : List Token} {x : Plain} → g.IsPlain ts x rest → Fits plain_nodes ts x rest
+  plain_f : {ts rest : List Token} {x : PlainItem} → g.IsPlain ts x rest → Fits plain_nodes ts x rest
   plain_f (g.type_is {x = x} d) = record { fits = omega (arith, of.of_type_is x, (type_f d).fits) }
   plain_f (g.variable {x = x} d) = record { fits = omega (arith, of.of_variable x, (type_f d).fits) }
   plain_f (g.initial {x = x} {y = y} d f) = record { fits = omega (arith, of.of_initial x y, (type_f d).fits, (expr_f f).fits) }
@@ -464,7 +464,7 @@ listed_f : {w : Word} {ts rest : List Token} {x : List Identifier} → m.IsListe
 listed_f m.unlisted = record { fits = omega arith }
 listed_f (m.listed d) = record { fits = omega (arith, (names_f d).fits) }
 
-using_f : {ts rest : List Token} {x : Option (List Identifier)} → m.IsUsing ts x rest → Fits (optional length) ts x rest
+using_f : {ts rest : List Token} {x : Option (List Identifier)} → m.IsUsing ts x rest → Fits {X = Option (List Identifier)} (λ _. 0) ts x rest
 using_f m.no_using = record { fits = omega arith }
 using_f m.using_none = record { fits = omega arith }
 using_f (m.using d) = record { fits = omega (arith, (names_f d).fits) }

@@ -12,7 +12,7 @@ use Rattle.mesa_types.specs.declared.syntax.TypeExp.{TypeExp}
 use Rattle.mesa_types.specs.declared.syntax.FieldList.{FieldList}
 use Rattle.mesa_types.specs.declared.syntax.Interval.{Interval}
 use Rattle.mesa_types.specs.declared.syntax.Expr.{Expr}
-use Rattle.mesa_types.specs.declared.syntax.Step.{Step}
+use Rattle.mesa_types.specs.declared.syntax.Operation.{Operation}
 use Rattle.mesa_types.specs.declared.syntax.Left.{Left}
 use Rattle.mesa_types.specs.declared.syntax.Suffix.{Suffix}
 use Rattle.mesa_types.specs.declared.syntax.Brackets.{Brackets}
@@ -25,7 +25,7 @@ use Rattle.mesa_types.specs.declared.syntax.Condition.{Condition}
 use Rattle.mesa_types.specs.declared.syntax.Case.{Case}
 use Rattle.mesa_types.specs.declared.syntax.Test.{Test}
 use Rattle.mesa_types.specs.declared.syntax.Block.{Block}
-use Rattle.mesa_types.specs.declared.syntax.Plain.{Plain}
+use Rattle.mesa_types.specs.declared.syntax.PlainItem.{PlainItem}
 use Rattle.mesa_types.specs.declared.syntax.RepeatLabels.{RepeatLabels}
 use Rattle.module_productions.specs.Grammar.{IsType, IsFields, IsTypes, IsGroups, IsInterval, IsExpr, IsOrs, IsConj, IsAnds, IsNeg, IsRel, IsSum, IsSums, IsProduct, IsProducts, IsFactor, IsPrimary, IsList, IsListOption, IsLeft, IsBrackets, IsBracketsOption, IsArgs, IsExprs, IsKeys, IsCatch, IsArmList, IsArms, IsArm, IsRaise, IsStmt, IsTargets, IsLefts, IsKeyLefts, IsOtherwise, IsCaseList, IsCases, IsCase, IsTests, IsTest, IsControl, IsCount, IsCondition, IsBody, IsStmts, IsRepeatPart, IsRepeats, IsRepeat, IsExitPart, IsExits, IsExit, IsEnabling, IsBlock, IsLocals, IsLocal, IsPlain}
 use Rattle.module_productions.specs.Grammar as g
@@ -63,14 +63,14 @@ abbrev mutual
   deep_expr zero {ts} d = Some ts
   deep_expr (suc n) (g.expr d) = first (deep_ors n d) None
 
-  pub deep_ors : ℕ → {ts : List Token} {x : Expr} {y : List Step} {rest : List Token} → IsOrs ts x y rest → Option (List Token)
+  pub deep_ors : ℕ → {ts : List Token} {x : Expr} {y : List Operation} {rest : List Token} → IsOrs ts x y rest → Option (List Token)
   deep_ors n (g.disjunct d) = first (deep_conj n d) None
   deep_ors n (g.ors d _ h) = first (deep_ors n d) (first (deep_conj n h) None)
 
   pub deep_conj : ℕ → {ts : List Token} {x : Expr} {rest : List Token} → IsConj ts x rest → Option (List Token)
   deep_conj n (g.conj d) = first (deep_ands n d) None
 
-  pub deep_ands : ℕ → {ts : List Token} {x : Expr} {y : List Step} {rest : List Token} → IsAnds ts x y rest → Option (List Token)
+  pub deep_ands : ℕ → {ts : List Token} {x : Expr} {y : List Operation} {rest : List Token} → IsAnds ts x y rest → Option (List Token)
   deep_ands n (g.conjunct d) = first (deep_neg n d) None
   deep_ands n (g.ands d _ h) = first (deep_ands n d) (first (deep_neg n h) None)
 
@@ -86,14 +86,14 @@ abbrev mutual
   pub deep_sum : ℕ → {ts : List Token} {x : Expr} {rest : List Token} → IsSum ts x rest → Option (List Token)
   deep_sum n (g.sum d) = first (deep_sums n d) None
 
-  pub deep_sums : ℕ → {ts : List Token} {x : Expr} {y : List Step} {rest : List Token} → IsSums ts x y rest → Option (List Token)
+  pub deep_sums : ℕ → {ts : List Token} {x : Expr} {y : List Operation} {rest : List Token} → IsSums ts x y rest → Option (List Token)
   deep_sums n (g.summand d) = first (deep_product n d) None
   deep_sums n (g.sums d _ h) = first (deep_sums n d) (first (deep_product n h) None)
 
   pub deep_product : ℕ → {ts : List Token} {x : Expr} {rest : List Token} → IsProduct ts x rest → Option (List Token)
   deep_product n (g.product d) = first (deep_products n d) None
 
-  pub deep_products : ℕ → {ts : List Token} {x : Expr} {y : List Step} {rest : List Token} → IsProducts ts x y rest → Option (List Token)
+  pub deep_products : ℕ → {ts : List Token} {x : Expr} {y : List Operation} {rest : List Token} → IsProducts ts x y rest → Option (List Token)
   deep_products n (g.factor d) = first (deep_factor n d) None
   deep_products n (g.products d _ h) = first (deep_products n d) (first (deep_factor n h) None)
 
@@ -279,14 +279,14 @@ abbrev mutual
   deep_block n (g.begin_end d f h i) = first (deep_enabling n d) (first (deep_locals n f) (first (deep_body n h) (first (deep_exit_part n i) None)))
   deep_block n (g.braces d f h i) = first (deep_enabling n d) (first (deep_locals n f) (first (deep_body n h) (first (deep_exit_part n i) None)))
 
-  pub deep_locals : ℕ → {ts : List Token} {x : List (Labeled (List Identifier) Plain)} {rest : List Token} → IsLocals ts x rest → Option (List Token)
+  pub deep_locals : ℕ → {ts : List Token} {x : List (Labeled (List Identifier) PlainItem)} {rest : List Token} → IsLocals ts x rest → Option (List Token)
   deep_locals n g.no_locals = None
   deep_locals n (g.locals d f) = first (deep_locals n d) (first (deep_local n f) None)
 
-  pub deep_local : ℕ → {ts : List Token} {x : Labeled (List Identifier) Plain} {rest : List Token} → IsLocal ts x rest → Option (List Token)
+  pub deep_local : ℕ → {ts : List Token} {x : Labeled (List Identifier) PlainItem} {rest : List Token} → IsLocal ts x rest → Option (List Token)
   deep_local n (g.local_of _ f) = first (deep_plain n f) None
 
-  pub deep_plain : ℕ → {ts : List Token} {x : Plain} {rest : List Token} → IsPlain ts x rest → Option (List Token)
+  pub deep_plain : ℕ → {ts : List Token} {x : PlainItem} {rest : List Token} → IsPlain ts x rest → Option (List Token)
   deep_plain n (g.type_is d) = first (deep_type n d) None
   deep_plain n (g.variable d) = first (deep_type n d) None
   deep_plain n (g.initial d f) = first (deep_type n d) (first (deep_expr n f) None)

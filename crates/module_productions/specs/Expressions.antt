@@ -22,7 +22,7 @@ use Rattle.mesa_types.specs.declared.syntax.FieldList.TheVariants.{WithNames, Un
 use Rattle.mesa_types.specs.declared.syntax.Interval.{Interval}
 use Rattle.mesa_types.specs.declared.syntax.Expr.{Expr}
 use Rattle.mesa_types.specs.declared.syntax.Expr.TheVariants as e
-use Rattle.mesa_types.specs.declared.syntax.Step.{Step as Operation}
+use Rattle.mesa_types.specs.declared.syntax.Operation.{Operation}
 use Rattle.mesa_types.specs.declared.syntax.Suffix.{Suffix}
 use Rattle.mesa_types.specs.declared.syntax.Suffix.TheVariants.{Field, Applied}
 use Rattle.mesa_types.specs.declared.syntax.Brackets.{Brackets}
@@ -188,7 +188,7 @@ module _ (q : Nested) where
     pure (e.Parenthesis p x)
 
   unfoldable pub literal : Parser Expr → Parser Expr
-  literal other = choose a_number (λ n p. pure (e.NumberLiteral p n)) (choose a_char (λ n p. pure (e.CharacterLiteral p n)) (choose a_text (λ bytes p. pure (e.TextLiteral p bytes))
+  literal other = choose a_number (λ n p. pure (e.NumberLiteral p n)) (choose a_char (λ n p. pure (e.CharacterLiteral p n)) (choose a_text (λ bytes p. pure (e.StringLiteral p bytes))
       (option (k.Word TrueWord) (λ p. pure (e.Truth p true)) (option (k.Word FalseWord) (λ p. pure (e.Truth p false)) other))))
 
   unfoldable pub primary : Option Identifier → Parser Expr
@@ -344,6 +344,6 @@ module _ (q : Nested) where
 
   unfoldable pub type_exp : Option Identifier → Parser TypeExp
   type_exp None = choose a_name (λ n p. type_from (identifier n p)) (option (k.Word IntegerWord) (λ p. after_base (OfInteger p) (t.Integer p)) (option (k.Word CardinalWord) (λ p. after_base (OfCardinal p) (t.Cardinal p))
-      (option (k.Word CharacterWord) (λ p. after_base (OfCharacter p) (t.Character p)) (option (k.Word BooleanWord) (λ p. pure (t.Boolean p)) (option (k.Word StringWord) (λ p. pure (t.Text p))
+      (option (k.Word CharacterWord) (λ p. after_base (OfCharacter p) (t.Character p)) (option (k.Word BooleanWord) (λ p. pure (t.Boolean p)) (option (k.Word StringWord) (λ p. pure (t.String p))
       (option (k.Mark LeftBrace) enumeration (option (k.Word ArrayWord) array (option (k.Word RecordWord) a_record (do i ← interval; pure (t.Subrange Unsaid i))))))))))
   type_exp (Some i) = type_from i

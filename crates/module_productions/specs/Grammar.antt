@@ -23,7 +23,7 @@ use Rattle.mesa_types.specs.declared.syntax.RepeatLabels.TheVariants.{Named, Fin
 use Rattle.mesa_types.specs.declared.syntax.TypeBase.{TypeBase}
 use Rattle.mesa_types.specs.declared.syntax.TypeBase.TheVariants.{Unsaid, OfInteger, OfCardinal, OfCharacter, OfName}
 use Rattle.mesa_types.specs.declared.syntax.Operator.{Operator}
-use Rattle.mesa_types.specs.declared.syntax.Relation.{Relation}
+use Rattle.mesa_types.specs.declared.relation.Relation.{Relation}
 use Rattle.mesa_types.specs.declared.syntax.Sign.{Sign}
 use Rattle.mesa_types.specs.declared.syntax.TypeExp.{TypeExp}
 use Rattle.mesa_types.specs.declared.syntax.TypeExp.TheVariants as t
@@ -32,7 +32,7 @@ use Rattle.mesa_types.specs.declared.syntax.FieldList.TheVariants.{WithNames, Un
 use Rattle.mesa_types.specs.declared.syntax.Interval.{Interval, roll-Interval}
 use Rattle.mesa_types.specs.declared.syntax.Expr.{Expr}
 use Rattle.mesa_types.specs.declared.syntax.Expr.TheVariants as e
-use Rattle.mesa_types.specs.declared.syntax.Step.{Step, roll-Step}
+use Rattle.mesa_types.specs.declared.syntax.Operation.{Operation, roll-Operation}
 use Rattle.mesa_types.specs.declared.syntax.Left.{Left, roll-Left}
 use Rattle.mesa_types.specs.declared.syntax.Suffix.{Suffix}
 use Rattle.mesa_types.specs.declared.syntax.Suffix.TheVariants.{Field, Applied}
@@ -51,19 +51,19 @@ use Rattle.mesa_types.specs.declared.syntax.Case.{Case, roll-Case}
 use Rattle.mesa_types.specs.declared.syntax.Test.{Test}
 use Rattle.mesa_types.specs.declared.syntax.Test.TheVariants.{Value, Compared, Inside}
 use Rattle.mesa_types.specs.declared.syntax.Block.{Block, roll-Block}
-use Rattle.mesa_types.specs.declared.syntax.Plain.{Plain}
-use Rattle.mesa_types.specs.declared.syntax.Plain.TheVariants.{TypeIs, Variable, Initial, Constant}
+use Rattle.mesa_types.specs.declared.syntax.PlainItem.{PlainItem}
+use Rattle.mesa_types.specs.declared.syntax.PlainItem.TheVariants.{TypeIs, Variable, Initial, Constant}
 use Rattle.module_productions.specs.Signs.{spelled, disjoining, conjoining, adding, multiplying, signing, relating, negating, opening, closing}
 
 -- ---- trees by their parts
 
 -- a run without operators is its first operand
-abbrev pub run : Expr → List Step → Expr
+abbrev pub run : Expr → List Operation → Expr
 run x [] = x
 run x (s ∷ ss) = e.Run x (s ∷ ss)
 
-abbrev pub step : Operator → Place → Expr → Step
-step o p x = roll-Step (record { operator = o; place = p; right = x })
+abbrev pub step : Operator → Place → Expr → Operation
+step o p x = roll-Operation (record { operator = o; place = p; right = x })
 
 abbrev pub interval : Place → Bool → Expr → Expr → Bool → Interval
 interval p a x y b = roll-Interval (record { place = p; is_open_below = a; low = x; high = y; is_open_above = b })
@@ -95,7 +95,7 @@ case tests x = roll-Case (record { tests = tests; body = x })
 abbrev pub control : Option Count → Option Condition → Control
 control a b = roll-Control (record { count = a; condition = b })
 
-abbrev pub block : Place → Option (Placed (List Arm)) → List (Labeled (List Identifier) Plain) → List Statement → List (Labeled (List Identifier) Statement) → Block
+abbrev pub block : Place → Option (Placed (List Arm)) → List (Labeled (List Identifier) PlainItem) → List Statement → List (Labeled (List Identifier) Statement) → Block
 block p e ls ss xs = roll-Block (record { place = p; enable = e; locals = ls; statements = ss; exits = xs })
 
 -- ---- names
@@ -151,7 +151,7 @@ mutual
     cardinal : {rest : List Token} {p : Place} → IsType (word CardinalWord p ∷ rest) (t.Cardinal p) rest
     boolean : {rest : List Token} {p : Place} → IsType (word BooleanWord p ∷ rest) (t.Boolean p) rest
     character : {rest : List Token} {p : Place} → IsType (word CharacterWord p ∷ rest) (t.Character p) rest
-    string : {rest : List Token} {p : Place} → IsType (word StringWord p ∷ rest) (t.Text p) rest
+    string : {rest : List Token} {p : Place} → IsType (word StringWord p ∷ rest) (t.String p) rest
     called : {ts rest : List Token} {x : QualifiedName} → IsQName ts x rest → IsType ts (t.Called x) rest
     enumeration : {ts rest : List Token} {all : List Identifier} {p q : Place} → IsNames ts all (mark RightBrace q ∷ rest) → IsType (mark LeftBrace p ∷ ts) (t.Enumeration p all) rest
     subrange : {ts us rest : List Token} {b : TypeBase} {x : Interval} → IsBase ts b us → IsInterval us x rest → IsType ts (t.Subrange b x) rest
@@ -177,20 +177,20 @@ mutual
 
   -- Expr = Conj {OR Conj}
   pub data IsExpr : List Token → Expr → List Token → Type 0 where
-    expr : {ts rest : List Token} {x : Expr} {ss : List Step} → IsOrs ts x ss rest → IsExpr ts (run x ss) rest
+    expr : {ts rest : List Token} {x : Expr} {ss : List Operation} → IsOrs ts x ss rest → IsExpr ts (run x ss) rest
 
   -- the first operand, and the operators with the others
-  pub data IsOrs : List Token → Expr → List Step → List Token → Type 0 where
+  pub data IsOrs : List Token → Expr → List Operation → List Token → Type 0 where
     disjunct : {ts rest : List Token} {x : Expr} → IsConj ts x rest → IsOrs ts x [] rest
-    ors : {ts us rest : List Token} {x y : Expr} {ss : List Step} {kind : Kind} {o : Operator} {p : Place} → IsOrs ts x ss (token kind p ∷ us) → disjoining kind ≡ Some o → IsConj us y rest → IsOrs ts x (ss ++ step o p y ∷ []) rest
+    ors : {ts us rest : List Token} {x y : Expr} {ss : List Operation} {kind : Kind} {o : Operator} {p : Place} → IsOrs ts x ss (token kind p ∷ us) → disjoining kind ≡ Some o → IsConj us y rest → IsOrs ts x (ss ++ step o p y ∷ []) rest
 
   -- Conj = Neg {AND Neg}
   pub data IsConj : List Token → Expr → List Token → Type 0 where
-    conj : {ts rest : List Token} {x : Expr} {ss : List Step} → IsAnds ts x ss rest → IsConj ts (run x ss) rest
+    conj : {ts rest : List Token} {x : Expr} {ss : List Operation} → IsAnds ts x ss rest → IsConj ts (run x ss) rest
 
-  pub data IsAnds : List Token → Expr → List Step → List Token → Type 0 where
+  pub data IsAnds : List Token → Expr → List Operation → List Token → Type 0 where
     conjunct : {ts rest : List Token} {x : Expr} → IsNeg ts x rest → IsAnds ts x [] rest
-    ands : {ts us rest : List Token} {x y : Expr} {ss : List Step} {kind : Kind} {o : Operator} {p : Place} → IsAnds ts x ss (token kind p ∷ us) → conjoining kind ≡ Some o → IsNeg us y rest → IsAnds ts x (ss ++ step o p y ∷ []) rest
+    ands : {ts us rest : List Token} {x y : Expr} {ss : List Operation} {kind : Kind} {o : Operator} {p : Place} → IsAnds ts x ss (token kind p ∷ us) → conjoining kind ≡ Some o → IsNeg us y rest → IsAnds ts x (ss ++ step o p y ∷ []) rest
 
   -- Neg = [NotWord] Rel
   pub data IsNeg : List Token → Expr → List Token → Type 0 where
@@ -205,19 +205,19 @@ mutual
 
   -- Sum = Product {("+" | "-") Product}
   pub data IsSum : List Token → Expr → List Token → Type 0 where
-    sum : {ts rest : List Token} {x : Expr} {ss : List Step} → IsSums ts x ss rest → IsSum ts (run x ss) rest
+    sum : {ts rest : List Token} {x : Expr} {ss : List Operation} → IsSums ts x ss rest → IsSum ts (run x ss) rest
 
-  pub data IsSums : List Token → Expr → List Step → List Token → Type 0 where
+  pub data IsSums : List Token → Expr → List Operation → List Token → Type 0 where
     summand : {ts rest : List Token} {x : Expr} → IsProduct ts x rest → IsSums ts x [] rest
-    sums : {ts us rest : List Token} {x y : Expr} {ss : List Step} {kind : Kind} {o : Operator} {p : Place} → IsSums ts x ss (token kind p ∷ us) → adding kind ≡ Some o → IsProduct us y rest → IsSums ts x (ss ++ step o p y ∷ []) rest
+    sums : {ts us rest : List Token} {x y : Expr} {ss : List Operation} {kind : Kind} {o : Operator} {p : Place} → IsSums ts x ss (token kind p ∷ us) → adding kind ≡ Some o → IsProduct us y rest → IsSums ts x (ss ++ step o p y ∷ []) rest
 
   -- Product = Factor {("*" | "/" | MOD) Factor}
   pub data IsProduct : List Token → Expr → List Token → Type 0 where
-    product : {ts rest : List Token} {x : Expr} {ss : List Step} → IsProducts ts x ss rest → IsProduct ts (run x ss) rest
+    product : {ts rest : List Token} {x : Expr} {ss : List Operation} → IsProducts ts x ss rest → IsProduct ts (run x ss) rest
 
-  pub data IsProducts : List Token → Expr → List Step → List Token → Type 0 where
+  pub data IsProducts : List Token → Expr → List Operation → List Token → Type 0 where
     factor : {ts rest : List Token} {x : Expr} → IsFactor ts x rest → IsProducts ts x [] rest
-    products : {ts us rest : List Token} {x y : Expr} {ss : List Step} {kind : Kind} {o : Operator} {p : Place} → IsProducts ts x ss (token kind p ∷ us) → multiplying kind ≡ Some o → IsFactor us y rest → IsProducts ts x (ss ++ step o p y ∷ []) rest
+    products : {ts us rest : List Token} {x y : Expr} {ss : List Operation} {kind : Kind} {o : Operator} {p : Place} → IsProducts ts x ss (token kind p ∷ us) → multiplying kind ≡ Some o → IsFactor us y rest → IsProducts ts x (ss ++ step o p y ∷ []) rest
 
   -- Factor = ["-" | "+"] Primary
   pub data IsFactor : List Token → Expr → List Token → Type 0 where
@@ -228,7 +228,7 @@ mutual
   pub data IsPrimary : List Token → Expr → List Token → Type 0 where
     number : {rest : List Token} {n : ℕ} {p : Place} → IsPrimary (token (k.Number n) p ∷ rest) (e.NumberLiteral p n) rest
     char : {rest : List Token} {n : ℕ} {p : Place} → IsPrimary (token (k.Char n) p ∷ rest) (e.CharacterLiteral p n) rest
-    text : {rest : List Token} {bytes : List ℕ} {p : Place} → IsPrimary (token (k.Text bytes) p ∷ rest) (e.TextLiteral p bytes) rest
+    text : {rest : List Token} {bytes : List ℕ} {p : Place} → IsPrimary (token (k.Text bytes) p ∷ rest) (e.StringLiteral p bytes) rest
     true_word : {rest : List Token} {p : Place} → IsPrimary (word TrueWord p ∷ rest) (e.Truth p true) rest
     false_word : {rest : List Token} {p : Place} → IsPrimary (word FalseWord p ∷ rest) (e.Truth p false) rest
     parens : {ts rest : List Token} {x : Expr} {p q : Place} → IsExpr ts x (mark RightParenthesis q ∷ rest) → IsPrimary (mark LeftParenthesis p ∷ ts) (e.Parenthesis p x) rest
@@ -426,20 +426,20 @@ mutual
 
   -- Block = BEGIN [Enable] {Local ";"} [Stmts] [EXITS Exits] END, or in braces
   pub data IsBlock : List Token → Block → List Token → Type 0 where
-    begin_end : {ts us vs ws rest : List Token} {e : Option (Placed (List Arm))} {ls : List (Labeled (List Identifier) Plain)} {ss : List Statement} {xs : List (Labeled (List Identifier) Statement)} {p q : Place} → IsEnabling ts e us → IsLocals us ls vs → IsBody vs ss ws → IsExitPart ws xs (word EndWord q ∷ rest) → IsBlock (word BeginWord p ∷ ts) (block p e ls ss xs) rest
-    braces : {ts us vs ws rest : List Token} {e : Option (Placed (List Arm))} {ls : List (Labeled (List Identifier) Plain)} {ss : List Statement} {xs : List (Labeled (List Identifier) Statement)} {p q : Place} → IsEnabling ts e us → IsLocals us ls vs → IsBody vs ss ws → IsExitPart ws xs (mark RightBrace q ∷ rest) → IsBlock (mark LeftBrace p ∷ ts) (block p e ls ss xs) rest
+    begin_end : {ts us vs ws rest : List Token} {e : Option (Placed (List Arm))} {ls : List (Labeled (List Identifier) PlainItem)} {ss : List Statement} {xs : List (Labeled (List Identifier) Statement)} {p q : Place} → IsEnabling ts e us → IsLocals us ls vs → IsBody vs ss ws → IsExitPart ws xs (word EndWord q ∷ rest) → IsBlock (word BeginWord p ∷ ts) (block p e ls ss xs) rest
+    braces : {ts us vs ws rest : List Token} {e : Option (Placed (List Arm))} {ls : List (Labeled (List Identifier) PlainItem)} {ss : List Statement} {xs : List (Labeled (List Identifier) Statement)} {p q : Place} → IsEnabling ts e us → IsLocals us ls vs → IsBody vs ss ws → IsExitPart ws xs (mark RightBrace q ∷ rest) → IsBlock (mark LeftBrace p ∷ ts) (block p e ls ss xs) rest
 
   -- {Local ";"}
-  pub data IsLocals : List Token → List (Labeled (List Identifier) Plain) → List Token → Type 0 where
+  pub data IsLocals : List Token → List (Labeled (List Identifier) PlainItem) → List Token → Type 0 where
     no_locals : {rest : List Token} → IsLocals rest [] rest
-    locals : {ts us rest : List Token} {all : List (Labeled (List Identifier) Plain)} {x : Labeled (List Identifier) Plain} {p : Place} → IsLocals ts all us → IsLocal us x (mark Semicolon p ∷ rest) → IsLocals ts (all ++ x ∷ []) rest
+    locals : {ts us rest : List Token} {all : List (Labeled (List Identifier) PlainItem)} {x : Labeled (List Identifier) PlainItem} {p : Place} → IsLocals ts all us → IsLocal us x (mark Semicolon p ∷ rest) → IsLocals ts (all ++ x ∷ []) rest
 
   -- Local = Names ":" Plain
-  pub data IsLocal : List Token → Labeled (List Identifier) Plain → List Token → Type 0 where
-    local_of : {ts us rest : List Token} {ns : List Identifier} {x : Plain} {p : Place} → IsNames ts ns (mark Colon p ∷ us) → IsPlain us x rest → IsLocal ts (labeled ns x) rest
+  pub data IsLocal : List Token → Labeled (List Identifier) PlainItem → List Token → Type 0 where
+    local_of : {ts us rest : List Token} {ns : List Identifier} {x : PlainItem} {p : Place} → IsNames ts ns (mark Colon p ∷ us) → IsPlain us x rest → IsLocal ts (labeled ns x) rest
 
   -- Plain = TYPE "=" TypeExp | TypeExp ["←" Expr | "=" Expr]
-  pub data IsPlain : List Token → Plain → List Token → Type 0 where
+  pub data IsPlain : List Token → PlainItem → List Token → Type 0 where
     type_is : {ts rest : List Token} {x : TypeExp} {p q : Place} → IsType ts x rest → IsPlain (word TypeWord p ∷ mark Equal q ∷ ts) (TypeIs x) rest
     variable : {ts rest : List Token} {x : TypeExp} → IsType ts x rest → IsPlain ts (Variable x) rest
     initial : {ts us rest : List Token} {x : TypeExp} {y : Expr} {p : Place} → IsType ts x (mark Arrow p ∷ us) → IsExpr us y rest → IsPlain ts (Initial x y) rest

@@ -17,7 +17,7 @@ use Rattle.mesa_types.specs.declared.syntax.Arm.{Arm}
 use Rattle.mesa_base.specs.declared.placed.Placed.{Placed}
 use Rattle.mesa_types.specs.declared.syntax.Statement.{Statement}
 use Rattle.mesa_types.specs.declared.syntax.Block.{Block}
-use Rattle.mesa_types.specs.declared.syntax.Plain.{Plain}
+use Rattle.mesa_types.specs.declared.syntax.PlainItem.{PlainItem}
 use Rattle.mesa_types.specs.declared.syntax.Access.{Access}
 use Rattle.mesa_types.specs.declared.syntax.Head.{Head}
 use Rattle.mesa_types.specs.declared.syntax.Declared.{Declared}
@@ -46,7 +46,7 @@ abbrev pub inner : Option (Placed (List Arm)) → List Declaration → List Stat
 inner e ds ss xs = record { enable = e; declarations = ds; statements = ss; exits = xs }
 
 abbrev pub directory_item : Identifier → Place → List ℕ → Option (List Identifier) → DirectoryItem
-directory_item i p file used = record { name = i; place = p; file = file; used = used }
+directory_item i p file used = record { name = i; file_place = p; file = file; used = used }
 
 abbrev pub module_of : List DirectoryItem → Identifier → ModuleKind → Module
 module_of items i x = record { directory = items; name = i; kind = x }
@@ -79,7 +79,7 @@ pub data IsDeclared : List Token → Declared → List Token → Type 0 where
   procedure : {ts us rest : List Token} {h : Head} {b : Block} {kind : Kind} {p q : Place} → procedure_word kind ≡ Some tt → IsHead ts h (mark Equal q ∷ us) → IsBlock us b rest → IsDeclared (token kind p ∷ ts) (Procedure h b) rest
   signal : {ts rest : List Token} {h : Head} {p q r : Place} → IsHead ts h (mark Equal q ∷ word CodeWord r ∷ rest) → IsDeclared (word SignalWord p ∷ ts) (Signal h) rest
   error : {ts rest : List Token} {a : Option FieldList} {p q r : Place} → IsParams ts a (mark Equal q ∷ word CodeWord r ∷ rest) → IsDeclared (word ErrorWord p ∷ ts) (Error a) rest
-  plainly : {ts rest : List Token} {x : Plain} → IsPlain ts x rest → IsDeclared ts (Data x) rest
+  plainly : {ts rest : List Token} {x : PlainItem} → IsPlain ts x rest → IsDeclared ts (Data x) rest
 
 -- Decl = Names ":" [Access] (..)
 pub data IsDeclaration : List Token → Declaration → List Token → Type 0 where

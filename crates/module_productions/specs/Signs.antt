@@ -7,8 +7,8 @@ use Rattle.mesa_lexer.specs.declared.mark.Mark.TheVariants as m
 pub use Rattle.token_cursor.specs.Parsing.{spelled}
 use Rattle.mesa_types.specs.declared.syntax.Operator.{Operator}
 use Rattle.mesa_types.specs.declared.syntax.Operator.TheVariants as o
-use Rattle.mesa_types.specs.declared.syntax.Relation.{Relation}
-use Rattle.mesa_types.specs.declared.syntax.Relation.TheVariants as r
+use Rattle.mesa_types.specs.declared.relation.Relation.{Relation}
+use Rattle.mesa_types.specs.declared.relation.Relation.TheVariants as r
 use Rattle.mesa_types.specs.declared.syntax.Sign.{Sign}
 use Rattle.mesa_types.specs.declared.syntax.Sign.TheVariants.{Positive, Negative}
 use Rattle.mesa_types.specs.declared.syntax.Access.{Access}

@@ -28,8 +28,8 @@ use Rattle.mesa_types.specs.declared.syntax.Case.{Case}
 use Rattle.mesa_types.specs.declared.syntax.Test.{Test}
 use Rattle.mesa_types.specs.declared.syntax.Test.TheVariants.{Value, Compared, Inside}
 use Rattle.mesa_types.specs.declared.syntax.Block.{Block}
-use Rattle.mesa_types.specs.declared.syntax.Plain.{Plain}
-use Rattle.mesa_types.specs.declared.syntax.Plain.TheVariants.{TypeIs, Variable, Initial, Constant}
+use Rattle.mesa_types.specs.declared.syntax.PlainItem.{PlainItem}
+use Rattle.mesa_types.specs.declared.syntax.PlainItem.TheVariants.{TypeIs, Variable, Initial, Constant}
 use Rattle.module_productions.specs.Signs.{relating, negating}
 use Rattle.module_productions.specs.Grammar as g
 use Rattle.module_productions.specs.Grammar.{placed, keyed, labeled}
@@ -37,7 +37,7 @@ use Rattle.module_productions.specs.Nested.{Fresh, AtNot, Nested, raise_starts, 
 use Rattle.module_productions.specs.Expressions as x
 
 abbrev pub Local : Type 0
-Local = Labeled (List Identifier) Plain
+Local = Labeled (List Identifier) PlainItem
 
 abbrev pub Exit : Type 0
 Exit = Labeled (List Identifier) Statement
@@ -160,21 +160,21 @@ module _ (q : Nested) where
 
   -- ---- blocks
 
-  unfoldable pub valued : TypeExp → Parser Plain
+  unfoldable pub valued : TypeExp → Parser PlainItem
   valued x = option (k.Mark Arrow) (λ _. do y ← q.expr Fresh; pure (Initial x y)) (option (k.Mark Equal) (λ _. do y ← q.expr Fresh; pure (Constant x y)) (pure (Variable x)))
 
-  unfoldable pub type_is : Parser Plain
+  unfoldable pub type_is : Parser PlainItem
   type_is = do
     need (k.Mark Equal)
     x ← q.type None
     pure (TypeIs x)
 
-  unfoldable pub typed : Parser Plain
+  unfoldable pub typed : Parser PlainItem
   typed = do
     x ← q.type None
     valued x
 
-  unfoldable pub plain : Parser Plain
+  unfoldable pub plain : Parser PlainItem
   plain = option (k.Word TypeWord) (λ _. type_is) typed
 
   abbrev pub declares : Kind → Bool

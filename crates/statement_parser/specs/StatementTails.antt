@@ -9,8 +9,8 @@ use Rattle.token_cursor.specs.Parsing.{Parser, ◌>>=◌, pure, among, option, w
 use Rattle.mesa_types.specs.declared.syntax.Defined.{Defined}
 use Rattle.mesa_types.specs.declared.syntax.Defined.TheVariants.{ErrorItem}
 use Rattle.mesa_types.specs.declared.syntax.Expr.{Expr}
-use Rattle.mesa_types.specs.declared.syntax.Plain.{Plain}
-use Rattle.mesa_types.specs.declared.syntax.Plain.TheVariants.{Initial, Constant}
+use Rattle.mesa_types.specs.declared.syntax.PlainItem.{PlainItem}
+use Rattle.mesa_types.specs.declared.syntax.PlainItem.TheVariants.{Initial, Constant}
 use Rattle.mesa_types.specs.declared.syntax.Statement.{Statement}
 use Rattle.mesa_types.specs.declared.syntax.Statement.TheVariants as s
 use Rattle.mesa_types.specs.declared.syntax.TypeExp.{TypeExp}
@@ -31,13 +31,13 @@ last_of ByBrace = k.Mark RightBrace
 
 module _ (q : Nested) where
   -- the value behind a type and an arrow
-  unfoldable pub initial : TypeExp → Parser Plain
+  unfoldable pub initial : TypeExp → Parser PlainItem
   initial x = do
     y ← q.expr Fresh
     pure (Initial x y)
 
   -- the value behind a type and an equals sign
-  unfoldable pub fixed : TypeExp → Parser Plain
+  unfoldable pub fixed : TypeExp → Parser PlainItem
   fixed x = do
     y ← q.expr Fresh
     pure (Constant x y)

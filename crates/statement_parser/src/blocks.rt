@@ -14,7 +14,9 @@ use crate::nesting::StatementParser;
 use expression_parser::NestedParsers;
 use mesa_base::{Identifier, List, Place};
 use mesa_lexer::{Mark, Word};
-use mesa_types::syntax::{Block, Labeled, Local, Locals, Plain, Statement, Statements, TypeExp};
+use mesa_types::syntax::{
+    Block, Labeled, Local, Locals, PlainItem, Statement, Statements, TypeExp,
+};
 use module_productions::Begun;
 use module_tokens::begins::declares;
 use token_cursor::naming::names_from;
@@ -41,27 +43,27 @@ fn need_end(tokens: &mut Cursor<'_>, end: BlockEnd) -> Result<Place, Stopped>
 impl<N: NestedParsers> StatementParser<N> {
     /// The value of a variable of this type.
     #[tactic(auto, unfolding(crate::specs::StatementTails::initial))]
-    fn initial(&self, tokens: &mut Cursor<'_>, of: TypeExp) -> Result<Plain, Stopped>
+    fn initial(&self, tokens: &mut Cursor<'_>, of: TypeExp) -> Result<PlainItem, Stopped>
         requires { N.parse_at self.now.level.nested self.now.level.depth }
         ensures { Reads (tails.initial (nested self.now.level.depth) of tokens.old.rest.now) result tokens.new.rest.now }
     {
         let value = self.level.expr(tokens, Begun::Fresh)?;
-        Ok(Plain::Initial(of, value))
+        Ok(PlainItem::Initial(of, value))
     }
 
     /// The value of a constant of this type.
     #[tactic(auto, unfolding(crate::specs::StatementTails::fixed))]
-    fn fixed(&self, tokens: &mut Cursor<'_>, of: TypeExp) -> Result<Plain, Stopped>
+    fn fixed(&self, tokens: &mut Cursor<'_>, of: TypeExp) -> Result<PlainItem, Stopped>
         requires { N.parse_at self.now.level.nested self.now.level.depth }
         ensures { Reads (tails.fixed (nested self.now.level.depth) of tokens.old.rest.now) result tokens.new.rest.now }
     {
         let value = self.level.expr(tokens, Begun::Fresh)?;
-        Ok(Plain::Constant(of, value))
+        Ok(PlainItem::Constant(of, value))
     }
 
     /// What stands behind the type of a variable or constant.
     #[tactic(auto, using(token_cursor::proofs::Choosing::choose_none, token_cursor::proofs::Choosing::choose_some), unfolding(module_productions::specs::Statements::valued, crate::specs::StatementTails::initial, crate::specs::StatementTails::fixed))]
-    fn valued(&self, tokens: &mut Cursor<'_>, of: TypeExp) -> Result<Plain, Stopped>
+    fn valued(&self, tokens: &mut Cursor<'_>, of: TypeExp) -> Result<PlainItem, Stopped>
         requires { N.parse_at self.now.level.nested self.now.level.depth }
         ensures { Reads (spec.valued (nested self.now.level.depth) of tokens.old.rest.now) result tokens.new.rest.now }
     {
@@ -70,22 +72,22 @@ impl<N: NestedParsers> StatementParser<N> {
         }
         match tokens.takes_mark(Mark::Equal) {
             Some(_) => self.fixed(tokens, of),
-            None => Ok(Plain::Variable(of)),
+            None => Ok(PlainItem::Variable(of)),
         }
     }
 
     #[tactic(auto, unfolding(module_productions::specs::Statements::type_is))]
-    fn type_is(&self, tokens: &mut Cursor<'_>) -> Result<Plain, Stopped>
+    fn type_is(&self, tokens: &mut Cursor<'_>) -> Result<PlainItem, Stopped>
         requires { N.parse_at self.now.level.nested self.now.level.depth }
         ensures { Reads (spec.type_is (nested self.now.level.depth) tokens.old.rest.now) result tokens.new.rest.now }
     {
         tokens.need_mark(Mark::Equal)?;
         let is = self.level.type_exp(tokens, None)?;
-        Ok(Plain::TypeIs(is))
+        Ok(PlainItem::TypeIs(is))
     }
 
     #[tactic(auto, unfolding(module_productions::specs::Statements::typed))]
-    fn typed(&self, tokens: &mut Cursor<'_>) -> Result<Plain, Stopped>
+    fn typed(&self, tokens: &mut Cursor<'_>) -> Result<PlainItem, Stopped>
         requires { N.parse_at self.now.level.nested self.now.level.depth }
         ensures { Reads (spec.typed (nested self.now.level.depth) tokens.old.rest.now) result tokens.new.rest.now }
     {
@@ -95,7 +97,7 @@ impl<N: NestedParsers> StatementParser<N> {
 
     /// What stands behind the names of a type, a variable or a constant and their colon.
     #[tactic(auto, using(token_cursor::proofs::Choosing::choose_none, token_cursor::proofs::Choosing::choose_some), unfolding(module_productions::specs::Statements::plain))]
-    pub fn plain(&self, tokens: &mut Cursor<'_>) -> Result<Plain, Stopped>
+    pub fn plain(&self, tokens: &mut Cursor<'_>) -> Result<PlainItem, Stopped>
         requires { N.parse_at self.now.level.nested self.now.level.depth }
         ensures { Reads (spec.plain (nested self.now.level.depth) tokens.old.rest.now) result tokens.new.rest.now }
     {

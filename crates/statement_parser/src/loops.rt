@@ -34,7 +34,12 @@ impl<N: NestedParsers> StatementParser<N> {
         let is_decreasing = decreasing(tokens)?;
         tokens.need_word(Word::InWord)?;
         let interval = self.level.interval(tokens)?;
-        Ok(Some(Count::For(place, variable, is_decreasing, interval)))
+        Ok(Some(Count::For {
+            place,
+            variable,
+            is_decreasing,
+            interval,
+        }))
     }
 
     #[tactic(auto, unfolding(module_productions::specs::Statements::through))]

@@ -26,12 +26,21 @@ impl<N: NestedParsers> StatementParser<N> {
     {
         if let Some((relation, at)) = takes_relating(tokens) {
             let right = self.level.sum(tokens, None)?;
-            return Ok(Test::Compared(true, relation, at, right));
+            return Ok(Test::Compared {
+                is_negated: true,
+                relation,
+                place: at,
+                right,
+            });
         }
         match tokens.takes_word(Word::InWord) {
             Some(at) => {
                 let interval = self.level.interval(tokens)?;
-                Ok(Test::Inside(true, at, interval))
+                Ok(Test::Inside {
+                    is_negated: true,
+                    place: at,
+                    interval,
+                })
             }
             None => {
                 let value = self.level.expr(tokens, Begun::AtNot(place))?;
@@ -48,12 +57,21 @@ impl<N: NestedParsers> StatementParser<N> {
     {
         if let Some((relation, at)) = takes_relating(tokens) {
             let right = self.level.sum(tokens, None)?;
-            return Ok(Test::Compared(false, relation, at, right));
+            return Ok(Test::Compared {
+                is_negated: false,
+                relation,
+                place: at,
+                right,
+            });
         }
         match tokens.takes_word(Word::InWord) {
             Some(at) => {
                 let interval = self.level.interval(tokens)?;
-                Ok(Test::Inside(false, at, interval))
+                Ok(Test::Inside {
+                    is_negated: false,
+                    place: at,
+                    interval,
+                })
             }
             None => {
                 let value = self.level.expr(tokens, Begun::Fresh)?;
