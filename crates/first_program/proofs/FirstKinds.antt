@@ -1,10 +1,10 @@
--- The shapes of the first program's variables and of the arguments of its calls; what its links are for.
+-- The shapes of the first program's variables and of the arguments of its calls; the items that they call.
 use Rattle.std.proofs.Common.{◌≡◌, ℕ, zero, suc, ◌<◌, List, [], ◌∷◌, true, Some, codes, refl, ap, sym, ◌∙◌, arith}
-use Rattle.std.specs.Prelude.{slice_get}
 use Rattle.mesa_types.specs.Typed.{Kind, Ordinal, NoKinds, AndKind}
 use Rattle.mesa_types.specs.Plain.{Shaped, shape_step, field_kind_step, kind_of, field_kind, kinds_of}
 use Rattle.mesa_types.specs.Shapes.{words_in, words_in_all, one, copies, KindAt}
-use Rattle.mesa_types.specs.Sound.{items_used, links_of, a_word}
+use Rattle.mesa_types.specs.Links.{item_in, imported, UsedIn, IsUsed}
+use Rattle.mesa_types.specs.Sound.{a_word}
 use Rattle.mesa_types.specs.declared.faces.Item.{Item}
 use Rattle.mesa_types.specs.declared.faces.ItemKind.TheVariants.{Procedure}
 use Rattle.mesa_types.specs.declared.types.FieldType.{FieldType}
@@ -16,7 +16,7 @@ use Rattle.source_meaning.specs.Program.{Host, WriteChar, WriteDecimal, host_of}
 use Rattle.source_meaning.specs.FirstProgram.{AreOrdinal}
 use Rattle.first_program.specs.FirstTree as f
 
-integer_kind : kind_of v.Integer ≡ Ordinal
+pub integer_kind : kind_of v.Integer ≡ Ordinal
 integer_kind = ap kind_of (sym v.rolls-Integer) ∙ ap (λ (x : Shaped). x.shape) (fold-roll-TypeTree Shaped Kind shape_step field_kind_step TypeTree-F.Integer)
 
 character_kind : kind_of v.Character ≡ Ordinal
@@ -50,36 +50,39 @@ unfolding copies
 copies_are_ordinal zero = tt
 copies_are_ordinal (suc n) = copies_are_ordinal n
 
--- Links.
+-- Used items.
 
--- this link of a module with IODefs is for a procedure of the host that takes a word
-pub record IsWriter (link : ℕ) : Type 0 where
+-- this item of IODefs is a procedure of the host that takes a word
+pub record IsWriter (number : ℕ) : Type 0 where
   pub item : Item
   pub host : Host
-  pub is_there : slice_get (links_of (f.imports true)) link ≡ Some item
+  pub is_there : imported (f.imports true) 0 number ≡ Some item
+  pub is_used : IsUsed (f.imports true) 0 number
   pub is_procedure : item.kind ≡ Procedure
   pub takes : kinds_of item.takes ≡ a_word
   pub gives : kinds_of item.gives ≡ NoKinds
   pub is_named : host_of item.name ≡ Some host
 
-pub writes_char : IsWriter f.link_of_write_char
-unfolding links_of items_used host_of a_word one
+pub writes_char : IsWriter f.write_char
+unfolding item_in imported UsedIn IsUsed host_of a_word one
 writes_char = record {
   item = procedure (codes "WriteChar") (parameter (codes "c") v.Character) [];
   host = WriteChar;
   is_there = refl;
+  is_used = (0, omega arith, refl);
   is_procedure = refl;
   takes = character_first (codes "c");
   gives = refl;
   is_named = refl;
 }
 
-pub writes_decimal : IsWriter f.link_of_write_decimal
-unfolding links_of items_used host_of a_word one
+pub writes_decimal : IsWriter f.write_decimal
+unfolding item_in imported UsedIn IsUsed host_of a_word one
 writes_decimal = record {
   item = procedure (codes "WriteDecimal") (parameter (codes "n") v.Integer) [];
   host = WriteDecimal;
   is_there = refl;
+  is_used = (1, omega arith, refl);
   is_procedure = refl;
   takes = integer_first (codes "n") [];
   gives = refl;

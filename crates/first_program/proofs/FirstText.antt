@@ -23,7 +23,7 @@ use Rattle.mesa_types.specs.declared.syntax.Statement.{Statement, out-Statement}
 use Rattle.mesa_types.specs.declared.syntax.Operation.{Operation as Written, out-Operation}
 use Rattle.mesa_types.specs.declared.typed_tree.TypedModule.{TypedModule}
 use Rattle.mesa_types.specs.declared.typed_parts.Operator.{Operator as TypedOperator}
-use Rattle.mesa_types.specs.declared.typed_parts.Operator.TheVariants.{Plus, Minus}
+use Rattle.mesa_types.specs.declared.typed_parts.Operator.TheVariants as typed
 use Rattle.mesa_types.specs.declared.types.FieldType.{FieldType}
 use Rattle.source_meaning.specs.FirstProgram.{FirstProgram}
 use Rattle.first_program.specs.declared.first_fault.FirstFault.{FirstFault}
@@ -68,8 +68,8 @@ pub record IsBelow (scope : Scope) (n : ℕ) : Type 0 where
   pub below : (x : List ℕ) (k : ℕ) → scope x ≡ Some k → k < n
 
 sign_of : (w : Operator) (o : TypedOperator) → f.operator w ≡ Some o → IsSign o
-sign_of Add o is = here IsSign Plus o is tt
-sign_of Subtract o is = here IsSign Minus o is tt
+sign_of Add o is = here IsSign typed.Add o is tt
+sign_of Subtract o is = here IsSign typed.Subtract o is tt
 sign_of _ o is = absurd (none_some o is)
 
 module _ (scope : Scope) (n : ℕ) (low : IsBelow scope n) where
@@ -162,15 +162,15 @@ module _ (scope : Scope) (n : ℕ) (low : IsBelow scope n) where
   good_write_decimal : (x : Expr) (u : t.Stmt) → s.write_decimal scope x ≡ Some u → IsGoodStmt n true u
   unfolding s.write_decimal
   good_write_decimal x u is =
-      let v = split (s.sum scope x) (λ v. Some (f.call_of f.link_of_write_decimal v.value)) u is in
+      let v = split (s.sum scope x) (λ v. Some (f.call_of f.write_decimal v.value)) u is in
       let good = good_sum x v.0 v.1 in
-      here (IsGoodStmt n true) (f.call_of f.link_of_write_decimal v.0.value) u v.2 (good_call n f.link_of_write_decimal v.0.terms v.0.value writes_decimal good.few good.good)
+      here (IsGoodStmt n true) (f.call_of f.write_decimal v.0.value) u v.2 (good_call n f.write_decimal v.0.terms v.0.value writes_decimal good.few good.good)
 
   good_write_char : (x : Expr) (u : t.Stmt) → s.write_char x ≡ Some u → IsGoodStmt n true u
   unfolding s.write_char
   good_write_char x u is =
-      let v = split (s.character x) (λ v. Some (f.call_of f.link_of_write_char v)) u is in
-      here (IsGoodStmt n true) (f.call_of f.link_of_write_char v.0) u v.2 (good_call n f.link_of_write_char 1 v.0 writes_char (omega arith) (good_character x v.0 v.1))
+      let v = split (s.character x) (λ v. Some (f.call_of f.write_char v)) u is in
+      here (IsGoodStmt n true) (f.call_of f.write_char v.0) u v.2 (good_call n f.write_char 1 v.0 writes_char (omega arith) (good_character x v.0 v.1))
 
   -- by the tests on the name
   good_named : (a b : Bool) (x : Expr) (u : t.Stmt) → cond a (s.write_decimal scope x) (cond b (s.write_char x) None) ≡ Some u → IsGoodStmt n true u

@@ -1,18 +1,19 @@
 -- What the parts of the first program's typed trees keep: their variables are among the first n, they have few operands and no
 -- hidden words, and calls stand only where the first program has them.
-use Rattle.std.specs.Prelude.{slice_get}
 use Rattle.std.proofs.Common.{◌≡◌, ℕ, zero, suc, ◌+◌, ◌<◌, ◌≤◌, Bool, true, false, List, [], ◌∷◌, ◌++◌, All, refl, sym, ap, ◌∙◌, subst, arith}
 use Rattle.mesa_types.specs.Typed as t
 use Rattle.mesa_types.specs.Typed.{Ordinal, NoKinds, NoExits}
 use Rattle.mesa_types.specs.Plain.{chain, stmts, kinds_of}
-use Rattle.mesa_types.specs.Counts.{hidden, hidden_expr, hidden_exprs, hidden_suffixes, hidden_operations, hidden_stmts, hidden_phrase, hidden_exits, hidden_loop, hidden_condition, operands, operands_of, operands_in, operands_of_run, operands_of_condition, operands_of_loop, operands_of_stmt, words_of}
+use Rattle.mesa_types.specs.Links.{imported, IsUsed}
+use Rattle.mesa_types.specs.declared.faces.Import.{Import}
+use Rattle.mesa_types.specs.Counts.{hidden, hidden_expr, hidden_exprs, hidden_suffixes, hidden_operations, hidden_stmts, hidden_phrase, hidden_exits, hidden_loop, hidden_finish, hidden_condition, operands, operands_of, operands_in, operands_of_run, operands_of_condition, operands_of_loop, operands_of_stmt, words_of}
 use Rattle.mesa_types.specs.Shapes.{words_in, words_in_all, one, join, copies, KindAt}
-use Rattle.mesa_types.specs.Sound.{Scope, VariableIn, RangeIn, Fits, CountIn, CalleeIs, Arranged, labels_in, in_labelled, AllDiffer, LabelsIn, a_word, ExprIn, ExprsIn, SuffixesIn, OperationsIn, PhraseIn, StmtIn, StmtsIn, ExitsIn, LoopIn, ConditionIn, ImportIn, links_of, scope_of, Sound}
+use Rattle.mesa_types.specs.Sound.{Scope, VariableIn, RangeIn, Fits, CountIn, CalleeIs, Arranged, labels_in, in_labelled, AllDiffer, LabelsIn, a_word, ExprIn, ExprsIn, SuffixesIn, OperationsIn, PhraseIn, StmtIn, StmtsIn, ExitsIn, LoopIn, FinishIn, ConditionIn, ImportIn, UsedItem, scope_of, Sound}
 use Rattle.mesa_types.specs.declared.relation.Relation.{Relation}
 use Rattle.mesa_types.specs.declared.typed_parts.Home.{Home}
 use Rattle.mesa_types.specs.declared.typed_parts.Home.TheVariants.{Global}
 use Rattle.mesa_types.specs.declared.typed_parts.Operator.{Operator as TypedOperator}
-use Rattle.mesa_types.specs.declared.typed_parts.Operator.TheVariants.{Plus, Minus}
+use Rattle.mesa_types.specs.declared.typed_parts.Operator.TheVariants.{Add, Subtract}
 use Rattle.mesa_types.specs.declared.types.FieldType.{FieldType}
 use Rattle.source_meaning.specs.FirstProgram.{AreOrdinal, IsQuiet, AreQuiet, IsFirst, AreFirst, FirstProgram}
 use Rattle.first_program.specs.FirstTree as f
@@ -22,10 +23,10 @@ use Rattle.first_program.proofs.FirstKinds.{IsWriter, word_at, words_of_copies, 
 pub record HasWords (n : ℕ) (Γ : Scope) : Type 0 where
   pub word : (k : ℕ) → k < n → KindAt Γ.globals k Ordinal
 
--- and its links are those of IODefs, where it has that
+-- and its one import is IODefs, where it has that
 pub record Stands (n : ℕ) (host : Bool) (Γ : Scope) : Type 0 where
   pub words : HasWords n Γ
-  pub links : Γ.links ≡ links_of (f.imports host)
+  pub imports : Γ.imports ≡ f.imports host
 
 -- a word, of at most so many operands
 pub record IsGoodExpr (n k : ℕ) (e : t.Expr) : Type 0 where
@@ -43,18 +44,18 @@ pub record AreGoodOperations (n k : ℕ) (os : List f.Operation) : Type 0 where
 
 pub record IsGoodStmt (n : ℕ) (host : Bool) (s : t.Stmt) : Type 0 where
   pub is_in : (Γ : Scope) → Stands n host Γ → StmtIn Γ s
-  pub is_first : IsFirst (links_of (f.imports host)) s
+  pub is_first : IsFirst (f.imports host) s
   pub none_hidden : hidden s ≡ 0
 
 pub record AreGoodStmts (n : ℕ) (host : Bool) (ss : List t.Stmt) : Type 0 where
   pub are_in : (Γ : Scope) → Stands n host Γ → StmtsIn Γ (stmts ss)
-  pub are_first : AreFirst (links_of (f.imports host)) (stmts ss)
+  pub are_first : AreFirst (f.imports host) (stmts ss)
   pub none_hidden : hidden_stmts (stmts ss) ≡ 0
 
 -- addition and subtraction
 abbrev pub IsSign : TypedOperator → Type 0
-IsSign Plus = Unit {0}
-IsSign Minus = Unit {0}
+IsSign Add = Unit {0}
+IsSign Subtract = Unit {0}
 IsSign _ = ⊥
 
 all_one : {A : Type 0} (P : A → Type 0) (x : A) → P x → All P (x ∷ [])
@@ -90,8 +91,8 @@ module _ (n : ℕ) where
   }
 
   quiet_operations : (o : TypedOperator) (e : t.Expr) (os : List f.Operation) → IsSign o → IsQuiet e → AreQuiet (chain os t.NoOperation) → AreQuiet (chain (f.operation o e ∷ os) t.NoOperation)
-  quiet_operations Plus e os sign a b = (a, b)
-  quiet_operations Minus e os sign a b = (a, b)
+  quiet_operations Add e os sign a b = (a, b)
+  quiet_operations Subtract e os sign a b = (a, b)
   quiet_operations _ e os sign a b = absurd sign
 
   pub good_operations : (k j : ℕ) (o : TypedOperator) (e : t.Expr) (os : List f.Operation) → 1 + k ≤ j → IsSign o → IsGoodExpr n 1 e → AreGoodOperations n k os → AreGoodOperations n j (f.operation o e ∷ os)
@@ -117,16 +118,16 @@ module _ (n : ℕ) where
     none_hidden = omega (arith, a.none_hidden, b.none_hidden);
   }
 
-  pub good_call : (link k : ℕ) (e : t.Expr) → IsWriter link → k ≤ 1000 → IsGoodExpr n k e → IsGoodStmt n true (f.call_of link e)
-  unfolding StmtIn Fits operands_of_stmt operands operands_of ExprIn ExprsIn CalleeIs Arranged PhraseIn a_word one words_in_all hidden hidden_expr hidden_exprs hidden_phrase
-  good_call link k e w le a = record {
+  pub good_call : (item k : ℕ) (e : t.Expr) → IsWriter item → k ≤ 1000 → IsGoodExpr n k e → IsGoodStmt n true (f.call_of item e)
+  unfolding StmtIn Fits operands_of_stmt operands operands_of ExprIn ExprsIn CalleeIs UsedItem Arranged PhraseIn a_word one words_in_all hidden hidden_expr hidden_exprs hidden_phrase
+  good_call item k e w le a = record {
     is_in = λ Γ h. (
       omega (arith, a.few),
       NoKinds,
       (
         w.item,
         one Ordinal,
-        (ap (λ links. slice_get links link) h.links ∙ w.is_there, w.is_procedure),
+        ((ap (λ (is : List Import). imported is 0 item) h.imports ∙ w.is_there, subst (λ (is : List Import). IsUsed is 0 item) (sym h.imports) w.is_used), w.is_procedure),
         (Ordinal, NoKinds, a.is_in Γ h.words, refl, refl),
         sym w.takes,
         sym w.gives,
@@ -150,7 +151,7 @@ module _ (n : ℕ) where
     pub good_declare : (k : ℕ) → k < n → IsGoodStmt n host (f.declare k)
     unfolding StmtIn VariableIn words_in hidden
     good_declare k lt = record {
-      is_in = λ Γ h. (Ordinal, all_one (λ (x : Home). VariableIn Γ x Ordinal) (Global k) (h.words.word k lt), refl);
+      is_in = λ Γ h. all_one (λ (x : Home). VariableIn Γ x Ordinal) (Global k) (h.words.word k lt);
       is_first = refl;
       none_hidden = refl;
     }
@@ -158,8 +159,8 @@ module _ (n : ℕ) where
     pub good_declare_as : (k j : ℕ) (e : t.Expr) → k < n → j ≤ 1000 → IsGoodExpr n j e → IsGoodStmt n host (f.declare_as k e)
     unfolding StmtIn Fits operands_of_stmt VariableIn a_word hidden
     good_declare_as k j e lt le a = record {
-      is_in = λ Γ h. (omega (arith, a.few), Ordinal, all_one (λ (x : Home). VariableIn Γ x Ordinal) (Global k) (h.words.word k lt), a.is_in Γ h.words);
-      is_first = a.is_quiet;
+      is_in = λ Γ h. (omega (arith, a.few), all_one (λ (x : Home). VariableIn Γ x Ordinal) (Global k) (h.words.word k lt), a.is_in Γ h.words);
+      is_first = (refl, a.is_quiet);
       none_hidden = a.none_hidden;
     }
 
@@ -193,7 +194,7 @@ module _ (n : ℕ) where
 
     stands_inside : (Γ : Scope) → Stands n host Γ → Stands n host (inside Γ)
     unfolding inside in_labelled
-    stands_inside Γ h = record { words = record { word = h.words.word }; links = h.links }
+    stands_inside Γ h = record { words = record { word = h.words.word }; imports = h.imports }
 
     no_labels : (Γ : Scope) → LabelsIn Γ Γ.labels NoExits
     unfolding LabelsIn labels_in AllDiffer
@@ -208,7 +209,7 @@ module _ (n : ℕ) where
     }
 
     pub good_loop : (k : ℕ) (e : t.Expr) (ss : List t.Stmt) → k ≤ 1000 → IsGoodExpr n k e → AreGoodStmts n host ss → IsGoodStmt n host (f.while_loop e ss)
-    unfolding StmtIn Fits operands_of_stmt operands_of_loop operands_of_condition CountIn LoopIn ConditionIn ExitsIn inside hidden hidden_loop hidden_condition hidden_exits
+    unfolding StmtIn Fits operands_of_stmt operands_of_loop operands_of_condition CountIn LoopIn ConditionIn FinishIn ExitsIn inside hidden hidden_loop hidden_finish hidden_condition hidden_exits
     good_loop k e ss le a b =
         let body = good_block ss b in
         record {
@@ -244,7 +245,7 @@ module _ (name : List ℕ) (host : Bool) (n : ℕ) (globals : List FieldType) (s
   unfolding scope_of
   stands_there = record {
     words = record { word = λ k lt. subst (λ ks. KindAt ks k Ordinal) (sym are_words) (word_at n k lt) };
-    links = refl;
+    imports = refl;
   }
 
   pub sound_module : n ≤ 16384 → Sound (f.module_of name host globals ss)

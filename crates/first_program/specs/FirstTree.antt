@@ -6,15 +6,12 @@ use Rattle.mesa_types.specs.declared.faces.Import.{Import}
 use Rattle.mesa_types.specs.declared.syntax.Operator.{Operator}
 use Rattle.mesa_types.specs.declared.syntax.Operator.TheVariants.{Add, Subtract}
 use Rattle.mesa_types.specs.declared.relation.Relation.{Relation}
-use Rattle.mesa_types.specs.declared.relation.Relation.TheVariants.{Equal, NotEqual, Less, AtMost, Greater, AtLeast}
 use Rattle.mesa_types.specs.declared.typed_parts.Home.TheVariants.{Global}
 use Rattle.mesa_types.specs.declared.typed_parts.Base.TheVariants.{Signed}
 use Rattle.mesa_types.specs.declared.typed_parts.Range.TheVariants.{Every}
 use Rattle.mesa_types.specs.declared.typed_parts.Callee.TheVariants.{LinkedProcedure}
 use Rattle.mesa_types.specs.declared.typed_parts.Operator.{Operator as TypedOperator}
-use Rattle.mesa_types.specs.declared.typed_parts.Operator.TheVariants.{Plus, Minus}
-use Rattle.mesa_types.specs.declared.typed_parts.Relation.{Relation as TypedRelation}
-use Rattle.mesa_types.specs.declared.typed_parts.Relation.TheVariants as typed
+use Rattle.mesa_types.specs.declared.typed_parts.Operator.TheVariants as typed
 use Rattle.mesa_types.specs.declared.types.FieldType.{FieldType, roll-FieldType}
 use Rattle.mesa_types.specs.declared.types.TypeTree.TheVariants.{Integer}
 use Rattle.interface_records.specs.Faces.{iodefs}
@@ -28,8 +25,8 @@ variable k = t.Variable (Global k) t.NoSuffix 1
 
 -- of the operators, addition and subtraction alone
 abbrev pub operator : Operator → Option TypedOperator
-operator Add = Some Plus
-operator Subtract = Some Minus
+operator Add = Some typed.Add
+operator Subtract = Some typed.Subtract
 operator _ = None
 
 -- an operator with its right side, to stand before others
@@ -42,42 +39,34 @@ operation o e = t.Then Every o e
 abbrev pub operated : t.Expr → List Operation → t.Expr
 operated e os = t.Operate e (chain os t.NoOperation)
 
-abbrev pub relation : Relation → TypedRelation
-relation Equal = typed.Equal
-relation NotEqual = typed.Differs
-relation Less = typed.Less
-relation AtMost = typed.AtMost
-relation Greater = typed.More
-relation AtLeast = typed.AtLeast
-
 abbrev pub related : Relation → t.Expr → t.Expr → t.Expr
-related r d e = t.Relate Signed (relation r) d e
+related r d e = t.Relate Signed r d e
 
--- the links of a module with IODefs
-abbrev pub link_of_write_char : ℕ
-link_of_write_char = 0
+-- the items of IODefs, the one import
+abbrev pub write_char : ℕ
+write_char = 0
 
-abbrev pub link_of_write_decimal : ℕ
-link_of_write_decimal = 1
+abbrev pub write_decimal : ℕ
+write_decimal = 2
 
--- a call of a link, which gives nothing
+-- a call of an item of the one import, which gives nothing
 abbrev pub call_of : ℕ → t.Expr → t.Stmt
-call_of link e = t.Perform (t.Call (LinkedProcedure link) [] (t.AndExpr e t.NoExprs) 0 t.NoPhrase)
+call_of item e = t.Perform (t.Call (LinkedProcedure 0 item) [] (t.AndExpr e t.NoExprs) 0 t.NoPhrase)
 
 abbrev pub assign : ℕ → t.Expr → t.Stmt
 assign k e = t.Assign (Global k) t.NoSuffix e
 
 abbrev pub declare : ℕ → t.Stmt
-declare k = t.Declare (Global k ∷ []) 1
+declare k = t.Declare (Global k ∷ []) t.Ordinal
 
 abbrev pub declare_as : ℕ → t.Expr → t.Stmt
-declare_as k e = t.DeclareAs (Global k ∷ []) e
+declare_as k e = t.DeclareAs (Global k ∷ []) t.Ordinal e
 
 abbrev pub block : List t.Stmt → t.Stmt
 block ss = t.Block t.NoPhrase (stmts ss) t.NoExits
 
 abbrev pub while_loop : t.Expr → List t.Stmt → t.Stmt
-while_loop e ss = t.Repeat t.Endless (t.LoopOf (t.While e) (block ss) t.NoExits t.Null)
+while_loop e ss = t.Repeat t.Endless (t.LoopOf (t.While e) (block ss) t.NoExits t.NoFinish)
 
 -- a variable of type INTEGER
 abbrev pub integer : List ℕ → FieldType

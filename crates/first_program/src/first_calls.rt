@@ -8,7 +8,7 @@ ghost use Rattle.first_program.specs.FirstViews.{finds};
 
 use crate::first_fault::FirstFault;
 use crate::first_sums::sum;
-use crate::first_tree::{self, LINK_OF_WRITE_CHAR, LINK_OF_WRITE_DECIMAL};
+use crate::first_tree::{self, WRITE_CHAR, WRITE_DECIMAL};
 use crate::variables::Variables;
 use mesa_types::syntax::{Brackets, Entries, Expr, Left, Suffix};
 use mesa_types::{TypedExpr, TypedStmt};
@@ -64,7 +64,7 @@ fn write_decimal(
     ensures { Gives stmt (spec.write_decimal (finds variables.now.places) e.now) result }
 {
     let value = sum(alloc, variables, e)?.value;
-    Ok(first_tree::call_of(alloc, LINK_OF_WRITE_DECIMAL, value)?)
+    Ok(first_tree::call_of(alloc, WRITE_DECIMAL, value)?)
 }
 
 #[tactic(auto, unfolding(crate::specs::FirstText::write_char))]
@@ -72,7 +72,7 @@ fn write_char(alloc: Global, e: &Expr) -> Result<TypedStmt, FirstFault>
     ensures { Gives stmt (spec.write_char e.now) result }
 {
     let value = character(e)?;
-    Ok(first_tree::call_of(alloc, LINK_OF_WRITE_CHAR, value)?)
+    Ok(first_tree::call_of(alloc, WRITE_CHAR, value)?)
 }
 
 /// A call of a procedure of the host.

@@ -13,10 +13,10 @@ use mesa_types::{
 };
 use std::alloc::Global;
 
-/// The links of a module with IODefs.
-pub const LINK_OF_WRITE_CHAR: u32 = 0;
+/// The items of IODefs, the one import of a module that has it.
+pub const WRITE_CHAR: u32 = 0;
 
-pub const LINK_OF_WRITE_DECIMAL: u32 = 1;
+pub const WRITE_DECIMAL: u32 = 2;
 
 pub fn number(value: u16) -> TypedExpr
     ensures { expr result ≡ spec.number value }
@@ -35,8 +35,8 @@ pub fn operator(written: syntax::Operator) -> Option<Operator>
     ensures { result ≡ spec.operator written }
 {
     match written {
-        syntax::Operator::Add => Some(Operator::Plus),
-        syntax::Operator::Subtract => Some(Operator::Minus),
+        syntax::Operator::Add => Some(Operator::Add),
+        syntax::Operator::Subtract => Some(Operator::Subtract),
         _ => None,
     }
 }
@@ -61,30 +61,17 @@ pub fn operated(
     Ok(TypedExpr::Operate(Boxed::new(alloc, first)?, operations))
 }
 
-fn relation(written: syntax::Relation) -> Relation
-    ensures { result ≡ spec.relation written }
-{
-    match written {
-        syntax::Relation::Equal => Relation::Equal,
-        syntax::Relation::NotEqual => Relation::Differs,
-        syntax::Relation::Less => Relation::Less,
-        syntax::Relation::AtMost => Relation::AtMost,
-        syntax::Relation::Greater => Relation::More,
-        syntax::Relation::AtLeast => Relation::AtLeast,
-    }
-}
-
 pub fn related(
     alloc: Global,
-    written: syntax::Relation,
+    relation: Relation,
     left: TypedExpr,
     right: TypedExpr,
 ) -> Result<TypedExpr, OutOfMemory>
-    ensures { IfOk result (λ made. expr made ≡ spec.related written (expr left) (expr right)) }
+    ensures { IfOk result (λ made. expr made ≡ spec.related relation (expr left) (expr right)) }
 {
     Ok(TypedExpr::Relate(
         Base::Signed,
-        relation(written),
+        relation,
         Boxed::new(alloc, left)?,
         Boxed::new(alloc, right)?,
     ))
@@ -106,14 +93,14 @@ fn one_global(alloc: Global, home: u16) -> Result<List<Home>, OutOfMemory>
     Ok(list)
 }
 
-/// The statement that calls a link.
-pub fn call_of(alloc: Global, link: u32, argument: TypedExpr) -> Result<TypedStmt, OutOfMemory>
-    ensures { IfOk result (λ made. stmt made ≡ spec.call_of link (expr argument)) }
+/// The statement that calls an item of the one import.
+pub fn call_of(alloc: Global, item: u32, argument: TypedExpr) -> Result<TypedStmt, OutOfMemory>
+    ensures { IfOk result (λ made. stmt made ≡ spec.call_of item (expr argument)) }
 {
     let arguments = one_expr(alloc, argument)?;
     let catching = Boxed::new(alloc, Phrase::NoPhrase)?;
     Ok(TypedStmt::Perform(TypedExpr::Call(
-        Callee::LinkedProcedure(link),
+        Callee::LinkedProcedure(0, item),
         List::new(alloc),
         arguments,
         0,
@@ -127,16 +114,25 @@ pub fn assign(alloc: Global, home: u16, value: TypedExpr) -> TypedStmt
     TypedStmt::Assign(Home::Global(home), List::new(alloc), value)
 }
 
+#[tactic(auto, using(crate::proofs::FirstKinds::integer_kind))]
 pub fn declare(alloc: Global, home: u16) -> Result<TypedStmt, OutOfMemory>
     ensures { IfOk result (λ made. stmt made ≡ spec.declare home) }
 {
-    Ok(TypedStmt::Declare(one_global(alloc, home)?, 1))
+    Ok(TypedStmt::Declare(
+        one_global(alloc, home)?,
+        TypeTree::Integer,
+    ))
 }
 
+#[tactic(auto, using(crate::proofs::FirstKinds::integer_kind))]
 pub fn declare_as(alloc: Global, home: u16, value: TypedExpr) -> Result<TypedStmt, OutOfMemory>
     ensures { IfOk result (λ made. stmt made ≡ spec.declare_as home (expr value)) }
 {
-    Ok(TypedStmt::DeclareAs(one_global(alloc, home)?, value))
+    Ok(TypedStmt::DeclareAs(
+        one_global(alloc, home)?,
+        TypeTree::Integer,
+        value,
+    ))
 }
 
 fn block(alloc: Global, statements: List<TypedStmt>) -> Result<TypedStmt, OutOfMemory>
@@ -158,7 +154,7 @@ pub fn while_loop(
         condition: Condition::While(condition),
         body,
         exits: List::new(alloc),
-        finished: TypedStmt::Null,
+        finished: None,
     };
     Ok(TypedStmt::Repeat(Boxed::new(alloc, whole)?))
 }

@@ -1,15 +1,17 @@
 -- The jump past a loop's body is written after the body; which loops have instructions.
-use Rattle.std.proofs.Common.{◌≡◌, ℕ, ◌+◌, ◌-◌, List, [], ◌∷◌, ◌++◌, length, map, Bool, true, false, refl, sym, ap, ◌∙◌, arith, append_assoc, length-append}
-use Rattle.std.specs.Prelude.{slice_set}
+use Rattle.std.proofs.Common.{◌≡◌, ℕ, ◌+◌, ◌-◌, List, [], ◌∷◌, ◌++◌, length, map, Bool, true, false, Option, Some, None, refl, sym, ap, ◌∙◌, arith, append_assoc, length-append}
+use Rattle.std.specs.Prelude.{slice_set, option_map}
 use Rattle.std.proofs.Math.Seq.{set-append_seam}
-use Rattle.mesa_types.specs.Typed.{Expr, Stmt, Null, Exits, NoExits, LoopOf, Condition, While}
-use Rattle.mesa_types.specs.Plain.{chain, condition, exit, expr, loop, stmt}
-use Rattle.mesa_types.specs.declared.faces.Item.{Item}
-use Rattle.mesa_types.specs.declared.typed_tree.Loop.{Loop, out-Loop}
+use Rattle.mesa_types.specs.Typed.{Expr, Stmt, Exits, NoExits, Finish, NoFinish, LoopOf, Condition, While}
+use Rattle.mesa_types.specs.Plain.{chain, finish, condition, exit, expr, loop, stmt}
+use Rattle.mesa_types.specs.declared.faces.Import.{Import}
+use Rattle.mesa_types.specs.declared.typed_tree.Loop.{Loop, out-Loop, roll-Loop, roll-out-Loop}
+use Rattle.mesa_types.specs.declared.typed_tree.Condition.{Condition as TypedCondition}
+use Rattle.mesa_types.specs.declared.typed_tree.TypedStmt.{TypedStmt}
 use Rattle.mesa_types.specs.declared.typed_tree.Exit.{Exit}
 use Rattle.mesa_types.specs.declared.typed_tree.TypedExpr.{TypedExpr}
 use Rattle.mesa_types.specs.declared.typed_tree.Condition.TheVariants as v
-use Rattle.mesa_types.specs.declared.typed_tree.Condition.TheFolds.{fold_out-Loop, fold-roll-Condition}
+use Rattle.mesa_types.specs.declared.typed_tree.Condition.TheFolds.{fold-roll-Loop, fold-roll-Condition}
 use Rattle.frame_machine.specs.declared.image.Instruction.{Instruction}
 use Rattle.frame_machine.specs.declared.image.Instruction.TheVariants.{JumpIfNot, JumpBack}
 use Rattle.linked_run.specs.Code.{code_of_expr, code_of_stmt, code_of_loop}
@@ -39,26 +41,30 @@ patched base c0 c1 c2 c3 control body x n0 n1 n2 m0 e0 m1 e1 e2 m2 e3 =
 
 -- Which loops have instructions.
 
-parts_of : (l : Loop) → loop l ≡ LoopOf (condition (out-Loop l).condition) (stmt (out-Loop l).body) (chain (map exit (out-Loop l).exits) NoExits) (stmt (out-Loop l).finished)
-parts_of l = rw fold_out-Loop refl
+loop_of : (c : TypedCondition) (s : TypedStmt) (es : List Exit) (f : Option TypedStmt) → loop (roll-Loop (record { condition = c; body = s; exits = es; finished = f })) ≡ LoopOf (condition c) (stmt s) (chain (map exit es) NoExits) (finish (option_map stmt f))
+loop_of c s es None = rw fold-roll-Loop refl
+loop_of c s es (Some t) = rw fold-roll-Loop refl
+
+parts_of : (l : Loop) → loop l ≡ LoopOf (condition (out-Loop l).condition) (stmt (out-Loop l).body) (chain (map exit (out-Loop l).exits) NoExits) (finish (option_map stmt (out-Loop l).finished))
+parts_of l = ap loop (sym (roll-out-Loop l)) ∙ loop_of (out-Loop l).condition (out-Loop l).body (out-Loop l).exits (out-Loop l).finished
 
 while_is : (e : TypedExpr) → condition (v.While e) ≡ While (expr e)
 while_is e = ap condition (sym (v.rolls-While e)) ∙ rw fold-roll-Condition refl
 
-plain_loop : (links : List Item) (c : Condition) (e : Expr) (s : Stmt) (es : Exits) (f : Stmt) → c ≡ While e → true ≡ ends_plainly es f → code_of_loop links (LoopOf c s es f) ≡ code.loop (code_of_expr links e) (code_of_stmt links s)
-plain_loop links c e s NoExits Null is q = ap (λ x. code_of_loop links (LoopOf x s NoExits Null)) is
-plain_loop links c e s _ _ is q = cc
+plain_loop : (imports : List Import) (c : Condition) (e : Expr) (s : Stmt) (es : Exits) (f : Finish) → c ≡ While e → true ≡ ends_plainly es f → code_of_loop imports (LoopOf c s es f) ≡ code.loop (code_of_expr imports e) (code_of_stmt imports s)
+plain_loop imports c e s NoExits NoFinish is q = ap (λ x. code_of_loop imports (LoopOf x s NoExits NoFinish)) is
+plain_loop imports c e s _ _ is q = cc
 
-other_loop : (links : List Item) (c : Condition) (s : Stmt) (es : Exits) (f : Stmt) → false ≡ ends_plainly es f → code_of_loop links (LoopOf c s es f) ≡ []
-other_loop links (While e) s NoExits Null q = cc
-other_loop links _ s _ _ q = refl
+other_loop : (imports : List Import) (c : Condition) (s : Stmt) (es : Exits) (f : Finish) → false ≡ ends_plainly es f → code_of_loop imports (LoopOf c s es f) ≡ []
+other_loop imports (While e) s NoExits NoFinish q = cc
+other_loop imports _ s _ _ q = refl
 
-pub code_of_while : (links : List Item) (l : Loop) (e : TypedExpr) (xs : List Exit) (b : Bool) → (out-Loop l).condition ≡ v.While e → xs ≡ (out-Loop l).exits → b ≡ ends_plainly (chain (map exit xs) NoExits) (stmt (out-Loop l).finished) → b ≡ true → code_of_loop links (loop l) ≡ code.loop (code_of_expr links (expr e)) (code_of_stmt links (stmt (out-Loop l).body))
-code_of_while links l e xs b is ex q h =
-    ap (code_of_loop links) (parts_of l)
-    ∙ plain_loop links _ (expr e) (stmt (out-Loop l).body) _ _ (ap condition is ∙ while_is e) (sym h ∙ q ∙ ap (λ ys. ends_plainly (chain (map exit ys) NoExits) (stmt (out-Loop l).finished)) ex)
+pub code_of_while : (imports : List Import) (l : Loop) (e : TypedExpr) (xs : List Exit) (b : Bool) → (out-Loop l).condition ≡ v.While e → xs ≡ (out-Loop l).exits → b ≡ ends_plainly (chain (map exit xs) NoExits) (finish (option_map stmt (out-Loop l).finished)) → b ≡ true → code_of_loop imports (loop l) ≡ code.loop (code_of_expr imports (expr e)) (code_of_stmt imports (stmt (out-Loop l).body))
+code_of_while imports l e xs b is ex q h =
+    ap (code_of_loop imports) (parts_of l)
+    ∙ plain_loop imports _ (expr e) (stmt (out-Loop l).body) _ _ (ap condition is ∙ while_is e) (sym h ∙ q ∙ ap (λ ys. ends_plainly (chain (map exit ys) NoExits) (finish (option_map stmt (out-Loop l).finished))) ex)
 
-pub code_of_other : (links : List Item) (l : Loop) (xs : List Exit) (b : Bool) → xs ≡ (out-Loop l).exits → b ≡ ends_plainly (chain (map exit xs) NoExits) (stmt (out-Loop l).finished) → b ≡ false → code_of_loop links (loop l) ≡ []
-code_of_other links l xs b ex q h =
-    ap (code_of_loop links) (parts_of l)
-    ∙ other_loop links _ (stmt (out-Loop l).body) _ _ (sym h ∙ q ∙ ap (λ ys. ends_plainly (chain (map exit ys) NoExits) (stmt (out-Loop l).finished)) ex)
+pub code_of_other : (imports : List Import) (l : Loop) (xs : List Exit) (b : Bool) → xs ≡ (out-Loop l).exits → b ≡ ends_plainly (chain (map exit xs) NoExits) (finish (option_map stmt (out-Loop l).finished)) → b ≡ false → code_of_loop imports (loop l) ≡ []
+code_of_other imports l xs b ex q h =
+    ap (code_of_loop imports) (parts_of l)
+    ∙ other_loop imports _ (stmt (out-Loop l).body) _ _ (sym h ∙ q ∙ ap (λ ys. ends_plainly (chain (map exit ys) NoExits) (finish (option_map stmt (out-Loop l).finished))) ex)

@@ -1,6 +1,6 @@
 -- What stands behind a name, and the exits of a block or loop, are seen in the plain twin.
 use Rattle.std.proofs.Common.{◌≡◌, ℕ, ◌<◌, List, [], ◌∷◌, map, length, false, None, refl, arith}
-use Rattle.mesa_types.specs.Typed.{Suffixes, NoSuffix, NoExits, Phrase, NoPhrase, Catch, Stmt}
+use Rattle.mesa_types.specs.Typed.{Suffixes, NoSuffix, NoExits, Phrase, NoPhrase, Catch, Finish}
 use Rattle.mesa_types.specs.Plain.{Layer, chain, exit, suffix, suffix_step}
 use Rattle.mesa_types.specs.declared.typed_parts.Home.{Home}
 use Rattle.mesa_types.specs.declared.typed_parts.Home.TheVariants.{Global, Local}
@@ -11,9 +11,9 @@ use Rattle.mesa_types.specs.declared.typed_tree.Condition.TheFolds.{fold_out-Exi
 use Rattle.linked_run.specs.Rows.{global_at, is_plain, ends_plainly}
 
 -- a block or loop with exits is no plain one
-pub exits_stand : (xs : List Exit) (s : Stmt) → 0 < length xs → false ≡ ends_plainly (chain (map exit xs) NoExits) s
-exits_stand [] s lt = absurd (omega arith)
-exits_stand (x ∷ xs) s lt = rw fold_out-Exit refl
+pub exits_stand : (xs : List Exit) (f : Finish) → 0 < length xs → false ≡ ends_plainly (chain (map exit xs) NoExits) f
+exits_stand [] f lt = absurd (omega arith)
+exits_stand (x ∷ xs) f lt = rw fold_out-Exit refl
 
 pub plain_exits : (p : Phrase) (xs : List Exit) → 0 < length xs → false ≡ is_plain p (chain (map exit xs) NoExits)
 plain_exits p [] lt = absurd (omega arith)

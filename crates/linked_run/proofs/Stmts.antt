@@ -2,16 +2,17 @@
 use Rattle.std.proofs.Common.{◌≡◌, ℕ, zero, suc, ◌+◌, ◌-◌, ◌<◌, ◌≤◌, List, [], ◌∷◌, ◌++◌, length, Some, refl, ap, sym, ◌∙◌, subst, arith}
 use Rattle.std.specs.Prelude.{slice_get, slice_set, if◌then◌else◌}
 use Rattle.std.proofs.Math.Dec.{eqb-suc-zero}
-use Rattle.mesa_types.specs.Typed.{Endless, Expr, Call, NoExprs, AndExpr, NoSuffix, NoPhrase, Stmt, Null, Declare, DeclareAs, Assign, Perform, Block, Repeat, Stmts, NoStmts, AndStmt, NoExits, LoopOf, While}
-use Rattle.mesa_types.specs.declared.faces.Item.{Item}
+use Rattle.mesa_types.specs.Typed.{Endless, Expr, Call, NoExprs, AndExpr, NoSuffix, NoPhrase, Stmt, Null, Declare, DeclareAs, Assign, Perform, Block, Repeat, Stmts, NoStmts, AndStmt, NoExits, LoopOf, NoFinish, While}
+use Rattle.mesa_types.specs.Links.{imported}
+use Rattle.mesa_types.specs.declared.faces.Import.{Import}
 use Rattle.mesa_types.specs.declared.typed_parts.Home.TheVariants.{Global}
 use Rattle.mesa_types.specs.declared.typed_parts.Callee.TheVariants.{LinkedProcedure}
 use Rattle.source_meaning.specs.Value.{Value, NoValues, AndValue, is_true, nth, word}
 use Rattle.source_meaning.specs.Program.{Host, WriteChar, WriteDecimal, ToHost, Program, link_of, callee_of}
 use Rattle.source_meaning.specs.State.{State, Result, Run, Answer, Normal, Gives, Spent, FrameLimit, NoRow, give, carry, change, spend, spend_of, put, branch, normal_then, on_normal, on_value, on_values, dropped, dropped_of, after, value_then}
 use Rattle.source_meaning.specs.Calls.{Where, Next, globals, store, zero_at, call, call_to, written}
-use Rattle.source_meaning.specs.Meaning.{value, values, does, sequence, loop, condition, meaning}
-use Rattle.source_meaning.specs.FirstProgram.{IsQuiet, IsHostLink, IsFirst, AreFirst}
+use Rattle.source_meaning.specs.Meaning.{value, values, does, sequence, loop, finish, condition, meaning}
+use Rattle.source_meaning.specs.FirstProgram.{IsQuiet, IsHostItem, IsFirst, AreFirst}
 use Rattle.frame_machine.specs.declared.image.Instruction.{Instruction}
 use Rattle.frame_machine.specs.declared.image.Instruction.TheVariants as i
 use Rattle.frame_machine.specs.declared.outcome.End.TheVariants as end
@@ -23,16 +24,16 @@ use Rattle.linked_run.proofs.Lies.{Lies, seam, lies_length, Leads, stays, and_th
 use Rattle.linked_run.proofs.Exprs.{here, expr_leads}
 use Rattle.linked_run.proofs.Stores.{Room, words_stored, room_stored}
 
--- the links of an instance stand for the host procedures that they name, and its variables begin as 0
-pub record Linked (P : Program) (w : Where) (links : List Item) : Type 0 where
-  pub host : (k : ℕ) (l : IsHostLink links k) → link_of P w.instance k ≡ ToHost l.1
+-- the imports of an instance stand for the host procedures that they name, and its variables begin as 0
+pub record Linked (P : Program) (w : Where) (imports : List Import) : Type 0 where
+  pub host : (k n : ℕ) (l : IsHostItem imports k n) → link_of P w.instance k n ≡ ToHost l.1
   pub zero : (k : ℕ) → word (zero_at P w k) ≡ 0
 
-link_code : (links : List Item) (k : ℕ) (l : IsHostLink links k) → code_of_link (slice_get links k) ≡ code_of_host (Some l.1)
-link_code links k l = ap code_of_link l.2 ∙ ap code_of_host l.3
+link_code : (imports : List Import) (k n : ℕ) (l : IsHostItem imports k n) → code_of_link (imported imports k n) ≡ code_of_host (Some l.1)
+link_code imports k n l = ap code_of_link l.2 ∙ ap code_of_host l.3
 
 abbrev looped : Expr → Stmt → Stmt
-looped e t = Repeat Endless (LoopOf (While e) t NoExits Null)
+looped e t = Repeat Endless (LoopOf (While e) t NoExits NoFinish)
 
 module _ (whole : List Instruction) (w : Where) (n : ℕ) where
   -- the machine at a place between statements, when the source is in this state
@@ -97,10 +98,10 @@ module _ (whole : List Instruction) (w : Where) (n : ℕ) where
   wider s b input bound FrameLimit σ d = d
   wider s b input bound NoRow σ d = d
 
-  module _ (P : Program) (links : List Item) (linked : Linked P w links) where
+  module _ (P : Program) (imports : List Import) (linked : Linked P w imports) where
     -- what is run with one turn less does what it means
     pub record Follows (bound : ℕ) (next : Next) : Type 0 where
-      pub by : (t : Stmt) (a b : ℕ) (input : List ℕ) (σ : State) → Within n t → IsFirst links t → Lies whole a (code_of_stmt links t) b → Room w n σ.store → σ.input ≡ input → σ.turns < bound → DoesAll (between a σ) b input bound (next t w σ)
+      pub by : (t : Stmt) (a b : ℕ) (input : List ℕ) (σ : State) → Within n t → IsFirst imports t → Lies whole a (code_of_stmt imports t) b → Room w n σ.store → σ.input ≡ input → σ.turns < bound → DoesAll (between a σ) b input bound (next t w σ)
 
     zeroed : (k a : ℕ) (σ : State) → k < n → Room w n σ.store → slice_get whole a ≡ Some (i.Lit 0) → slice_get whole (a + 1) ≡ Some (i.StoreG k) → Leads whole (between a σ) (between (a + 1 + 1) (record σ { store = store w k (zero_at P w k) σ.store }))
     unfolding machine.step_of machine.push
@@ -108,19 +109,19 @@ module _ (whole : List Instruction) (w : Where) (n : ℕ) where
         and_then whole _ _ _ (leads whole (between a σ) (here (between (a + 1) σ) (a + 1) (0 ∷ [])) (i.Lit 0) g refl) (stored k (a + 1) (a + 1 + 1) 0 (zero_at P w k) σ (sym (linked.zero k)) lt room f refl)
 
     -- an expression's value is stored
-    assigned : (next : Next) (k : ℕ) (e : Expr) (a b : ℕ) (input : List ℕ) (bound : ℕ) (σ : State) → k < n → IsQuiet e → Lies whole a (code_of_expr links e ++ i.StoreG k ∷ []) b → Room w n σ.store → σ.input ≡ input → σ.turns ≤ bound → DoesAll (between a σ) b input bound (on_value (value P next e w) (λ v. change (store w k v) (give Normal)) σ)
+    assigned : (next : Next) (k : ℕ) (e : Expr) (a b : ℕ) (input : List ℕ) (bound : ℕ) (σ : State) → k < n → IsQuiet e → Lies whole a (code_of_expr imports e ++ i.StoreG k ∷ []) b → Room w n σ.store → σ.input ≡ input → σ.turns ≤ bound → DoesAll (between a σ) b input bound (on_value (value P next e w) (λ v. change (store w k v) (give Normal)) σ)
     unfolding change give
     assigned next k e a b input bound σ lt q l room same le =
         let x = worth e (words (globals w σ.store)) in
         let h = value_is P next w e σ q in
-        let m = seam whole a (code_of_expr links e) (i.StoreG k ∷ []) b l in
+        let m = seam whole a (code_of_expr imports e) (i.StoreG k ∷ []) b l in
         subst (λ r. DoesAll (between a σ) b input bound r)
         (sym (on_value_of (value P next e w) (λ v. change (store w k v) (give Normal)) x σ h))
         (record {
           room = room_stored w n k h.found σ.store lt room;
           same_input = same;
           bounded = le;
-          comes = and_then whole _ _ _ (expr_leads whole links e (between a σ) a m.middle [] q m.first) (stored k m.middle b x h.found σ (sym h.number) lt room (m.second).0 (m.second).1);
+          comes = and_then whole _ _ _ (expr_leads whole imports e (between a σ) a m.middle [] q m.first) (stored k m.middle b x h.found σ (sym h.number) lt room (m.second).0 (m.second).1);
         })
 
     wrote : (h : Host) (v : Value) (a b t : ℕ) (σ : State) → a + 1 ≡ b → Leads whole (here (between a (record σ { turns = suc t })) a (word v ∷ [])) (between (a + 1) (record σ { turns = t; output = σ.output ++ written h (AndValue v NoValues) })) → Leads whole (here (between a (record σ { turns = suc t })) a (word v ∷ [])) (between b (record σ { turns = t; output = σ.output ++ written h (AndValue v NoValues) }))
@@ -145,28 +146,28 @@ module _ (whole : List Instruction) (w : Where) (n : ℕ) where
     one_value next e x σ h = on_value_of (value P next e w) (λ v. on_values (values P next NoExprs w) λ vs. give (Gives (AndValue v vs))) x σ h
 
     -- a call of a link that is for the host
-    called : (next : Next) (k size : ℕ) (e : Expr) (x : ℕ) (σ : State) → (l : IsHostLink links k) → (h : IsWorth (value P next e w) σ x) → dropped (value P next (Call (LinkedProcedure k) [] (AndExpr e NoExprs) size NoPhrase) w) σ ≡ carry (spend_of σ.turns (put (written l.1 (AndValue h.found NoValues)) (give (Gives NoValues))) σ) dropped_of
+    called : (next : Next) (k m size : ℕ) (e : Expr) (x : ℕ) (σ : State) → (l : IsHostItem imports k m) → (h : IsWorth (value P next e w) σ x) → dropped (value P next (Call (LinkedProcedure k m) [] (AndExpr e NoExprs) size NoPhrase) w) σ ≡ carry (spend_of σ.turns (put (written l.1 (AndValue h.found NoValues)) (give (Gives NoValues))) σ) dropped_of
     unfolding dropped after on_values carry value value_then call call_to callee_of spend give
-    called next k size e x σ l h =
-        ap (λ y. carry (carry y (value_then (λ vs. call (callee_of P w.instance (LinkedProcedure k)) vs))) dropped_of) (one_value next e x σ h)
-        ∙ ap (λ t. carry (call t (AndValue h.found NoValues) σ) dropped_of) (linked.host k l)
+    called next k m size e x σ l h =
+        ap (λ y. carry (carry y (value_then (λ vs. call (callee_of P w.instance (LinkedProcedure k m)) vs))) dropped_of) (one_value next e x σ h)
+        ∙ ap (λ t. carry (call t (AndValue h.found NoValues) σ) dropped_of) (linked.host k m l)
 
-    performed : (next : Next) (k size : ℕ) (e : Expr) (a b : ℕ) (input : List ℕ) (bound : ℕ) (σ : State) → (l : IsHostLink links k) → IsQuiet e → Lies whole a (code_of_expr links (Call (LinkedProcedure k) [] (AndExpr e NoExprs) size NoPhrase)) b → Room w n σ.store → σ.input ≡ input → σ.turns ≤ bound → DoesAll (between a σ) b input bound (dropped (value P next (Call (LinkedProcedure k) [] (AndExpr e NoExprs) size NoPhrase) w) σ)
-    performed next k size e a b input bound σ host q l room same le =
+    performed : (next : Next) (k m size : ℕ) (e : Expr) (a b : ℕ) (input : List ℕ) (bound : ℕ) (σ : State) → (l : IsHostItem imports k m) → IsQuiet e → Lies whole a (code_of_expr imports (Call (LinkedProcedure k m) [] (AndExpr e NoExprs) size NoPhrase)) b → Room w n σ.store → σ.input ≡ input → σ.turns ≤ bound → DoesAll (between a σ) b input bound (dropped (value P next (Call (LinkedProcedure k m) [] (AndExpr e NoExprs) size NoPhrase) w) σ)
+    performed next k m size e a b input bound σ host q l room same le =
         let h = value_is P next w e σ q in
-        let m = seam whole a (code_of_expr links e ++ []) (code_of_link (slice_get links k)) b l in
-        let j = seam whole a (code_of_expr links e) [] m.middle m.first in
+        let g = seam whole a (code_of_expr imports e ++ []) (code_of_link (imported imports k m)) b l in
+        let j = seam whole a (code_of_expr imports e) [] g.middle g.first in
         let r = carry (spend_of σ.turns (put (written host.1 (AndValue h.found NoValues)) (give (Gives NoValues))) σ) dropped_of in
         subst (λ y. DoesAll (between a σ) b input bound y)
-        (sym (called next k size e (worth e (words (globals w σ.store))) σ host h))
-        (from_before (between a σ) (here (between m.middle σ) m.middle (word h.found ∷ [])) b input bound r.answer r.state
-        (subst (λ x. Leads whole (between a σ) (here (between a σ) m.middle (x ∷ []))) (sym h.number)
-        (subst (λ p. Leads whole (between a σ) (here (between a σ) p (worth e (words (globals w σ.store)) ∷ []))) j.second (expr_leads whole links e (between a σ) a j.middle [] q j.first)))
-        (written_by host.1 h.found m.middle b σ.turns input bound σ (subst (λ c. Lies whole m.middle c b) (link_code links k host) m.second) room same le))
+        (sym (called next k m size e (worth e (words (globals w σ.store))) σ host h))
+        (from_before (between a σ) (here (between g.middle σ) g.middle (word h.found ∷ [])) b input bound r.answer r.state
+        (subst (λ x. Leads whole (between a σ) (here (between a σ) g.middle (x ∷ []))) (sym h.number)
+        (subst (λ p. Leads whole (between a σ) (here (between a σ) p (worth e (words (globals w σ.store)) ∷ []))) j.second (expr_leads whole imports e (between a σ) a j.middle [] q j.first)))
+        (written_by host.1 h.found g.middle b σ.turns input bound σ (subst (λ c. Lies whole g.middle c b) (link_code imports k m host) g.second) room same le))
 
     module _ (next : Next) (bound : ℕ) (follows : Follows bound next) where
       -- a round is at its end
-      turned : (t : Stmt) (a b d distance turns : ℕ) (input : List ℕ) (σ : State) → Within n t → IsFirst links t → Lies whole a (code_of_stmt links t) b → slice_get whole d ≡ Some (i.JumpBack distance) → d - distance ≡ a → Room w n σ.store → σ.input ≡ input → turns ≤ bound → DoesAll (between d (record σ { turns = turns })) b input bound (spend_of turns (λ σ1. next t w σ1) (record σ { turns = turns }))
+      turned : (t : Stmt) (a b d distance turns : ℕ) (input : List ℕ) (σ : State) → Within n t → IsFirst imports t → Lies whole a (code_of_stmt imports t) b → slice_get whole d ≡ Some (i.JumpBack distance) → d - distance ≡ a → Room w n σ.store → σ.input ≡ input → turns ≤ bound → DoesAll (between d (record σ { turns = turns })) b input bound (spend_of turns (λ σ1. next t w σ1) (record σ { turns = turns }))
       unfolding spend_of give machine.step_of machine.spend
       turned t a b d distance zero input σ good first l g e room same le =
           let s = between d (record σ { turns = 0 }) in
@@ -180,45 +181,45 @@ module _ (whole : List Instruction) (w : Where) (n : ℕ) where
           (follows.by t a b input σ1 good first l room same (omega arith))
 
       -- the control's word is on top, and the body does what it means
-      tested : (e : Expr) (t : Stmt) (a b c x : ℕ) (input : List ℕ) (σ : State) → Within n (looped e t) → IsFirst links (looped e t) → Lies whole a (code_of_stmt links (looped e t)) b → Lies whole a (code_of_expr links e) c → slice_get whole c ≡ Some (i.JumpIfNot (length (code_of_stmt links t) + 1)) → Lies whole (c + 1) (code_of_stmt links t ++ i.JumpBack (length (code_of_expr links e) + 1 + length (code_of_stmt links t)) ∷ []) b → Room w n σ.store → σ.input ≡ input → σ.turns ≤ bound → ((k : ℕ) → Lies whole (c + 1) (code_of_stmt links t) k → DoesAll (between (c + 1) σ) k input bound (does P next t w σ)) → DoesAll (here (between c σ) c (x ∷ [])) b input bound (branch (is_true x) (on_normal (does P next t w) (spend (λ σ1. next (looped e t) w σ1))) (give Normal) σ)
+      tested : (e : Expr) (t : Stmt) (a b c x : ℕ) (input : List ℕ) (σ : State) → Within n (looped e t) → IsFirst imports (looped e t) → Lies whole a (code_of_stmt imports (looped e t)) b → Lies whole a (code_of_expr imports e) c → slice_get whole c ≡ Some (i.JumpIfNot (length (code_of_stmt imports t) + 1)) → Lies whole (c + 1) (code_of_stmt imports t ++ i.JumpBack (length (code_of_expr imports e) + 1 + length (code_of_stmt imports t)) ∷ []) b → Room w n σ.store → σ.input ≡ input → σ.turns ≤ bound → ((k : ℕ) → Lies whole (c + 1) (code_of_stmt imports t) k → DoesAll (between (c + 1) σ) k input bound (does P next t w σ)) → DoesAll (here (between c σ) c (x ∷ [])) b input bound (branch (is_true x) (on_normal (does P next t w) (spend (λ σ1. next (looped e t) w σ1))) (give Normal) σ)
       unfolding does loop condition on_normal after carry change spend give branch is_true normal_then machine.step_of machine.top machine.below
       tested e t a b c zero input σ good first l before g body room same le inner =
-          let k = seam whole (c + 1) (code_of_stmt links t) (i.JumpBack (length (code_of_expr links e) + 1 + length (code_of_stmt links t)) ∷ []) b body in
-          let size = lies_length whole (c + 1) (code_of_stmt links t) k.middle k.first in
-          let to : c + 1 + (length (code_of_stmt links t) + 1) ≡ b = omega (arith, size, (k.second).1) in
-          record { room = room; same_input = same; bounded = le; comes = leads whole (here (between c σ) c (0 ∷ [])) (between b σ) (i.JumpIfNot (length (code_of_stmt links t) + 1)) g (ap (λ p. machine.Goes (between p σ)) to) }
+          let k = seam whole (c + 1) (code_of_stmt imports t) (i.JumpBack (length (code_of_expr imports e) + 1 + length (code_of_stmt imports t)) ∷ []) b body in
+          let size = lies_length whole (c + 1) (code_of_stmt imports t) k.middle k.first in
+          let to : c + 1 + (length (code_of_stmt imports t) + 1) ≡ b = omega (arith, size, (k.second).1) in
+          record { room = room; same_input = same; bounded = le; comes = leads whole (here (between c σ) c (0 ∷ [])) (between b σ) (i.JumpIfNot (length (code_of_stmt imports t) + 1)) g (ap (λ p. machine.Goes (between p σ)) to) }
       tested e t a b c (suc x) input σ good first l before g body room same le inner =
-          let distance = length (code_of_expr links e) + 1 + length (code_of_stmt links t) in
-          let k = seam whole (c + 1) (code_of_stmt links t) (i.JumpBack distance ∷ []) b body in
-          let size = lies_length whole (c + 1) (code_of_stmt links t) k.middle k.first in
-          let start = lies_length whole a (code_of_expr links e) c before in
+          let distance = length (code_of_expr imports e) + 1 + length (code_of_stmt imports t) in
+          let k = seam whole (c + 1) (code_of_stmt imports t) (i.JumpBack distance ∷ []) b body in
+          let size = lies_length whole (c + 1) (code_of_stmt imports t) k.middle k.first in
+          let start = lies_length whole a (code_of_expr imports e) c before in
           let to : k.middle - distance ≡ a = omega (arith, size, start) in
           let d = does P next t w σ in
           let again : Run = spend (λ σ1. next (looped e t) w σ1) in
           let r = normal_then again d.answer d.state in
           from_before (here (between c σ) c (suc x ∷ [])) (between (c + 1) σ) b input bound r.answer r.state
-          (leads whole (here (between c σ) c (suc x ∷ [])) (between (c + 1) σ) (i.JumpIfNot (length (code_of_stmt links t) + 1)) g (ap (λ v. machine.Goes (between (if v then c + 1 + (length (code_of_stmt links t) + 1) else c + 1) σ)) (eqb-suc-zero x)))
+          (leads whole (here (between c σ) c (suc x ∷ [])) (between (c + 1) σ) (i.JumpIfNot (length (code_of_stmt imports t) + 1)) g (ap (λ v. machine.Goes (between (if v then c + 1 + (length (code_of_stmt imports t) + 1) else c + 1) σ)) (eqb-suc-zero x)))
           (one_after (between (c + 1) σ) k.middle b input bound again d.answer d.state (inner k.middle k.first)
           (λ σ1 h. turned (looped e t) a b k.middle distance σ1.turns input σ1 good first l (k.second).0 to h.room h.same_input h.bounded))
 
       mutual
-        unfolding does sequence loop condition on_normal after carry change spend give branch is_true normal_then machine.step_of machine.top machine.below
+        unfolding does sequence loop finish condition on_normal after carry change spend give branch is_true normal_then machine.step_of machine.top machine.below
 
-        pub stmt_does : (t : Stmt) (a b : ℕ) (input : List ℕ) (σ : State) → Within n t → IsFirst links t → Lies whole a (code_of_stmt links t) b → Room w n σ.store → σ.input ≡ input → σ.turns ≤ bound → DoesAll (between a σ) b input bound (does P next t w σ)
-        stmt_does (Declare (Global k ∷ []) size) a b input σ good first l room same le =
+        pub stmt_does : (t : Stmt) (a b : ℕ) (input : List ℕ) (σ : State) → Within n t → IsFirst imports t → Lies whole a (code_of_stmt imports t) b → Room w n σ.store → σ.input ≡ input → σ.turns ≤ bound → DoesAll (between a σ) b input bound (does P next t w σ)
+        stmt_does (Declare (Global k ∷ []) j) a b input σ good first l room same le =
             record { room = room_stored w n k (zero_at P w k) σ.store good room; same_input = same; bounded = le; comes = at_place (between a σ) (a + 1 + 1) b (record σ { store = store w k (zero_at P w k) σ.store }) (l.1).1 (zeroed k a σ good room l.0 (l.1).0) }
-        stmt_does (DeclareAs (Global k ∷ []) e) a b input σ good first l room same le =
+        stmt_does (DeclareAs (Global k ∷ []) j e) a b input σ good first l room same le =
             let σ1 : State = record σ { store = store w k (zero_at P w k) σ.store } in
             let r = on_value (value P next e w) (λ v. change (store w k v) (give Normal)) σ1 in
             from_before (between a σ) (between (a + 1 + 1) σ1) b input bound r.answer r.state (zeroed k a σ good room l.0 (l.1).0)
-            (assigned next k e (a + 1 + 1) b input bound σ1 good first (l.1).1 (room_stored w n k (zero_at P w k) σ.store good room) same le)
+            (assigned next k e (a + 1 + 1) b input bound σ1 good first.1 (l.1).1 (room_stored w n k (zero_at P w k) σ.store good room) same le)
         stmt_does (Assign (Global k) NoSuffix e) a b input σ good first l room same le = assigned next k e a b input bound σ good first l room same le
-        stmt_does (Perform (Call (LinkedProcedure k) [] (AndExpr e NoExprs) size NoPhrase)) a b input σ good first l room same le = performed next k size e a b input bound σ first.0 first.1 l room same le
+        stmt_does (Perform (Call (LinkedProcedure k m) [] (AndExpr e NoExprs) size NoPhrase)) a b input σ good first l room same le = performed next k m size e a b input bound σ first.0 first.1 l room same le
         stmt_does (Block NoPhrase ss NoExits) a b input σ good first l room same le = stmts_do ss a b input σ good first l room same le
-        stmt_does (Repeat Endless (LoopOf (While e) t NoExits Null)) a b input σ good first l room same le =
+        stmt_does (Repeat Endless (LoopOf (While e) t NoExits NoFinish)) a b input σ good first l room same le =
             let x = worth e (words (globals w σ.store)) in
-            let ce = code_of_expr links e in
-            let ct = code_of_stmt links t in
+            let ce = code_of_expr imports e in
+            let ct = code_of_stmt imports t in
             let back = i.JumpBack (length ce + 1 + length ct) in
             let m = seam whole a ce (i.JumpIfNot (length ct + 1) ∷ (ct ++ back ∷ [])) b l in
             let run : Run = branch (is_true x) (on_normal (does P next t w) (spend (λ σ1. next (looped e t) w σ1))) (give Normal) in
@@ -226,14 +227,14 @@ module _ (whole : List Instruction) (w : Where) (n : ℕ) where
             subst (λ y. DoesAll (between a σ) b input bound y)
             (sym (on_word_of (value P next e w) (λ y. branch (is_true y) (on_normal (does P next t w) (spend (λ σ1. next (looped e t) w σ1))) (give Normal)) x σ (value_is P next w e σ first.0)))
             (from_before (between a σ) (here (between m.middle σ) m.middle (x ∷ [])) b input bound r.answer r.state
-            (expr_leads whole links e (between a σ) a m.middle [] first.0 m.first)
+            (expr_leads whole imports e (between a σ) a m.middle [] first.0 m.first)
             (tested e t a b m.middle x input σ good first l m.first (m.second).0 (m.second).1 room same le (λ k h. stmt_does t (m.middle + 1) k input σ good first.1 h room same le)))
         stmt_does _ a b input σ good first l room same le = absurd first
 
-        pub stmts_do : (ss : Stmts) (a b : ℕ) (input : List ℕ) (σ : State) → AllWithin n ss → AreFirst links ss → Lies whole a (code_of_stmts links ss) b → Room w n σ.store → σ.input ≡ input → σ.turns ≤ bound → DoesAll (between a σ) b input bound (sequence P next ss w σ)
+        pub stmts_do : (ss : Stmts) (a b : ℕ) (input : List ℕ) (σ : State) → AllWithin n ss → AreFirst imports ss → Lies whole a (code_of_stmts imports ss) b → Room w n σ.store → σ.input ≡ input → σ.turns ≤ bound → DoesAll (between a σ) b input bound (sequence P next ss w σ)
         stmts_do NoStmts a b input σ good first l room same le = record { room = room; same_input = same; bounded = le; comes = at_place (between a σ) a b σ l (stays whole (between a σ)) }
         stmts_do (AndStmt t ss) a b input σ good first l room same le =
-            let m = seam whole a (code_of_stmt links t) (code_of_stmts links ss) b l in
+            let m = seam whole a (code_of_stmt imports t) (code_of_stmts imports ss) b l in
             let d = does P next t w σ in
             one_after (between a σ) m.middle b input bound (sequence P next ss w) d.answer d.state (stmt_does t a m.middle input σ good.0 first.0 m.first room same le)
             (λ σ1 h. stmts_do ss m.middle b input σ1 good.1 first.1 m.second h.room h.same_input h.bounded)

@@ -4,7 +4,7 @@ use Rattle.std.proofs.lemmas.List.{length-replicate}
 use Rattle.std.specs.Prelude.{slice_get, replicate}
 use Rattle.mesa_types.specs.Typed.{Kinds, Module}
 use Rattle.mesa_types.specs.Shapes.{words_in_all}
-use Rattle.mesa_types.specs.Sound.{Sound, links_of, scope_of}
+use Rattle.mesa_types.specs.Sound.{Sound, scope_of}
 use Rattle.source_meaning.specs.Value.{word, zeros}
 use Rattle.source_meaning.specs.Program.{Instance, or_else, instance_of, link_of, module_of, targets_of, single}
 use Rattle.source_meaning.specs.FirstProgram.{AreOrdinal, FirstProgram, IsFirstInstance}
@@ -45,7 +45,7 @@ closed a σ = carry (leave (carry (record { answer = a; state = σ }) (λ b. cha
 
 -- its code, and how many words its variables have
 abbrev code : Module → List Instruction
-code m = code_of_stmt (links_of m.imports) m.body.does
+code m = code_of_stmt (m.imports) m.body.does
 
 abbrev size : Module → ℕ
 size m = words_in_all m.globals
@@ -75,13 +75,13 @@ room : (m : Module) (input : List ℕ) (ending : Ending) (t : ℕ) → FirstProg
 unfolding globals or_else push mark_started first_state single
 room m input ending t first = record { instance_is = omega arith; size = ap length (words_of_zeros m.globals first.globals) ∙ length-replicate (size m) 0 }
 
-linked : (m : Module) → FirstProgram m → Linked (single m) body_place (links_of m.imports)
+linked : (m : Module) → FirstProgram m → Linked (single m) body_place (m.imports)
 unfolding link_of instance_of module_of single or_else zero_at word
 linked m first =
     let i : Instance = record { code = m; links = targets_of m } in
     let f : IsFirstInstance i = record { is_first = first; is_linked = refl } in
     record {
-      host = λ k l. host_target i f k l;
+      host = λ k n l. host_target i f k n l;
       zero = λ k. ap word (zero_of_word m.globals first.globals k);
     }
 
@@ -120,7 +120,7 @@ finished m input ending t bound NoRow σ first d = absurd d
 stays_within : (m : Module) → Sound m → FirstProgram m → Within (size m) m.body.does
 unfolding scope_of
 stays_within m sound first =
-    within (links_of m.imports) (size m) (scope_of m [] [] m.body) m.body.does (sym (words_are m.globals first.globals)) sound.body.does (first_block (links_of m.imports) m.body.does first.does)
+    within (m.imports) (size m) (scope_of m [] [] m.body) m.body.does (sym (words_are m.globals first.globals)) sound.body.does (first_block (m.imports) m.body.does first.does)
 
 pub simulation : ImagesRunAsTheirSource
 unfolding outcome control first_state single or_else look branch is_started on_normal after carry start change spend spend_of mark_started give normal_then machine.start machine.spend
@@ -132,9 +132,9 @@ simulation m input ending zero sound first =
       its_input = refl;
     }
 simulation m input ending (suc t) sound first =
-    let links = links_of m.imports in
+    let imports = m.imports in
     let σ = body_state m input ending t in
     let r = meaning (single m) (suc (suc t)) m.body.does body_place σ in
     subst (λ x. RunsTo (image_of m) (suc t) input x) (sym (opened m input ending t))
     (finished m input ending t (suc (suc t)) r.answer r.state first
-    ((all_follow (code m) body_place (size m) (single m) links (linked m first) (suc (suc t))).by m.body.does 0 (length (code m)) input σ (stays_within m sound first) (first_block links m.body.does first.does) (lies_whole (code m)) (room m input ending t first) refl (omega arith)))
+    ((all_follow (code m) body_place (size m) (single m) imports (linked m first) (suc (suc t))).by m.body.does 0 (length (code m)) input σ (stays_within m sound first) (first_block imports m.body.does first.does) (lies_whole (code m)) (room m input ending t first) refl (omega arith)))

@@ -6,7 +6,7 @@ use Rattle.mesa_types.specs.declared.typed_parts.Home.TheVariants.{Global}
 use Rattle.mesa_types.specs.declared.typed_parts.Base.TheVariants.{Signed}
 use Rattle.mesa_types.specs.declared.typed_parts.Range.TheVariants.{Every}
 use Rattle.mesa_types.specs.declared.typed_parts.Operator.{Operator}
-use Rattle.mesa_types.specs.declared.typed_parts.Operator.TheVariants.{Plus, Minus}
+use Rattle.mesa_types.specs.declared.typed_parts.Operator.TheVariants as operator
 use Rattle.source_meaning.specs.Value.{Value, Word, Values, NoValues, AndValue, word, nth, one, truth, related, wrap}
 use Rattle.source_meaning.specs.Program.{Program}
 use Rattle.source_meaning.specs.State.{State, Run, give, carry, after, look, value_then, on_values, on_value, on_word, give_value}
@@ -19,8 +19,8 @@ words NoValues = []
 words (AndValue v vs) = word v ∷ words vs
 
 abbrev pub operated : Operator → ℕ → ℕ → ℕ
-operated Plus x y = wrap (x + y)
-operated Minus x y = wrap (x + (65536 - y))
+operated operator.Add x y = wrap (x + y)
+operated operator.Subtract x y = wrap (x + (65536 - y))
 operated _ x y = 0
 
 abbrev mutual
@@ -79,16 +79,16 @@ module _ (P : Program) (next : Next) (w : Where) where
 
     pub operations_are : (os : Operations) (x : ℕ) (σ : State) → AreQuiet os → IsWorth (operations P next os w x) σ (worth_after os (words (globals w σ.store)) x)
     operations_are NoOperation x σ q = record { found = Word x; gives = refl; number = refl }
-    operations_are (Then Every Plus e os) x σ q =
+    operations_are (Then Every operator.Add e os) x σ q =
         let y = worth e (words (globals w σ.store)) in
-        then_worth (value P next e w) (λ y. on_word (operate Plus x y) λ z. operations P next os w z) y _ σ (value_is e σ q.0)
-        (then_worth (operate Plus x y) (λ z. operations P next os w z) (operated Plus x y) _ σ
-        (record { found = Word (operated Plus x y); gives = refl; number = refl })
-        (operations_are os (operated Plus x y) σ q.1))
-    operations_are (Then Every Minus e os) x σ q =
+        then_worth (value P next e w) (λ y. on_word (operate operator.Add x y) λ z. operations P next os w z) y _ σ (value_is e σ q.0)
+        (then_worth (operate operator.Add x y) (λ z. operations P next os w z) (operated operator.Add x y) _ σ
+        (record { found = Word (operated operator.Add x y); gives = refl; number = refl })
+        (operations_are os (operated operator.Add x y) σ q.1))
+    operations_are (Then Every operator.Subtract e os) x σ q =
         let y = worth e (words (globals w σ.store)) in
-        then_worth (value P next e w) (λ y. on_word (operate Minus x y) λ z. operations P next os w z) y _ σ (value_is e σ q.0)
-        (then_worth (operate Minus x y) (λ z. operations P next os w z) (operated Minus x y) _ σ
-        (record { found = Word (operated Minus x y); gives = refl; number = refl })
-        (operations_are os (operated Minus x y) σ q.1))
+        then_worth (value P next e w) (λ y. on_word (operate operator.Subtract x y) λ z. operations P next os w z) y _ σ (value_is e σ q.0)
+        (then_worth (operate operator.Subtract x y) (λ z. operations P next os w z) (operated operator.Subtract x y) _ σ
+        (record { found = Word (operated operator.Subtract x y); gives = refl; number = refl })
+        (operations_are os (operated operator.Subtract x y) σ q.1))
     operations_are _ x σ q = absurd q

@@ -2,7 +2,6 @@
 #![tactic(auto)]
 
 mod laws;
-mod links;
 mod running;
 mod translator;
 

@@ -1,17 +1,17 @@
-ghost use Rattle.std.specs.Prelude.{◌≡◌, [], ◌∷◌, ◌++◌, ◌≤◌, map, slice_get, bytes_eq, IfOk, OnOk};
+ghost use Rattle.std.specs.Prelude.{◌≡◌, [], ◌∷◌, ◌++◌, ◌≤◌, map, option_map, bytes_eq, IfOk, OnOk};
 ghost use Rattle.mesa_types.specs.Typed.{NoSuffix, NoExits, NoOperation};
-ghost use Rattle.mesa_types.specs.Plain.{chain, exprs, stmts, condition, exit, expr, kinds_of, loop, operation, phrase, plain, stmt, suffix};
+ghost use Rattle.mesa_types.specs.Plain.{chain, exprs, stmts, finish, condition, exit, expr, kinds_of, loop, operation, phrase, plain, stmt, suffix};
 ghost use Rattle.mesa_types.specs.Shapes.{words_in_all};
+ghost use Rattle.mesa_types.specs.Links.{imported};
 ghost use Rattle.mesa_types.specs.Sound.{Sound};
 ghost use Rattle.source_meaning.specs.Program.{host_of};
 ghost use Rattle.linked_run.specs.Code.{code_of_relation, code_of_operation, code_of_host, code_of_link, code_of_expr, code_of_exprs, code_of_operations, code_of_stmt, code_of_stmts, code_of_loop, image_of};
-ghost use Rattle.linked_run.specs.Rows.{global_at, one_global, called_link, is_plain, ends_plainly};
+ghost use Rattle.linked_run.specs.Rows.{global_at, one_global, called_item, is_plain, ends_plainly};
 
-use crate::links::links_of;
 use frame_machine::{Image, Instruction};
 use mesa_base::{List, Name, OutOfMemory};
 use mesa_types::{
-    Base, Callee, Condition, Exit, Fields, Home, Items, Loop, Operation, Operator, Phrase, Range,
+    Base, Callee, Condition, Exit, Fields, Home, Imports, Loop, Operation, Operator, Phrase, Range,
     Relation, Suffix, TypedExpr, TypedModule, TypedStmt, fields_words,
 };
 use std::alloc::Global;
@@ -44,11 +44,11 @@ fn one_global(homes: &[Home]) -> Option<u16>
     }
 }
 
-fn called_link(callee: Callee, places: &[u32], catching: &Phrase) -> Option<u32>
-    ensures { result ≡ called_link callee places.now (phrase catching.now) }
+fn called_item(callee: Callee, places: &[u32], catching: &Phrase) -> Option<(u32, u32)>
+    ensures { result ≡ called_item callee places.now (phrase catching.now) }
 {
     match (callee, places, catching) {
-        (Callee::LinkedProcedure(link), [], Phrase::NoPhrase) => Some(link),
+        (Callee::LinkedProcedure(import, item), [], Phrase::NoPhrase) => Some((import, item)),
         _ => None,
     }
 }
@@ -59,10 +59,10 @@ fn is_plain(catching: &Phrase, exits: &[Exit]) -> bool
     matches!((catching, exits), (Phrase::NoPhrase, []))
 }
 
-fn ends_plainly(exits: &[Exit], finished: &TypedStmt) -> bool
-    ensures { result ≡ ends_plainly (chain (map exit exits.now) NoExits) (stmt finished.now) }
+fn ends_plainly(exits: &[Exit], finished: &Option<TypedStmt>) -> bool
+    ensures { result ≡ ends_plainly (chain (map exit exits.now) NoExits) (finish (option_map stmt finished.now)) }
 {
-    matches!((exits, finished), ([], TypedStmt::Null))
+    matches!((exits, finished), ([], None))
 }
 
 fn put_relation(code: &mut Code, sign: Relation) -> Result<(), OutOfMemory>
@@ -70,7 +70,7 @@ fn put_relation(code: &mut Code, sign: Relation) -> Result<(), OutOfMemory>
 {
     match sign {
         Relation::Equal => put(code, Instruction::Eq),
-        Relation::Differs => {
+        Relation::NotEqual => {
             put(code, Instruction::Eq)?;
             put(code, Instruction::Not)
         }
@@ -80,7 +80,7 @@ fn put_relation(code: &mut Code, sign: Relation) -> Result<(), OutOfMemory>
             put(code, Instruction::LessI)?;
             put(code, Instruction::Not)
         }
-        Relation::More => {
+        Relation::Greater => {
             put(code, Instruction::Swap)?;
             put(code, Instruction::LessI)
         }
@@ -110,18 +110,27 @@ fn put_host(code: &mut Code, name: &Name) -> Result<(), OutOfMemory>
     }
 }
 
-fn put_call(code: &mut Code, links: &Items, link: u32) -> Result<(), OutOfMemory>
-    ensures { OnOk result (code.new ≡ code.old ++ code_of_link (slice_get links.now link)) }
+#[tactic(auto, unfolding(mesa_types::specs::Links::imported, mesa_types::specs::Links::item_in))]
+fn put_call(
+    code: &mut Code,
+    imports: &Imports,
+    import: u32,
+    item: u32,
+) -> Result<(), OutOfMemory>
+    ensures { OnOk result (code.new ≡ code.old ++ code_of_link (imported imports.now import item)) }
 {
-    match links.get(link as usize) {
+    let Some(import) = imports.get(import as usize) else {
+        return Ok(());
+    };
+    match import.face.items.get(item as usize) {
         Some(item) => put_host(code, &item.name),
         None => Ok(()),
     }
 }
 
 #[cycle(expressions)]
-fn put_expr(code: &mut Code, e: &TypedExpr, links: &Items) -> Result<(), OutOfMemory>
-    ensures { OnOk result (code.new ≡ code.old ++ code_of_expr links.now (expr e.now)) }
+fn put_expr(code: &mut Code, e: &TypedExpr, imports: &Imports) -> Result<(), OutOfMemory>
+    ensures { OnOk result (code.new ≡ code.old ++ code_of_expr imports.now (expr e.now)) }
 {
     match e {
         TypedExpr::Number(word) => put(code, Instruction::Lit(*word)),
@@ -130,31 +139,32 @@ fn put_expr(code: &mut Code, e: &TypedExpr, links: &Items) -> Result<(), OutOfMe
             None => Ok(()),
         },
         TypedExpr::Operate(first, operations) => {
-            put_expr(code, first.get(), links)?;
-            put_operations(code, operations.as_slice(), links)
+            put_expr(code, first.get(), imports)?;
+            put_operations(code, operations.as_slice(), imports)
         }
         TypedExpr::Relate(Base::Signed, sign, left, right) => {
-            put_expr(code, left.get(), links)?;
-            put_expr(code, right.get(), links)?;
+            put_expr(code, left.get(), imports)?;
+            put_expr(code, right.get(), imports)?;
             put_relation(code, *sign)
         }
         TypedExpr::Call(callee, places, arguments, _, catching) => {
-            let Some(link) = called_link(*callee, places.as_slice(), catching.get()) else {
+            let Some((import, item)) = called_item(*callee, places.as_slice(), catching.get())
+            else {
                 return Ok(());
             };
-            put_exprs(code, arguments.as_slice(), links)?;
-            put_call(code, links, link)
+            put_exprs(code, arguments.as_slice(), imports)?;
+            put_call(code, imports, import, item)
         }
         _ => Ok(()),
     }
 }
 
 #[cycle(expressions)]
-fn put_exprs(code: &mut Code, es: &[TypedExpr], links: &Items) -> Result<(), OutOfMemory>
-    ensures { OnOk result (code.new ≡ code.old ++ code_of_exprs links.now (exprs (map expr es.now))) }
+fn put_exprs(code: &mut Code, es: &[TypedExpr], imports: &Imports) -> Result<(), OutOfMemory>
+    ensures { OnOk result (code.new ≡ code.old ++ code_of_exprs imports.now (exprs (map expr es.now))) }
 {
     for e in es {
-        put_expr(code, e, links)?;
+        put_expr(code, e, imports)?;
     }
     Ok(())
 }
@@ -163,18 +173,18 @@ fn put_exprs(code: &mut Code, es: &[TypedExpr], links: &Items) -> Result<(), Out
 fn put_operations(
     code: &mut Code,
     operations: &[Operation],
-    links: &Items,
+    imports: &Imports,
 ) -> Result<(), OutOfMemory>
-    ensures { OnOk result (code.new ≡ code.old ++ code_of_operations links.now (chain (map operation operations.now) NoOperation)) }
+    ensures { OnOk result (code.new ≡ code.old ++ code_of_operations imports.now (chain (map operation operations.now) NoOperation)) }
 {
     for step in operations {
         match (step.check, step.operator) {
-            (Range::Every, Operator::Plus) => {
-                put_expr(code, &step.right, links)?;
+            (Range::Every, Operator::Add) => {
+                put_expr(code, &step.right, imports)?;
                 put(code, Instruction::Add)?;
             }
-            (Range::Every, Operator::Minus) => {
-                put_expr(code, &step.right, links)?;
+            (Range::Every, Operator::Subtract) => {
+                put_expr(code, &step.right, imports)?;
                 put(code, Instruction::Sub)?;
             }
             _ => {}
@@ -184,34 +194,34 @@ fn put_operations(
 }
 
 #[cycle(statements)]
-fn put_stmt(code: &mut Code, s: &TypedStmt, links: &Items) -> Result<(), OutOfMemory>
-    ensures { OnOk result (code.new ≡ code.old ++ code_of_stmt links.now (stmt s.now)) }
+fn put_stmt(code: &mut Code, s: &TypedStmt, imports: &Imports) -> Result<(), OutOfMemory>
+    ensures { OnOk result (code.new ≡ code.old ++ code_of_stmt imports.now (stmt s.now)) }
 {
     match s {
         TypedStmt::Declare(homes, _) => match one_global(homes.as_slice()) {
             Some(at) => put_zero(code, at),
             None => Ok(()),
         },
-        TypedStmt::DeclareAs(homes, e) => {
+        TypedStmt::DeclareAs(homes, _, e) => {
             let Some(at) = one_global(homes.as_slice()) else {
                 return Ok(());
             };
             put_zero(code, at)?;
-            put_expr(code, e, links)?;
+            put_expr(code, e, imports)?;
             put(code, Instruction::StoreG(at))
         }
         TypedStmt::Assign(home, suffixes, e) => {
             let Some(at) = global_at(*home, suffixes.as_slice()) else {
                 return Ok(());
             };
-            put_expr(code, e, links)?;
+            put_expr(code, e, imports)?;
             put(code, Instruction::StoreG(at))
         }
-        TypedStmt::Perform(e) => put_expr(code, e, links),
+        TypedStmt::Perform(e) => put_expr(code, e, imports),
         TypedStmt::Block(catching, ss, exits) if is_plain(catching.get(), exits.as_slice()) => {
-            put_stmts(code, ss.as_slice(), links)
+            put_stmts(code, ss.as_slice(), imports)
         }
-        TypedStmt::Repeat(l) => put_loop(code, l.get(), links),
+        TypedStmt::Repeat(l) => put_loop(code, l.get(), imports),
         _ => Ok(()),
     }
 }
@@ -225,18 +235,18 @@ fn put_zero(code: &mut Code, at: u16) -> Result<(), OutOfMemory>
 }
 
 #[cycle(statements)]
-fn put_stmts(code: &mut Code, ss: &[TypedStmt], links: &Items) -> Result<(), OutOfMemory>
-    ensures { OnOk result (code.new ≡ code.old ++ code_of_stmts links.now (stmts (map stmt ss.now))) }
+fn put_stmts(code: &mut Code, ss: &[TypedStmt], imports: &Imports) -> Result<(), OutOfMemory>
+    ensures { OnOk result (code.new ≡ code.old ++ code_of_stmts imports.now (stmts (map stmt ss.now))) }
 {
     for s in ss {
-        put_stmt(code, s, links)?;
+        put_stmt(code, s, imports)?;
     }
     Ok(())
 }
 
 #[cycle(statements)]
-fn put_loop(code: &mut Code, l: &Loop, links: &Items) -> Result<(), OutOfMemory>
-    ensures { OnOk result (code.new ≡ code.old ++ code_of_loop links.now (loop l.now)) }
+fn put_loop(code: &mut Code, l: &Loop, imports: &Imports) -> Result<(), OutOfMemory>
+    ensures { OnOk result (code.new ≡ code.old ++ code_of_loop imports.now (loop l.now)) }
 {
     let Condition::While(control) = &l.condition else {
         return Ok(());
@@ -245,10 +255,10 @@ fn put_loop(code: &mut Code, l: &Loop, links: &Items) -> Result<(), OutOfMemory>
         return Ok(());
     }
     let start = code.len();
-    put_expr(code, control, links)?;
+    put_expr(code, control, imports)?;
     let test = code.len();
     put(code, Instruction::JumpIfNot(0))?;
-    put_stmt(code, &l.body, links)?;
+    put_stmt(code, &l.body, imports)?;
     let end = code.len();
     put(code, Instruction::JumpBack(end - start))?;
     code.set(test, Instruction::JumpIfNot(end - test));
@@ -269,9 +279,8 @@ pub fn translate(alloc: Global, module: &TypedModule) -> Result<Image, OutOfMemo
     requires { Sound (plain «module».now) }
     ensures { IfOk result (λ image. image ≡ image_of (plain «module».now)) }
 {
-    let links = links_of(alloc, &module.imports)?;
     let mut code = List::new(alloc);
-    put_stmt(&mut code, &module.body.does, &links)?;
+    put_stmt(&mut code, &module.body.does, &module.imports)?;
     Ok(Image {
         globals: words_of(&module.globals),
         code,

@@ -1,4 +1,4 @@
-/// A relation of two values.
+/// The relations of the language, of a text and of a typed tree alike (Language Manual, chapter 2).
 #[derive(Clone, Copy, Debug, PartialEq, Eq)]
 pub enum Relation {
     Equal,

@@ -1,6 +1,6 @@
 -- First programs: their variables begin as 0, their links are procedures of the host, and one of them alone is a
 -- program of first programs.
-use Rattle.std.specs.Prelude.{◌≡◌, refl, ℕ, zero, suc, ◌+◌, ◌<◌, ◌≤◌, ◌⊎◌, List, length, Some, None, option_map, get_or, slice_get, All}
+use Rattle.std.specs.Prelude.{◌≡◌, refl, ℕ, zero, suc, ◌+◌, ◌<◌, ◌≤◌, ◌⊎◌, List, [], length, map, Option, Some, None, option_map, get_or, slice_get, All}
 use Rattle.std.proofs.lemmas.Option.{slice_get_cases, slice_get-map}
 use Rattle.std.proofs.lemmas.List.Elements.{All-get_or}
 use Rattle.std.proofs.Common.{inl, inr}
@@ -8,11 +8,12 @@ use mathlib.Core.Path.{◌∙◌, ap, sym, subst}
 use native.Mathlib.Omega.{arith}
 use Rattle.mesa_types.specs.Typed.{Kinds, NoKinds, AndKind, Ordinal, Stmt, Block, NoPhrase, NoExits, Module}
 use Rattle.mesa_types.specs.Shapes.{count_in}
-use Rattle.mesa_types.specs.Sound.{links_of}
+use Rattle.mesa_types.specs.Links.{item_in, imported}
 use Rattle.mesa_types.specs.declared.faces.Item.{Item}
+use Rattle.mesa_types.specs.declared.faces.Import.{Import}
 use Rattle.source_meaning.specs.Value.{Word, AndValue, nth, copies, zeros}
-use Rattle.source_meaning.specs.Program.{ToHost, Nothing, Instance, Program, or_else, to_host, target_of, targets_of, no_body, no_module, no_instance, instance_of, single}
-use Rattle.source_meaning.specs.FirstProgram.{AreOrdinal, IsHostLink, IsFirst, IsFirstBlock, FirstProgram, IsFirstInstance}
+use Rattle.source_meaning.specs.Program.{Target, ToHost, Nothing, Instance, Program, or_else, to_host, target_of, targets_of, no_body, no_module, no_instance, instance_of, single}
+use Rattle.source_meaning.specs.FirstProgram.{AreOrdinal, IsHostItem, IsFirst, IsFirstBlock, FirstProgram, IsFirstInstance}
 
 -- variables that are words begin as so many zeros
 pub zeros_of_words : (ks : Kinds) → AreOrdinal ks → zeros ks ≡ copies (count_in ks) (Word 0)
@@ -30,20 +31,28 @@ zero_of_word (AndKind Ordinal ks) q zero = refl
 zero_of_word (AndKind Ordinal ks) q (suc n) = zero_of_word ks q n
 zero_of_word _ q n = absurd q
 
-pub first_block : (links : List Item) (s : Stmt) → IsFirstBlock links s → IsFirst links s
-first_block links (Block NoPhrase ss NoExits) q = q
-first_block links _ q = absurd q
+pub first_block : (imports : List Import) (s : Stmt) → IsFirstBlock imports s → IsFirst imports s
+first_block imports (Block NoPhrase ss NoExits) q = q
+first_block imports _ q = absurd q
 
--- a link that is called is what its name says
-pub host_target : (i : Instance) → IsFirstInstance i → (k : ℕ) → (l : IsHostLink (links_of i.code.imports) k) → or_else Nothing (slice_get i.links k) ≡ ToHost l.1
-unfolding or_else targets_of target_of to_host
-host_target i f k l =
-    ap (λ ts. or_else Nothing (slice_get ts k)) f.is_linked
-    ∙ (ap (or_else Nothing) (slice_get-map target_of (links_of i.code.imports) k ∙ ap (option_map target_of) l.2)
-    ∙ ap to_host l.3)
+targets_in : Import → List Target
+targets_in m = map target_of m.face.items
+
+target_there : (o : Option Import) (n : ℕ) (i : Item) → item_in o n ≡ Some i → or_else Nothing (slice_get (or_else [] (option_map targets_in o)) n) ≡ target_of i
+unfolding or_else item_in targets_in
+target_there None n i is = cc
+target_there (Some m) n i is = ap (or_else Nothing) (slice_get-map target_of m.face.items n ∙ ap (option_map target_of) is)
+
+-- an item that is called is what its name says
+pub host_target : (i : Instance) → IsFirstInstance i → (k n : ℕ) → (l : IsHostItem i.code.imports k n) → or_else Nothing (slice_get (or_else [] (slice_get i.links k)) n) ≡ ToHost l.1
+unfolding targets_of target_of to_host imported targets_in
+host_target i f k n l =
+    ap (λ ts. or_else Nothing (slice_get (or_else [] (slice_get ts k)) n)) f.is_linked
+    ∙ (ap (λ o. or_else Nothing (slice_get (or_else [] o) n)) (slice_get-map targets_in i.code.imports k)
+    ∙ (target_there (slice_get i.code.imports k) n l.0 l.2 ∙ ap to_host l.3))
 
 pub no_instance_is_first : IsFirstInstance no_instance
-unfolding no_instance no_module no_body targets_of links_of
+unfolding no_instance no_module no_body targets_of
 no_instance_is_first = record {
   is_first = record { globals = tt; signals = refl; strings = refl; procedures = refl; exports = refl; variables = refl; does = tt };
   is_linked = refl;

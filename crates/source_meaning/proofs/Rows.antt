@@ -1,24 +1,23 @@
 -- Worked programs, as typed trees written by hand, each with the least turns with which it is done and with one less.
 use Rattle.std.specs.Prelude.{◌≡◌, refl, ℕ, zero, suc, List, [], ◌∷◌, map, codes}
 use Rattle.std.specs.Fmt.{digits}
-use Rattle.mesa_types.specs.Typed.{Kinds, NoKinds, AndKind, Ordinal, Endless, Expr, Number, Variable, Checked, Operate, Negate, Relate, Not, AllOf, SomeOf, Call, Exprs, NoExprs, AndExpr, NoSuffix, Operations, NoOperation, Then, NoPhrase, Stmt, Null, Declare, DeclareAs, Assign, Perform, If, Block, Repeat, Stmts, NoStmts, AndStmt, NoExits, LoopOf, Condition, Always, While, Until, Module}
+use Rattle.mesa_types.specs.Typed.{Kinds, NoKinds, AndKind, Ordinal, Endless, Expr, Number, Variable, Checked, Operate, Negate, Relate, Not, AllOf, SomeOf, Call, Exprs, NoExprs, AndExpr, NoSuffix, Operations, NoOperation, Then, NoPhrase, Stmt, Null, Declare, DeclareAs, Assign, Perform, If, Block, Repeat, Stmts, NoStmts, AndStmt, NoExits, LoopOf, Finish, NoFinish, Finished, Condition, Always, While, Until, Module}
 use Rattle.mesa_types.specs.declared.typed_parts.Home.TheVariants.{Global, Local}
 use Rattle.mesa_types.specs.declared.typed_parts.Base.TheVariants.{Signed, Unsigned}
 use Rattle.mesa_types.specs.declared.typed_parts.Range.TheVariants.{Every, From}
 use Rattle.mesa_types.specs.declared.typed_parts.Operator.{Operator}
-use Rattle.mesa_types.specs.declared.typed_parts.Operator.TheVariants.{Plus, Minus, Times}
-use Rattle.mesa_types.specs.declared.typed_parts.Relation.{Relation}
-use Rattle.mesa_types.specs.declared.typed_parts.Relation.TheVariants.{Equal, Differs, Less, AtMost, More, AtLeast}
+use Rattle.mesa_types.specs.declared.typed_parts.Operator.TheVariants.{Add, Subtract, Multiply}
+use Rattle.mesa_types.specs.declared.relation.Relation.{Relation}
+use Rattle.mesa_types.specs.declared.relation.Relation.TheVariants.{Equal, NotEqual, Less, AtMost, Greater, AtLeast}
 use Rattle.mesa_types.specs.declared.typed_parts.Callee.TheVariants.{LinkedProcedure}
 use Rattle.source_meaning.specs.Value.{word, nth, with_nth, one, copies, zero_of, zeros, wrap, opposite, shifted, related, truth, is_true}
-use Rattle.mesa_types.specs.Sound.{items_used, links_of}
 use Rattle.mesa_types.specs.declared.faces.Item.{Item}
 use Rattle.mesa_types.specs.declared.faces.Import.{Import}
 use Rattle.mesa_types.specs.declared.faces.ItemKind.TheVariants as ItemKind
 use Rattle.source_meaning.specs.Program.{Instance, Program, or_else, host_of, to_host, target_of, targets_of, no_body, no_module, no_instance, instance_of, module_of, link_of, callee_of, single}
 use Rattle.source_meaning.specs.State.{End, Answer, Normal, Spent, FrameLimit, NoRow, Result, give, carry, after, look, change, spend_of, spend, leave, enter_if, enter, put, branch, value_then, on_values, on_value, on_word, give_value, normal_then, on_normal, dropped_of, dropped, no_row}
 use Rattle.source_meaning.specs.Calls.{globals, set_globals, fetch, store, zero_at, push, tail_of, pop, in_frame, written, call_to, call, operate, is_started, mark_started, start}
-use Rattle.source_meaning.specs.Meaning.{value, values, all_of, some_of, operations, does, sequence, loop, condition, meaning}
+use Rattle.source_meaning.specs.Meaning.{value, values, all_of, some_of, operations, does, sequence, loop, finish, condition, meaning}
 use Rattle.source_meaning.specs.Means.{control, first_state, outcome}
 
 -- what is seen of a run: what it printed, how it ended, and the turns left
@@ -29,7 +28,7 @@ shown : Result → Seen
 shown r = Saw r.state.output r.answer r.state.turns
 
 seen : Program → ℕ → Seen
-unfolding digits shown word nth with_nth one copies zero_of zeros wrap opposite shifted related truth is_true items_used links_of host_of to_host target_of targets_of single or_else no_body no_module no_instance instance_of module_of link_of callee_of give carry after look change spend_of spend leave enter_if enter put branch value_then on_values on_value on_word give_value normal_then on_normal dropped_of dropped no_row globals set_globals fetch store zero_at push tail_of pop in_frame written call_to call operate is_started mark_started start value values all_of some_of operations does sequence loop condition meaning control first_state outcome
+unfolding digits shown word nth with_nth one copies zero_of zeros wrap opposite shifted related truth is_true host_of to_host target_of targets_of single or_else no_body no_module no_instance instance_of module_of link_of callee_of give carry after look change spend_of spend leave enter_if enter put branch value_then on_values on_value on_word give_value normal_then on_normal dropped_of dropped no_row globals set_globals fetch store zero_at push tail_of pop in_frame written call_to call operate is_started mark_started start value values all_of some_of operations does sequence loop finish condition meaning control first_state outcome
 seen P turns = shown (outcome P [] End turns)
 
 abbrev stmts : List Stmt → Stmts
@@ -78,10 +77,10 @@ abbrev variable : ℕ → Expr
 variable n = Variable (Global n) NoSuffix 1
 
 abbrev declare : ℕ → Stmt
-declare n = Declare (Global n ∷ []) 1
+declare n = Declare (Global n ∷ []) Ordinal
 
 abbrev declare_as : ℕ → Expr → Stmt
-declare_as n e = DeclareAs (Global n ∷ []) e
+declare_as n e = DeclareAs (Global n ∷ []) Ordinal e
 
 abbrev assign : ℕ → Expr → Stmt
 assign n e = Assign (Global n) NoSuffix e
@@ -100,25 +99,25 @@ abbrev then : Operator → Expr → Operations → Operations
 then o e os = Then Every o e os
 
 abbrev plus : Expr → Expr → Expr
-plus d e = Operate d (then Plus e NoOperation)
+plus d e = Operate d (then Add e NoOperation)
 
 abbrev minus : Expr → Expr → Expr
-minus d e = Operate d (then Minus e NoOperation)
+minus d e = Operate d (then Subtract e NoOperation)
 
-abbrev repeat : Condition → Stmt → Stmt → Stmt
-repeat c s fin = Repeat Endless (LoopOf c s NoExits fin)
+abbrev repeat : Condition → Stmt → Finish → Stmt
+repeat c s f = Repeat Endless (LoopOf c s NoExits f)
 
 abbrev while : Expr → Stmt → Stmt
-while e s = repeat (While e) s Null
+while e s = repeat (While e) s NoFinish
 
 abbrev call_of : ℕ → Expr → Expr
-call_of k e = Call (LinkedProcedure k) [] (AndExpr e NoExprs) 0 NoPhrase
+call_of n e = Call (LinkedProcedure 0 n) [] (AndExpr e NoExprs) 0 NoPhrase
 
 abbrev say : ℕ → Stmt
 say c = Perform (call_of 0 (Number c))
 
 abbrev say_number : Expr → Stmt
-say_number e = Perform (call_of 1 e)
+say_number e = Perform (call_of 2 e)
 
 -- an empty module spends the turn of its start
 nothing : Program
@@ -164,7 +163,7 @@ too_small_with_1 = refl
 -- i: INTEGER ← 3; WHILE i > 0 DO WriteDecimal[i]; i ← i - 1; ENDLOOP; WriteChar['x];
 countdown : Program
 countdown = with_i (Number 3) (
-    while (Relate Signed More i (Number 0)) (block (say_number i ∷ set_i (minus i (Number 1)) ∷ []))
+    while (Relate Signed Greater i (Number 0)) (block (say_number i ∷ set_i (minus i (Number 1)) ∷ []))
     ∷ say 120 ∷ [])
 
 countdown_with_8 : seen countdown 8 ≡ Saw (codes "321x") Normal 0
@@ -180,7 +179,7 @@ in_order : Program
 in_order = alone 1 (
     declare 0
     ∷ say_number i
-    ∷ say_number (Operate i (then Plus (Number 10) (then Minus (Number 3) (then Minus (Number 4) NoOperation))))
+    ∷ say_number (Operate i (then Add (Number 10) (then Subtract (Number 3) (then Subtract (Number 4) NoOperation))))
     ∷ [])
 
 in_order_with_3 : seen in_order 3 ≡ Saw (codes "03") Normal 0
@@ -197,7 +196,7 @@ tried r d e = with_i d (while (Relate Signed r i e) (say 121) ∷ [])
 
 -- with the turns of the start and of one call, for each relation
 entered : Expr → Expr → List Seen
-entered d e = map (λ (r : Relation). seen (tried r d e) 2) (Equal ∷ Differs ∷ Less ∷ AtMost ∷ More ∷ AtLeast ∷ [])
+entered d e = map (λ (r : Relation). seen (tried r d e) 2) (Equal ∷ NotEqual ∷ Less ∷ AtMost ∷ Greater ∷ AtLeast ∷ [])
 
 abbrev yes : Seen
 yes = Saw (codes "y") Spent 0
@@ -225,7 +224,7 @@ unfolding entered seen
 zeroed : Program
 zeroed = alone 3 (
     declare_as 0 (Number 2)
-    ∷ while (Relate Signed More i (Number 0)) (block (
+    ∷ while (Relate Signed Greater i (Number 0)) (block (
     declare 1
     ∷ declare_as 2 (plus (variable 2) (Number 1))
     ∷ say_number (variable 1)
@@ -287,7 +286,7 @@ exprs (e ∷ es) = AndExpr e (exprs es)
 
 -- WriteDecimal[-5]; WriteDecimal[300 * 300]
 arithmetic : Program
-arithmetic = alone 0 (say_number (Negate (Number 5)) ∷ say_number (Operate (Number 300) (then Times (Number 300) NoOperation)) ∷ [])
+arithmetic = alone 0 (say_number (Negate (Number 5)) ∷ say_number (Operate (Number 300) (then Multiply (Number 300) NoOperation)) ∷ [])
 
 arithmetic_with_3 : seen arithmetic 3 ≡ Saw (codes "-524464") Normal 0
 unfolding seen arithmetic
@@ -299,8 +298,8 @@ tested = alone 0 (
     Null
     ∷ if (Not (Number 0))
     ∷ if (Not (Number 2))
-    ∷ if (Relate Unsigned More (Number 65535) (Number 1))
-    ∷ if (Relate Signed More (Number 65535) (Number 1))
+    ∷ if (Relate Unsigned Greater (Number 65535) (Number 1))
+    ∷ if (Relate Signed Greater (Number 65535) (Number 1))
     ∷ [])
 
 tested_with_5 : seen tested 5 ≡ Saw (codes "ynyn") Normal 0
@@ -326,7 +325,7 @@ by_need_with_8 = refl
 
 -- i ← 2; UNTIL i = 0 DO WriteDecimal[i]; i ← i - 1 REPEAT FINISHED => WriteChar['x] ENDLOOP
 finished : Program
-finished = with_i (Number 2) (repeat (Until (Relate Signed Equal i (Number 0))) (block (say_number i ∷ set_i (minus i (Number 1)) ∷ [])) (say 120) ∷ [])
+finished = with_i (Number 2) (repeat (Until (Relate Signed Equal i (Number 0))) (block (say_number i ∷ set_i (minus i (Number 1)) ∷ [])) (Finished (say 120)) ∷ [])
 
 finished_with_6 : seen finished 6 ≡ Saw (codes "21x") Normal 0
 unfolding seen finished
@@ -338,7 +337,7 @@ finished_with_5 = refl
 
 -- DO WriteChar['x] ENDLOOP
 forever : Program
-forever = alone 0 (repeat Always (say 120) Null ∷ [])
+forever = alone 0 (repeat Always (say 120) NoFinish ∷ [])
 
 forever_with_6 : seen forever 6 ≡ Saw (codes "xxx") Spent 0
 unfolding seen forever
@@ -352,11 +351,11 @@ checked_with_5 : seen (between (set_i (Checked (From Signed 0 1) (Number 7)))) 5
 unfolding seen
 checked_with_5 = refl
 
-local_with_5 : seen (between (Declare (Local 0 ∷ []) 1)) 5 ≡ Saw (codes "x") NoRow 3
+local_with_5 : seen (between (Declare (Local 0 ∷ []) Ordinal)) 5 ≡ Saw (codes "x") NoRow 3
 unfolding seen
 local_with_5 = refl
 
 -- the turn of a call is spent before it is seen that nothing is there
-unlinked_with_5 : seen (between (Perform (call_of 2 (Number 7)))) 5 ≡ Saw (codes "x") NoRow 2
+unlinked_with_5 : seen (between (Perform (call_of 1 (Number 7)))) 5 ≡ Saw (codes "x") NoRow 2
 unfolding seen
 unlinked_with_5 = refl

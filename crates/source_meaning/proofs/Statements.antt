@@ -1,15 +1,15 @@
 -- In each program a statement gives no value, and an expression gives values or none.
 use Rattle.std.specs.Prelude.{ℕ, zero, suc, [], ◌∷◌, Bool, true, false}
-use Rattle.mesa_types.specs.Typed.{Count, Endless, Expr, Number, Variable, Operate, Negate, Relate, Not, AllOf, SomeOf, Call, Exprs, NoExprs, AndExpr, NoSuffix, Operations, NoOperation, Then, NoPhrase, Stmt, Null, Declare, DeclareAs, Assign, Perform, If, Block, Repeat, Stmts, NoStmts, AndStmt, NoExits, Loop, LoopOf, Condition, Always, While, Until}
+use Rattle.mesa_types.specs.Typed.{Count, Endless, Expr, Number, Variable, Operate, Negate, Relate, Not, AllOf, SomeOf, Call, Exprs, NoExprs, AndExpr, NoSuffix, Operations, NoOperation, Then, NoPhrase, Stmt, Null, Declare, DeclareAs, Assign, Perform, If, Block, Repeat, Stmts, NoStmts, AndStmt, NoExits, Loop, LoopOf, Finish, NoFinish, Finished, Condition, Always, While, Until}
 use Rattle.mesa_types.specs.declared.typed_parts.Home.TheVariants.{Global}
 use Rattle.mesa_types.specs.declared.typed_parts.Range.TheVariants.{Every}
 use Rattle.mesa_types.specs.declared.typed_parts.Operator.{Operator}
-use Rattle.mesa_types.specs.declared.typed_parts.Operator.TheVariants.{Plus, Minus, Times}
+use Rattle.mesa_types.specs.declared.typed_parts.Operator.TheVariants.{Add, Subtract, Multiply}
 use Rattle.source_meaning.specs.Value.{Values}
 use Rattle.source_meaning.specs.Program.{Target, ToHost, Nothing, Program}
 use Rattle.source_meaning.specs.State.{Spent, NoRow, no_row}
 use Rattle.source_meaning.specs.Calls.{Where, Next, call_to, call, operate}
-use Rattle.source_meaning.specs.Meaning.{value, values, all_of, some_of, operations, does, sequence, loop, condition, meaning}
+use Rattle.source_meaning.specs.Meaning.{value, values, all_of, some_of, operations, does, sequence, loop, finish, condition, meaning}
 use Rattle.source_meaning.proofs.Only.{Only, give_only, look_only, change_only, spend_only, put_only, branch_only, give_value_only, on_values_only, on_value_only, on_word_only, normal_only, on_normal_only, dropped_only}
 
 -- a construct may have no row
@@ -32,9 +32,9 @@ module _ (Full : Type 0) where
 
   operate_only : (o : Operator) (x y : ℕ) → Only false Full Any (operate o x y)
   unfolding operate
-  operate_only Plus x y = give_value_only Full Any _
-  operate_only Minus x y = give_value_only Full Any _
-  operate_only Times x y = give_value_only Full Any _
+  operate_only Add x y = give_value_only Full Any _
+  operate_only Subtract x y = give_value_only Full Any _
+  operate_only Multiply x y = give_value_only Full Any _
   operate_only _ x y = no_row_only
 
   module _ (P : Program) (next : Next) where
@@ -76,8 +76,8 @@ module _ (Full : Type 0) where
 
       does_only : (s : Stmt) (w : Where) → Only true Full Any (does P next s w)
       does_only Null w = normal_only Full Any
-      does_only (Declare (Global n ∷ []) words) w = change_only Full Any _ (normal_only Full Any)
-      does_only (DeclareAs (Global n ∷ []) e) w = change_only Full Any _ (on_value_only Full Any (value_only P next e w) λ v. change_only Full Any _ (normal_only Full Any))
+      does_only (Declare (Global n ∷ []) k) w = change_only Full Any _ (normal_only Full Any)
+      does_only (DeclareAs (Global n ∷ []) k e) w = change_only Full Any _ (on_value_only Full Any (value_only P next e w) λ v. change_only Full Any _ (normal_only Full Any))
       does_only (Assign (Global n) NoSuffix e) w = on_value_only Full Any (value_only P next e w) λ v. change_only Full Any _ (normal_only Full Any)
       does_only (Perform e) w = dropped_only Full Any (value_only P next e w)
       does_only (If e s t) w = on_word_only Full Any (value_only P next e w) λ x. branch_only Full Any _ (does_only s w) (does_only t w)
@@ -93,8 +93,12 @@ module _ (Full : Type 0) where
       loop_only (LoopOf c s NoExits fin) w Endless =
           on_word_only Full Any (condition_only c w) λ x. branch_only Full Any _
           (on_normal_only Full Any (does_only s w) (spend_only Full Any (later _ w)))
-          (does_only fin w)
+          (finish_only fin w)
       loop_only _ w n = no_row_only
+
+      finish_only : (f : Finish) (w : Where) → Only true Full Any (finish P next f w)
+      finish_only NoFinish w = normal_only Full Any
+      finish_only (Finished s) w = does_only s w
 
       condition_only : (c : Condition) (w : Where) → Only false Full Any (condition P next c w)
       condition_only Always w = give_value_only Full Any _

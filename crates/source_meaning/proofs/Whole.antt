@@ -1,15 +1,15 @@
 -- The whole meaning keeps what its parts keep: where what is run through `next` is a loose pair, what a construct
 -- does is a tight one.
 use Rattle.std.specs.Prelude.{ℕ, List, [], ◌∷◌}
-use Rattle.mesa_types.specs.Typed.{Count, Endless, Expr, Number, Variable, Operate, Negate, Relate, Not, AllOf, SomeOf, Call, Exprs, NoExprs, AndExpr, NoSuffix, Operations, NoOperation, Then, NoPhrase, Stmt, Null, Declare, DeclareAs, Assign, Perform, If, Block, Repeat, Stmts, NoStmts, AndStmt, NoExits, Loop, LoopOf, Condition, Always, While, Until}
+use Rattle.mesa_types.specs.Typed.{Count, Endless, Expr, Number, Variable, Operate, Negate, Relate, Not, AllOf, SomeOf, Call, Exprs, NoExprs, AndExpr, NoSuffix, Operations, NoOperation, Then, NoPhrase, Stmt, Null, Declare, DeclareAs, Assign, Perform, If, Block, Repeat, Stmts, NoStmts, AndStmt, NoExits, Loop, LoopOf, Finish, NoFinish, Finished, Condition, Always, While, Until}
 use Rattle.mesa_types.specs.declared.typed_parts.Home.TheVariants.{Global}
 use Rattle.mesa_types.specs.declared.typed_parts.Range.TheVariants.{Every}
 use Rattle.mesa_types.specs.declared.typed_parts.Operator.{Operator}
-use Rattle.mesa_types.specs.declared.typed_parts.Operator.TheVariants.{Plus, Minus, Times}
+use Rattle.mesa_types.specs.declared.typed_parts.Operator.TheVariants.{Add, Subtract, Multiply}
 use Rattle.source_meaning.specs.Value.{Values}
 use Rattle.source_meaning.specs.Program.{Target, ToHost, Nothing, Program}
 use Rattle.source_meaning.specs.Calls.{Enabled, Where, Next, store, call_to, call, operate, mark_started, start}
-use Rattle.source_meaning.specs.Meaning.{value, values, all_of, some_of, operations, does, sequence, loop, condition}
+use Rattle.source_meaning.specs.Meaning.{value, values, all_of, some_of, operations, does, sequence, loop, finish, condition}
 use Rattle.source_meaning.specs.Means.{control}
 use Rattle.source_meaning.proofs.Kept.{Pairs, Kept, branch_kept, no_row_kept, give_value_kept, on_values_kept, on_value_kept, on_word_kept, on_normal_kept, dropped_kept, in_frame_kept}
 
@@ -25,9 +25,9 @@ module _ (L T : Pairs) (kept : Kept L T) (P : Program) (next next' : Next) (late
 
   operate_kept : (o : Operator) (x y : ℕ) → T (operate o x y) (operate o x y)
   unfolding operate
-  operate_kept Plus x y = give_value_kept T kept.tight _
-  operate_kept Minus x y = give_value_kept T kept.tight _
-  operate_kept Times x y = give_value_kept T kept.tight _
+  operate_kept Add x y = give_value_kept T kept.tight _
+  operate_kept Subtract x y = give_value_kept T kept.tight _
+  operate_kept Multiply x y = give_value_kept T kept.tight _
   operate_kept _ x y = no_row_kept T kept.tight
 
   pub start_kept : (j : ℕ) (c : List Enabled) → L (start P next j c) (start P next' j c)
@@ -73,8 +73,8 @@ module _ (L T : Pairs) (kept : Kept L T) (P : Program) (next next' : Next) (late
 
     pub does_kept : (s : Stmt) (w : Where) → T (does P next s w) (does P next' s w)
     does_kept Null w = kept.tight.its_give _
-    does_kept (Declare (Global n ∷ []) words) w = kept.tight.its_change (store w n _) (kept.tight.its_give _)
-    does_kept (DeclareAs (Global n ∷ []) e) w = kept.tight.its_change (store w n _) (on_value_kept T kept.tight (value_kept e w) λ v. kept.tight.its_change (store w n v) (kept.tight.its_give _))
+    does_kept (Declare (Global n ∷ []) k) w = kept.tight.its_change (store w n _) (kept.tight.its_give _)
+    does_kept (DeclareAs (Global n ∷ []) k e) w = kept.tight.its_change (store w n _) (on_value_kept T kept.tight (value_kept e w) λ v. kept.tight.its_change (store w n v) (kept.tight.its_give _))
     does_kept (Assign (Global n) NoSuffix e) w = on_value_kept T kept.tight (value_kept e w) λ v. kept.tight.its_change (store w n v) (kept.tight.its_give _)
     does_kept (Perform e) w = dropped_kept T kept.tight (value_kept e w)
     does_kept (If e s t) w = on_word_kept T kept.tight (value_kept e w) λ x. branch_kept T _ (does_kept s w) (does_kept t w)
@@ -90,8 +90,12 @@ module _ (L T : Pairs) (kept : Kept L T) (P : Program) (next next' : Next) (late
     loop_kept (LoopOf c s NoExits fin) w Endless =
         on_word_kept T kept.tight (condition_kept c w) λ x. branch_kept T _
         (on_normal_kept T kept.tight (does_kept s w) (kept.its_spend (later _ w)))
-        (does_kept fin w)
+        (finish_kept fin w)
     loop_kept _ w n = no_row_kept T kept.tight
+
+    pub finish_kept : (f : Finish) (w : Where) → T (finish P next f w) (finish P next' f w)
+    finish_kept NoFinish w = kept.tight.its_give _
+    finish_kept (Finished s) w = does_kept s w
 
     pub condition_kept : (c : Condition) (w : Where) → T (condition P next c w) (condition P next' c w)
     condition_kept Always w = give_value_kept T kept.tight _

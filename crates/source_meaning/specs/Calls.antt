@@ -3,7 +3,7 @@ use Rattle.std.specs.Prelude.{ℕ, suc, ◌+◌, ◌-◌, ◌*◌, ◌%◌, List
 use Rattle.mesa_base.specs.Decimal.{signed_word}
 use Rattle.mesa_types.specs.Typed.{Stmt}
 use Rattle.mesa_types.specs.declared.typed_parts.Operator.{Operator}
-use Rattle.mesa_types.specs.declared.typed_parts.Operator.TheVariants.{Plus, Minus, Times}
+use Rattle.mesa_types.specs.declared.typed_parts.Operator.TheVariants.{Add, Subtract, Multiply}
 use Rattle.source_meaning.specs.Value.{Value, Word, Values, NoValues, nth, with_nth, word, zeros, wrap}
 use Rattle.source_meaning.specs.Program.{Host, WriteChar, WriteDecimal, Target, ToHost, Nothing, Program, module_of, or_else}
 use Rattle.source_meaning.specs.State.{Frame, Store, Gives, Run, give, give_value, after, look, change, spend, enter, put, no_row}
@@ -78,9 +78,9 @@ call t vs = spend (call_to t vs)
 
 -- sums, differences and products are taken modulo 2^16
 unfoldable pub operate : Operator → ℕ → ℕ → Run
-operate Plus x y = give_value (Word (wrap (x + y)))
-operate Minus x y = give_value (Word (wrap (x + (65536 - y))))
-operate Times x y = give_value (Word (wrap (x * y)))
+operate Add x y = give_value (Word (wrap (x + y)))
+operate Subtract x y = give_value (Word (wrap (x + (65536 - y))))
+operate Multiply x y = give_value (Word (wrap (x * y)))
 operate _ x y = no_row
 
 -- Starts.

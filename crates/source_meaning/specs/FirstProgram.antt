@@ -1,13 +1,14 @@
 -- The modules of the first program: their variables are words, they have no procedures, signals, strings and exports,
 -- and a procedure of the host is called with one argument, as a statement and nowhere else (rule of this project).
 use Rattle.std.specs.Prelude.{◌≡◌, ℕ, List, [], ◌∷◌, Some, slice_get}
-use Rattle.mesa_types.specs.Typed.{Kinds, NoKinds, AndKind, Ordinal, Endless, Expr, Number, Variable, Operate, Relate, Call, NoExprs, AndExpr, NoSuffix, Operations, NoOperation, Then, NoPhrase, Stmt, Null, Declare, DeclareAs, Assign, Perform, Block, Repeat, Stmts, NoStmts, AndStmt, NoExits, LoopOf, While, Module}
+use Rattle.mesa_types.specs.Typed.{Kinds, NoKinds, AndKind, Ordinal, Endless, Expr, Number, Variable, Operate, Relate, Call, NoExprs, AndExpr, NoSuffix, Operations, NoOperation, Then, NoPhrase, Stmt, Null, Declare, DeclareAs, Assign, Perform, Block, Repeat, Stmts, NoStmts, AndStmt, NoExits, LoopOf, NoFinish, While, Module}
 use Rattle.mesa_types.specs.declared.typed_parts.Home.TheVariants.{Global}
 use Rattle.mesa_types.specs.declared.typed_parts.Base.TheVariants.{Signed}
 use Rattle.mesa_types.specs.declared.typed_parts.Range.TheVariants.{Every}
-use Rattle.mesa_types.specs.declared.typed_parts.Operator.TheVariants.{Plus, Minus}
+use Rattle.mesa_types.specs.declared.typed_parts.Operator.TheVariants.{Add, Subtract}
 use Rattle.mesa_types.specs.declared.typed_parts.Callee.TheVariants.{LinkedProcedure}
-use Rattle.mesa_types.specs.Sound.{links_of}
+use Rattle.mesa_types.specs.Links.{imported}
+use Rattle.mesa_types.specs.declared.faces.Import.{Import}
 use Rattle.mesa_types.specs.declared.faces.Item.{Item}
 use Rattle.source_meaning.specs.Program.{Host, Instance, host_of, targets_of}
 
@@ -27,36 +28,36 @@ abbrev mutual
 
   pub AreQuiet : Operations → Type 0
   AreQuiet NoOperation = Unit {0}
-  AreQuiet (Then Every Plus e os) = IsQuiet e × AreQuiet os
-  AreQuiet (Then Every Minus e os) = IsQuiet e × AreQuiet os
+  AreQuiet (Then Every Add e os) = IsQuiet e × AreQuiet os
+  AreQuiet (Then Every Subtract e os) = IsQuiet e × AreQuiet os
   AreQuiet _ = ⊥
 
--- the link of this number is for a procedure of the host
-abbrev pub IsHostLink : List Item → ℕ → Type 0
-IsHostLink links k = (i : Item) × (h : Host) × (slice_get links k ≡ Some i) × (host_of i.name ≡ Some h)
+-- the item of an import, by their numbers, is for a procedure of the host
+abbrev pub IsHostItem : List Import → ℕ → ℕ → Type 0
+IsHostItem imports k n = (i : Item) × (h : Host) × (imported imports k n ≡ Some i) × (host_of i.name ≡ Some h)
 
-abbrev pub IsHostCall : List Item → Expr → Type 0
-IsHostCall links (Call (LinkedProcedure k) [] (AndExpr e NoExprs) words NoPhrase) =
-    IsHostLink links k × IsQuiet e × (words ≡ 0)
-IsHostCall links _ = ⊥
+abbrev pub IsHostCall : List Import → Expr → Type 0
+IsHostCall imports (Call (LinkedProcedure k n) [] (AndExpr e NoExprs) words NoPhrase) =
+    IsHostItem imports k n × IsQuiet e × (words ≡ 0)
+IsHostCall imports _ = ⊥
 
 abbrev mutual
-  pub IsFirst : List Item → Stmt → Type 0
-  IsFirst links (Declare (Global n ∷ []) words) = words ≡ 1
-  IsFirst links (DeclareAs (Global n ∷ []) e) = IsQuiet e
-  IsFirst links (Assign (Global n) NoSuffix e) = IsQuiet e
-  IsFirst links (Perform e) = IsHostCall links e
-  IsFirst links (Block NoPhrase ss NoExits) = AreFirst links ss
-  IsFirst links (Repeat Endless (LoopOf (While e) s NoExits Null)) = IsQuiet e × IsFirst links s
-  IsFirst links _ = ⊥
+  pub IsFirst : List Import → Stmt → Type 0
+  IsFirst imports (Declare (Global n ∷ []) k) = k ≡ Ordinal
+  IsFirst imports (DeclareAs (Global n ∷ []) k e) = (k ≡ Ordinal) × IsQuiet e
+  IsFirst imports (Assign (Global n) NoSuffix e) = IsQuiet e
+  IsFirst imports (Perform e) = IsHostCall imports e
+  IsFirst imports (Block NoPhrase ss NoExits) = AreFirst imports ss
+  IsFirst imports (Repeat Endless (LoopOf (While e) s NoExits NoFinish)) = IsQuiet e × IsFirst imports s
+  IsFirst imports _ = ⊥
 
-  pub AreFirst : List Item → Stmts → Type 0
-  AreFirst links NoStmts = Unit {0}
-  AreFirst links (AndStmt s ss) = IsFirst links s × AreFirst links ss
+  pub AreFirst : List Import → Stmts → Type 0
+  AreFirst imports NoStmts = Unit {0}
+  AreFirst imports (AndStmt s ss) = IsFirst imports s × AreFirst imports ss
 
-abbrev pub IsFirstBlock : List Item → Stmt → Type 0
-IsFirstBlock links (Block NoPhrase ss NoExits) = AreFirst links ss
-IsFirstBlock links _ = ⊥
+abbrev pub IsFirstBlock : List Import → Stmt → Type 0
+IsFirstBlock imports (Block NoPhrase ss NoExits) = AreFirst imports ss
+IsFirstBlock imports _ = ⊥
 
 pub record FirstProgram (m : Module) : Type 0 where
   pub globals : AreOrdinal m.globals
@@ -65,9 +66,9 @@ pub record FirstProgram (m : Module) : Type 0 where
   pub procedures : m.procedures ≡ []
   pub exports : m.exports ≡ []
   pub variables : m.body.variables ≡ NoKinds
-  pub does : IsFirstBlock (links_of m.imports) m.body.does
+  pub does : IsFirstBlock m.imports m.body.does
 
--- a first program whose links stand for what they name
+-- a first program whose imports stand for what they name
 pub record IsFirstInstance (i : Instance) : Type 0 where
   pub is_first : FirstProgram i.code
   pub is_linked : i.links ≡ targets_of i.code

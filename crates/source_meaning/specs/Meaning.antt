@@ -1,7 +1,7 @@
 -- What each construct means, one row for each (Language Manual, chapters 2 to 5; turns are a rule of this project).
 -- A round of a loop, and the body of an instance, go through `next`. What has no row yet means `no_row`.
 use Rattle.std.specs.Prelude.{ℕ, zero, suc, [], ◌∷◌, true, false, not}
-use Rattle.mesa_types.specs.Typed.{Count, Endless, Expr, Number, Variable, Operate, Negate, Relate, Not, AllOf, SomeOf, Call, Exprs, NoExprs, AndExpr, NoSuffix, Operations, NoOperation, Then, NoPhrase, Stmt, Null, Declare, DeclareAs, Assign, Perform, If, Block, Repeat, Stmts, NoStmts, AndStmt, NoExits, Loop, LoopOf, Condition, Always, While, Until}
+use Rattle.mesa_types.specs.Typed.{Count, Endless, Expr, Number, Variable, Operate, Negate, Relate, Not, AllOf, SomeOf, Call, Exprs, NoExprs, AndExpr, NoSuffix, Operations, NoOperation, Then, NoPhrase, Stmt, Null, Declare, DeclareAs, Assign, Perform, If, Block, Repeat, Stmts, NoStmts, AndStmt, NoExits, Loop, LoopOf, Finish, NoFinish, Finished, Condition, Always, While, Until}
 use Rattle.mesa_types.specs.declared.typed_parts.Home.TheVariants.{Global}
 use Rattle.mesa_types.specs.declared.typed_parts.Range.TheVariants.{Every}
 use Rattle.source_meaning.specs.Value.{Word, NoValues, AndValue, opposite, related, truth, is_true}
@@ -50,8 +50,8 @@ unfoldable mutual
 unfoldable mutual
   pub does : Program → Next → Stmt → Where → Run
   does P next Null w = give Normal
-  does P next (Declare (Global n ∷ []) words) w = change (store w n (zero_at P w n)) (give Normal)
-  does P next (DeclareAs (Global n ∷ []) e) w =
+  does P next (Declare (Global n ∷ []) k) w = change (store w n (zero_at P w n)) (give Normal)
+  does P next (DeclareAs (Global n ∷ []) k e) w =
       change (store w n (zero_at P w n)) (on_value (value P next e w) λ v. change (store w n v) (give Normal))
   does P next (Assign (Global n) NoSuffix e) w = on_value (value P next e w) λ v. change (store w n v) (give Normal)
   does P next (Perform e) w = dropped (value P next e w)
@@ -69,8 +69,12 @@ unfoldable mutual
   loop P next (LoopOf c s NoExits fin) w Endless =
       on_word (condition P next c w) λ b. branch (is_true b)
       (on_normal (does P next s w) (spend (λ σ. next (Repeat Endless (LoopOf c s NoExits fin)) w σ)))
-      (does P next fin w)
+      (finish P next fin w)
   loop P next _ w n = no_row
+
+  pub finish : Program → Next → Finish → Where → Run
+  finish P next NoFinish w = give Normal
+  finish P next (Finished s) w = does P next s w
 
   pub condition : Program → Next → Condition → Where → Run
   condition P next Always w = give_value (truth true)

@@ -1,10 +1,10 @@
--- A program: its instances, each with its typed module and what each of its links stands for, and the instances to
+-- A program: its instances, each with its typed module and what the items of its imports stand for, and the instances to
 -- start (rule of this project).
 use Rattle.std.specs.Prelude.{ℕ, List, [], ◌∷◌, map, Option, Some, None, slice_get, codes, bytes_eq, if◌then◌else◌}
 use Rattle.mesa_types.specs.Typed.{NoKinds, NoPhrase, Block, NoStmts, NoExits, Body, Module}
 use Rattle.mesa_types.specs.declared.typed_parts.Callee.{Callee}
 use Rattle.mesa_types.specs.declared.typed_parts.Callee.TheVariants.{OwnProcedure, LinkedProcedure}
-use Rattle.mesa_types.specs.Sound.{links_of}
+use Rattle.mesa_types.specs.declared.faces.Import.{Import}
 use Rattle.mesa_types.specs.declared.faces.Item.{Item}
 
 -- a procedure of the host (the built-in interface IODefs)
@@ -12,14 +12,15 @@ pub data Host : Type 0 where
   WriteChar : Host
   WriteDecimal : Host
 
--- what a link, or a name, stands for
+-- what an item of an import stands for
 pub data Target : Type 0 where
   ToHost : Host → Target
   Nothing : Target
 
 pub record Instance : Type 0 where
   pub code : Module
-  pub links : List Target
+  -- for each import, for each item of its face
+  pub links : List (List Target)
 
 pub record Program : Type 0 where
   pub instances : List Instance
@@ -42,9 +43,9 @@ to_host (Some h) = ToHost h
 unfoldable pub target_of : Item → Target
 target_of i = to_host (host_of i.name)
 
--- what the links of a module stand for, where nothing but the host is around
-unfoldable pub targets_of : Module → List Target
-targets_of m = map target_of (links_of m.imports)
+-- what the items of a module's imports stand for, where nothing but the host is around
+unfoldable pub targets_of : Module → List (List Target)
+targets_of m = map (λ (i : Import). map target_of i.face.items) m.imports
 
 -- what stands for a number that is out of range; no lawful program has one
 unfoldable pub no_body : Body
@@ -62,13 +63,13 @@ instance_of P i = or_else no_instance (slice_get P.instances i)
 unfoldable pub module_of : Program → ℕ → Module
 module_of P i = (instance_of P i).code
 
-unfoldable pub link_of : Program → ℕ → ℕ → Target
-link_of P i k = or_else Nothing (slice_get (instance_of P i).links k)
+unfoldable pub link_of : Program → ℕ → ℕ → ℕ → Target
+link_of P i k n = or_else Nothing (slice_get (or_else [] (slice_get (instance_of P i).links k)) n)
 
 -- what is called in instance i
 unfoldable pub callee_of : Program → ℕ → Callee → Target
 callee_of P i (OwnProcedure q) = Nothing
-callee_of P i (LinkedProcedure k) = link_of P i k
+callee_of P i (LinkedProcedure k n) = link_of P i k n
 
 -- the program of a single module, whose one instance is started
 unfoldable pub single : Module → Program

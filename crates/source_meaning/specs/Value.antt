@@ -4,8 +4,8 @@ use Rattle.std.specs.Prelude.{ℕ, zero, suc, ◌+◌, ◌-◌, ◌%◌, List, [
 use Rattle.mesa_types.specs.Typed.{Kind, Ordinal, Texts, Array, Record, Kinds, NoKinds, AndKind}
 use Rattle.mesa_types.specs.declared.typed_parts.Base.{Base}
 use Rattle.mesa_types.specs.declared.typed_parts.Base.TheVariants.{Signed, Unsigned}
-use Rattle.mesa_types.specs.declared.typed_parts.Relation.{Relation}
-use Rattle.mesa_types.specs.declared.typed_parts.Relation.TheVariants.{Equal, Differs, Less, AtMost, More, AtLeast}
+use Rattle.mesa_types.specs.declared.relation.Relation.{Relation}
+use Rattle.mesa_types.specs.declared.relation.Relation.TheVariants.{Equal, NotEqual, Less, AtMost, Greater, AtLeast}
 
 -- a word, the bytes of a string, or the elements of an array or the fields of a record
 mutual
@@ -68,10 +68,10 @@ shifted Unsigned w = w + 32768
 
 unfoldable pub related : Relation → Base → ℕ → ℕ → Bool
 related Equal b x y = nat_eq x y
-related Differs b x y = not (nat_eq x y)
+related NotEqual b x y = not (nat_eq x y)
 related Less b x y = nat_lt (shifted b x) (shifted b y)
 related AtMost b x y = nat_le (shifted b x) (shifted b y)
-related More b x y = nat_lt (shifted b y) (shifted b x)
+related Greater b x y = nat_lt (shifted b y) (shifted b x)
 related AtLeast b x y = nat_le (shifted b y) (shifted b x)
 
 unfoldable pub truth : Bool → Value

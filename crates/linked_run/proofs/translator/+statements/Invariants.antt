@@ -5,5 +5,5 @@ use Rattle.linked_run.proofs.translator.+statements.Given as goal
 
 abbrev pub invariant-put_stmts-loop-s : goal.invariant-put_stmts-loop-s
 invariant-put_stmts-loop-s l =
-    l.fn.code ++ code_of_stmts l.links (stmts (map stmt l.ss))
-    ≡ l.code ++ code_of_stmts l.links (stmts (map stmt (drop l.s-index l.ss)))
+    l.fn.code ++ code_of_stmts l.imports (stmts (map stmt l.ss))
+    ≡ l.code ++ code_of_stmts l.imports (stmts (map stmt (drop l.s-index l.ss)))
