@@ -63,7 +63,7 @@ pub record IsWriter (number : ℕ) : Type 0 where
   pub gives : kinds_of item.gives ≡ NoKinds
   pub is_named : host_of item.name ≡ Some host
 
-pub writes_char : IsWriter f.write_char
+pub writes_char : IsWriter f.number_of_write_char
 unfolding item_in imported UsedIn IsUsed host_of a_word one
 writes_char = record {
   item = procedure (codes "WriteChar") (parameter (codes "c") v.Character) [];
@@ -76,7 +76,7 @@ writes_char = record {
   is_named = refl;
 }
 
-pub writes_decimal : IsWriter f.write_decimal
+pub writes_decimal : IsWriter f.number_of_write_decimal
 unfolding item_in imported UsedIn IsUsed host_of a_word one
 writes_decimal = record {
   item = procedure (codes "WriteDecimal") (parameter (codes "n") v.Integer) [];

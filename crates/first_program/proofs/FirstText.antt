@@ -162,15 +162,15 @@ module _ (scope : Scope) (n : ℕ) (low : IsBelow scope n) where
   good_write_decimal : (x : Expr) (u : t.Stmt) → s.write_decimal scope x ≡ Some u → IsGoodStmt n true u
   unfolding s.write_decimal
   good_write_decimal x u is =
-      let v = split (s.sum scope x) (λ v. Some (f.call_of f.write_decimal v.value)) u is in
+      let v = split (s.sum scope x) (λ v. Some (f.call_of f.number_of_write_decimal v.value)) u is in
       let good = good_sum x v.0 v.1 in
-      here (IsGoodStmt n true) (f.call_of f.write_decimal v.0.value) u v.2 (good_call n f.write_decimal v.0.terms v.0.value writes_decimal good.few good.good)
+      here (IsGoodStmt n true) (f.call_of f.number_of_write_decimal v.0.value) u v.2 (good_call n f.number_of_write_decimal v.0.terms v.0.value writes_decimal good.few good.good)
 
   good_write_char : (x : Expr) (u : t.Stmt) → s.write_char x ≡ Some u → IsGoodStmt n true u
   unfolding s.write_char
   good_write_char x u is =
-      let v = split (s.character x) (λ v. Some (f.call_of f.write_char v)) u is in
-      here (IsGoodStmt n true) (f.call_of f.write_char v.0) u v.2 (good_call n f.write_char 1 v.0 writes_char (omega arith) (good_character x v.0 v.1))
+      let v = split (s.character x) (λ v. Some (f.call_of f.number_of_write_char v)) u is in
+      here (IsGoodStmt n true) (f.call_of f.number_of_write_char v.0) u v.2 (good_call n f.number_of_write_char 1 v.0 writes_char (omega arith) (good_character x v.0 v.1))
 
   -- by the tests on the name
   good_named : (a b : Bool) (x : Expr) (u : t.Stmt) → cond a (s.write_decimal scope x) (cond b (s.write_char x) None) ≡ Some u → IsGoodStmt n true u

@@ -30,7 +30,7 @@ use Rattle.mesa_types.specs.declared.syntax.TypeExp.{TypeExp, out-TypeExp}
 use Rattle.mesa_types.specs.declared.types.FieldType.{FieldType}
 use Rattle.mesa_types.specs.Typed as t
 use Rattle.first_program.specs.FirstLayers.{Layer}
-use Rattle.first_program.specs.FirstTree.{Operation, number, variable, operator, operation, operated, related, write_char, write_decimal, call_of, assign, declare, declare_as, while_loop, module_of}
+use Rattle.first_program.specs.FirstTree.{Operation, number, variable, operator, operation, operated, related, number_of_write_char, number_of_write_decimal, call_of, assign, declare, declare_as, while_loop, module_of}
 use Rattle.first_program.specs.FirstTree.{integer as integer_named}
 
 infixl 10 ◌>>=◌
@@ -141,7 +141,7 @@ character e = character_of (out-Expr e)
 unfoldable pub write_char : Expr → Option t.Stmt
 write_char e = do
   x ← character e
-  Some (call_of write_char x)
+  Some (call_of number_of_write_char x)
 
 -- WHILE and its expression, with no FOR or THROUGH before it
 abbrev pub while_of : Layer Condition-F → Option Expr
@@ -178,7 +178,7 @@ module _ (scope : Scope) where
   unfoldable pub write_decimal : Expr → Option t.Stmt
   write_decimal e = do
     x ← sum scope e
-    Some (call_of write_decimal x.value)
+    Some (call_of number_of_write_decimal x.value)
 
   abbrev pub call_by_name : List ℕ → Expr → Option t.Stmt
   call_by_name x e =

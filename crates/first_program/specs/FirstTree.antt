@@ -43,11 +43,11 @@ abbrev pub related : Relation → t.Expr → t.Expr → t.Expr
 related r d e = t.Relate Signed r d e
 
 -- the items of IODefs, the one import
-abbrev pub write_char : ℕ
-write_char = 0
+abbrev pub number_of_write_char : ℕ
+number_of_write_char = 0
 
-abbrev pub write_decimal : ℕ
-write_decimal = 2
+abbrev pub number_of_write_decimal : ℕ
+number_of_write_decimal = 2
 
 -- a call of an item of the one import, which gives nothing
 abbrev pub call_of : ℕ → t.Expr → t.Stmt

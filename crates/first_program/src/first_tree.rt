@@ -118,21 +118,14 @@ pub fn assign(alloc: Global, home: u16, value: TypedExpr) -> TypedStmt
 pub fn declare(alloc: Global, home: u16) -> Result<TypedStmt, OutOfMemory>
     ensures { IfOk result (λ made. stmt made ≡ spec.declare home) }
 {
-    Ok(TypedStmt::Declare(
-        one_global(alloc, home)?,
-        TypeTree::Integer,
-    ))
+    Ok(TypedStmt::Declare(one_global(alloc, home)?, TypeTree::Integer))
 }
 
 #[tactic(auto, using(crate::proofs::FirstKinds::integer_kind))]
 pub fn declare_as(alloc: Global, home: u16, value: TypedExpr) -> Result<TypedStmt, OutOfMemory>
     ensures { IfOk result (λ made. stmt made ≡ spec.declare_as home (expr value)) }
 {
-    Ok(TypedStmt::DeclareAs(
-        one_global(alloc, home)?,
-        TypeTree::Integer,
-        value,
-    ))
+    Ok(TypedStmt::DeclareAs(one_global(alloc, home)?, TypeTree::Integer, value))
 }
 
 fn block(alloc: Global, statements: List<TypedStmt>) -> Result<TypedStmt, OutOfMemory>

@@ -111,12 +111,7 @@ fn put_host(code: &mut Code, name: &Name) -> Result<(), OutOfMemory>
 }
 
 #[tactic(auto, unfolding(mesa_types::specs::Links::imported, mesa_types::specs::Links::item_in))]
-fn put_call(
-    code: &mut Code,
-    imports: &Imports,
-    import: u32,
-    item: u32,
-) -> Result<(), OutOfMemory>
+fn put_call(code: &mut Code, imports: &Imports, import: u32, item: u32) -> Result<(), OutOfMemory>
     ensures { OnOk result (code.new ≡ code.old ++ code_of_link (imported imports.now import item)) }
 {
     let Some(import) = imports.get(import as usize) else {
