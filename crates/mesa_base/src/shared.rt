@@ -1,6 +1,6 @@
 ghost use Rattle.std.specs.Prelude.{◌≡◌, IfOk};
 
-use crate::memory::OutOfMemory;
+use crate::out_of_memory::OutOfMemory;
 use std::alloc::Global;
 use std::marker::Model;
 use std::rc::Rc;

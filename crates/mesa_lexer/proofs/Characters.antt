@@ -4,9 +4,9 @@ use Rattle.std.proofs.lemmas.Bool.{and_parts, eqb-true}
 use Rattle.std.proofs.lemmas.Bool.Decides.{nat_tests}
 use Rattle.mesa_lexer.specs.Forms.{character, arrow_character, Whole, is_printed}
 use Rattle.mesa_lexer.specs.Tokens.{NoGap}
-use Rattle.mesa_lexer.specs.Pieces.{Stands, begins_with_arrow, character_piece}
+use Rattle.mesa_lexer.specs.Lexed.{Stands, begins_with_arrow, character_lexed}
 use Rattle.mesa_lexer.specs.declared.token.Kind.TheVariants as k
-use Rattle.mesa_lexer.specs.declared.piece.Piece.TheVariants.{Token, NoToken}
+use Rattle.mesa_lexer.specs.declared.lexed.Lexed.TheVariants.{Token, NoToken}
 use Rattle.mesa_lexer.proofs.Decoding.{decode_character}
 use Rattle.mesa_lexer.proofs.Longer.{no_gap, longest_decoded, nothing_decoded}
 
@@ -63,7 +63,7 @@ arrow_stands b (c ∷ d ∷ rest) held =
       not_long = λ h. h;
     }
 
-pub character_stands : (rest : List ℕ) → Stands (39 ∷ rest) (character_piece rest)
+pub character_stands : (rest : List ℕ) → Stands (39 ∷ rest) (character_lexed rest)
 character_stands [] = (quote_gapless [], nothing_decoded 39 [] (λ e. absurd (omega arith)) none)
   where
     none : (m : ℕ) → m ≤ length {A = ℕ} [] → decode_character (take m []) ≡ None

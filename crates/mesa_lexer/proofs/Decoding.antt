@@ -8,8 +8,8 @@ use Rattle.mesa_base.specs.Name.{is_letter, is_digit, is_letter_or_digit}
 use Rattle.mesa_lexer.specs.Blanks.{begins_with}
 use Rattle.mesa_lexer.specs.Words.{word_of}
 use Rattle.mesa_lexer.specs.Marks.{mark_of, marks}
-use Rattle.mesa_lexer.specs.Forms.{Form, name, word, decimal, decimal_d, octal_b, octal_c, character, arrow_character, text, begun_text, mark, Lexeme, Whole, is_identifier, is_octal_digit, one_or_more, number_in, is_printed}
-use Rattle.mesa_lexer.specs.Pieces.{named}
+use Rattle.mesa_lexer.specs.Forms.{Form, name, word, decimal, decimal_d, octal_b, octal_c, character, arrow_character, text, unended_text, mark, Lexeme, Whole, is_identifier, is_octal_digit, one_or_more, number_in, is_printed}
+use Rattle.mesa_lexer.specs.Lexed.{named}
 use Rattle.mesa_lexer.specs.declared.mark.Mark.{Mark}
 use Rattle.mesa_lexer.specs.declared.token.Kind.TheVariants as k
 use Rattle.mesa_lexer.proofs.Rows.{spelled_passes}
@@ -111,5 +111,5 @@ decodes (octal_c ds all) other = decode_digits ds (codes "C") (octal_list ds all
 decodes (character b) other = rw b refl
 decodes arrow_character other = refl
 decodes (text inside) other = cc
-decodes (begun_text inside) other = cc
+decodes (unended_text inside) other = cc
 decodes (mark {bytes = bs} {m = m} found) other = decode_marks bs m found

@@ -2,7 +2,7 @@
 use Rattle.std.proofs.Common.{◌≡◌, ℕ, suc, ◌<◌, ◌≤◌, Bool, true, false, ◌==◌, cond, if◌then◌else◌, List, [], ◌∷◌, length, arith, refl, sym, ap}
 use Rattle.std.proofs.lemmas.Bool.{and_parts, eqb-true}
 use Rattle.mesa_lexer.specs.Blanks.{ends_line, is_blank, begins_with_hyphens, GoesOn, to_text_end, to_line_end, through_hyphens, past, IsGap, blank, comment}
-use Rattle.mesa_lexer.specs.Pieces.{comment_len}
+use Rattle.mesa_lexer.specs.Lexed.{comment_len}
 
 pub goes_on : (rest : List ℕ) → GoesOn rest (comment_len rest)
 goes_on [] = to_text_end

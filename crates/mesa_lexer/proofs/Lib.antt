@@ -6,7 +6,7 @@ pub mod Limits
 pub mod Names
 pub mod Numbers
 pub mod Characters
-pub mod Signs
+pub mod MarkForms
 pub mod Strings
 pub mod Gaps
 pub mod Standing

@@ -4,10 +4,10 @@ use Rattle.std.proofs.lemmas.Bool.{not-true, ltb-true, ltb-false}
 use Rattle.mesa_lexer.specs.Words.{word_of, words}
 use Rattle.mesa_lexer.specs.Forms.{Whole, Longest}
 use Rattle.mesa_lexer.specs.Tokens.{NoGap}
-use Rattle.mesa_lexer.specs.Pieces.{named, Stands, identified, numbered, coded}
+use Rattle.mesa_lexer.specs.Lexed.{named, Stands, identified, numbered, coded}
 use Rattle.mesa_lexer.specs.declared.word.Word.{Word}
 use Rattle.mesa_lexer.specs.declared.token.Kind.TheVariants as k
-use Rattle.mesa_lexer.specs.declared.piece.Piece.TheVariants.{Token, TooLarge, TooLong}
+use Rattle.mesa_lexer.specs.declared.lexed.Lexed.TheVariants.{Token, TooLarge, TooLong}
 use Rattle.mesa_lexer.proofs.Rows.{spelled_passes}
 
 pub word_is_short : (bytes : List ℕ) (w : Word) → word_of bytes ≡ Some w → not (nat_lt 255 (length bytes)) ≡ true

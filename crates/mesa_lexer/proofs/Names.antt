@@ -8,7 +8,7 @@ use Rattle.mesa_base.specs.Name.{is_letter, is_letter_or_digit}
 use Rattle.mesa_lexer.specs.Blanks.{is_blank}
 use Rattle.mesa_lexer.specs.Words.{word_of}
 use Rattle.mesa_lexer.specs.Forms.{Form, name, word, Whole, is_identifier}
-use Rattle.mesa_lexer.specs.Pieces.{named, Stands, identifier_piece}
+use Rattle.mesa_lexer.specs.Lexed.{named, Stands, identifier_lexed}
 use Rattle.mesa_lexer.specs.declared.word.Word.{Word}
 use Rattle.mesa_lexer.proofs.Prefixes.{past_prefix, prefix_all}
 use Rattle.mesa_lexer.proofs.Decoding.{decode}
@@ -30,7 +30,7 @@ spelling_all b rest held =
     let either : is_letter_or_digit b ≡ true = rw held refl in
     rw either (rw one-add (rw held (prefix_all is_letter_or_digit rest)))
 
-pub identifier_stands : (b : ℕ) (rest : List ℕ) → is_letter b ≡ true → Stands (b ∷ rest) (identifier_piece (b ∷ rest))
+pub identifier_stands : (b : ℕ) (rest : List ℕ) → is_letter b ≡ true → Stands (b ∷ rest) (identifier_lexed (b ∷ rest))
 identifier_stands b rest held =
     identified_stands (b ∷ rest) spelling
     (no_gap b rest (letter_unblank b held) (rw (letter_no_hyphen b held) refl))

@@ -9,7 +9,7 @@ use Rattle.mesa_base.specs.Name.{is_digit}
 use Rattle.mesa_lexer.specs.Blanks.{begins_with, is_blank}
 use Rattle.mesa_lexer.specs.Forms.{Form, decimal, decimal_d, octal_b, octal_c, Lexeme, Whole, is_octal_digit, one_or_more, number_in, Longest}
 use Rattle.mesa_lexer.specs.Tokens.{NoGap}
-use Rattle.mesa_lexer.specs.Pieces.{Stands, suffixed, number_piece}
+use Rattle.mesa_lexer.specs.Lexed.{Stands, suffixed, number_lexed}
 use Rattle.mesa_lexer.specs.declared.token.Kind.TheVariants as k
 use Rattle.mesa_lexer.proofs.Prefixes.{prefix_all, prefix_of_take}
 use Rattle.mesa_lexer.proofs.Decoding.{decode, decodes, decode_suffix}
@@ -116,11 +116,11 @@ suffixed_stands ds (s ∷ after) all none = by_d (s == 68) refl
                 one (suc zero) over there = rw not_d (rw not_b (rw not_c refl))
                 one (suc (suc i)) over there = two (suc (suc i)) (omega arith) there
 
-pub number_stands : (b : ℕ) (rest : List ℕ) → is_digit b ≡ true → Stands (b ∷ rest) (number_piece (b ∷ rest))
+pub number_stands : (b : ℕ) (rest : List ℕ) → is_digit b ≡ true → Stands (b ∷ rest) (number_lexed (b ∷ rest))
 number_stands b rest held =
     let whole : List ℕ = b ∷ rest in
     let count : ℕ = prefix_len is_digit whole in
-    subst (λ l. Stands l (number_piece (b ∷ rest))) (take-append-drop (prefix_len is_digit (b ∷ rest)) (b ∷ rest))
+    subst (λ l. Stands l (number_lexed (b ∷ rest))) (take-append-drop (prefix_len is_digit (b ∷ rest)) (b ∷ rest))
     (suffixed_stands (take (prefix_len is_digit (b ∷ rest)) (b ∷ rest)) (drop (prefix_len is_digit (b ∷ rest)) (b ∷ rest)) some (none_after is_digit (b ∷ rest)))
   where
     some : one_or_more is_digit (take (prefix_len is_digit (b ∷ rest)) (b ∷ rest)) ≡ true

@@ -6,10 +6,11 @@ use Rattle.mesa_base.specs.declared.place.Place.{Place}
 use Rattle.mesa_lexer.specs.Places.{place_after}
 use Rattle.mesa_lexer.specs.Blanks.{IsGap}
 use Rattle.mesa_lexer.specs.Forms.{Whole}
-use Rattle.mesa_lexer.specs.Tokens.{text_limit, place_in, IsToken, Reaches, Stops, HasTokens, HasLexFault}
+use Rattle.mesa_base.specs.declared.limits.TheConstants.{TEXT_BYTES}
+use Rattle.mesa_lexer.specs.Tokens.{place_in, IsToken, Reaches, Stops, HasTokens, HasLexFault}
 use Rattle.mesa_lexer.specs.Tokens as t
 use Rattle.mesa_lexer.specs.Positions.{IsBehind, passed, place_of}
-use Rattle.mesa_lexer.specs.Steps.{Steps, gap, token, Refuses, nothing, stray, cut, large, long}
+use Rattle.mesa_lexer.specs.Advances.{Advances, gap, token, Refuses, nothing, stray, cut, large, long}
 use Rattle.mesa_lexer.specs.declared.token.Kind.{Kind}
 use Rattle.mesa_lexer.specs.declared.token.Token.{Token}
 use Rattle.mesa_lexer.specs.declared.position.Position.{Position}
@@ -20,14 +21,14 @@ use Rattle.mesa_lexer.proofs.Behind.{passed_behind, place_behind, few_lines}
 
 -- what holds before each step
 pub record Scanned (text : List ℕ) (at : ℕ) (items : List Token) (position : Position) : Type 0 where
-  pub short : length text ≤ text_limit
+  pub short : length text ≤ TEXT_BYTES
   pub is_there : at ≤ length text
   pub few : length items ≤ at
   pub reaches : Reaches text at items
   pub behind : IsBehind position (take at text)
 
 -- nothing is scanned yet
-pub scanned_start : (text : List ℕ) (position : Position) → length text ≤ text_limit → IsBehind position [] → Scanned text 0 [] position
+pub scanned_start : (text : List ℕ) (position : Position) → length text ≤ TEXT_BYTES → IsBehind position [] → Scanned text 0 [] position
 scanned_start text position short behind = record { short = short; is_there = omega arith; few = omega arith; reaches = t.start; behind = behind }
 
 few_behind : {text : List ℕ} {at : ℕ} {items : List Token} {position : Position} → Scanned text at items position → (position.line ≤ at + 1) × (position.column ≤ at + 1)
@@ -47,17 +48,17 @@ room {text} {at} {items} {position} scanned =
     rw (take_rest text at) (omega (arith, length-drop at text), omega (arith, length-drop at text))
 
 -- how far a step goes
-pub step_within : {rest : List ℕ} {position : Position} {before after : List Token} {n : ℕ} → Steps rest position before n after → (0 < n) × (n ≤ length rest)
+pub step_within : {rest : List ℕ} {position : Position} {before after : List Token} {n : ℕ} → Advances rest position before n after → (0 < n) × (n ≤ length rest)
 step_within (gap g) = let all = gap_is g in (all.1, all.2)
 step_within {rest} (token {n = n} {kind = kind} t) = (token_some rest n (Whole kind) t.longest, t.longest.is_there)
 
 -- a token and its place are a step
 pub step_token : {rest : List ℕ} {position : Position} {before : List Token} {n : ℕ} {kind : Kind} {place : Place} → IsToken rest n kind → place ≡ place_of position (length before)
-    → Steps rest position before n (before ++ record { kind = kind; place = place } ∷ [])
-step_token {rest} {position} {before} {n} {kind} {place} t same = subst (λ (p : Place). Steps rest position before n (before ++ record { kind = kind; place = p } ∷ [])) (sym same) (token t)
+    → Advances rest position before n (before ++ record { kind = kind; place = place } ∷ [])
+step_token {rest} {position} {before} {n} {kind} {place} t same = subst (λ (p : Place). Advances rest position before n (before ++ record { kind = kind; place = p } ∷ [])) (sym same) (token t)
 
 -- one step further
-pub scanned_step : {text : List ℕ} {at n : ℕ} {items after : List Token} {position : Position} → Scanned text at items position → Steps (drop at text) position items n after
+pub scanned_step : {text : List ℕ} {at n : ℕ} {items after : List Token} {position : Position} → Scanned text at items position → Advances (drop at text) position items n after
     → Scanned text (at + n) after (passed position (take n (drop at text)))
 scanned_step {text} {at} {n} {items} {after} {position} scanned step = record {
   short = scanned.short;
@@ -67,14 +68,14 @@ scanned_step {text} {at} {n} {items} {after} {position} scanned step = record {
   behind = rw (take-add at n text) (passed_behind (take n (drop at text)) position (take at text) scanned.behind);
 }
   where
-    few : {after : List Token} {n : ℕ} → Steps (drop at text) position items n after → length after ≤ at + n
+    few : {after : List Token} {n : ℕ} → Advances (drop at text) position items n after → length after ≤ at + n
     few (gap g) = let f = scanned.few in omega arith
     few (token {kind = kind} t) =
         let f = scanned.few in
         let some = (step_within {position = position} {before = items} (token t)).0 in
         omega (arith, length_push items (record { kind = kind; place = place_of position (length items) }))
 
-    reaches : {after : List Token} {n : ℕ} → Steps (drop at text) position items n after → Reaches text (at + n) after
+    reaches : {after : List Token} {n : ℕ} → Advances (drop at text) position items n after → Reaches text (at + n) after
     reaches (gap g) = t.gap scanned.reaches g
     reaches (token {n = n} {kind = kind} tok) =
         subst (λ (place : Place). Reaches text (at + n) (items ++ record { kind = kind; place = place } ∷ []))
@@ -104,7 +105,7 @@ scanned_fault {text} {at} {items} {position} {fault} scanned less refuses = go r
     go (large s) = rw here (t.too_large (stops s.0) s.1.longest s.1.passed)
     go (long s) = rw here (t.too_long (stops s.0) s.1.longest s.1.passed)
 
-pub taken_length : {rest : List ℕ} {position : Position} {before after : List Token} {n : ℕ} → Steps rest position before n after → n ≡ length (take n rest)
+pub taken_length : {rest : List ℕ} {position : Position} {before after : List Token} {n : ℕ} → Advances rest position before n after → n ≡ length (take n rest)
 taken_length {rest} {n = n} step = sym (length-take-le n rest (step_within step).1)
 
 pub record Taken (text : List ℕ) (at n : ℕ) (position : Position) : Type 0 where
@@ -115,7 +116,7 @@ pub record Taken (text : List ℕ) (at n : ℕ) (position : Position) : Type 0 w
   pub columns : position.column + length (take n (take (length text - at) (drop at text))) < 2 ^ 32
 
 pub step_taken : {text : List ℕ} {at n : ℕ} {items after : List Token} {position : Position} → Scanned text at items position
-    → Steps (take (length text - at) (drop at text)) position items n after → Taken text at n position
+    → Advances (take (length text - at) (drop at text)) position items n after → Taken text at n position
 step_taken {text} {at} {n} {items} {after} {position} scanned step =
     let low = few_behind scanned in
     let a = low.0 in
@@ -129,7 +130,7 @@ step_taken {text} {at} {n} {items} {after} {position} scanned step =
     record { some = (step_within step).0; within = omega arith; inside = inside; lines = rw len (omega arith); columns = rw len (omega arith) }
 
 pub scanned_taken : {text : List ℕ} {at n : ℕ} {items after : List Token} {position : Position} → Scanned text at items position
-    → Steps (take (length text - at) (drop at text)) position items n after → Scanned text (at + n) after (passed position (take n (take (length text - at) (drop at text))))
+    → Advances (take (length text - at) (drop at text)) position items n after → Scanned text (at + n) after (passed position (take n (take (length text - at) (drop at text))))
 scanned_taken {text} {at} {n} {items} {after} {position} scanned step =
     rw (take_rest text at) (scanned_step scanned (rw (take_rest text at) at step))
 

@@ -7,12 +7,12 @@ use Rattle.std.proofs.Math.Seq.{take-add}
 use Rattle.mesa_base.specs.Name.{is_letter, is_digit, is_letter_or_digit}
 use Rattle.mesa_lexer.specs.Blanks.{begins_with}
 use Rattle.mesa_lexer.specs.Marks.{mark_of, marks}
-use Rattle.mesa_lexer.specs.Forms.{Form, name, word, decimal, decimal_d, octal_b, octal_c, character, arrow_character, text, begun_text, mark, Writes, plain, quote, an_arrow, Inside, empty, more, is_plain, Lexeme, Whole, Begun, is_identifier, one_or_more, Longest}
+use Rattle.mesa_lexer.specs.Forms.{Form, name, word, decimal, decimal_d, octal_b, octal_c, character, arrow_character, text, unended_text, mark, Writes, plain, quote, an_arrow, Inside, empty, more, is_plain, Lexeme, Whole, Unended, is_identifier, one_or_more, Longest}
 use Rattle.mesa_lexer.specs.Tokens.{NoGap}
-use Rattle.mesa_lexer.specs.Pieces.{Stands, begins_with_arrow, item_at, Runs, texted, ended}
+use Rattle.mesa_lexer.specs.Lexed.{Stands, begins_with_arrow, item_at, Runs, texted, ended}
 use Rattle.mesa_lexer.specs.declared.mark.Mark.{Mark}
 use Rattle.mesa_lexer.specs.declared.token.Kind.TheVariants as k
-use Rattle.mesa_lexer.specs.declared.piece.Piece.TheVariants.{Token, Stray, Open, TooLong}
+use Rattle.mesa_lexer.specs.declared.lexed.Lexed.TheVariants.{Token, Stray, Open, TooLong}
 use Rattle.mesa_lexer.proofs.Rows.{spelled_passes}
 use Rattle.mesa_lexer.proofs.Decoding.{octal_list}
 use Rattle.std.proofs.lemmas.List.{take_at, drop_at, length-append, append_assoc, take-append-drop, drop-drop, append_cancel_left}
@@ -116,7 +116,7 @@ no_more {rest} {n} {value} runs m w over there inside =
 -- a form that begins with a quote
 pub data Quoted : List ℕ → Lexeme → Type 0 where
   closed : {bytes value : List ℕ} → Inside bytes value → Quoted (34 ∷ (bytes ++ 34 ∷ [])) (Whole (k.Text value))
-  opened : {bytes value : List ℕ} → Inside bytes value → Quoted (34 ∷ bytes) Begun
+  opened : {bytes value : List ℕ} → Inside bytes value → Quoted (34 ∷ bytes) Unended
 
 abbrev pub unquoted : List ℕ → Bool
 unquoted [] = true
@@ -148,7 +148,7 @@ quoted (octal_c ds all) q = let h = digits_unquoted ds (codes "C") (octal_list d
 quoted (character b) q = cc
 quoted arrow_character q = cc
 quoted (text inside) q = closed inside
-quoted (begun_text inside) q = opened inside
+quoted (unended_text inside) q = opened inside
 quoted (mark {bytes = bs} {m = m} found) q = let h = mark_unquoted bs m found in cc
 
 -- where the last byte taken is the quote behind the inside
@@ -197,8 +197,8 @@ past_closed {rest} {n} {value} runs m tail y over there e form = go (34 ∷ tail
 text_gapless : (rest : List ℕ) → NoGap (34 ∷ rest)
 text_gapless rest = no_gap 34 rest refl refl
 
-longest_open : {rest : List ℕ} {n : ℕ} {value : List ℕ} → Runs rest n value → begins_with 34 (drop n rest) ≡ false → Longest (34 ∷ rest) (suc n) Begun
-longest_open {rest} {n} {value} runs stops = record { is_there = (let t = runs.is_there in omega arith); is_form = begun_text runs.inside; no_longer = longer }
+longest_open : {rest : List ℕ} {n : ℕ} {value : List ℕ} → Runs rest n value → begins_with 34 (drop n rest) ≡ false → Longest (34 ∷ rest) (suc n) Unended
+longest_open {rest} {n} {value} runs stops = record { is_there = (let t = runs.is_there in omega arith); is_form = unended_text runs.inside; no_longer = longer }
   where
     longer : (m : ℕ) (other : Lexeme) → suc n < m → m ≤ length (34 ∷ rest) → ¬ Form (take m (34 ∷ rest)) other
     longer zero other over there form = absurd (omega arith)

@@ -5,18 +5,19 @@ use Rattle.std.proofs.lemmas.Bool.{cases_lt, cond-true, cond-false, lt-ltb, le-l
 use Rattle.std.proofs.lemmas.List.{length-drop, drop_all}
 use Rattle.mesa_base.specs.declared.place.Place.{Place}
 use Rattle.mesa_lexer.specs.Blanks.{IsGap}
-use Rattle.mesa_lexer.specs.Forms.{Lexeme, Whole, Begun, Longest, NothingBegins, IsTooLarge, IsTooLong}
-use Rattle.mesa_lexer.specs.Tokens.{text_limit, NoGap, IsToken, place_in, Reaches, start, gap, token, HasTokens, Stops, HasLexFault, text_too_long, no_token, not_in_text, open_text, too_large, too_long}
+use Rattle.mesa_lexer.specs.Forms.{Lexeme, Whole, Unended, Longest, NothingBegins, IsTooLarge, IsTooLong}
+use Rattle.mesa_base.specs.declared.limits.TheConstants.{TEXT_BYTES}
+use Rattle.mesa_lexer.specs.Tokens.{NoGap, IsToken, place_in, Reaches, start, gap, token, HasTokens, Stops, HasLexFault, text_too_long, no_token, not_in_text, open_text, too_large, too_long}
 use Rattle.mesa_lexer.specs.Answer.{HasOneAnswer}
-use Rattle.mesa_lexer.specs.Pieces.{Stands}
+use Rattle.mesa_lexer.specs.Lexed.{Stands}
 use Rattle.mesa_lexer.specs.declared.token.Kind.{Kind}
 use Rattle.mesa_lexer.specs.declared.token.Kind.TheVariants as k
 use Rattle.mesa_lexer.specs.declared.token.Token.{Token}
 use Rattle.mesa_lexer.specs.declared.token.Tokens.{Tokens}
 use Rattle.mesa_lexer.specs.declared.fault.LexFault.{LexFault}
 use Rattle.mesa_lexer.specs.declared.fault.LexFault.TheVariants as f
-use Rattle.mesa_lexer.specs.declared.piece.Piece.{Piece}
-use Rattle.mesa_lexer.specs.declared.piece.Piece.TheVariants as p
+use Rattle.mesa_lexer.specs.declared.lexed.Lexed.{Lexed}
+use Rattle.mesa_lexer.specs.declared.lexed.Lexed.TheVariants as p
 use Rattle.mesa_lexer.proofs.Gaps.{gap_is}
 use Rattle.mesa_lexer.proofs.Standing.{something_stands}
 use Rattle.mesa_lexer.proofs.Same.{longest_same, token_same, gap_same, token_some, no_gap_at_end, no_token_at_end}
@@ -110,7 +111,7 @@ long_is (k.Mark m) long = refl
 
 abbrev fault_at : List ℕ → ℕ → List Token → Reading → LexFault
 fault_at text at tokens None = f.BadByte (place_in text at tokens)
-fault_at text at tokens (Some (n, Begun)) = if nat_lt (at + n) (length text) then f.BadByte (place_in text (at + n) tokens) else f.OpenString (place_in text at tokens)
+fault_at text at tokens (Some (n, Unended)) = if nat_lt (at + n) (length text) then f.BadByte (place_in text (at + n) tokens) else f.OpenString (place_in text at tokens)
 fault_at text at tokens (Some (n, Whole kind)) = if is_large kind then f.NumberTooLarge (place_in text at tokens) else f.TokenTooLong (place_in text at tokens)
 
 -- what a fault comes from
@@ -133,7 +134,7 @@ no_token_final {text} {at} {n} {tokens} {y} stops long over = record { no_gap = 
         go (inl large) = t.not_large large
         go (inr too) = t.not_long too
 
-cause_of : (text : List ℕ) (fault : LexFault) → length text ≤ text_limit → HasLexFault text fault → Cause text fault
+cause_of : (text : List ℕ) (fault : LexFault) → length text ≤ TEXT_BYTES → HasLexFault text fault → Cause text fault
 cause_of text fault short (text_too_long over) = absurd (omega arith)
 cause_of text fault short (no_token {at = at} {tokens = tokens} stops nothing) = record {
   at = at;
@@ -147,26 +148,26 @@ cause_of text fault short (no_token {at = at} {tokens = tokens} stops nothing) =
 cause_of text fault short (not_in_text {at = at} {n = n} {tokens = tokens} stops long less) = record {
   at = at;
   tokens = tokens;
-  reading = Some (n, Begun);
+  reading = Some (n, Unended);
   stops = stops;
   reads = long;
   final = no_token_final stops long (λ kind e. absurd (begun_not kind e));
   fault_is = sym (cond-true (nat_lt (at + n) (length text)) _ _ (lt-ltb (at + n) (length text) less));
 }
   where
-    begun_not : (kind : Kind) → Begun ≡ Whole kind → ⊥
+    begun_not : (kind : Kind) → Unended ≡ Whole kind → ⊥
     begun_not kind e = cc
 cause_of text fault short (open_text {at = at} {n = n} {tokens = tokens} stops long all) = record {
   at = at;
   tokens = tokens;
-  reading = Some (n, Begun);
+  reading = Some (n, Unended);
   stops = stops;
   reads = long;
   final = no_token_final stops long (λ kind e. absurd (begun_not kind e));
   fault_is = sym (cond-false (nat_lt (at + n) (length text)) _ _ (le-ltb (at + n) (length text) (omega arith)));
 }
   where
-    begun_not : (kind : Kind) → Begun ≡ Whole kind → ⊥
+    begun_not : (kind : Kind) → Unended ≡ Whole kind → ⊥
     begun_not kind e = cc
 cause_of text fault short (too_large {at = at} {n = n} {tokens = tokens} {kind = kind} stops long large) = record {
   at = at;
@@ -188,9 +189,9 @@ cause_of text fault short (too_long {at = at} {n = n} {tokens = tokens} {kind = 
 }
 
 one_fault : (text : List ℕ) (first second : LexFault) → HasLexFault text first → HasLexFault text second → first ≡ second
-one_fault text first second one two = go (cases_lt text_limit (length text))
+one_fault text first second one two = go (cases_lt TEXT_BYTES (length text))
   where
-    long_fault : text_limit < length text → (fault : LexFault) → HasLexFault text fault → fault ≡ f.TextTooLong
+    long_fault : TEXT_BYTES < length text → (fault : LexFault) → HasLexFault text fault → fault ≡ f.TextTooLong
     long_fault over fault (text_too_long over') = refl
     long_fault over fault (no_token stops nothing) = let s = stops.not_long in absurd (omega arith)
     long_fault over fault (not_in_text stops long less) = let s = stops.not_long in absurd (omega arith)
@@ -198,7 +199,7 @@ one_fault text first second one two = go (cases_lt text_limit (length text))
     long_fault over fault (too_large stops long large) = let s = stops.not_long in absurd (omega arith)
     long_fault over fault (too_long stops long over') = let s = stops.not_long in absurd (omega arith)
 
-    go : (text_limit < length text) ⊎ (length text ≤ text_limit) → first ≡ second
+    go : (TEXT_BYTES < length text) ⊎ (length text ≤ TEXT_BYTES) → first ≡ second
     go (inl over) = long_fault over first one ∙ sym (long_fault over second two)
     go (inr short) =
         let a = cause_of text first short one in
@@ -231,47 +232,47 @@ never_both text tokens fault has wrong =
 abbrev Answer : List ℕ → Type 0
 Answer text = ((tokens : Tokens) × HasTokens text tokens) ⊎ ((fault : LexFault) × HasLexFault text fault)
 
-stands_at : (rest : List ℕ) → 0 < length rest → (piece : Piece) × Stands rest piece
+stands_at : (rest : List ℕ) → 0 < length rest → (lexed : Lexed) × Stands rest lexed
 stands_at [] some = absurd (omega arith)
 stands_at (b ∷ rest) some = something_stands b rest
 
--- where the walk from a place on is known, so is that from the piece before
+-- where the walk from a place on is known, so is that from what stands before it
 abbrev Later : List ℕ → ℕ → Type 0
 Later text at = (next : ℕ) (tokens : List Token) → Reaches text next tokens → at < next → next ≤ length text → Answer text
 
-stopped : {text : List ℕ} {at : ℕ} {tokens : List Token} → length text ≤ text_limit → Reaches text at tokens → at < length text → NoGap (drop at text) → Stops text at tokens
+stopped : {text : List ℕ} {at : ℕ} {tokens : List Token} → length text ≤ TEXT_BYTES → Reaches text at tokens → at < length text → NoGap (drop at text) → Stops text at tokens
 stopped short reaches less gapless = record { not_long = short; before = reaches; is_there = less; no_gap = gapless }
 
-by_piece : {text : List ℕ} {at : ℕ} {tokens : List Token} → length text ≤ text_limit → Reaches text at tokens → at < length text → Later text at
-    → (piece : Piece) → Stands (drop at text) piece → Answer text
-by_piece {text} {at} {tokens} short reaches less later (p.Gap n) stands =
+by_lexed : {text : List ℕ} {at : ℕ} {tokens : List Token} → length text ≤ TEXT_BYTES → Reaches text at tokens → at < length text → Later text at
+    → (lexed : Lexed) → Stands (drop at text) lexed → Answer text
+by_lexed {text} {at} {tokens} short reaches less later (p.Gap n) stands =
     let all = gap_is stands in
     let some = all.1 in
     let within = all.2 in
     later (at + n) tokens (gap reaches stands) (omega arith) (omega (arith, length-drop at text))
-by_piece {text} {at} {tokens} short reaches less later (p.Token n kind) stands =
+by_lexed {text} {at} {tokens} short reaches less later (p.Token n kind) stands =
     let some = token_some (drop at text) n (Whole kind) stands.longest in
     let within = stands.longest.is_there in
     later (at + n) (with_token text at tokens kind) (token reaches stands) (omega arith) (omega (arith, length-drop at text))
-by_piece {text} {at} {tokens} short reaches less later p.NoToken stands =
+by_lexed {text} {at} {tokens} short reaches less later p.NoToken stands =
     inr (f.BadByte (place_in text at tokens), no_token (stopped short reaches less stands.0) stands.1)
-by_piece {text} {at} {tokens} short reaches less later (p.Stray n) stands =
+by_lexed {text} {at} {tokens} short reaches less later (p.Stray n) stands =
     inr (f.BadByte (place_in text (at + n) tokens), not_in_text (stopped short reaches less stands.0) stands.1 (let l = stands.2 in omega (arith, length-drop at text)))
-by_piece {text} {at} {tokens} short reaches less later p.Open stands =
+by_lexed {text} {at} {tokens} short reaches less later p.Open stands =
     inr (f.OpenString (place_in text at tokens), open_text (stopped short reaches less stands.0) stands.1 (omega (arith, length-drop at text)))
-by_piece {text} {at} {tokens} short reaches less later p.TooLarge stands =
+by_lexed {text} {at} {tokens} short reaches less later p.TooLarge stands =
     inr (f.NumberTooLarge (place_in text at tokens), too_large (stopped short reaches less stands.0) stands.1.longest stands.1.passed)
-by_piece {text} {at} {tokens} short reaches less later p.TooLong stands =
+by_lexed {text} {at} {tokens} short reaches less later p.TooLong stands =
     inr (f.TokenTooLong (place_in text at tokens), too_long (stopped short reaches less stands.0) stands.1.longest stands.1.passed)
 
-walked : {text : List ℕ} {at : ℕ} {tokens : List Token} → length text ≤ text_limit → Reaches text at tokens → at ≡ length text → Answer text
+walked : {text : List ℕ} {at : ℕ} {tokens : List Token} → length text ≤ TEXT_BYTES → Reaches text at tokens → at ≡ length text → Answer text
 walked {text} {at} {tokens} short reaches same =
     inl (
       record { items = tokens; end = place_in text (length text) tokens },
       record { not_long = short; all = subst (λ at. Reaches text at tokens) same reaches; end_is = refl },
     )
 
-walk : (text : List ℕ) → length text ≤ text_limit → (fuel at : ℕ) (tokens : List Token) → Reaches text at tokens → at ≤ length text → length text - at ≤ fuel → Answer text
+walk : (text : List ℕ) → length text ≤ TEXT_BYTES → (fuel at : ℕ) (tokens : List Token) → Reaches text at tokens → at ≤ length text → length text - at ≤ fuel → Answer text
 walk text short zero at tokens reaches there enough = walked short reaches (omega arith)
 walk text short (suc fuel) at tokens reaches there enough =
     go (cases_lt at (length text)) (λ next more reaches' further within. walk text short fuel next more reaches' within (omega arith))
@@ -280,12 +281,12 @@ walk text short (suc fuel) at tokens reaches there enough =
     go (inr all) later = walked short reaches (omega arith)
     go (inl less) later =
         let it = stands_at (drop at text) (omega (arith, length-drop at text)) in
-        by_piece short reaches less later it.0 it.1
+        by_lexed short reaches less later it.0 it.1
 
 an_answer : (text : List ℕ) → Answer text
-an_answer text = go (cases_lt text_limit (length text))
+an_answer text = go (cases_lt TEXT_BYTES (length text))
   where
-    go : (text_limit < length text) ⊎ (length text ≤ text_limit) → Answer text
+    go : (TEXT_BYTES < length text) ⊎ (length text ≤ TEXT_BYTES) → Answer text
     go (inl over) = inr (f.TextTooLong, text_too_long over)
     go (inr short) = walk text short (length text) 0 [] start (omega arith) (omega arith)
 

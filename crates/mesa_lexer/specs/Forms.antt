@@ -1,6 +1,7 @@
 -- The forms of tokens (Language Manual, chapter 2: names, numbers, characters and strings).
 use Rattle.std.specs.Prelude.{◌≡◌, ℕ, ◌+◌, ◌-◌, ◌*◌, ◌<◌, ◌≤◌, Bool, false, ◌&&◌, ◌||◌, ◌==◌, not, List, [], ◌∷◌, ◌++◌, length, take, fold, codes, nat_le, IsTrue, Some, None}
 use Rattle.std.specs.List.{list_all}
+use Rattle.mesa_base.specs.declared.limits.TheConstants.{GREATEST_CHARACTER, GREATEST_NUMBER, IDENTIFIER_BYTES, STRING_BYTES}
 use Rattle.mesa_base.specs.Name.{is_digit, is_letter_or_digit, begins_with_letter}
 use Rattle.mesa_lexer.specs.Words.{word_of}
 use Rattle.mesa_lexer.specs.Marks.{arrow, mark_of}
@@ -48,7 +49,7 @@ pub data Inside : List ℕ → List ℕ → Type 0 where
 -- string that two quotes carry on is one string, also where the text's end then cuts it
 pub data Lexeme : Type 0 where
   Whole : Kind → Lexeme
-  Begun : Lexeme
+  Unended : Lexeme
 
 -- these bytes are a form of this token
 pub data Form : List ℕ → Lexeme → Type 0 where
@@ -61,7 +62,7 @@ pub data Form : List ℕ → Lexeme → Type 0 where
   character : {b : ℕ} → IsTrue (is_printed b) → Form (39 ∷ b ∷ []) (Whole (k.Char b))
   arrow_character : Form (39 ∷ arrow) (Whole (k.Char 95))
   text : {bytes value : List ℕ} → Inside bytes value → Form (34 ∷ (bytes ++ 34 ∷ [])) (Whole (k.Text value))
-  begun_text : {bytes value : List ℕ} → Inside bytes value → Form (34 ∷ bytes) Begun
+  unended_text : {bytes value : List ℕ} → Inside bytes value → Form (34 ∷ bytes) Unended
   mark : {bytes : List ℕ} {m : Mark} → mark_of bytes ≡ Some m → Form bytes (Whole (k.Mark m))
 
 -- the first n of these bytes are a form of this token, and no more of them are a form of any: the longest one
@@ -74,20 +75,20 @@ pub record Longest (bytes : List ℕ) (n : ℕ) (token : Lexeme) : Type 0 where
 abbrev pub NothingBegins : List ℕ → Type 0
 NothingBegins bytes = (m : ℕ) (other : Lexeme) → m ≤ length bytes → ¬ Form (take m bytes) other
 
--- a number above the limit, or a character code above 255
+-- a number or a character code above its limit
 abbrev pub IsTooLarge : Kind → Type 0
 IsTooLarge (k.Name bytes) = ⊥
 IsTooLarge (k.Word w) = ⊥
-IsTooLarge (k.Number n) = 65535 < n
-IsTooLarge (k.Char code) = 255 < code
+IsTooLarge (k.Number n) = GREATEST_NUMBER < n
+IsTooLarge (k.Char code) = GREATEST_CHARACTER < code
 IsTooLarge (k.Text value) = ⊥
 IsTooLarge (k.Mark m) = ⊥
 
--- an identifier above 255 bytes, or a string whose value is above 32,767
+-- an identifier or a string's value of more bytes than its limit
 abbrev pub IsTooLong : Kind → Type 0
-IsTooLong (k.Name bytes) = 255 < length bytes
+IsTooLong (k.Name bytes) = IDENTIFIER_BYTES < length bytes
 IsTooLong (k.Word w) = ⊥
 IsTooLong (k.Number n) = ⊥
 IsTooLong (k.Char code) = ⊥
-IsTooLong (k.Text value) = 32767 < length value
+IsTooLong (k.Text value) = STRING_BYTES < length value
 IsTooLong (k.Mark m) = ⊥

@@ -4,8 +4,8 @@ pub mod Marks
 pub mod Forms
 pub mod Places
 pub mod Tokens
-pub mod Pieces
+pub mod Lexed
 pub mod Positions
-pub mod Steps
+pub mod Advances
 pub mod Answer
 pub mod Faults

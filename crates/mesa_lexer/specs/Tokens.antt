@@ -1,18 +1,15 @@
 -- The tokens of a text, and its first lexical fault (rule of this project over the forms of the Language Manual).
 use Rattle.std.specs.Prelude.{◌≡◌, ℕ, ◌+◌, ◌<◌, ◌≤◌, List, [], ◌∷◌, ◌++◌, length, take, drop}
 use Rattle.mesa_base.specs.declared.place.Place.{Place}
+use Rattle.mesa_base.specs.declared.limits.TheConstants.{TEXT_BYTES}
 use Rattle.mesa_lexer.specs.Blanks.{IsGap}
-use Rattle.mesa_lexer.specs.Forms.{Whole, Begun, Longest, NothingBegins, IsTooLarge, IsTooLong}
+use Rattle.mesa_lexer.specs.Forms.{Whole, Unended, Longest, NothingBegins, IsTooLarge, IsTooLong}
 use Rattle.mesa_lexer.specs.Places.{place_after}
 use Rattle.mesa_lexer.specs.declared.token.Kind.{Kind}
 use Rattle.mesa_lexer.specs.declared.token.Token.{Token}
 use Rattle.mesa_lexer.specs.declared.token.Tokens.{Tokens}
 use Rattle.mesa_lexer.specs.declared.fault.LexFault.{LexFault}
 use Rattle.mesa_lexer.specs.declared.fault.LexFault.TheVariants as f
-
--- the most bytes of a text
-abbrev pub text_limit : ℕ
-text_limit = 1048576
 
 -- what stands at a place of a text that is not its end and at which no blank or comment begins
 abbrev pub NoGap : List ℕ → Type 0
@@ -37,22 +34,22 @@ pub data Reaches (text : List ℕ) : ℕ → List Token → Type 0 where
 
 -- the text is a list of blanks, comments and these tokens, and its end is the place past the last byte
 pub record HasTokens (text : List ℕ) (tokens : Tokens) : Type 0 where
-  pub not_long : length text ≤ text_limit
+  pub not_long : length text ≤ TEXT_BYTES
   pub all : Reaches text (length text) tokens.items
   pub end_is : tokens.end ≡ place_in text (length text) tokens.items
 
 -- the text before this byte is such a list, and here begins what is neither a blank nor a comment
 pub record Stops (text : List ℕ) (at : ℕ) (tokens : List Token) : Type 0 where
-  pub not_long : length text ≤ text_limit
+  pub not_long : length text ≤ TEXT_BYTES
   pub before : Reaches text at tokens
   pub is_there : at < length text
   pub no_gap : NoGap (drop at text)
 
 -- the first fault of a text. A string that is begun and goes no further ends at the text's end, or at a byte that may not stand in it
 pub data HasLexFault (text : List ℕ) : LexFault → Type 0 where
-  text_too_long : text_limit < length text → HasLexFault text f.TextTooLong
+  text_too_long : TEXT_BYTES < length text → HasLexFault text f.TextTooLong
   no_token : {at : ℕ} {tokens : List Token} → Stops text at tokens → NothingBegins (drop at text) → HasLexFault text (f.BadByte (place_in text at tokens))
-  not_in_text : {at n : ℕ} {tokens : List Token} → Stops text at tokens → Longest (drop at text) n Begun → at + n < length text → HasLexFault text (f.BadByte (place_in text (at + n) tokens))
-  open_text : {at n : ℕ} {tokens : List Token} → Stops text at tokens → Longest (drop at text) n Begun → at + n ≡ length text → HasLexFault text (f.OpenString (place_in text at tokens))
+  not_in_text : {at n : ℕ} {tokens : List Token} → Stops text at tokens → Longest (drop at text) n Unended → at + n < length text → HasLexFault text (f.BadByte (place_in text (at + n) tokens))
+  open_text : {at n : ℕ} {tokens : List Token} → Stops text at tokens → Longest (drop at text) n Unended → at + n ≡ length text → HasLexFault text (f.OpenString (place_in text at tokens))
   too_large : {at n : ℕ} {tokens : List Token} {kind : Kind} → Stops text at tokens → Longest (drop at text) n (Whole kind) → IsTooLarge kind → HasLexFault text (f.NumberTooLarge (place_in text at tokens))
   too_long : {at n : ℕ} {tokens : List Token} {kind : Kind} → Stops text at tokens → Longest (drop at text) n (Whole kind) → IsTooLong kind → HasLexFault text (f.TokenTooLong (place_in text at tokens))

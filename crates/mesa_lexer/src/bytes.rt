@@ -1,10 +1,12 @@
 //! Sorts of bytes.
 ghost use Rattle.std.specs.Prelude.{◌≡◌, ◌≤◌, length, IsTrue};
 ghost use Rattle.std.specs.List.{list_all, prefix_len};
-ghost use Rattle.mesa_base.specs.Name.{is_digit, is_letter, is_letter_or_digit};
+ghost use Rattle.mesa_base.specs.Name.{is_digit, is_letter_or_digit};
 ghost use Rattle.mesa_lexer.specs.Blanks.{begins_with, begins_with_hyphens, ends_line, is_blank};
 ghost use Rattle.mesa_lexer.specs.Forms.{is_octal_digit, is_plain, is_printed};
-ghost use Rattle.mesa_lexer.specs.Pieces.{begins_with_arrow};
+ghost use Rattle.mesa_lexer.specs.Lexed.{begins_with_arrow};
+
+use mesa_base::{is_digit, is_letter_or_digit};
 
 pub fn ends_line(byte: u8) -> bool
     ensures { result ≡ ends_line byte }
@@ -16,24 +18,6 @@ pub fn is_blank(byte: u8) -> bool
     ensures { result ≡ is_blank byte }
 {
     byte == b'\t' || byte == b'\n' || byte == 12 || byte == b'\r' || byte == b' '
-}
-
-pub fn is_letter(byte: u8) -> bool
-    ensures { result ≡ is_letter byte }
-{
-    byte.is_ascii_alphabetic()
-}
-
-pub fn is_digit(byte: u8) -> bool
-    ensures { result ≡ is_digit byte }
-{
-    byte.is_ascii_digit()
-}
-
-pub fn is_letter_or_digit(byte: u8) -> bool
-    ensures { result ≡ is_letter_or_digit byte }
-{
-    is_letter(byte) || is_digit(byte)
 }
 
 pub fn is_octal_digit(byte: u8) -> bool

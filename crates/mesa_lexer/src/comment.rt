@@ -1,5 +1,5 @@
 ghost use Rattle.std.specs.Prelude.{◌≡◌, ◌≤◌, length};
-ghost use Rattle.mesa_lexer.specs.Pieces.{comment_len};
+ghost use Rattle.mesa_lexer.specs.Lexed.{comment_len};
 
 use crate::bytes::{begins_with_hyphens, ends_line};
 

@@ -5,13 +5,13 @@ mod bytes;
 mod comment;
 mod fault;
 mod identifier;
-mod law;
+mod laws;
+mod lexed;
+mod longest_mark;
 mod mark;
 mod number;
-mod piece;
 mod position;
 mod scan;
-mod sign;
 mod string;
 #[cfg(test)]
 mod tests;
@@ -20,7 +20,7 @@ mod vocabulary;
 mod word;
 
 pub use fault::{LexFault, SyntaxFault};
-pub use law::one_answer;
+pub use laws::one_answer;
 pub use mark::Mark;
 pub use scan::tokens;
 pub use token::{Kind, Token, Tokens};

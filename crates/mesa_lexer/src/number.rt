@@ -1,53 +1,48 @@
 //! Numbers, and characters by their octal code.
-ghost use Rattle.std.specs.Prelude.{◌≡◌, ◌≤◌, min};
+ghost use Rattle.std.specs.Prelude.{◌≡◌, ◌+◌, ◌≤◌, min};
 ghost use Rattle.mesa_lexer.specs.Forms.{number_in};
-ghost use Rattle.mesa_lexer.specs.Pieces.{coded, number_piece, numbered, suffixed};
+ghost use Rattle.mesa_lexer.specs.Lexed.{coded, number_lexed, numbered, suffixed};
 
 use crate::bytes::{all_octal, digits};
-use crate::piece::Piece;
+use crate::lexed::Lexed;
 use crate::token::Kind;
-
-/// The greatest number of a literal.
-const NUMBER_LIMIT: u64 = 65_535;
-
-/// The greatest code of a character.
-const CODE_LIMIT: u64 = 255;
+use mesa_base::limits::{GREATEST_CHARACTER, GREATEST_NUMBER};
 
 /// What the digits stand for, or one above the limit of numbers where it is above that.
 fn value(base: u64, digits: &[u8]) -> u64
     requires some { 1 ≤ base }
     requires few { base ≤ 10 }
-    ensures { result ≡ min (number_in base digits.now) 65536 }
+    ensures { result ≡ min (number_in base digits.now) (GREATEST_NUMBER + 1) }
 {
     let mut value: u64 = 0;
     for digit in digits {
-        value = (value * base + u64::from(digit.saturating_sub(b'0'))).min(NUMBER_LIMIT + 1);
+        value = (value * base + u64::from(digit.saturating_sub(b'0'))).min(GREATEST_NUMBER + 1);
     }
     value
 }
 
-fn numbered(count: usize, value: u64) -> Piece
+fn numbered(count: usize, value: u64) -> Lexed
     ensures { result ≡ numbered count value }
 {
-    if value > NUMBER_LIMIT {
-        Piece::TooLarge
+    if value > GREATEST_NUMBER {
+        Lexed::TooLarge
     } else {
-        Piece::Token(count, Kind::Number(value as u32))
+        Lexed::Token(count, Kind::Number(value as u32))
     }
 }
 
-fn coded(count: usize, code: u64) -> Piece
+fn coded(count: usize, code: u64) -> Lexed
     ensures { result ≡ coded count code }
 {
-    if code > CODE_LIMIT {
-        Piece::TooLarge
+    if code > GREATEST_CHARACTER {
+        Lexed::TooLarge
     } else {
-        Piece::Token(count, Kind::Char(code as u8))
+        Lexed::Token(count, Kind::Char(code as u8))
     }
 }
 
 /// The number with these digits, by the byte that follows them: `D` is decimal, `B` is octal, and `C` is an octal code.
-fn suffixed(digits: &[u8], behind: &[u8]) -> Piece
+fn suffixed(digits: &[u8], behind: &[u8]) -> Lexed
     ensures { result ≡ suffixed digits.now behind.now }
 {
     let count = digits.len();
@@ -60,8 +55,8 @@ fn suffixed(digits: &[u8], behind: &[u8]) -> Piece
 }
 
 /// The number whose first digit stands first.
-pub fn number(rest: &[u8]) -> Piece
-    ensures { result ≡ number_piece rest.now }
+pub fn number(rest: &[u8]) -> Lexed
+    ensures { result ≡ number_lexed rest.now }
 {
     let (digits, behind) = rest.split_at(digits(rest));
     suffixed(digits, behind)

@@ -1,36 +1,34 @@
 ghost use Rattle.std.specs.Prelude.{◌≡◌, ◌≢◌, ◌+◌, ◌^◌, ◌<◌, ◌≤◌, length, IfOk, IfErr, MatchResult};
-ghost use Rattle.mesa_lexer.specs.Pieces.{Stands};
-ghost use Rattle.mesa_lexer.specs.Steps.{Refuses, Steps};
-ghost use Rattle.mesa_lexer.specs.Tokens.{HasLexFault, HasTokens, text_limit};
+ghost use Rattle.mesa_lexer.specs.Lexed.{Stands};
+ghost use Rattle.mesa_lexer.specs.Advances.{Refuses, Advances};
+ghost use Rattle.mesa_lexer.specs.Tokens.{HasLexFault, HasTokens};
 ghost use Rattle.mesa_lexer.specs.declared.fault.LexFault.{LexFault};
 ghost use Rattle.mesa_lexer.specs.declared.token.Tokens.{Tokens};
 
-use crate::bytes::{begins_with_hyphens, is_blank, is_digit, is_letter};
+use crate::bytes::{begins_with_hyphens, is_blank};
 use crate::comment::comment;
 use crate::fault::LexFault;
 use crate::identifier::identifier;
+use crate::lexed::Lexed;
+use crate::longest_mark::mark;
 use crate::number::number;
-use crate::piece::Piece;
 use crate::position::Position;
-use crate::sign::mark;
 use crate::string::{character, string};
 use crate::token::{Token, Tokens};
-use mesa_base::{List, OutOfMemory};
+use mesa_base::limits::TEXT_BYTES;
+use mesa_base::{List, OutOfMemory, is_digit, is_letter};
 use std::alloc::Global;
 
-/// The most bytes of a text.
-const TEXT_LIMIT: usize = 1_048_576;
-
 /// What stands first in the rest of a text.
-fn piece(alloc: Global, rest: &[u8]) -> Result<Piece, OutOfMemory>
+fn lex(alloc: Global, rest: &[u8]) -> Result<Lexed, OutOfMemory>
     requires { 0 < length rest.now }
-    ensures { IfOk result (λ piece. Stands rest.now piece) }
+    ensures { IfOk result (λ lexed. Stands rest.now lexed) }
 {
     let first = rest[0];
     if is_blank(first) {
-        Ok(Piece::Gap(1))
+        Ok(Lexed::Gap(1))
     } else if begins_with_hyphens(rest) {
-        Ok(Piece::Gap(comment(&rest[2..]) + 2))
+        Ok(Lexed::Gap(comment(&rest[2..]) + 2))
     } else if is_letter(first) {
         identifier(alloc, rest)
     } else if is_digit(first) {
@@ -45,7 +43,7 @@ fn piece(alloc: Global, rest: &[u8]) -> Result<Piece, OutOfMemory>
 }
 
 /// Passes a gap or a token that stands first, and puts the token behind the others; it gives the count of bytes passed.
-fn step(
+fn advance(
     alloc: Global,
     rest: &[u8],
     position: Position,
@@ -55,28 +53,28 @@ fn step(
     requires lines { position.line + length rest.now < 2 ^ 32 }
     requires columns { position.column + length rest.now < 2 ^ 32 }
     requires few { length items.old < 2 ^ 32 }
-    ensures ok { IfOk result (λ count. Steps rest.now position items.old count items.new) }
+    ensures ok { IfOk result (λ count. Advances rest.now position items.old count items.new) }
     ensures err { IfErr result (λ fault. fault ≢ LexFault.Memory → Refuses rest.now position (length items.old) fault) }
 {
     let place = position.place(items.len());
-    match piece(alloc, rest)? {
-        Piece::Gap(count) => Ok(count),
-        Piece::Token(count, kind) => {
+    match lex(alloc, rest)? {
+        Lexed::Gap(count) => Ok(count),
+        Lexed::Token(count, kind) => {
             items.push(Token { kind, place })?;
             Ok(count)
         }
-        Piece::NoToken => Err(LexFault::BadByte(place)),
-        Piece::Stray(count) => Err(LexFault::BadByte(
+        Lexed::NoToken => Err(LexFault::BadByte(place)),
+        Lexed::Stray(count) => Err(LexFault::BadByte(
             position.behind(&rest[..count]).place(items.len()),
         )),
-        Piece::Open => Err(LexFault::OpenString(place)),
-        Piece::TooLarge => Err(LexFault::NumberTooLarge(place)),
-        Piece::TooLong => Err(LexFault::TokenTooLong(place)),
+        Lexed::Open => Err(LexFault::OpenString(place)),
+        Lexed::TooLarge => Err(LexFault::NumberTooLarge(place)),
+        Lexed::TooLong => Err(LexFault::TokenTooLong(place)),
     }
 }
 
 fn scan(alloc: Global, text: &[u8]) -> Result<Tokens, LexFault>
-    requires { length text.now ≤ text_limit }
+    requires { length text.now ≤ TEXT_BYTES }
     ensures ok { IfOk result (λ tokens. HasTokens text.now tokens) }
     ensures fault { IfErr result (λ fault. fault ≢ LexFault.Memory → HasLexFault text.now fault) }
 {
@@ -85,7 +83,7 @@ fn scan(alloc: Global, text: &[u8]) -> Result<Tokens, LexFault>
     let mut at = 0;
     while at < text.len() {
         let rest = &text[at..];
-        let count = step(alloc, rest, position, &mut items)?;
+        let count = advance(alloc, rest, position, &mut items)?;
         position = position.behind(&rest[..count]);
         at += count;
     }
@@ -94,7 +92,7 @@ fn scan(alloc: Global, text: &[u8]) -> Result<Tokens, LexFault>
 }
 
 /// The tokens of a text, each the longest form at its place, or the first fault in the text. TextTooLong comes before
-/// all else. It is one pass over the text.
+/// all else.
 pub fn tokens(alloc: Global, text: &[u8]) -> Result<Tokens, LexFault>
     ensures ok { IfOk result (λ tokens. HasTokens text.now tokens) }
     ensures fault { IfErr result (λ fault. fault ≢ LexFault.Memory → HasLexFault text.now fault) }
@@ -104,7 +102,7 @@ pub fn tokens(alloc: Global, text: &[u8]) -> Result<Tokens, LexFault>
     ensures only_fault { (fault : LexFault) → HasLexFault text.now fault
         → MatchResult result (λ tokens. ⊥) (λ found. found ≢ LexFault.Memory → found ≡ fault) }
 {
-    if text.len() > TEXT_LIMIT {
+    if text.len() > TEXT_BYTES {
         return Err(LexFault::TextTooLong);
     }
     scan(alloc, text)

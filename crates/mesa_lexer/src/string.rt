@@ -1,32 +1,30 @@
 //! Characters behind an apostrophe, and strings.
 ghost use Rattle.std.specs.Prelude.{◌≡◌, ◌∷◌, ◌+◌, ◌≤◌, length, IfOk};
-ghost use Rattle.mesa_lexer.specs.Pieces.{character_piece, ended, item_at, Runs, Stands, texted};
+ghost use Rattle.mesa_lexer.specs.Lexed.{character_lexed, ended, item_at, Runs, Stands, texted};
 
 use crate::bytes::{begins_with, begins_with_arrow, is_plain, is_printed};
-use crate::piece::Piece;
+use crate::lexed::Lexed;
 use crate::token::Kind;
+use mesa_base::limits::STRING_BYTES;
 use mesa_base::{Bytes, List, OutOfMemory};
 use std::alloc::Global;
-
-/// The most bytes of a string's value.
-const STRING_LIMIT: usize = 32_767;
 
 /// What U+2190 stands for in a string and as a character: 137 octal.
 const ARROW: u8 = 0o137;
 
 /// The character of which this stands behind the apostrophe.
-pub fn character(behind: &[u8]) -> Piece
-    ensures { result ≡ character_piece behind.now }
+pub fn character(behind: &[u8]) -> Lexed
+    ensures { result ≡ character_lexed behind.now }
 {
     match behind {
-        [] => Piece::NoToken,
+        [] => Lexed::NoToken,
         [byte, ..] => {
             if is_printed(*byte) {
-                Piece::Token(2, Kind::Char(*byte))
+                Lexed::Token(2, Kind::Char(*byte))
             } else if begins_with_arrow(behind) {
-                Piece::Token(4, Kind::Char(ARROW))
+                Lexed::Token(4, Kind::Char(ARROW))
             } else {
-                Piece::NoToken
+                Lexed::NoToken
             }
         }
     }
@@ -65,33 +63,33 @@ fn inside(alloc: Global, rest: &[u8]) -> Result<(usize, Bytes), OutOfMemory>
     Ok((at, value))
 }
 
-fn texted(count: usize, value: Bytes) -> Piece
+fn texted(count: usize, value: Bytes) -> Lexed
     ensures { result ≡ texted count value }
 {
-    if value.len() > STRING_LIMIT {
-        Piece::TooLong
+    if value.len() > STRING_BYTES {
+        Lexed::TooLong
     } else {
-        Piece::Token(count, Kind::Text(value))
+        Lexed::Token(count, Kind::Text(value))
     }
 }
 
 /// The string whose inside has these bytes behind its quote.
-fn ended(behind: &[u8], count: usize, value: Bytes) -> Piece
+fn ended(behind: &[u8], count: usize, value: Bytes) -> Lexed
     requires { count ≤ length behind.now }
     ensures { result ≡ ended behind.now count value }
 {
     if begins_with(b'"', &behind[count..]) {
         texted(count + 2, value)
     } else if count < behind.len() {
-        Piece::Stray(count + 1)
+        Lexed::Stray(count + 1)
     } else {
-        Piece::Open
+        Lexed::Open
     }
 }
 
 /// The string of which this stands behind the first quote.
-pub fn string(alloc: Global, behind: &[u8]) -> Result<Piece, OutOfMemory>
-    ensures { IfOk result (λ piece. Stands (34 ∷ behind.now) piece) }
+pub fn string(alloc: Global, behind: &[u8]) -> Result<Lexed, OutOfMemory>
+    ensures { IfOk result (λ lexed. Stands (34 ∷ behind.now) lexed) }
 {
     let (count, value) = inside(alloc, behind)?;
     Ok(ended(behind, count, value))

@@ -1,5 +1,5 @@
 use Rattle.std.proofs.Common.{◌≡◌, ◌+◌, drop}
-use Rattle.mesa_lexer.specs.Pieces.{comment_len}
+use Rattle.mesa_lexer.specs.Lexed.{comment_len}
 use Rattle.mesa_lexer.proofs.comment.comment.Given as goal
 
 abbrev pub invariant-loop-i : goal.invariant-loop-i

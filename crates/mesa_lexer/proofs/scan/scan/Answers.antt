@@ -6,11 +6,11 @@ use Rattle.mesa_lexer.proofs.scan.scan.Goals as goal
 pub loop-at-init : goal.loop-at-init
 loop-at-init c = rw c.new-items.ensures (scanned_start c.args.text.now c.start-position.result c.requires c.start-position.ensures)
 
-pub step-requires-clause-lines : goal.step-requires-clause-lines
-step-requires-clause-lines c = (room c.loop-at.invariant).0
+pub advance-requires-clause-lines : goal.advance-requires-clause-lines
+advance-requires-clause-lines c = (room c.loop-at.invariant).0
 
-pub step-requires-clause-columns : goal.step-requires-clause-columns
-step-requires-clause-columns c = (room c.loop-at.invariant).1
+pub advance-requires-clause-columns : goal.advance-requires-clause-columns
+advance-requires-clause-columns c = (room c.loop-at.invariant).1
 
 pub returns-in_err-count-clause-fault : goal.returns-in_err-count-clause-fault
 returns-in_err-count-clause-fault c =

@@ -1,6 +1,6 @@
 use Rattle.std.proofs.Common.{arith, sym, ap, ◌∙◌}
 use Rattle.std.proofs.lemmas.List.{take_rest}
-use Rattle.mesa_lexer.specs.Pieces.{item_at}
+use Rattle.mesa_lexer.specs.Lexed.{item_at}
 use Rattle.mesa_lexer.specs.Forms.{empty}
 use Rattle.mesa_lexer.proofs.Strings.{inside_more}
 use Rattle.mesa_lexer.proofs.string.inside.Goals as goal

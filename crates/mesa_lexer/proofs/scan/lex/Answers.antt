@@ -1,6 +1,6 @@
 use Rattle.std.proofs.Common.{sym, ◌∙◌}
 use Rattle.mesa_lexer.proofs.Choices.{blank_first, hyphens_first, letter_first, digit_first, apostrophe_first, mark_first, stands_of}
-use Rattle.mesa_lexer.proofs.scan.piece.Goals as goal
+use Rattle.mesa_lexer.proofs.scan.lex.Goals as goal
 
 pub returns-then-is_blank : goal.returns-then-is_blank
 returns-then-is_blank c = blank_first c.args.rest.now c.requires (sym c.is_blank.ensures ∙ c.if-is_blank.true)

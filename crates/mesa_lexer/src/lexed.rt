@@ -2,7 +2,7 @@ use crate::token::Kind;
 
 /// What stands at a place of a text, with the count of its bytes.
 #[derive(Debug, Drop)]
-pub enum Piece {
+pub enum Lexed {
     /// A blank or a comment.
     Gap(usize),
     Token(usize, Kind),

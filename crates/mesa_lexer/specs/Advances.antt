@@ -1,20 +1,20 @@
--- One step of the scanner: a piece passed, or a fault found.
+-- How the scanner goes on at a place: it passes what stands there, or finds a fault.
 use Rattle.std.specs.Prelude.{ℕ, List, [], ◌∷◌, ◌++◌, length, take}
 use Rattle.mesa_lexer.specs.Blanks.{IsGap}
 use Rattle.mesa_lexer.specs.Tokens.{IsToken}
-use Rattle.mesa_lexer.specs.Pieces.{Stands}
+use Rattle.mesa_lexer.specs.Lexed.{Stands}
 use Rattle.mesa_lexer.specs.Positions.{passed, place_of}
 use Rattle.mesa_lexer.specs.declared.token.Kind.{Kind}
 use Rattle.mesa_lexer.specs.declared.token.Token.{Token}
 use Rattle.mesa_lexer.specs.declared.position.Position.{Position}
 use Rattle.mesa_lexer.specs.declared.fault.LexFault.{LexFault}
 use Rattle.mesa_lexer.specs.declared.fault.LexFault.TheVariants as f
-use Rattle.mesa_lexer.specs.declared.piece.Piece.TheVariants as p
+use Rattle.mesa_lexer.specs.declared.lexed.Lexed.TheVariants as p
 
 -- the first n bytes are a gap, or a token that is put behind the others
-pub data Steps (rest : List ℕ) (position : Position) (before : List Token) : ℕ → List Token → Type 0 where
-  gap : {n : ℕ} → IsGap rest n → Steps rest position before n before
-  token : {n : ℕ} {kind : Kind} → IsToken rest n kind → Steps rest position before n (before ++ record { kind = kind; place = place_of position (length before) } ∷ [])
+pub data Advances (rest : List ℕ) (position : Position) (before : List Token) : ℕ → List Token → Type 0 where
+  gap : {n : ℕ} → IsGap rest n → Advances rest position before n before
+  token : {n : ℕ} {kind : Kind} → IsToken rest n kind → Advances rest position before n (before ++ record { kind = kind; place = place_of position (length before) } ∷ [])
 
 -- what stands first is this fault
 pub data Refuses (rest : List ℕ) (position : Position) (tokens : ℕ) : LexFault → Type 0 where

@@ -1,11 +1,11 @@
 //! The marks.
 ghost use Rattle.std.specs.Prelude.{◌≡◌, [], ◌∷◌, take};
 ghost use Rattle.mesa_lexer.specs.Marks.{mark_of, marks};
-ghost use Rattle.mesa_lexer.specs.Pieces.{mark_within};
+ghost use Rattle.mesa_lexer.specs.Lexed.{mark_within};
 
 use crate::bytes::begins_with_arrow;
+use crate::lexed::Lexed;
 use crate::mark::Mark;
-use crate::piece::Piece;
 use crate::token::Kind;
 
 #[tactic(auto, unfolding(crate::specs::Marks::mark_of, crate::specs::Marks::marks))]
@@ -71,16 +71,16 @@ fn first(rest: &[u8], most: usize) -> &[u8]
 }
 
 /// The longest mark that stands first.
-pub fn mark(rest: &[u8]) -> Piece
+pub fn mark(rest: &[u8]) -> Lexed
     ensures { result ≡ mark_within 3 rest.now }
 {
     if let Some(mark) = mark_of(first(rest, 3)) {
-        Piece::Token(rest.len().min(3), Kind::Mark(mark))
+        Lexed::Token(rest.len().min(3), Kind::Mark(mark))
     } else if let Some(mark) = mark_of(first(rest, 2)) {
-        Piece::Token(rest.len().min(2), Kind::Mark(mark))
+        Lexed::Token(rest.len().min(2), Kind::Mark(mark))
     } else if let Some(mark) = mark_of(first(rest, 1)) {
-        Piece::Token(rest.len().min(1), Kind::Mark(mark))
+        Lexed::Token(rest.len().min(1), Kind::Mark(mark))
     } else {
-        Piece::NoToken
+        Lexed::NoToken
     }
 }

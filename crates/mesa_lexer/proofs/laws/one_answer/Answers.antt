@@ -1,5 +1,5 @@
 use Rattle.mesa_lexer.proofs.Walks as W
-use Rattle.mesa_lexer.proofs.law.one_answer.Goals as goal
+use Rattle.mesa_lexer.proofs.laws.one_answer.Goals as goal
 
 pub returns : goal.returns
 returns c = W.one_answer

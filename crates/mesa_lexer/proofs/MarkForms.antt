@@ -6,7 +6,7 @@ use Rattle.mesa_base.specs.Name.{is_letter, is_digit}
 use Rattle.mesa_lexer.specs.Marks.{mark_of, marks}
 use Rattle.mesa_lexer.specs.Forms.{mark, Whole}
 use Rattle.mesa_lexer.specs.Tokens.{NoGap}
-use Rattle.mesa_lexer.specs.Pieces.{Stands, marked, mark_within}
+use Rattle.mesa_lexer.specs.Lexed.{Stands, marked, mark_within}
 use Rattle.mesa_lexer.specs.declared.mark.Mark.{Mark}
 use Rattle.mesa_lexer.specs.declared.token.Kind.TheVariants as k
 use Rattle.mesa_lexer.proofs.Rows.{spelled_passes}

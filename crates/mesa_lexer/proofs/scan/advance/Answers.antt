@@ -1,8 +1,8 @@
 use Rattle.std.proofs.Common.{ap, ◌∙◌}
 use Rattle.mesa_lexer.specs.Positions.{place_of}
-use Rattle.mesa_lexer.specs.Steps.{gap, nothing, stray, cut, large, long}
+use Rattle.mesa_lexer.specs.Advances.{gap, nothing, stray, cut, large, long}
 use Rattle.mesa_lexer.proofs.Scanning.{step_token}
-use Rattle.mesa_lexer.proofs.scan.step.Goals as goal
+use Rattle.mesa_lexer.proofs.scan.advance.Goals as goal
 
 pub returns-in-Gap-clause-ok : goal.returns-in-Gap-clause-ok
 returns-in-Gap-clause-ok c = gap (rw c.in-Gap.is at c.in_ok-count.ensures)
