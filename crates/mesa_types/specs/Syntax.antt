@@ -261,15 +261,15 @@ pub record Module : Type 0 where
 -- ---- where a statement begins
 
 abbrev pub left_place : Left → Place
-left_place (LeftOf name suffixes) = name.place
+left_place (LeftOf name xs) = name.place
 
 abbrev pub raise_place : Raise → Place
-raise_place (SignalRaise p name brackets) = p
-raise_place (ErrorRaise p name brackets) = p
+raise_place (SignalRaise p name b) = p
+raise_place (ErrorRaise p name b) = p
 raise_place (UnnamedError p) = p
 
 abbrev pub block_place : Block → Place
-block_place (BlockOf p enable locals statements exits) = p
+block_place (BlockOf p enable ls xs es) = p
 
 -- a control begins with its count, or else with its condition; a loop without either begins at its DO
 abbrev pub condition_place : Condition → (at_do : Place) → Place
@@ -278,26 +278,26 @@ condition_place (While p e) at_do = p
 condition_place (Until p e) at_do = p
 
 abbrev pub control_place : Control → (at_do : Place) → Place
-control_place (ControlOf NoCount condition) at_do = condition_place condition at_do
-control_place (ControlOf (For p variable decreasing interval) condition) at_do = p
-control_place (ControlOf (Through p interval) condition) at_do = p
+control_place (ControlOf NoCount c) at_do = condition_place c at_do
+control_place (ControlOf (For p variable decreasing i) c) at_do = p
+control_place (ControlOf (Through p i) c) at_do = p
 
 -- the place of a statement's first token
 abbrev pub first_place : Statement → Place
 first_place (Null p) = p
-first_place (Nested block) = block_place block
-first_place (Assign left e) = left_place left
-first_place (Extract p targets e) = p
-first_place (Call left) = left_place left
-first_place (RaiseStatement raise) = raise_place raise
-first_place (If p e then otherwise) = p
-first_place (Select p e cases otherwise) = p
-first_place (Loop control p enable statements repeats) = control_place control p
+first_place (Nested b) = block_place b
+first_place (Assign l e) = left_place l
+first_place (Extract p ts e) = p
+first_place (Call l) = left_place l
+first_place (RaiseStatement r) = raise_place r
+first_place (If p e x y) = p
+first_place (Select p e cs y) = p
+first_place (Loop c p enable xs rs) = control_place c p
 first_place (ExitLoop p) = p
 first_place (NextTurn p) = p
 first_place (Goto p label) = p
-first_place (Return p items) = p
-first_place (Resume p items) = p
+first_place (Return p x) = p
+first_place (Resume p x) = p
 first_place (Reject p) = p
 first_place (Retry p) = p
 first_place (Continue p) = p
