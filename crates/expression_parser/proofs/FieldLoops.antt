@@ -9,10 +9,10 @@ use Rattle.token_cursor.specs.Parsing.{Out, Got, Stop, Parser, ◌>>=◌, and_th
 use Rattle.token_cursor.proofs.Loops.{Eats, unroll}
 use Rattle.mesa_base.specs.declared.identifier.Identifier.{Identifier}
 use Rattle.mesa_types.specs.declared.syntax.FieldList.{FieldList}
-use Rattle.module_productions.specs.Nested.{Nested, identifier, comma}
-use Rattle.module_productions.specs.Expressions as x
-use Rattle.module_productions.specs.Expressions.{Undecided, all_names}
-use Rattle.module_productions.specs.Statements.{nested}
+use Rattle.module_productions.specs.ReadNested.{Nested, identifier, comma}
+use Rattle.module_productions.specs.ReadExpressions as x
+use Rattle.module_productions.specs.ReadExpressions.{Undecided, all_names}
+use Rattle.module_productions.specs.ReadStatements.{nested}
 use Rattle.expression_parser.specs.Tails.{decided}
 use Rattle.token_cursor.specs.Running.{next, skip, taken, behind, with_place}
 use Rattle.module_productions.proofs.KeepTypes as kt

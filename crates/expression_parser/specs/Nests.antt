@@ -10,7 +10,7 @@ use Rattle.module_productions.specs.declared.begun.Begun.{Begun}
 use Rattle.token_cursor.specs.declared.cursor.Cursor.{Cursor}
 use Rattle.token_cursor.specs.declared.fault.Stopped.{Stopped}
 use Rattle.token_cursor.specs.Running.{Reads}
-use Rattle.module_productions.specs.Statements.{nested}
+use Rattle.module_productions.specs.ReadStatements.{nested}
 
 pub record Nests (depth : ℕ) (stmt_pre : Global → MutBor Cursor → ℕ → Option Identifier → Type 0)
     (stmt_post : Global → MutBor Cursor → ℕ → Option Identifier → Result Statement Stopped → MutBor Cursor → Type 0)

@@ -16,10 +16,10 @@ use Rattle.mesa_types.specs.declared.relation.Relation.{Relation}
 use Rattle.mesa_types.specs.declared.syntax.Sign.{Sign}
 use Rattle.mesa_types.specs.declared.syntax.Expr.{Expr}
 use Rattle.mesa_types.specs.declared.syntax.Expr.TheVariants as e
-use Rattle.module_productions.specs.Nested.{Nested, identifier}
+use Rattle.module_productions.specs.ReadNested.{Nested, identifier}
 use Rattle.module_productions.specs.Grammar.{qualified}
-use Rattle.module_productions.specs.Expressions as ex
-use Rattle.module_productions.specs.Expressions.{Undecided, all_names, with_names, types_from, enumeration, array, a_record, reference, parens, list, raise, primary, sum, interval}
+use Rattle.module_productions.specs.ReadExpressions as ex
+use Rattle.module_productions.specs.ReadExpressions.{Undecided, all_names, with_names, types_from, enumeration, array, a_record, reference, parens, list, raise, primary, sum, interval}
 
 -- a name, taken for a type
 abbrev pub called : Identifier → TypeExp

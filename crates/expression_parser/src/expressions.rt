@@ -1,11 +1,11 @@
 //! Expressions.
 ghost use Rattle.std.specs.Prelude.{◌≡◌, IfOk, cond};
 ghost use Rattle.token_cursor.specs.Parsing.{and_then, many, pure, refuse};
-ghost use Rattle.module_productions.specs.Expressions as spec;
+ghost use Rattle.module_productions.specs.ReadExpressions as spec;
 ghost use Rattle.module_productions.specs.Grammar as g;
 ghost use Rattle.token_cursor.specs.Running.{Reads};
 ghost use Rattle.module_productions.specs.Signs.{adding, conjoining, disjoining, multiplying};
-ghost use Rattle.module_productions.specs.Statements.{nested};
+ghost use Rattle.module_productions.specs.ReadStatements.{nested};
 ghost use Rattle.expression_parser.specs.Tails as tails;
 ghost use Rattle.mesa_types.specs.declared.syntax.Expr.TheVariants as e;
 
@@ -34,7 +34,7 @@ fn run(alloc: Global, first: Expr, steps: Operations) -> Result<Expr, OutOfMemor
 
 impl<N: NestedParsers> Level<N> {
     /// A name that was taken, with what follows it.
-    #[tactic(auto, unfolding(module_productions::specs::Expressions::reference))]
+    #[tactic(auto, unfolding(module_productions::specs::ReadExpressions::reference))]
     fn reference(&self, tokens: &mut Cursor<'_>, name: Identifier) -> Result<Expr, Stopped>
         requires { N.parse_at self.now.nested self.now.depth }
         ensures { Reads (spec.reference (nested self.now.depth) name tokens.old.rest.now) result tokens.new.rest.now }
@@ -44,7 +44,7 @@ impl<N: NestedParsers> Level<N> {
     }
 
     /// An expression in parentheses, behind the first.
-    #[tactic(auto, unfolding(module_productions::specs::Expressions::parens))]
+    #[tactic(auto, unfolding(module_productions::specs::ReadExpressions::parens))]
     fn parens(&self, tokens: &mut Cursor<'_>, place: Place) -> Result<Expr, Stopped>
         requires { N.parse_at self.now.nested self.now.depth }
         ensures { Reads (spec.parens (nested self.now.depth) place tokens.old.rest.now) result tokens.new.rest.now }
@@ -97,7 +97,7 @@ impl<N: NestedParsers> Level<N> {
     }
 
     /// A primary, of which nothing was taken.
-    #[tactic(auto, using(token_cursor::proofs::Choosing::choose_none, token_cursor::proofs::Choosing::choose_some), unfolding(module_productions::specs::Expressions::primary, module_productions::specs::Expressions::literal, crate::specs::Tails::truth, crate::specs::Tails::unit))]
+    #[tactic(auto, using(token_cursor::proofs::Choosing::choose_none, token_cursor::proofs::Choosing::choose_some), unfolding(module_productions::specs::ReadExpressions::primary, module_productions::specs::ReadExpressions::literal, crate::specs::Tails::truth, crate::specs::Tails::unit))]
     fn fresh_primary(&self, tokens: &mut Cursor<'_>) -> Result<Expr, Stopped>
         requires { N.parse_at self.now.nested self.now.depth }
         ensures { Reads (spec.primary (nested self.now.depth) None tokens.old.rest.now) result tokens.new.rest.now }
@@ -114,7 +114,7 @@ impl<N: NestedParsers> Level<N> {
         }
     }
 
-    #[tactic(auto, unfolding(module_productions::specs::Expressions::primary))]
+    #[tactic(auto, unfolding(module_productions::specs::ReadExpressions::primary))]
     fn primary(&self, tokens: &mut Cursor<'_>, begun: Option<Identifier>) -> Result<Expr, Stopped>
         requires { N.parse_at self.now.nested self.now.depth }
         ensures { Reads (spec.primary (nested self.now.depth) begun tokens.old.rest.now) result tokens.new.rest.now }
@@ -135,7 +135,7 @@ impl<N: NestedParsers> Level<N> {
     }
 
     /// A factor, of which nothing was taken.
-    #[tactic(auto, using(token_cursor::proofs::Choosing::choose_none, token_cursor::proofs::Choosing::choose_some), unfolding(module_productions::specs::Expressions::factor, crate::specs::Tails::signed))]
+    #[tactic(auto, using(token_cursor::proofs::Choosing::choose_none, token_cursor::proofs::Choosing::choose_some), unfolding(module_productions::specs::ReadExpressions::factor, crate::specs::Tails::signed))]
     fn fresh_factor(&self, tokens: &mut Cursor<'_>) -> Result<Expr, Stopped>
         requires { N.parse_at self.now.nested self.now.depth }
         ensures { Reads (spec.factor (nested self.now.depth) None tokens.old.rest.now) result tokens.new.rest.now }
@@ -146,7 +146,7 @@ impl<N: NestedParsers> Level<N> {
         }
     }
 
-    #[tactic(auto, unfolding(module_productions::specs::Expressions::factor))]
+    #[tactic(auto, unfolding(module_productions::specs::ReadExpressions::factor))]
     fn factor(&self, tokens: &mut Cursor<'_>, begun: Option<Identifier>) -> Result<Expr, Stopped>
         requires { N.parse_at self.now.nested self.now.depth }
         ensures { Reads (spec.factor (nested self.now.depth) begun tokens.old.rest.now) result tokens.new.rest.now }
@@ -177,7 +177,7 @@ impl<N: NestedParsers> Level<N> {
         Ok(steps)
     }
 
-    #[tactic(auto, unfolding(module_productions::specs::Expressions::product))]
+    #[tactic(auto, unfolding(module_productions::specs::ReadExpressions::product))]
     fn product(&self, tokens: &mut Cursor<'_>, begun: Option<Identifier>) -> Result<Expr, Stopped>
         requires { N.parse_at self.now.nested self.now.depth }
         ensures { Reads (spec.product (nested self.now.depth) begun tokens.old.rest.now) result tokens.new.rest.now }
@@ -208,7 +208,7 @@ impl<N: NestedParsers> Level<N> {
     }
 
     /// A sum, which the sides of a relation are; its first name may have been taken.
-    #[tactic(auto, unfolding(module_productions::specs::Expressions::sum))]
+    #[tactic(auto, unfolding(module_productions::specs::ReadExpressions::sum))]
     pub fn sum(&self, tokens: &mut Cursor<'_>, begun: Option<Identifier>) -> Result<Expr, Stopped>
         requires { N.parse_at self.now.nested self.now.depth }
         ensures { Reads (spec.sum (nested self.now.depth) begun tokens.old.rest.now) result tokens.new.rest.now }
@@ -261,7 +261,7 @@ impl<N: NestedParsers> Level<N> {
     }
 
     /// A comparison or IN, which must come behind NOT.
-    #[tactic(auto, using(token_cursor::proofs::Choosing::choose_none, token_cursor::proofs::Choosing::choose_some, token_cursor::proofs::Choosing::if_true, token_cursor::proofs::Choosing::if_false), unfolding(module_productions::specs::Expressions::relation, crate::specs::Tails::compared, crate::specs::Tails::within))]
+    #[tactic(auto, using(token_cursor::proofs::Choosing::choose_none, token_cursor::proofs::Choosing::choose_some, token_cursor::proofs::Choosing::if_true, token_cursor::proofs::Choosing::if_false), unfolding(module_productions::specs::ReadExpressions::relation, crate::specs::Tails::compared, crate::specs::Tails::within))]
     fn relation(
         &self,
         tokens: &mut Cursor<'_>,
@@ -283,7 +283,7 @@ impl<N: NestedParsers> Level<N> {
         Ok(left)
     }
 
-    #[tactic(auto, using(token_cursor::proofs::Choosing::choose_none, token_cursor::proofs::Choosing::choose_some), unfolding(module_productions::specs::Expressions::related))]
+    #[tactic(auto, using(token_cursor::proofs::Choosing::choose_none, token_cursor::proofs::Choosing::choose_some), unfolding(module_productions::specs::ReadExpressions::related))]
     fn related(&self, tokens: &mut Cursor<'_>, left: Expr) -> Result<Expr, Stopped>
         requires { N.parse_at self.now.nested self.now.depth }
         ensures { Reads (spec.related (nested self.now.depth) left tokens.old.rest.now) result tokens.new.rest.now }
@@ -294,7 +294,7 @@ impl<N: NestedParsers> Level<N> {
         }
     }
 
-    #[tactic(auto, unfolding(module_productions::specs::Expressions::rel))]
+    #[tactic(auto, unfolding(module_productions::specs::ReadExpressions::rel))]
     fn rel(&self, tokens: &mut Cursor<'_>, begun: Option<Identifier>) -> Result<Expr, Stopped>
         requires { N.parse_at self.now.nested self.now.depth }
         ensures { Reads (spec.rel (nested self.now.depth) begun tokens.old.rest.now) result tokens.new.rest.now }
@@ -303,7 +303,7 @@ impl<N: NestedParsers> Level<N> {
         self.related(tokens, left)
     }
 
-    #[tactic(auto, unfolding(module_productions::specs::Expressions::negation))]
+    #[tactic(auto, unfolding(module_productions::specs::ReadExpressions::negation))]
     fn negation(&self, tokens: &mut Cursor<'_>, place: Place) -> Result<Expr, Stopped>
         requires { N.parse_at self.now.nested self.now.depth }
         ensures { Reads (spec.negation (nested self.now.depth) place tokens.old.rest.now) result tokens.new.rest.now }
@@ -313,7 +313,7 @@ impl<N: NestedParsers> Level<N> {
     }
 
     /// NOT with a comparison, or one alone, of which nothing was taken.
-    #[tactic(auto, using(token_cursor::proofs::Choosing::choose_none, token_cursor::proofs::Choosing::choose_some), unfolding(module_productions::specs::Expressions::neg))]
+    #[tactic(auto, using(token_cursor::proofs::Choosing::choose_none, token_cursor::proofs::Choosing::choose_some), unfolding(module_productions::specs::ReadExpressions::neg))]
     fn fresh_neg(&self, tokens: &mut Cursor<'_>) -> Result<Expr, Stopped>
         requires { N.parse_at self.now.nested self.now.depth }
         ensures { Reads (spec.neg (nested self.now.depth) Begun.Fresh tokens.old.rest.now) result tokens.new.rest.now }
@@ -324,7 +324,7 @@ impl<N: NestedParsers> Level<N> {
         }
     }
 
-    #[tactic(auto, unfolding(module_productions::specs::Expressions::neg))]
+    #[tactic(auto, unfolding(module_productions::specs::ReadExpressions::neg))]
     fn neg(&self, tokens: &mut Cursor<'_>, begun: Begun) -> Result<Expr, Stopped>
         requires { N.parse_at self.now.nested self.now.depth }
         ensures { Reads (spec.neg (nested self.now.depth) begun tokens.old.rest.now) result tokens.new.rest.now }
@@ -356,7 +356,7 @@ impl<N: NestedParsers> Level<N> {
         Ok(steps)
     }
 
-    #[tactic(auto, unfolding(module_productions::specs::Expressions::conj))]
+    #[tactic(auto, unfolding(module_productions::specs::ReadExpressions::conj))]
     fn conj(&self, tokens: &mut Cursor<'_>, begun: Begun) -> Result<Expr, Stopped>
         requires { N.parse_at self.now.nested self.now.depth }
         ensures { Reads (spec.conj (nested self.now.depth) begun tokens.old.rest.now) result tokens.new.rest.now }
@@ -387,7 +387,7 @@ impl<N: NestedParsers> Level<N> {
     }
 
     /// An expression of this level.
-    #[tactic(auto, unfolding(module_productions::specs::Expressions::expr))]
+    #[tactic(auto, unfolding(module_productions::specs::ReadExpressions::expr))]
     pub fn disj(&self, tokens: &mut Cursor<'_>, begun: Begun) -> Result<Expr, Stopped>
         requires { N.parse_at self.now.nested self.now.depth }
         ensures { Reads (spec.expr (nested self.now.depth) begun tokens.old.rest.now) result tokens.new.rest.now }

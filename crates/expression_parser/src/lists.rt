@@ -3,11 +3,11 @@ ghost use Rattle.std.specs.Prelude.{◌≡◌, IfOk};
 ghost use Rattle.token_cursor.specs.Parsing.{ended, many};
 ghost use Rattle.mesa_lexer.specs.declared.mark.Mark.TheVariants.{Semicolon};
 ghost use Rattle.mesa_lexer.specs.declared.token.Kind.TheVariants as k;
-ghost use Rattle.module_productions.specs.Expressions as spec;
+ghost use Rattle.module_productions.specs.ReadExpressions as spec;
 ghost use Rattle.module_productions.specs.Grammar as g;
-ghost use Rattle.module_productions.specs.Nested.{begins_arm, comma};
+ghost use Rattle.module_productions.specs.ReadNested.{begins_arm, comma};
 ghost use Rattle.token_cursor.specs.Running.{Reads};
-ghost use Rattle.module_productions.specs.Statements.{nested};
+ghost use Rattle.module_productions.specs.ReadStatements.{nested};
 
 use crate::nesting::{Level, NestedParsers};
 use mesa_base::{Boxed, Identifier, List, OutOfMemory, Place, Placed};
@@ -24,7 +24,7 @@ use std::alloc::Global;
 use token_cursor::naming::named;
 use token_cursor::{Cursor, Stopped};
 
-#[tactic(auto, using(token_cursor::proofs::Taking::choose_by), unfolding(module_productions::specs::Expressions::closed))]
+#[tactic(auto, using(token_cursor::proofs::Taking::choose_by), unfolding(module_productions::specs::ReadExpressions::closed))]
 fn closed(tokens: &mut Cursor<'_>) -> Result<bool, Stopped>
     ensures { Reads (spec.closed tokens.old.rest.now) result tokens.new.rest.now }
 {
@@ -55,7 +55,7 @@ fn bounded(
 
 impl<N: NestedParsers> Level<N> {
     /// An interval behind its bracket.
-    #[tactic(auto, unfolding(module_productions::specs::Expressions::bounds))]
+    #[tactic(auto, unfolding(module_productions::specs::ReadExpressions::bounds))]
     fn bounds(
         &self,
         tokens: &mut Cursor<'_>,
@@ -74,7 +74,7 @@ impl<N: NestedParsers> Level<N> {
     }
 
     /// An interval, with its brackets.
-    #[tactic(auto, using(token_cursor::proofs::Choosing::choose_none, token_cursor::proofs::Choosing::choose_some), unfolding(module_productions::specs::Expressions::interval))]
+    #[tactic(auto, using(token_cursor::proofs::Choosing::choose_none, token_cursor::proofs::Choosing::choose_some), unfolding(module_productions::specs::ReadExpressions::interval))]
     pub fn interval(&self, tokens: &mut Cursor<'_>) -> Result<Interval, Stopped>
         requires { N.parse_at self.now.nested self.now.depth }
         ensures { Reads (spec.interval (nested self.now.depth) tokens.old.rest.now) result tokens.new.rest.now }
@@ -86,7 +86,7 @@ impl<N: NestedParsers> Level<N> {
     }
 
     /// An arm of a catch phrase.
-    #[tactic(auto, unfolding(module_productions::specs::Expressions::arm))]
+    #[tactic(auto, unfolding(module_productions::specs::ReadExpressions::arm))]
     pub fn arm(&self, tokens: &mut Cursor<'_>) -> Result<Arm, Stopped>
         requires { N.parse_at self.now.nested self.now.depth }
         ensures { Reads (spec.arm (nested self.now.depth) tokens.old.rest.now) result tokens.new.rest.now }
@@ -112,7 +112,7 @@ impl<N: NestedParsers> Level<N> {
     }
 
     /// Arms with semicolons between; one may follow the last.
-    #[tactic(auto, unfolding(module_productions::specs::Expressions::arm_list))]
+    #[tactic(auto, unfolding(module_productions::specs::ReadExpressions::arm_list))]
     pub fn arm_list(&self, tokens: &mut Cursor<'_>) -> Result<Arms, Stopped>
         requires { N.parse_at self.now.nested self.now.depth }
         ensures { Reads (spec.arm_list (nested self.now.depth) tokens.old.rest.now) result tokens.new.rest.now }
@@ -123,7 +123,7 @@ impl<N: NestedParsers> Level<N> {
     }
 
     /// A catch phrase in brackets, if there is one.
-    #[tactic(auto, using(token_cursor::proofs::Choosing::choose_none, token_cursor::proofs::Choosing::choose_some), unfolding(module_productions::specs::Expressions::catch))]
+    #[tactic(auto, using(token_cursor::proofs::Choosing::choose_none, token_cursor::proofs::Choosing::choose_some), unfolding(module_productions::specs::ReadExpressions::catch))]
     fn catch(&self, tokens: &mut Cursor<'_>) -> Result<Option<Phrase>, Stopped>
         requires { N.parse_at self.now.nested self.now.depth }
         ensures { Reads (spec.catch (nested self.now.depth) tokens.old.rest.now) result tokens.new.rest.now }
@@ -148,7 +148,7 @@ impl<N: NestedParsers> Level<N> {
         Ok(all)
     }
 
-    #[tactic(auto, unfolding(module_productions::specs::Expressions::in_order))]
+    #[tactic(auto, unfolding(module_productions::specs::ReadExpressions::in_order))]
     fn in_order(&self, tokens: &mut Cursor<'_>, begun: Begun) -> Result<Entries<Expr>, Stopped>
         requires { N.parse_at self.now.nested self.now.depth }
         ensures { Reads (spec.in_order (nested self.now.depth) begun tokens.old.rest.now) result tokens.new.rest.now }
@@ -178,7 +178,7 @@ impl<N: NestedParsers> Level<N> {
     }
 
     /// Values with keys, of which the first and its colon were taken.
-    #[tactic(auto, unfolding(module_productions::specs::Expressions::by_key))]
+    #[tactic(auto, unfolding(module_productions::specs::ReadExpressions::by_key))]
     fn by_key(&self, tokens: &mut Cursor<'_>, key: Identifier) -> Result<Entries<Expr>, Stopped>
         requires { N.parse_at self.now.nested self.now.depth }
         ensures { Reads (spec.by_key (nested self.now.depth) key tokens.old.rest.now) result tokens.new.rest.now }
@@ -191,7 +191,7 @@ impl<N: NestedParsers> Level<N> {
     }
 
     /// Values of which the first name was taken: a key, or what an expression begins with.
-    #[tactic(auto, using(token_cursor::proofs::Choosing::choose_none, token_cursor::proofs::Choosing::choose_some), unfolding(module_productions::specs::Expressions::after_name))]
+    #[tactic(auto, using(token_cursor::proofs::Choosing::choose_none, token_cursor::proofs::Choosing::choose_some), unfolding(module_productions::specs::ReadExpressions::after_name))]
     fn after_name(
         &self,
         tokens: &mut Cursor<'_>,
@@ -206,7 +206,7 @@ impl<N: NestedParsers> Level<N> {
         }
     }
 
-    #[tactic(auto, using(token_cursor::proofs::Choosing::when_true, token_cursor::proofs::Choosing::when_false), unfolding(module_productions::specs::Expressions::unkeyed))]
+    #[tactic(auto, using(token_cursor::proofs::Choosing::when_true, token_cursor::proofs::Choosing::when_false), unfolding(module_productions::specs::ReadExpressions::unkeyed))]
     fn unkeyed(&self, tokens: &mut Cursor<'_>) -> Result<Entries<Expr>, Stopped>
         requires { N.parse_at self.now.nested self.now.depth }
         ensures { Reads (spec.unkeyed (nested self.now.depth) tokens.old.rest.now) result tokens.new.rest.now }
@@ -219,7 +219,7 @@ impl<N: NestedParsers> Level<N> {
 
     /// What stands in brackets before a catch phrase. The depth is tested before a name is taken, since an expression too
     /// deep stops at its first token.
-    #[tactic(auto, using(token_cursor::proofs::Choosing::choose_none, token_cursor::proofs::Choosing::choose_some, token_cursor::proofs::Choosing::if_true, token_cursor::proofs::Choosing::if_false), unfolding(module_productions::specs::Expressions::args))]
+    #[tactic(auto, using(token_cursor::proofs::Choosing::choose_none, token_cursor::proofs::Choosing::choose_some, token_cursor::proofs::Choosing::if_true, token_cursor::proofs::Choosing::if_false), unfolding(module_productions::specs::ReadExpressions::args))]
     fn args(&self, tokens: &mut Cursor<'_>) -> Result<Entries<Expr>, Stopped>
         requires { N.parse_at self.now.nested self.now.depth }
         ensures { Reads (spec.args (nested self.now.depth) tokens.old.rest.now) result tokens.new.rest.now }
@@ -234,7 +234,7 @@ impl<N: NestedParsers> Level<N> {
     }
 
     /// A list of values behind its bracket.
-    #[tactic(auto, unfolding(module_productions::specs::Expressions::list))]
+    #[tactic(auto, unfolding(module_productions::specs::ReadExpressions::list))]
     pub fn list(&self, tokens: &mut Cursor<'_>, place: Place) -> Result<ListExpr, Stopped>
         requires { N.parse_at self.now.nested self.now.depth }
         ensures { Reads (spec.list (nested self.now.depth) place tokens.old.rest.now) result tokens.new.rest.now }
@@ -245,7 +245,7 @@ impl<N: NestedParsers> Level<N> {
     }
 
     /// A list of values in brackets, if a bracket comes next.
-    #[tactic(auto, using(token_cursor::proofs::Choosing::choose_none, token_cursor::proofs::Choosing::choose_some), unfolding(module_productions::specs::Expressions::list_option))]
+    #[tactic(auto, using(token_cursor::proofs::Choosing::choose_none, token_cursor::proofs::Choosing::choose_some), unfolding(module_productions::specs::ReadExpressions::list_option))]
     pub fn list_option(&self, tokens: &mut Cursor<'_>) -> Result<Option<ListExpr>, Stopped>
         requires { N.parse_at self.now.nested self.now.depth }
         ensures { Reads (spec.list_option (nested self.now.depth) tokens.old.rest.now) result tokens.new.rest.now }
@@ -256,7 +256,7 @@ impl<N: NestedParsers> Level<N> {
         }
     }
 
-    #[tactic(auto, unfolding(module_productions::specs::Expressions::brackets))]
+    #[tactic(auto, unfolding(module_productions::specs::ReadExpressions::brackets))]
     fn brackets(&self, tokens: &mut Cursor<'_>, place: Place) -> Result<Brackets, Stopped>
         requires { N.parse_at self.now.nested self.now.depth }
         ensures { Reads (spec.brackets (nested self.now.depth) place tokens.old.rest.now) result tokens.new.rest.now }
@@ -271,7 +271,7 @@ impl<N: NestedParsers> Level<N> {
         })
     }
 
-    #[tactic(auto, using(token_cursor::proofs::Choosing::choose_none, token_cursor::proofs::Choosing::choose_some), unfolding(module_productions::specs::Expressions::brackets_option))]
+    #[tactic(auto, using(token_cursor::proofs::Choosing::choose_none, token_cursor::proofs::Choosing::choose_some), unfolding(module_productions::specs::ReadExpressions::brackets_option))]
     fn brackets_option(&self, tokens: &mut Cursor<'_>) -> Result<Option<Brackets>, Stopped>
         requires { N.parse_at self.now.nested self.now.depth }
         ensures { Reads (spec.brackets_option (nested self.now.depth) tokens.old.rest.now) result tokens.new.rest.now }
@@ -283,7 +283,7 @@ impl<N: NestedParsers> Level<N> {
     }
 
     /// A suffix behind its dot or bracket.
-    #[tactic(auto, unfolding(module_productions::specs::Expressions::suffixes_step))]
+    #[tactic(auto, unfolding(module_productions::specs::ReadExpressions::suffixes_step))]
     fn suffix(
         &self,
         tokens: &mut Cursor<'_>,
@@ -314,7 +314,7 @@ impl<N: NestedParsers> Level<N> {
     }
 
     /// What follows a name.
-    #[tactic(auto, unfolding(module_productions::specs::Expressions::suffixes))]
+    #[tactic(auto, unfolding(module_productions::specs::ReadExpressions::suffixes))]
     pub fn suffixes(&self, tokens: &mut Cursor<'_>) -> Result<Suffixes, Stopped>
         requires { N.parse_at self.now.nested self.now.depth }
         ensures { Reads (spec.suffixes (nested self.now.depth) tokens.old.rest.now) result tokens.new.rest.now }
@@ -323,7 +323,7 @@ impl<N: NestedParsers> Level<N> {
     }
 
     /// ERROR with the name behind it, of which the first part was taken.
-    #[tactic(auto, unfolding(module_productions::specs::Expressions::error_raise))]
+    #[tactic(auto, unfolding(module_productions::specs::ReadExpressions::error_raise))]
     fn error_raise(
         &self,
         tokens: &mut Cursor<'_>,
@@ -338,7 +338,7 @@ impl<N: NestedParsers> Level<N> {
         Ok(Raise::ErrorRaise(place, name, given))
     }
 
-    #[tactic(auto, unfolding(module_productions::specs::Expressions::signal_raise))]
+    #[tactic(auto, unfolding(module_productions::specs::ReadExpressions::signal_raise))]
     fn signal_raise(&self, tokens: &mut Cursor<'_>, place: Place) -> Result<Raise, Stopped>
         requires { N.parse_at self.now.nested self.now.depth }
         ensures { Reads (spec.signal_raise (nested self.now.depth) place tokens.old.rest.now) result tokens.new.rest.now }
@@ -349,7 +349,7 @@ impl<N: NestedParsers> Level<N> {
     }
 
     /// A raise of a signal, an error or the unnamed error.
-    #[tactic(auto, using(token_cursor::proofs::Choosing::choose_none, token_cursor::proofs::Choosing::choose_some), unfolding(module_productions::specs::Expressions::raise))]
+    #[tactic(auto, using(token_cursor::proofs::Choosing::choose_none, token_cursor::proofs::Choosing::choose_some), unfolding(module_productions::specs::ReadExpressions::raise))]
     pub fn raise(&self, tokens: &mut Cursor<'_>) -> Result<Raise, Stopped>
         requires { N.parse_at self.now.nested self.now.depth }
         ensures { Reads (spec.raise (nested self.now.depth) tokens.old.rest.now) result tokens.new.rest.now }

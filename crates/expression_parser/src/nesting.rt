@@ -2,7 +2,7 @@
 ghost use Rattle.std.specs.Prelude.{◌≡◌, ℕ};
 ghost use Rattle.expression_parser.specs.Nests.{Nests};
 ghost use Rattle.token_cursor.specs.Running.{Reads};
-ghost use Rattle.module_productions.specs.Statements.{nested};
+ghost use Rattle.module_productions.specs.ReadStatements.{nested};
 
 use mesa_base::Identifier;
 use mesa_types::syntax::{Expr, Statement, TypeExp};
@@ -106,7 +106,7 @@ pub struct Level<N> {
 
 impl<N: NestedParsers> Level<N> {
     /// May something nest?
-    #[tactic(auto, unfolding(module_productions::specs::Statements::nested))]
+    #[tactic(auto, unfolding(module_productions::specs::ReadStatements::nested))]
     pub fn can(&self) -> bool
         ensures { result ≡ (nested self.now.depth).can }
     {

@@ -3,9 +3,9 @@
 ghost use Rattle.std.specs.Prelude.{◌≡◌};
 ghost use Rattle.token_cursor.specs.Running.{Reads};
 ghost use Rattle.token_cursor.specs.Parsing.{many};
-ghost use Rattle.module_productions.specs.Nested.{comma};
-ghost use Rattle.module_productions.specs.Statements.{nested};
-ghost use Rattle.module_productions.specs.Statements as spec;
+ghost use Rattle.module_productions.specs.ReadNested.{comma};
+ghost use Rattle.module_productions.specs.ReadStatements.{nested};
+ghost use Rattle.module_productions.specs.ReadStatements as spec;
 
 use crate::nesting::{Level, NestedParsers};
 use mesa_base::{Identifier, List, Place};
@@ -35,7 +35,7 @@ impl<N: NestedParsers> Level<N> {
     }
 
     /// Targets in order, the first of which has this name.
-    #[tactic(auto, unfolding(module_productions::specs::Statements::lefts))]
+    #[tactic(auto, unfolding(module_productions::specs::ReadStatements::lefts))]
     fn lefts(&self, tokens: &mut Cursor<'_>, name: Identifier) -> Result<Entries<Left>, Stopped>
         requires { N.parse_at self.now.nested self.now.depth }
         ensures { Reads (spec.lefts (nested self.now.depth) name tokens.old.rest.now) result tokens.new.rest.now }
@@ -69,7 +69,7 @@ impl<N: NestedParsers> Level<N> {
     }
 
     /// Targets with their keys, behind the first key and its colon.
-    #[tactic(auto, unfolding(module_productions::specs::Statements::key_lefts))]
+    #[tactic(auto, unfolding(module_productions::specs::ReadStatements::key_lefts))]
     fn key_lefts(&self, tokens: &mut Cursor<'_>, key: Identifier) -> Result<Entries<Left>, Stopped>
         requires { N.parse_at self.now.nested self.now.depth }
         ensures { Reads (spec.key_lefts (nested self.now.depth) key tokens.old.rest.now) result tokens.new.rest.now }
@@ -83,7 +83,7 @@ impl<N: NestedParsers> Level<N> {
         Ok(Entries::ByKey(all))
     }
 
-    #[tactic(auto, using(token_cursor::proofs::Choosing::choose_none, token_cursor::proofs::Choosing::choose_some), unfolding(module_productions::specs::Statements::targets_from))]
+    #[tactic(auto, using(token_cursor::proofs::Choosing::choose_none, token_cursor::proofs::Choosing::choose_some), unfolding(module_productions::specs::ReadStatements::targets_from))]
     fn targets_from(
         &self,
         tokens: &mut Cursor<'_>,
@@ -98,7 +98,7 @@ impl<N: NestedParsers> Level<N> {
         }
     }
 
-    #[tactic(auto, using(token_cursor::proofs::Choosing::choose_none, token_cursor::proofs::Choosing::choose_some), unfolding(module_productions::specs::Statements::targets))]
+    #[tactic(auto, using(token_cursor::proofs::Choosing::choose_none, token_cursor::proofs::Choosing::choose_some), unfolding(module_productions::specs::ReadStatements::targets))]
     fn all_targets(&self, tokens: &mut Cursor<'_>) -> Result<Entries<Left>, Stopped>
         requires { N.parse_at self.now.nested self.now.depth }
         ensures { Reads (spec.targets (nested self.now.depth) tokens.old.rest.now) result tokens.new.rest.now }
@@ -110,7 +110,7 @@ impl<N: NestedParsers> Level<N> {
     }
 
     /// An extractor, behind its bracket.
-    #[tactic(auto, unfolding(module_productions::specs::Statements::extract))]
+    #[tactic(auto, unfolding(module_productions::specs::ReadStatements::extract))]
     pub fn extract(&self, tokens: &mut Cursor<'_>, place: Place) -> Result<Statement, Stopped>
         requires { N.parse_at self.now.nested self.now.depth }
         ensures { Reads (spec.extract (nested self.now.depth) place tokens.old.rest.now) result tokens.new.rest.now }
@@ -123,7 +123,7 @@ impl<N: NestedParsers> Level<N> {
     }
 
     /// An assignment or a call, whose name was taken.
-    #[tactic(auto, using(token_cursor::proofs::Choosing::choose_none, token_cursor::proofs::Choosing::choose_some), unfolding(module_productions::specs::Statements::assigned))]
+    #[tactic(auto, using(token_cursor::proofs::Choosing::choose_none, token_cursor::proofs::Choosing::choose_some), unfolding(module_productions::specs::ReadStatements::assigned))]
     pub fn assigned(&self, tokens: &mut Cursor<'_>, name: Identifier) -> Result<Statement, Stopped>
         requires { N.parse_at self.now.nested self.now.depth }
         ensures { Reads (spec.assigned (nested self.now.depth) name tokens.old.rest.now) result tokens.new.rest.now }

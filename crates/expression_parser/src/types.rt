@@ -1,10 +1,10 @@
 //! Types and lists of fields.
 ghost use Rattle.std.specs.Prelude.{◌≡◌, IfOk};
 ghost use Rattle.token_cursor.specs.Parsing.{many, repeat};
-ghost use Rattle.module_productions.specs.Expressions as spec;
-ghost use Rattle.module_productions.specs.Nested.{comma};
+ghost use Rattle.module_productions.specs.ReadExpressions as spec;
+ghost use Rattle.module_productions.specs.ReadNested.{comma};
 ghost use Rattle.token_cursor.specs.Running.{Reads};
-ghost use Rattle.module_productions.specs.Statements.{nested};
+ghost use Rattle.module_productions.specs.ReadStatements.{nested};
 ghost use Rattle.expression_parser.specs.Tails as tails;
 
 use crate::nesting::{Level, NestedParsers};
@@ -31,7 +31,7 @@ fn called(alloc: Global, name: &Identifier) -> Result<TypeExp, OutOfMemory>
 }
 
 /// The names, taken for types.
-#[tactic(auto, unfolding(module_productions::specs::Expressions::called))]
+#[tactic(auto, unfolding(module_productions::specs::ReadExpressions::called))]
 fn all_called(alloc: Global, names: &[Identifier]) -> Result<TypeExps, OutOfMemory>
     ensures { IfOk result (λ all. all ≡ spec.called names.now) }
 {
@@ -46,7 +46,7 @@ fn all_called(alloc: Global, names: &[Identifier]) -> Result<TypeExps, OutOfMemo
 
 impl<N: NestedParsers> Level<N> {
     /// The base with the interval behind it, or the type that the base is where none follows.
-    #[tactic(auto, using(token_cursor::proofs::Choosing::when_true, token_cursor::proofs::Choosing::when_false), unfolding(module_productions::specs::Expressions::after_base))]
+    #[tactic(auto, using(token_cursor::proofs::Choosing::when_true, token_cursor::proofs::Choosing::when_false), unfolding(module_productions::specs::ReadExpressions::after_base))]
     fn after_base(
         &self,
         tokens: &mut Cursor<'_>,
@@ -64,7 +64,7 @@ impl<N: NestedParsers> Level<N> {
     }
 
     /// A type of which the first name was taken.
-    #[tactic(auto, using(token_cursor::proofs::Choosing::when_true, token_cursor::proofs::Choosing::when_false), unfolding(module_productions::specs::Expressions::type_from, module_productions::specs::Expressions::after_base))]
+    #[tactic(auto, using(token_cursor::proofs::Choosing::when_true, token_cursor::proofs::Choosing::when_false), unfolding(module_productions::specs::ReadExpressions::type_from, module_productions::specs::ReadExpressions::after_base))]
     fn type_from(&self, tokens: &mut Cursor<'_>, first: Identifier) -> Result<TypeExp, Stopped>
         requires { N.parse_at self.now.nested self.now.depth }
         ensures { Reads (spec.type_from (nested self.now.depth) first tokens.old.rest.now) result tokens.new.rest.now }
@@ -77,7 +77,7 @@ impl<N: NestedParsers> Level<N> {
         Ok(TypeExp::Subrange(TypeBase::OfName(name), interval))
     }
 
-    #[tactic(auto, unfolding(module_productions::specs::Expressions::enumeration))]
+    #[tactic(auto, unfolding(module_productions::specs::ReadExpressions::enumeration))]
     fn enumeration(&self, tokens: &mut Cursor<'_>, place: Place) -> Result<TypeExp, Stopped>
         requires { N.parse_at self.now.nested self.now.depth }
         ensures { Reads (spec.enumeration (nested self.now.depth) place tokens.old.rest.now) result tokens.new.rest.now }
@@ -87,7 +87,7 @@ impl<N: NestedParsers> Level<N> {
         Ok(TypeExp::Enumeration(place, names))
     }
 
-    #[tactic(auto, unfolding(module_productions::specs::Expressions::array))]
+    #[tactic(auto, unfolding(module_productions::specs::ReadExpressions::array))]
     fn array(&self, tokens: &mut Cursor<'_>, place: Place) -> Result<TypeExp, Stopped>
         requires { N.parse_at self.now.nested self.now.depth }
         ensures { Reads (spec.array (nested self.now.depth) place tokens.old.rest.now) result tokens.new.rest.now }
@@ -114,7 +114,7 @@ impl<N: NestedParsers> Level<N> {
     }
 
     /// Types without names, of which some were taken.
-    #[tactic(auto, unfolding(module_productions::specs::Expressions::unnamed, module_productions::specs::Expressions::more_types))]
+    #[tactic(auto, unfolding(module_productions::specs::ReadExpressions::unnamed, module_productions::specs::ReadExpressions::more_types))]
     fn unnamed(&self, tokens: &mut Cursor<'_>, mut all: TypeExps) -> Result<FieldList, Stopped>
         requires { N.parse_at self.now.nested self.now.depth }
         ensures { Reads (spec.unnamed (nested self.now.depth) all tokens.old.rest.now) result tokens.new.rest.now }
@@ -143,7 +143,7 @@ impl<N: NestedParsers> Level<N> {
     }
 
     /// Fields with names, of which the first and their colon were taken.
-    #[tactic(auto, unfolding(module_productions::specs::Expressions::with_names))]
+    #[tactic(auto, unfolding(module_productions::specs::ReadExpressions::with_names))]
     fn with_names(&self, tokens: &mut Cursor<'_>, labels: Identifiers) -> Result<FieldList, Stopped>
         requires { N.parse_at self.now.nested self.now.depth }
         ensures { Reads (spec.with_names (nested self.now.depth) labels tokens.old.rest.now) result tokens.new.rest.now }
@@ -156,7 +156,7 @@ impl<N: NestedParsers> Level<N> {
     }
 
     /// Types without names: those that are names alone, and one that the last name begins.
-    #[tactic(auto, unfolding(module_productions::specs::Expressions::types_from, module_productions::specs::Expressions::more_types))]
+    #[tactic(auto, unfolding(module_productions::specs::ReadExpressions::types_from, module_productions::specs::ReadExpressions::more_types))]
     fn types_from(
         &self,
         tokens: &mut Cursor<'_>,
@@ -216,7 +216,7 @@ impl<N: NestedParsers> Level<N> {
     }
 
     /// Fields. The depth is tested before a name is taken, since a type too deep stops at its first token.
-    #[tactic(auto, using(token_cursor::proofs::Choosing::choose_none, token_cursor::proofs::Choosing::choose_some, token_cursor::proofs::Choosing::if_true, token_cursor::proofs::Choosing::if_false), unfolding(module_productions::specs::Expressions::field_list))]
+    #[tactic(auto, using(token_cursor::proofs::Choosing::choose_none, token_cursor::proofs::Choosing::choose_some, token_cursor::proofs::Choosing::if_true, token_cursor::proofs::Choosing::if_false), unfolding(module_productions::specs::ReadExpressions::field_list))]
     pub fn field_list(&self, tokens: &mut Cursor<'_>) -> Result<FieldList, Stopped>
         requires { N.parse_at self.now.nested self.now.depth }
         ensures { Reads (spec.field_list (nested self.now.depth) tokens.old.rest.now) result tokens.new.rest.now }
@@ -230,7 +230,7 @@ impl<N: NestedParsers> Level<N> {
         }
     }
 
-    #[tactic(auto, unfolding(module_productions::specs::Expressions::a_record))]
+    #[tactic(auto, unfolding(module_productions::specs::ReadExpressions::a_record))]
     fn a_record(&self, tokens: &mut Cursor<'_>, place: Place) -> Result<TypeExp, Stopped>
         requires { N.parse_at self.now.nested self.now.depth }
         ensures { Reads (spec.a_record (nested self.now.depth) place tokens.old.rest.now) result tokens.new.rest.now }
@@ -301,7 +301,7 @@ impl<N: NestedParsers> Level<N> {
     }
 
     /// A type, of which nothing was taken.
-    #[tactic(auto, using(token_cursor::proofs::Choosing::choose_none, token_cursor::proofs::Choosing::choose_some), unfolding(module_productions::specs::Expressions::type_exp, crate::specs::Tails::nameless_type, crate::specs::Tails::other_type))]
+    #[tactic(auto, using(token_cursor::proofs::Choosing::choose_none, token_cursor::proofs::Choosing::choose_some), unfolding(module_productions::specs::ReadExpressions::type_exp, crate::specs::Tails::nameless_type, crate::specs::Tails::other_type))]
     fn fresh_type(&self, tokens: &mut Cursor<'_>) -> Result<TypeExp, Stopped>
         requires { N.parse_at self.now.nested self.now.depth }
         ensures { Reads (spec.type_exp (nested self.now.depth) None tokens.old.rest.now) result tokens.new.rest.now }
@@ -313,7 +313,7 @@ impl<N: NestedParsers> Level<N> {
     }
 
     /// A type of this level.
-    #[tactic(auto, unfolding(module_productions::specs::Expressions::type_exp))]
+    #[tactic(auto, unfolding(module_productions::specs::ReadExpressions::type_exp))]
     pub fn any_type(
         &self,
         tokens: &mut Cursor<'_>,

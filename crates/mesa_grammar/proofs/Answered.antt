@@ -7,7 +7,7 @@ use Rattle.mesa_lexer.specs.declared.fault.SyntaxFault.{SyntaxFault}
 use Rattle.mesa_lexer.specs.declared.fault.SyntaxFault.TheVariants as f
 use Rattle.token_cursor.specs.Parsing.{Why, Unexpected, TooDeep, Got, Stop}
 use Rattle.mesa_types.specs.declared.syntax.Module.{Module}
-use Rattle.module_productions.specs.Texts as r
+use Rattle.module_productions.specs.ReadModules as r
 use Rattle.token_cursor.specs.declared.fault.Stopped.{Stopped}
 use Rattle.token_cursor.specs.declared.fault.Stopped.TheVariants as h
 use Rattle.token_cursor.specs.Running.{why_of, fault_of}

@@ -6,7 +6,7 @@ use Rattle.token_cursor.specs.Parsing.{Got, Stop, Unexpected}
 use Rattle.mesa_types.specs.declared.syntax.Module.{Module}
 use Rattle.module_productions.specs.Answer.{place_at}
 use Rattle.token_cursor.specs.Running.{next}
-use Rattle.module_productions.specs.Texts.{at_end}
+use Rattle.module_productions.specs.ReadModules.{at_end}
 
 pub ended_none : (x : Module) (ts : List Token) → next ts ≡ None → at_end x ts ≡ Got x ts
 unfolding next

@@ -6,10 +6,10 @@ use Rattle.token_cursor.specs.Parsing.{Got, and_then, pure, a_name, Go, go_on, r
 use Rattle.token_cursor.proofs.Loops.{Eats, unroll}
 use Rattle.mesa_types.specs.declared.syntax.Declaration.{Declaration}
 use Rattle.token_cursor.specs.Running.{next_is, taken, behind}
-use Rattle.module_productions.specs.Nested.{identifier}
-use Rattle.module_productions.specs.Statements as st
-use Rattle.module_productions.specs.Statements.{nested}
-use Rattle.module_productions.specs.Texts as tx
+use Rattle.module_productions.specs.ReadNested.{identifier}
+use Rattle.module_productions.specs.ReadStatements as st
+use Rattle.module_productions.specs.ReadStatements.{nested}
+use Rattle.module_productions.specs.ReadModules as tx
 use Rattle.module_productions.proofs.Levels.{all_of}
 use Rattle.module_productions.proofs.KeepModules as km
 use Rattle.statement_parser.proofs.Stepping.{Step_at, Next_at, step_at, next_at, next_item, next_stmts}

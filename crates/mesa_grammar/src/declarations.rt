@@ -3,9 +3,9 @@
 ghost use Rattle.std.specs.Prelude.{◌≡◌};
 ghost use Rattle.token_cursor.specs.Running.{Reads};
 ghost use Rattle.token_cursor.specs.Parsing.{repeat, and_then, pure};
-ghost use Rattle.module_productions.specs.Statements.{nested};
-ghost use Rattle.module_productions.specs.Texts as spec;
-ghost use Rattle.module_productions.specs.Statements as st;
+ghost use Rattle.module_productions.specs.ReadStatements.{nested};
+ghost use Rattle.module_productions.specs.ReadModules as spec;
+ghost use Rattle.module_productions.specs.ReadStatements as st;
 
 use crate::nesting::Grammar;
 use expression_parser::NestedParsers;
@@ -17,7 +17,7 @@ use module_tokens::signs::takes_accessing;
 use token_cursor::naming::names_from;
 use token_cursor::{Cursor, Stopped};
 
-#[tactic(auto, using(token_cursor::proofs::Choosing::choose_none, token_cursor::proofs::Choosing::choose_some), unfolding(module_productions::specs::Texts::access))]
+#[tactic(auto, using(token_cursor::proofs::Choosing::choose_none, token_cursor::proofs::Choosing::choose_some), unfolding(module_productions::specs::ReadModules::access))]
 fn access(tokens: &mut Cursor<'_>) -> Result<Option<Access>, Stopped>
     ensures { Reads (spec.access tokens.old.rest.now) result tokens.new.rest.now }
 {
@@ -29,7 +29,7 @@ fn access(tokens: &mut Cursor<'_>) -> Result<Option<Access>, Stopped>
 
 impl<N: NestedParsers> Grammar<N> {
     /// A declaration, whose first name was taken.
-    #[tactic(auto, unfolding(module_productions::specs::Texts::declaration))]
+    #[tactic(auto, unfolding(module_productions::specs::ReadModules::declaration))]
     fn declaration(
         &self,
         tokens: &mut Cursor<'_>,
@@ -89,7 +89,7 @@ impl<N: NestedParsers> Grammar<N> {
         }
     }
 
-    #[tactic(auto, unfolding(module_productions::specs::Texts::inner))]
+    #[tactic(auto, unfolding(module_productions::specs::ReadModules::inner))]
     pub fn inner(&self, tokens: &mut Cursor<'_>) -> Result<Inner, Stopped>
         requires { N.parse_at self.now.statements.level.nested self.now.statements.level.depth }
         ensures { Reads (spec.inner (nested self.now.statements.level.depth) tokens.old.rest.now) result tokens.new.rest.now }

@@ -3,8 +3,8 @@
 ghost use Rattle.std.specs.Prelude.{◌≡◌};
 ghost use Rattle.token_cursor.specs.Running.{Reads};
 ghost use Rattle.token_cursor.specs.Parsing.{many};
-ghost use Rattle.module_productions.specs.Nested.{comma};
-ghost use Rattle.module_productions.specs.Texts as spec;
+ghost use Rattle.module_productions.specs.ReadNested.{comma};
+ghost use Rattle.module_productions.specs.ReadModules as spec;
 
 use mesa_base::{Identifiers, List, Placed};
 use mesa_lexer::{Mark, Word};
@@ -13,7 +13,7 @@ use std::alloc::Global;
 use token_cursor::naming::{named, names};
 use token_cursor::{Cursor, Stopped};
 
-#[tactic(auto, using(token_cursor::proofs::Choosing::choose_none, token_cursor::proofs::Choosing::choose_some), unfolding(module_productions::specs::Texts::opened))]
+#[tactic(auto, using(token_cursor::proofs::Choosing::choose_none, token_cursor::proofs::Choosing::choose_some), unfolding(module_productions::specs::ReadModules::opened))]
 pub fn opened(alloc: Global, tokens: &mut Cursor<'_>) -> Result<Identifiers, Stopped>
     ensures { Reads (spec.opened tokens.old.rest.now) result tokens.new.rest.now }
 {
@@ -28,7 +28,7 @@ pub fn opened(alloc: Global, tokens: &mut Cursor<'_>) -> Result<Identifiers, Sto
 }
 
 /// The names behind this word, where it comes.
-#[tactic(auto, using(token_cursor::proofs::Choosing::choose_none, token_cursor::proofs::Choosing::choose_some), unfolding(module_productions::specs::Texts::listed))]
+#[tactic(auto, using(token_cursor::proofs::Choosing::choose_none, token_cursor::proofs::Choosing::choose_some), unfolding(module_productions::specs::ReadModules::listed))]
 pub fn listed(alloc: Global, tokens: &mut Cursor<'_>, word: Word) -> Result<Identifiers, Stopped>
     ensures { Reads (spec.listed word tokens.old.rest.now) result tokens.new.rest.now }
 {
@@ -38,7 +38,7 @@ pub fn listed(alloc: Global, tokens: &mut Cursor<'_>, word: Word) -> Result<Iden
     }
 }
 
-#[tactic(auto, using(token_cursor::proofs::Choosing::choose_none, token_cursor::proofs::Choosing::choose_some), unfolding(module_productions::specs::Texts::using_names))]
+#[tactic(auto, using(token_cursor::proofs::Choosing::choose_none, token_cursor::proofs::Choosing::choose_some), unfolding(module_productions::specs::ReadModules::using_names))]
 fn using_names(alloc: Global, tokens: &mut Cursor<'_>) -> Result<Option<Identifiers>, Stopped>
     ensures { Reads (spec.using_names tokens.old.rest.now) result tokens.new.rest.now }
 {
@@ -53,7 +53,7 @@ fn using_names(alloc: Global, tokens: &mut Cursor<'_>) -> Result<Option<Identifi
 }
 
 /// The names that a module may use of an interface, where it says them.
-#[tactic(auto, using(token_cursor::proofs::Choosing::choose_none, token_cursor::proofs::Choosing::choose_some), unfolding(module_productions::specs::Texts::using))]
+#[tactic(auto, using(token_cursor::proofs::Choosing::choose_none, token_cursor::proofs::Choosing::choose_some), unfolding(module_productions::specs::ReadModules::using))]
 fn used(alloc: Global, tokens: &mut Cursor<'_>) -> Result<Option<Identifiers>, Stopped>
     ensures { Reads (spec.using tokens.old.rest.now) result tokens.new.rest.now }
 {
@@ -66,7 +66,7 @@ fn used(alloc: Global, tokens: &mut Cursor<'_>) -> Result<Option<Identifiers>, S
     }
 }
 
-#[tactic(auto, using(token_cursor::proofs::Choosing::choose_none, token_cursor::proofs::Choosing::choose_some), unfolding(module_productions::specs::Texts::item, module_productions::specs::Texts::file))]
+#[tactic(auto, using(token_cursor::proofs::Choosing::choose_none, token_cursor::proofs::Choosing::choose_some), unfolding(module_productions::specs::ReadModules::item, module_productions::specs::ReadModules::file))]
 fn item(alloc: Global, tokens: &mut Cursor<'_>) -> Result<DirectoryItem, Stopped>
     ensures { Reads (spec.item tokens.old.rest.now) result tokens.new.rest.now }
 {
@@ -104,7 +104,7 @@ fn more_items(
     Ok(all)
 }
 
-#[tactic(auto, unfolding(module_productions::specs::Texts::items))]
+#[tactic(auto, unfolding(module_productions::specs::ReadModules::items))]
 fn items(alloc: Global, tokens: &mut Cursor<'_>) -> Result<Directory, Stopped>
     ensures { Reads (spec.items tokens.old.rest.now) result tokens.new.rest.now }
 {
@@ -115,7 +115,7 @@ fn items(alloc: Global, tokens: &mut Cursor<'_>) -> Result<Directory, Stopped>
     Ok(all)
 }
 
-#[tactic(auto, using(token_cursor::proofs::Choosing::choose_none, token_cursor::proofs::Choosing::choose_some), unfolding(module_productions::specs::Texts::directory))]
+#[tactic(auto, using(token_cursor::proofs::Choosing::choose_none, token_cursor::proofs::Choosing::choose_some), unfolding(module_productions::specs::ReadModules::directory))]
 pub fn interfaces(alloc: Global, tokens: &mut Cursor<'_>) -> Result<Directory, Stopped>
     ensures { Reads (spec.directory tokens.old.rest.now) result tokens.new.rest.now }
 {

@@ -2,8 +2,8 @@
 
 ghost use Rattle.std.specs.Prelude.{◌≡◌};
 ghost use Rattle.token_cursor.specs.Running.{Reads};
-ghost use Rattle.module_productions.specs.Statements.{nested};
-ghost use Rattle.module_productions.specs.Texts as spec;
+ghost use Rattle.module_productions.specs.ReadStatements.{nested};
+ghost use Rattle.module_productions.specs.ReadModules as spec;
 
 use crate::nesting::Grammar;
 use expression_parser::NestedParsers;
@@ -15,7 +15,7 @@ use token_cursor::{Cursor, Stopped};
 
 impl<N: NestedParsers> Grammar<N> {
     /// Parameters behind their bracket.
-    #[tactic(auto, using(token_cursor::proofs::Choosing::choose_none, token_cursor::proofs::Choosing::choose_some), unfolding(module_productions::specs::Texts::in_params))]
+    #[tactic(auto, using(token_cursor::proofs::Choosing::choose_none, token_cursor::proofs::Choosing::choose_some), unfolding(module_productions::specs::ReadModules::in_params))]
     fn in_params(&self, tokens: &mut Cursor<'_>) -> Result<Option<FieldList>, Stopped>
         requires { N.parse_at self.now.statements.level.nested self.now.statements.level.depth }
         ensures { Reads (spec.in_params (nested self.now.statements.level.depth) tokens.old.rest.now) result tokens.new.rest.now }
@@ -30,7 +30,7 @@ impl<N: NestedParsers> Grammar<N> {
         }
     }
 
-    #[tactic(auto, using(token_cursor::proofs::Choosing::choose_none, token_cursor::proofs::Choosing::choose_some), unfolding(module_productions::specs::Texts::params))]
+    #[tactic(auto, using(token_cursor::proofs::Choosing::choose_none, token_cursor::proofs::Choosing::choose_some), unfolding(module_productions::specs::ReadModules::params))]
     pub fn params(&self, tokens: &mut Cursor<'_>) -> Result<Option<FieldList>, Stopped>
         requires { N.parse_at self.now.statements.level.nested self.now.statements.level.depth }
         ensures { Reads (spec.params (nested self.now.statements.level.depth) tokens.old.rest.now) result tokens.new.rest.now }
@@ -41,7 +41,7 @@ impl<N: NestedParsers> Grammar<N> {
         }
     }
 
-    #[tactic(auto, using(token_cursor::proofs::Choosing::choose_none, token_cursor::proofs::Choosing::choose_some), unfolding(module_productions::specs::Texts::returns))]
+    #[tactic(auto, using(token_cursor::proofs::Choosing::choose_none, token_cursor::proofs::Choosing::choose_some), unfolding(module_productions::specs::ReadModules::returns))]
     fn results(&self, tokens: &mut Cursor<'_>) -> Result<Option<FieldList>, Stopped>
         requires { N.parse_at self.now.statements.level.nested self.now.statements.level.depth }
         ensures { Reads (spec.returns (nested self.now.statements.level.depth) tokens.old.rest.now) result tokens.new.rest.now }
@@ -55,7 +55,7 @@ impl<N: NestedParsers> Grammar<N> {
         }
     }
 
-    #[tactic(auto, unfolding(module_productions::specs::Texts::head))]
+    #[tactic(auto, unfolding(module_productions::specs::ReadModules::head))]
     pub fn head(&self, tokens: &mut Cursor<'_>) -> Result<Head, Stopped>
         requires { N.parse_at self.now.statements.level.nested self.now.statements.level.depth }
         ensures { Reads (spec.head (nested self.now.statements.level.depth) tokens.old.rest.now) result tokens.new.rest.now }
@@ -65,7 +65,7 @@ impl<N: NestedParsers> Grammar<N> {
         Ok(Head { takes, gives })
     }
 
-    #[tactic(auto, using(token_cursor::proofs::Choosing::choose_none, token_cursor::proofs::Choosing::choose_some), unfolding(module_productions::specs::Texts::block))]
+    #[tactic(auto, using(token_cursor::proofs::Choosing::choose_none, token_cursor::proofs::Choosing::choose_some), unfolding(module_productions::specs::ReadModules::block))]
     fn any_block(&self, tokens: &mut Cursor<'_>) -> Result<Block, Stopped>
         requires { N.parse_at self.now.statements.level.nested self.now.statements.level.depth }
         ensures { Reads (spec.block (nested self.now.statements.level.depth) tokens.old.rest.now) result tokens.new.rest.now }
@@ -79,7 +79,7 @@ impl<N: NestedParsers> Grammar<N> {
         }
     }
 
-    #[tactic(auto, unfolding(module_productions::specs::Texts::procedure))]
+    #[tactic(auto, unfolding(module_productions::specs::ReadModules::procedure))]
     fn procedure(&self, tokens: &mut Cursor<'_>) -> Result<Declared, Stopped>
         requires { N.parse_at self.now.statements.level.nested self.now.statements.level.depth }
         ensures { Reads (spec.procedure (nested self.now.statements.level.depth) tokens.old.rest.now) result tokens.new.rest.now }
@@ -90,7 +90,7 @@ impl<N: NestedParsers> Grammar<N> {
         Ok(Declared::Procedure(head, body))
     }
 
-    #[tactic(auto, unfolding(module_productions::specs::Texts::signal))]
+    #[tactic(auto, unfolding(module_productions::specs::ReadModules::signal))]
     fn signal(&self, tokens: &mut Cursor<'_>) -> Result<Declared, Stopped>
         requires { N.parse_at self.now.statements.level.nested self.now.statements.level.depth }
         ensures { Reads (spec.signal (nested self.now.statements.level.depth) tokens.old.rest.now) result tokens.new.rest.now }
@@ -101,7 +101,7 @@ impl<N: NestedParsers> Grammar<N> {
         Ok(Declared::Signal(head))
     }
 
-    #[tactic(auto, unfolding(module_productions::specs::Texts::error))]
+    #[tactic(auto, unfolding(module_productions::specs::ReadModules::error))]
     fn error(&self, tokens: &mut Cursor<'_>) -> Result<Declared, Stopped>
         requires { N.parse_at self.now.statements.level.nested self.now.statements.level.depth }
         ensures { Reads (spec.error (nested self.now.statements.level.depth) tokens.old.rest.now) result tokens.new.rest.now }
@@ -112,7 +112,7 @@ impl<N: NestedParsers> Grammar<N> {
         Ok(Declared::Error(takes))
     }
 
-    #[tactic(auto, using(token_cursor::proofs::Choosing::choose_none, token_cursor::proofs::Choosing::choose_some), unfolding(module_productions::specs::Texts::declared))]
+    #[tactic(auto, using(token_cursor::proofs::Choosing::choose_none, token_cursor::proofs::Choosing::choose_some), unfolding(module_productions::specs::ReadModules::declared))]
     pub fn declared(&self, tokens: &mut Cursor<'_>) -> Result<Declared, Stopped>
         requires { N.parse_at self.now.statements.level.nested self.now.statements.level.depth }
         ensures { Reads (spec.declared (nested self.now.statements.level.depth) tokens.old.rest.now) result tokens.new.rest.now }

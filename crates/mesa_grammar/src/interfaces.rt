@@ -2,8 +2,8 @@
 
 ghost use Rattle.std.specs.Prelude.{◌≡◌};
 ghost use Rattle.token_cursor.specs.Running.{Reads};
-ghost use Rattle.module_productions.specs.Statements.{nested};
-ghost use Rattle.module_productions.specs.Texts as spec;
+ghost use Rattle.module_productions.specs.ReadStatements.{nested};
+ghost use Rattle.module_productions.specs.ReadModules as spec;
 ghost use Rattle.statement_parser.specs.StatementTails as tails;
 
 use crate::nesting::Grammar;
@@ -17,7 +17,7 @@ use token_cursor::naming::names_from;
 use token_cursor::{Cursor, Stopped};
 
 impl<N: NestedParsers> Grammar<N> {
-    #[tactic(auto, unfolding(module_productions::specs::Texts::constant))]
+    #[tactic(auto, unfolding(module_productions::specs::ReadModules::constant))]
     fn constant(&self, tokens: &mut Cursor<'_>) -> Result<Defined, Stopped>
         requires { N.parse_at self.now.statements.level.nested self.now.statements.level.depth }
         ensures { Reads (spec.constant (nested self.now.statements.level.depth) tokens.old.rest.now) result tokens.new.rest.now }
@@ -28,7 +28,7 @@ impl<N: NestedParsers> Grammar<N> {
         Ok(Defined::ConstantItem(of, value))
     }
 
-    #[tactic(auto, unfolding(module_productions::specs::Texts::type_item))]
+    #[tactic(auto, unfolding(module_productions::specs::ReadModules::type_item))]
     fn type_item(&self, tokens: &mut Cursor<'_>) -> Result<Defined, Stopped>
         requires { N.parse_at self.now.statements.level.nested self.now.statements.level.depth }
         ensures { Reads (spec.type_item (nested self.now.statements.level.depth) tokens.old.rest.now) result tokens.new.rest.now }
@@ -54,7 +54,7 @@ impl<N: NestedParsers> Grammar<N> {
         }
     }
 
-    #[tactic(auto, using(token_cursor::proofs::Choosing::choose_none, token_cursor::proofs::Choosing::choose_some), unfolding(module_productions::specs::Texts::defined, statement_parser::specs::StatementTails::other_item))]
+    #[tactic(auto, using(token_cursor::proofs::Choosing::choose_none, token_cursor::proofs::Choosing::choose_some), unfolding(module_productions::specs::ReadModules::defined, statement_parser::specs::StatementTails::other_item))]
     fn defined(&self, tokens: &mut Cursor<'_>) -> Result<Defined, Stopped>
         requires { N.parse_at self.now.statements.level.nested self.now.statements.level.depth }
         ensures { Reads (spec.defined (nested self.now.statements.level.depth) tokens.old.rest.now) result tokens.new.rest.now }
@@ -73,7 +73,7 @@ impl<N: NestedParsers> Grammar<N> {
     }
 
     /// One more item behind these, whose first name was taken.
-    #[tactic(auto, unfolding(module_productions::specs::Texts::definitions_step))]
+    #[tactic(auto, unfolding(module_productions::specs::ReadModules::definitions_step))]
     fn definition(
         &self,
         tokens: &mut Cursor<'_>,
@@ -91,7 +91,7 @@ impl<N: NestedParsers> Grammar<N> {
         Ok(all)
     }
 
-    #[tactic(auto, using(token_cursor::proofs::Taking::many_by, crate::proofs::FrontSteps::definitions_eats), unfolding(module_productions::specs::Texts::definitions))]
+    #[tactic(auto, using(token_cursor::proofs::Taking::many_by, crate::proofs::FrontSteps::definitions_eats), unfolding(module_productions::specs::ReadModules::definitions))]
     pub fn definitions(&self, tokens: &mut Cursor<'_>) -> Result<Definitions, Stopped>
         requires { N.parse_at self.now.statements.level.nested self.now.statements.level.depth }
         ensures { Reads (spec.definitions (nested self.now.statements.level.depth) tokens.old.rest.now) result tokens.new.rest.now }

@@ -2,8 +2,8 @@
 
 ghost use Rattle.std.specs.Prelude.{◌≡◌};
 ghost use Rattle.token_cursor.specs.Running.{Reads};
-ghost use Rattle.module_productions.specs.Statements.{nested};
-ghost use Rattle.module_productions.specs.Texts as spec;
+ghost use Rattle.module_productions.specs.ReadStatements.{nested};
+ghost use Rattle.module_productions.specs.ReadModules as spec;
 
 use crate::directory::{interfaces, listed, opened};
 use crate::nesting::Grammar;
@@ -16,7 +16,7 @@ use token_cursor::{Cursor, Stopped};
 
 impl<N: NestedParsers> Grammar<N> {
     /// A program behind its word.
-    #[tactic(auto, unfolding(module_productions::specs::Texts::program))]
+    #[tactic(auto, unfolding(module_productions::specs::ReadModules::program))]
     fn program(&self, tokens: &mut Cursor<'_>, place: Place) -> Result<ModuleKind, Stopped>
         requires { N.parse_at self.now.statements.level.nested self.now.statements.level.depth }
         ensures { Reads (spec.program (nested self.now.statements.level.depth) place tokens.old.rest.now) result tokens.new.rest.now }
@@ -38,7 +38,7 @@ impl<N: NestedParsers> Grammar<N> {
     }
 
     /// An interface behind its word.
-    #[tactic(auto, unfolding(module_productions::specs::Texts::interface))]
+    #[tactic(auto, unfolding(module_productions::specs::ReadModules::interface))]
     fn interface(&self, tokens: &mut Cursor<'_>, place: Place) -> Result<ModuleKind, Stopped>
         requires { N.parse_at self.now.statements.level.nested self.now.statements.level.depth }
         ensures { Reads (spec.interface (nested self.now.statements.level.depth) place tokens.old.rest.now) result tokens.new.rest.now }
@@ -55,7 +55,7 @@ impl<N: NestedParsers> Grammar<N> {
         })
     }
 
-    #[tactic(auto, using(token_cursor::proofs::Choosing::choose_none, token_cursor::proofs::Choosing::choose_some), unfolding(module_productions::specs::Texts::kind))]
+    #[tactic(auto, using(token_cursor::proofs::Choosing::choose_none, token_cursor::proofs::Choosing::choose_some), unfolding(module_productions::specs::ReadModules::kind))]
     fn module_kind(&self, tokens: &mut Cursor<'_>) -> Result<ModuleKind, Stopped>
         requires { N.parse_at self.now.statements.level.nested self.now.statements.level.depth }
         ensures { Reads (spec.kind (nested self.now.statements.level.depth) tokens.old.rest.now) result tokens.new.rest.now }
@@ -69,7 +69,7 @@ impl<N: NestedParsers> Grammar<N> {
         }
     }
 
-    #[tactic(auto, unfolding(module_productions::specs::Texts::module_text))]
+    #[tactic(auto, unfolding(module_productions::specs::ReadModules::module_text))]
     pub fn module_text(&self, tokens: &mut Cursor<'_>) -> Result<Module, Stopped>
         requires { N.parse_at self.now.statements.level.nested self.now.statements.level.depth }
         ensures { Reads (spec.module_text (nested self.now.statements.level.depth) tokens.old.rest.now) result tokens.new.rest.now }

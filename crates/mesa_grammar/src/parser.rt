@@ -4,8 +4,8 @@ ghost use Rattle.mesa_lexer.specs.declared.fault.SyntaxFault.{SyntaxFault};
 ghost use Rattle.mesa_types.specs.declared.syntax.Module.{Module};
 ghost use Rattle.module_productions.specs.Answer.{HasSyntaxFault, Parses, place_at};
 ghost use Rattle.token_cursor.specs.Running.{Reads, fault_of};
-ghost use Rattle.module_productions.specs.Statements.{nested};
-ghost use Rattle.module_productions.specs.Texts as texts;
+ghost use Rattle.module_productions.specs.ReadStatements.{nested};
+ghost use Rattle.module_productions.specs.ReadModules as texts;
 
 use crate::nesting::Grammar;
 use expression_parser::{Level, ParserFunctions};
@@ -102,7 +102,7 @@ fn type_exp(
     .any_type(tokens, begun)
 }
 
-#[tactic(auto, using(crate::proofs::Ending::ended_none, crate::proofs::Ending::ended_some), unfolding(module_productions::specs::Texts::text, module_productions::specs::Texts::limit))]
+#[tactic(auto, using(crate::proofs::Ending::ended_none, crate::proofs::Ending::ended_some), unfolding(module_productions::specs::ReadModules::text, module_productions::specs::ReadModules::limit))]
 fn text(alloc: Global, tokens: &mut Cursor<'_>) -> Result<Module, Stopped>
     ensures { Reads (texts.text tokens.old.rest.now) result tokens.new.rest.now }
 {

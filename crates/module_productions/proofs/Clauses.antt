@@ -56,12 +56,12 @@ use Rattle.module_productions.specs.Grammar.{placed as placing}
 use Rattle.token_cursor.proofs.Exact.{Free, first_none}
 use Rattle.token_cursor.proofs.Branches.{passed, when_false, chosen}
 use Rattle.token_cursor.proofs.Leading.{Leads, stand, onto, under, comp, last, ahead, via, placed, many_more, many_end, ended_more, ended_bare, ended_closed, Begins, when_begins}
-use Rattle.module_productions.specs.Nested.{Fresh, Nested, begins_stmt, begins_arm, begins_test, begins_repeat, comma, identifier}
-use Rattle.module_productions.specs.Nested as nr
-use Rattle.module_productions.specs.Expressions as ex
-use Rattle.module_productions.specs.Expressions.{suffixing}
-use Rattle.module_productions.specs.Statements as st
-use Rattle.module_productions.specs.Statements.{nested, Local, Exit, Head, begins_label, semicolon}
+use Rattle.module_productions.specs.ReadNested.{Fresh, Nested, begins_stmt, begins_arm, begins_test, begins_repeat, comma, identifier}
+use Rattle.module_productions.specs.ReadNested as nr
+use Rattle.module_productions.specs.ReadExpressions as ex
+use Rattle.module_productions.specs.ReadExpressions.{suffixing}
+use Rattle.module_productions.specs.ReadStatements as st
+use Rattle.module_productions.specs.ReadStatements.{nested, Local, Exit, Head, begins_label, semicolon}
 use Rattle.module_productions.proofs.Follows as fo
 use Rattle.module_productions.proofs.Follows.{more_primary, more_product, more_sum, more_rel, more_conj, more_expr, more_stmt, more_type, more_items, more_fields, more_plain, declares, tails, free_left, free_only}
 use Rattle.module_productions.proofs.Turns.{names_all, qname_c, labels_c, repeat_labels_c, args_goes}

@@ -10,10 +10,10 @@ use Rattle.token_cursor.specs.Parsing.{token, word, mark, Got}
 use Rattle.token_cursor.specs.Parsing as w
 use Rattle.token_cursor.proofs.Branches.{somewhere}
 use Rattle.mesa_types.specs.declared.syntax.Module.{Module}
-use Rattle.module_productions.specs.Nested as nr
-use Rattle.module_productions.specs.Expressions as ex
-use Rattle.module_productions.specs.Statements as st
-use Rattle.module_productions.specs.Texts as r
+use Rattle.module_productions.specs.ReadNested as nr
+use Rattle.module_productions.specs.ReadExpressions as ex
+use Rattle.module_productions.specs.ReadStatements as st
+use Rattle.module_productions.specs.ReadModules as r
 use Rattle.module_productions.specs.Answer.{Parses}
 use Rattle.module_productions.proofs.Whole.{found}
 

@@ -20,11 +20,11 @@ use Rattle.module_productions.specs.Signs.{spelled, opening}
 use Rattle.module_productions.specs.Grammar as g
 use Rattle.module_productions.specs.Grammar.{qualified}
 use Rattle.module_productions.specs.Depth.{deep_type}
-use Rattle.module_productions.specs.Nested.{identifier, comma, begins_type}
-use Rattle.module_productions.specs.Nested as nr
-use Rattle.module_productions.specs.Expressions as ex
-use Rattle.module_productions.specs.Expressions.{Undecided, all_names, called}
-use Rattle.module_productions.specs.Statements.{nested}
+use Rattle.module_productions.specs.ReadNested.{identifier, comma, begins_type}
+use Rattle.module_productions.specs.ReadNested as nr
+use Rattle.module_productions.specs.ReadExpressions as ex
+use Rattle.module_productions.specs.ReadExpressions.{Undecided, all_names, called}
+use Rattle.module_productions.specs.ReadStatements.{nested}
 use Rattle.module_productions.proofs.KeepTypes as kt
 use Rattle.module_productions.proofs.Levels.{all_of}
 use Rattle.module_productions.proofs.Follows.{more_type, more_fields, free_left, free_right, free_only, declares, opening_starts, fields_declare}

@@ -31,12 +31,12 @@ use Rattle.mesa_types.specs.declared.syntax.Test.{Test as TestTree}
 use Rattle.mesa_types.specs.declared.syntax.Test.TheVariants.{Value, Compared, Inside}
 use Rattle.module_productions.specs.Signs.{spelled, relating, negating, opening, closing}
 use Rattle.module_productions.specs.Grammar as g
-use Rattle.module_productions.specs.Nested.{Fresh, AtNot, Nested, loop_starts, raise_starts, begins_expr, begins_stmt, identifier}
-use Rattle.module_productions.specs.Nested as nr
-use Rattle.module_productions.specs.Expressions as ex
-use Rattle.module_productions.specs.Expressions.{suffixing}
-use Rattle.module_productions.specs.Statements as st
-use Rattle.module_productions.specs.Statements.{nested, Local, Head}
+use Rattle.module_productions.specs.ReadNested.{Fresh, AtNot, Nested, loop_starts, raise_starts, begins_expr, begins_stmt, identifier}
+use Rattle.module_productions.specs.ReadNested as nr
+use Rattle.module_productions.specs.ReadExpressions as ex
+use Rattle.module_productions.specs.ReadExpressions.{suffixing}
+use Rattle.module_productions.specs.ReadStatements as st
+use Rattle.module_productions.specs.ReadStatements.{nested, Local, Head}
 use Rattle.module_productions.proofs.KeepStatements as ks
 use Rattle.module_productions.proofs.Levels.{all_of}
 use Rattle.module_productions.proofs.Follows.{Named, Starts, more_sum, more_rel, declares, loops, free_left, free_right, free_only, rel_starts, relating_ends, negating_ends, opening_starts}

@@ -25,9 +25,9 @@ use Rattle.mesa_types.specs.declared.syntax.Arm.{Arm}
 use Rattle.module_productions.specs.Signs.{spelled, disjoining, conjoining, adding, multiplying, relating, negating, opening, closing}
 use Rattle.module_productions.specs.Grammar as g
 use Rattle.module_productions.specs.Grammar.{run, placed, keyed}
-use Rattle.module_productions.specs.Nested.{Begun, Fresh, AtName, AtNot, Nested, a_number, a_char, a_text, begins_expr, begins_arm, identifier, comma}
-use Rattle.module_productions.specs.Expressions as r
-use Rattle.module_productions.specs.Expressions.{suffixing}
+use Rattle.module_productions.specs.ReadNested.{Begun, Fresh, AtName, AtNot, Nested, a_number, a_char, a_text, begins_expr, begins_arm, identifier, comma}
+use Rattle.module_productions.specs.ReadExpressions as r
+use Rattle.module_productions.specs.ReadExpressions.{suffixing}
 use Rattle.module_productions.proofs.Readings.{cut, Inner, Interval_at, Expr_at, Ors_at, Conj_at, Ands_at, Neg_at, Rel_at, Sum_at, Sums_at, Product_at, Products_at, Factor_at, Primary_at, List_at, ListOption_at, Left_at, Brackets_at, BracketsOption_at, Args_at, Exprs_at, Keys_at, Catch_at, ArmList_at, Arms_at, Arm_at, Raise_at}
 use Rattle.module_productions.proofs.Names as nm
 

@@ -30,11 +30,11 @@ use Rattle.module_productions.specs.Signs.{spelled, procedure_word}
 use Rattle.module_productions.specs.Grammar as g
 use Rattle.module_productions.specs.Grammar.{labeled}
 use Rattle.module_productions.specs.Modules as m
-use Rattle.module_productions.specs.Nested.{Nested, a_text, identifier, comma}
-use Rattle.module_productions.specs.Statements.{semicolon}
-use Rattle.module_productions.specs.Statements as st
-use Rattle.module_productions.specs.Texts as r
-use Rattle.module_productions.specs.Texts.{Front}
+use Rattle.module_productions.specs.ReadNested.{Nested, a_text, identifier, comma}
+use Rattle.module_productions.specs.ReadStatements.{semicolon}
+use Rattle.module_productions.specs.ReadStatements as st
+use Rattle.module_productions.specs.ReadModules as r
+use Rattle.module_productions.specs.ReadModules.{Front}
 use Rattle.module_productions.proofs.Readings.{cut, Inner as Below, Fields_at, Block_at, Body_at}
 use Rattle.module_productions.proofs.Names as nm
 use Rattle.module_productions.proofs.KeepTypes as kt

@@ -31,9 +31,9 @@ use Rattle.mesa_types.specs.declared.syntax.PlainItem.TheVariants.{TypeIs, Varia
 use Rattle.module_productions.specs.Signs.{spelled, negating}
 use Rattle.module_productions.specs.Grammar as g
 use Rattle.module_productions.specs.Grammar.{NoElse, placed, keyed, labeled}
-use Rattle.module_productions.specs.Nested.{Nested, raise_starts, begins_stmt, begins_test, begins_repeat, identifier, comma}
-use Rattle.module_productions.specs.Statements as r
-use Rattle.module_productions.specs.Statements.{Local, Exit, Repeat, Head, begins_label, semicolon}
+use Rattle.module_productions.specs.ReadNested.{Nested, raise_starts, begins_stmt, begins_test, begins_repeat, identifier, comma}
+use Rattle.module_productions.specs.ReadStatements as r
+use Rattle.module_productions.specs.ReadStatements.{Local, Exit, Repeat, Head, begins_label, semicolon}
 use Rattle.module_productions.proofs.Readings.{cut, Inner, Stmt_at, Expr_at, Type_at, Left_at, Targets_at, Lefts_at, KeyLefts_at, Otherwise_at, CaseList_at, Cases_at, Case_at, Tests_at, Test_at, Control_at, Count_at, Condition_at, Body_at, Stmts_at, RepeatPart_at, Repeats_at, Repeat_at, ExitPart_at, Exits_at, Exit_at, Enabling_at, Block_at, Locals_at, Local_at, Plain_at}
 use Rattle.module_productions.proofs.Names as nm
 use Rattle.module_productions.proofs.KeepExpressions as ke

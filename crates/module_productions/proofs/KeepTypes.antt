@@ -23,9 +23,9 @@ use Rattle.mesa_types.specs.declared.syntax.FieldList.TheVariants.{WithNames, Un
 use Rattle.module_productions.specs.Signs.{spelled, opening}
 use Rattle.module_productions.specs.Grammar as g
 use Rattle.module_productions.specs.Grammar.{labeled, qualified}
-use Rattle.module_productions.specs.Nested.{Nested, comma}
-use Rattle.module_productions.specs.Expressions as r
-use Rattle.module_productions.specs.Expressions.{Undecided, all_names, called}
+use Rattle.module_productions.specs.ReadNested.{Nested, comma}
+use Rattle.module_productions.specs.ReadExpressions as r
+use Rattle.module_productions.specs.ReadExpressions.{Undecided, all_names, called}
 use Rattle.module_productions.proofs.Readings.{cut, Inner, Type_at, Fields_at, Types_at, Groups_at, Interval_at}
 use Rattle.module_productions.proofs.Names as nm
 use Rattle.module_productions.proofs.KeepExpressions as ke

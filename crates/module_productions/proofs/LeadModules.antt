@@ -37,13 +37,13 @@ use Rattle.module_productions.specs.Grammar as g
 use Rattle.module_productions.specs.Grammar.{labeled}
 use Rattle.module_productions.specs.Depth as dp
 use Rattle.module_productions.specs.Modules as m
-use Rattle.module_productions.specs.Nested.{Fresh, identifier, comma, begins_stmt, begins_type, type_starts, stmt_starts}
-use Rattle.module_productions.specs.Nested as nr
-use Rattle.module_productions.specs.Expressions as ex
-use Rattle.module_productions.specs.Statements as st
-use Rattle.module_productions.specs.Statements.{nested, semicolon}
-use Rattle.module_productions.specs.Texts as r
-use Rattle.module_productions.specs.Texts.{Front}
+use Rattle.module_productions.specs.ReadNested.{Fresh, identifier, comma, begins_stmt, begins_type, type_starts, stmt_starts}
+use Rattle.module_productions.specs.ReadNested as nr
+use Rattle.module_productions.specs.ReadExpressions as ex
+use Rattle.module_productions.specs.ReadStatements as st
+use Rattle.module_productions.specs.ReadStatements.{nested, semicolon}
+use Rattle.module_productions.specs.ReadModules as r
+use Rattle.module_productions.specs.ReadModules.{Front}
 use Rattle.module_productions.proofs.Levels.{all_of}
 use Rattle.module_productions.proofs.Follows as fo
 use Rattle.module_productions.proofs.Follows.{Named, more_plain, more_expr, more_type, declares, tails, apart, apart_kinds}

@@ -34,11 +34,11 @@ use Rattle.mesa_types.specs.declared.syntax.Test.{Test as TestTree}
 use Rattle.mesa_types.specs.declared.syntax.PlainItem.{PlainItem}
 use Rattle.module_productions.specs.Signs.{disjoining, conjoining, adding, multiplying}
 use Rattle.module_productions.specs.Grammar as g
-use Rattle.module_productions.specs.Nested.{Fresh, begins_stmt, begins_arm}
-use Rattle.module_productions.specs.Expressions as ex
-use Rattle.module_productions.specs.Expressions.{suffixing}
-use Rattle.module_productions.specs.Statements as st
-use Rattle.module_productions.specs.Statements.{nested, Local, Exit, Repeat, Head}
+use Rattle.module_productions.specs.ReadNested.{Fresh, begins_stmt, begins_arm}
+use Rattle.module_productions.specs.ReadExpressions as ex
+use Rattle.module_productions.specs.ReadExpressions.{suffixing}
+use Rattle.module_productions.specs.ReadStatements as st
+use Rattle.module_productions.specs.ReadStatements.{nested, Local, Exit, Repeat, Head}
 use Rattle.module_productions.proofs.Follows as fo
 use Rattle.module_productions.proofs.Follows.{more_primary, more_product, more_sum, more_rel, more_conj, more_expr, more_stmt, more_type, more_items, more_fields, more_plain, tails, free_right}
 use Rattle.module_productions.proofs.Seconds.{behind_first, body_second}

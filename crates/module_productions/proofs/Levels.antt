@@ -27,8 +27,8 @@ use Rattle.mesa_types.specs.declared.syntax.Condition.TheVariants.{While, Until}
 use Rattle.module_productions.specs.Signs.{spelled, opening}
 use Rattle.module_productions.specs.Grammar as g
 use Rattle.module_productions.specs.Grammar.{placed, qualified}
-use Rattle.module_productions.specs.Nested.{a_number, a_char, a_text, type_starts, begins_type, expr_starts, begins_expr, stmt_starts, begins_stmt, identifier}
-use Rattle.module_productions.specs.Statements.{nested}
+use Rattle.module_productions.specs.ReadNested.{a_number, a_char, a_text, type_starts, begins_type, expr_starts, begins_expr, stmt_starts, begins_stmt, identifier}
+use Rattle.module_productions.specs.ReadStatements.{nested}
 use Rattle.module_productions.proofs.Readings.{cut, Inner, Stmt_at, Expr_at, Type_at}
 use Rattle.module_productions.proofs.KeepExpressions as ke
 use Rattle.module_productions.proofs.KeepTypes as kt

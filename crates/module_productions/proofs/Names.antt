@@ -19,8 +19,8 @@ pub use Rattle.token_cursor.proofs.Names.{name_or, name_must, NameIs, names_eats
 use Rattle.token_cursor.proofs.Names as n
 use Rattle.module_productions.specs.Grammar as g
 use Rattle.module_productions.specs.Grammar.{qualified}
-use Rattle.module_productions.specs.Nested as r
-use Rattle.module_productions.specs.Nested.{identifier, comma}
+use Rattle.module_productions.specs.ReadNested as r
+use Rattle.module_productions.specs.ReadNested.{identifier, comma}
 use Rattle.module_productions.proofs.Readings.{cut}
 
 -- ---- a name that is taken

@@ -12,10 +12,10 @@ use Rattle.token_cursor.proofs.Branches.{somewhere}
 use Rattle.mesa_types.specs.declared.syntax.Module.{Module}
 use Rattle.mesa_types.specs.SyntaxNodes.{head_nodes, declared_nodes, declaration_nodes, inner_nodes, defined_nodes, kind_nodes, directory_item_nodes, nodes}
 use Rattle.mesa_types.proofs.SyntaxForms as of
-use Rattle.module_productions.specs.Nested as nr
-use Rattle.module_productions.specs.Expressions as ex
-use Rattle.module_productions.specs.Statements as st
-use Rattle.module_productions.specs.Texts as r
+use Rattle.module_productions.specs.ReadNested as nr
+use Rattle.module_productions.specs.ReadExpressions as ex
+use Rattle.module_productions.specs.ReadStatements as st
+use Rattle.module_productions.specs.ReadModules as r
 
 abbrev name : List ℕ → Token
 name bytes = token (k.Name bytes) somewhere

@@ -40,12 +40,12 @@ use Rattle.module_productions.specs.Signs.{spelled, disjoining, conjoining, addi
 use Rattle.module_productions.specs.Grammar as g
 use Rattle.module_productions.specs.Grammar.{run, keyed, labeled, placed as placing}
 use Rattle.module_productions.specs.Depth as dp
-use Rattle.module_productions.specs.Nested.{Fresh, Nested, begins_expr, begins_stmt, begins_arm, begins_test, begins_repeat, begins_type, comma, identifier, type_starts}
-use Rattle.module_productions.specs.Nested as nr
-use Rattle.module_productions.specs.Expressions as ex
-use Rattle.module_productions.specs.Expressions.{suffixing, all_names}
-use Rattle.module_productions.specs.Statements as st
-use Rattle.module_productions.specs.Statements.{nested, Local, Exit, Repeat, begins_label, semicolon}
+use Rattle.module_productions.specs.ReadNested.{Fresh, Nested, begins_expr, begins_stmt, begins_arm, begins_test, begins_repeat, begins_type, comma, identifier, type_starts}
+use Rattle.module_productions.specs.ReadNested as nr
+use Rattle.module_productions.specs.ReadExpressions as ex
+use Rattle.module_productions.specs.ReadExpressions.{suffixing, all_names}
+use Rattle.module_productions.specs.ReadStatements as st
+use Rattle.module_productions.specs.ReadStatements.{nested, Local, Exit, Repeat, begins_label, semicolon}
 use Rattle.module_productions.proofs.Readings.{Ors_at, Ands_at, Sums_at, Products_at}
 use Rattle.module_productions.proofs.KeepExpressions as ke
 use Rattle.module_productions.proofs.KeepTypes as kt

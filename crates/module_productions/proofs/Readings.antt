@@ -33,7 +33,7 @@ use Rattle.mesa_types.specs.declared.syntax.RepeatLabels.{RepeatLabels}
 use Rattle.module_productions.specs.Signs.{spelled, negating}
 use Rattle.module_productions.specs.Grammar as g
 use Rattle.module_productions.specs.Depth as d
-use Rattle.module_productions.specs.Nested.{Nested, Fresh, AtName, AtNot}
+use Rattle.module_productions.specs.ReadNested.{Nested, Fresh, AtName, AtNot}
 
 -- the token that a statement's end depends on
 abbrev pub cut : Test

@@ -19,11 +19,11 @@ use Rattle.mesa_types.specs.declared.syntax.RepeatLabels.TheVariants.{Named as W
 use Rattle.module_productions.specs.Signs.{spelled, disjoining, conjoining, negating}
 use Rattle.module_productions.specs.Grammar as g
 use Rattle.module_productions.specs.Grammar.{qualified}
-use Rattle.module_productions.specs.Nested.{Fresh, AtName, AtNot, Nested, begins_expr, identifier, comma}
-use Rattle.module_productions.specs.Nested as nr
-use Rattle.module_productions.specs.Expressions as ex
-use Rattle.module_productions.specs.Statements as st
-use Rattle.module_productions.specs.Statements.{nested}
+use Rattle.module_productions.specs.ReadNested.{Fresh, AtName, AtNot, Nested, begins_expr, identifier, comma}
+use Rattle.module_productions.specs.ReadNested as nr
+use Rattle.module_productions.specs.ReadExpressions as ex
+use Rattle.module_productions.specs.ReadStatements as st
+use Rattle.module_productions.specs.ReadStatements.{nested}
 use Rattle.module_productions.proofs.Names as nm
 use Rattle.module_productions.proofs.Follows.{Named, names_named, qnames_named}
 

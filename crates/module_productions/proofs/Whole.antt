@@ -5,8 +5,8 @@ use Rattle.mesa_lexer.specs.declared.token.Token.{Token}
 use Rattle.token_cursor.specs.Parsing.{Why, Unexpected, TooDeep, Out, Got, Stop, pure}
 use Rattle.mesa_types.specs.declared.syntax.Module.{Module}
 use Rattle.module_productions.specs.Modules.{IsModule, deep_module}
-use Rattle.module_productions.specs.Statements.{nested}
-use Rattle.module_productions.specs.Texts as r
+use Rattle.module_productions.specs.ReadStatements.{nested}
+use Rattle.module_productions.specs.ReadModules as r
 use Rattle.module_productions.specs.Answer.{Parses, Starts, TooDeepAt, IsShallow, UnexpectedAt, FaultAt, Answer, Tree, Fault, Answers, OneAnswer}
 use Rattle.token_cursor.proofs.Exact.{Test, Rel, Free, Same, same, After, Sample, Keeps, Gets, Halts, Holds, Then, bind, first_none, same_front}
 use Rattle.token_cursor.proofs.Leading.{Early, Leads, stand, onto, comp}

@@ -4,10 +4,10 @@ use Rattle.mesa_base.specs.declared.place.Place.{Place}
 use Rattle.mesa_lexer.specs.declared.token.Token.{Token}
 use Rattle.mesa_lexer.specs.declared.fault.SyntaxFault.{SyntaxFault}
 use Rattle.mesa_lexer.specs.declared.fault.SyntaxFault.TheVariants as f
-use Rattle.token_cursor.specs.Parsing.{Why, Unexpected, TooDeep}
+use Rattle.token_cursor.specs.Grammars.{Why, Unexpected, TooDeep}
 use Rattle.mesa_types.specs.declared.syntax.Module.{Module}
 use Rattle.module_productions.specs.Modules.{IsModule, deep_module}
-use Rattle.module_productions.specs.Texts.{limit}
+use Rattle.module_productions.specs.Depth.{limit}
 
 -- Some text starts with these tokens.
 abbrev pub Starts : List Token → Type 0

@@ -2,7 +2,8 @@
 -- there on. The three sorts share one count (rule of this project).
 use Rattle.std.specs.Prelude.{ℕ, zero, suc, List, Option, Some, None}
 use Rattle.mesa_lexer.specs.declared.token.Token.{Token}
-use Rattle.token_cursor.specs.Parsing.{first}
+use Rattle.token_cursor.specs.Grammars.{first}
+use Rattle.mesa_base.specs.declared.limits.TheConstants.{NESTING}
 use Rattle.mesa_base.specs.declared.identifier.Identifier.{Identifier}
 use Rattle.mesa_base.specs.declared.placed.Placed.{Placed}
 use Rattle.mesa_types.specs.declared.syntax.Keyed.{Keyed}
@@ -29,6 +30,10 @@ use Rattle.mesa_types.specs.declared.syntax.PlainItem.{PlainItem}
 use Rattle.mesa_types.specs.declared.syntax.RepeatLabels.{RepeatLabels}
 use Rattle.module_productions.specs.Grammar.{IsType, IsFields, IsTypes, IsGroups, IsInterval, IsExpr, IsOrs, IsConj, IsAnds, IsNeg, IsRel, IsSum, IsSums, IsProduct, IsProducts, IsFactor, IsPrimary, IsList, IsListOption, IsLeft, IsBrackets, IsBracketsOption, IsArgs, IsExprs, IsKeys, IsCatch, IsArmList, IsArms, IsArm, IsRaise, IsStmt, IsTargets, IsLefts, IsKeyLefts, IsOtherwise, IsCaseList, IsCases, IsCase, IsTests, IsTest, IsControl, IsCount, IsCondition, IsBody, IsStmts, IsRepeatPart, IsRepeats, IsRepeat, IsExitPart, IsExits, IsExit, IsEnabling, IsBlock, IsLocals, IsLocal, IsPlain}
 use Rattle.module_productions.specs.Grammar as g
+
+-- inside so many others another may stand
+unfoldable pub limit : ℕ
+limit = NESTING
 
 abbrev mutual
   pub deep_type : ℕ → {ts : List Token} {x : TypeExp} {rest : List Token} → IsType ts x rest → Option (List Token)

@@ -1,9 +1,9 @@
 pub mod Answer
 pub mod Depth
-pub mod Expressions
+pub mod ReadExpressions
 pub mod Grammar
 pub mod Modules
-pub mod Nested
+pub mod ReadNested
 pub mod Signs
-pub mod Statements
-pub mod Texts
+pub mod ReadStatements
+pub mod ReadModules

@@ -7,7 +7,7 @@ use Rattle.mesa_lexer.specs.declared.token.Kind.TheVariants as k
 use Rattle.mesa_lexer.specs.declared.word.Word.{Word}
 use Rattle.mesa_lexer.specs.declared.word.Word.TheVariants.{BeginWord, CodeWord, DefinitionsWord, DirectoryWord, EndWord, ErrorWord, ExportsWord, FromWord, ImportsWord, OpenWord, ProgramWord, ReturnsWord, SignalWord, TypeWord, UsingWord}
 use Rattle.mesa_lexer.specs.declared.mark.Mark.TheVariants.{Semicolon, Colon, Comma, Dot, LeftBracket, RightBracket, Equal}
-use Rattle.token_cursor.specs.Parsing.{token, word, mark, first}
+use Rattle.token_cursor.specs.Grammars.{token, word, mark, first}
 use Rattle.mesa_base.specs.declared.identifier.Identifier.{Identifier}
 use Rattle.mesa_types.specs.declared.syntax.Labeled.{Labeled}
 use Rattle.mesa_types.specs.declared.syntax.FieldList.{FieldList}

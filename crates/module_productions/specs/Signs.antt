@@ -4,7 +4,7 @@ use Rattle.mesa_lexer.specs.declared.token.Kind.{Kind}
 use Rattle.mesa_lexer.specs.declared.token.Kind.TheVariants as k
 use Rattle.mesa_lexer.specs.declared.word.Word.TheVariants.{AndWord, ModWord, NotWord, OrWord, ProcWord, ProcedureWord, PublicWord, PrivateWord}
 use Rattle.mesa_lexer.specs.declared.mark.Mark.TheVariants as m
-pub use Rattle.token_cursor.specs.Parsing.{spelled}
+pub use Rattle.token_cursor.specs.Grammars.{spelled}
 use Rattle.mesa_types.specs.declared.syntax.Operator.{Operator}
 use Rattle.mesa_types.specs.declared.syntax.Operator.TheVariants as o
 use Rattle.mesa_types.specs.declared.relation.Relation.{Relation}

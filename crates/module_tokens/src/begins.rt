@@ -3,7 +3,7 @@ ghost use Rattle.std.specs.Prelude.{◌≡◌, [], ◌∷◌};
 ghost use Rattle.token_cursor.specs.Parsing.{among, finds};
 ghost use Rattle.mesa_lexer.specs.declared.token.Kind.TheVariants as k;
 ghost use Rattle.mesa_lexer.specs.declared.mark.Mark.TheVariants as m;
-ghost use Rattle.module_productions.specs.Nested as spec;
+ghost use Rattle.module_productions.specs.ReadNested as spec;
 ghost use Rattle.token_cursor.specs.Running.{next_is};
 ghost use Rattle.module_productions.specs.Signs.{opening, relating};
 

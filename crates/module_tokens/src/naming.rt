@@ -2,7 +2,7 @@
 ghost use Rattle.std.specs.Prelude.{◌≡◌};
 ghost use Rattle.token_cursor.specs.Parsing.{many};
 ghost use Rattle.token_cursor.specs.Running.{Reads};
-ghost use Rattle.module_productions.specs.Nested as spec;
+ghost use Rattle.module_productions.specs.ReadNested as spec;
 
 use mesa_base::{Identifier, List};
 use mesa_lexer::{Mark, Word};
@@ -12,7 +12,7 @@ use token_cursor::naming::{named, names};
 use token_cursor::{Cursor, Stopped};
 
 /// A name that a dot and another name may follow; the first was taken. Unexpected: a dot with no name behind it.
-#[tactic(auto, using(token_cursor::proofs::Taking::choose_by), unfolding(module_productions::specs::Nested::qname_from))]
+#[tactic(auto, using(token_cursor::proofs::Taking::choose_by), unfolding(module_productions::specs::ReadNested::qname_from))]
 pub fn qname_from(
     alloc: Global,
     tokens: &mut Cursor<'_>,
@@ -28,7 +28,7 @@ pub fn qname_from(
 }
 
 /// A name that a dot and another name may follow. Unexpected: a name is lacking.
-#[tactic(auto, unfolding(module_productions::specs::Nested::qname))]
+#[tactic(auto, unfolding(module_productions::specs::ReadNested::qname))]
 pub fn qname(alloc: Global, tokens: &mut Cursor<'_>) -> Result<QualifiedName, Stopped>
     ensures { Reads (spec.qname tokens.old.rest.now) result tokens.new.rest.now }
 {
@@ -50,7 +50,7 @@ fn more_qnames(
     Ok(all)
 }
 
-#[tactic(auto, unfolding(module_productions::specs::Nested::qnames))]
+#[tactic(auto, unfolding(module_productions::specs::ReadNested::qnames))]
 fn qnames(alloc: Global, tokens: &mut Cursor<'_>) -> Result<List<QualifiedName>, Stopped>
     ensures { Reads (spec.qnames tokens.old.rest.now) result tokens.new.rest.now }
 {
@@ -60,7 +60,7 @@ fn qnames(alloc: Global, tokens: &mut Cursor<'_>) -> Result<List<QualifiedName>,
 }
 
 /// The labels of an arm: ANY, UNWIND, or names of signals. Unexpected: a name is lacking.
-#[tactic(auto, using(token_cursor::proofs::Choosing::choose_none, token_cursor::proofs::Choosing::choose_some), unfolding(module_productions::specs::Nested::labels))]
+#[tactic(auto, using(token_cursor::proofs::Choosing::choose_none, token_cursor::proofs::Choosing::choose_some), unfolding(module_productions::specs::ReadNested::labels))]
 pub fn labels(alloc: Global, tokens: &mut Cursor<'_>) -> Result<Labels, Stopped>
     ensures { Reads (spec.labels tokens.old.rest.now) result tokens.new.rest.now }
 {
@@ -74,7 +74,7 @@ pub fn labels(alloc: Global, tokens: &mut Cursor<'_>) -> Result<Labels, Stopped>
 }
 
 /// The labels of an end of a loop: FINISHED, or names. Unexpected: a name is lacking.
-#[tactic(auto, using(token_cursor::proofs::Taking::choose_by), unfolding(module_productions::specs::Nested::repeat_labels))]
+#[tactic(auto, using(token_cursor::proofs::Taking::choose_by), unfolding(module_productions::specs::ReadNested::repeat_labels))]
 pub fn repeat_labels(alloc: Global, tokens: &mut Cursor<'_>) -> Result<RepeatLabels, Stopped>
     ensures { Reads (spec.repeat_labels tokens.old.rest.now) result tokens.new.rest.now }
 {

@@ -1,6 +1,6 @@
 //! Words and marks that stand for one another or say something.
 ghost use Rattle.std.specs.Prelude.{◌≡◌};
-ghost use Rattle.module_productions.specs.Expressions.{suffixing};
+ghost use Rattle.module_productions.specs.ReadExpressions.{suffixing};
 ghost use Rattle.token_cursor.specs.Running.{alone, behind, taken};
 ghost use Rattle.module_productions.specs.Signs as spec;
 

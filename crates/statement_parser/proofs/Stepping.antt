@@ -12,10 +12,10 @@ use Rattle.mesa_types.specs.declared.syntax.Statement.TheVariants as s
 use Rattle.mesa_types.specs.declared.syntax.Count.TheVariants.{For}
 use Rattle.token_cursor.specs.Running.{taken, behind, next_is}
 use Rattle.module_productions.specs.Signs.{negating}
-use Rattle.module_productions.specs.Nested.{identifier, named}
-use Rattle.module_productions.specs.Expressions as x
-use Rattle.module_productions.specs.Statements as st
-use Rattle.module_productions.specs.Statements.{nested, Local}
+use Rattle.module_productions.specs.ReadNested.{identifier, named}
+use Rattle.module_productions.specs.ReadExpressions as x
+use Rattle.module_productions.specs.ReadStatements as st
+use Rattle.module_productions.specs.ReadStatements.{nested, Local}
 use Rattle.token_cursor.proofs.Taking.{chosen, choose_by, when_by}
 use Rattle.module_productions.proofs.Parts.{head_eats}
 

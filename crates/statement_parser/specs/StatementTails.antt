@@ -17,13 +17,13 @@ use Rattle.mesa_types.specs.declared.syntax.TypeExp.{TypeExp}
 use Rattle.statement_parser.specs.declared.blocks.BlockEnd.{BlockEnd}
 use Rattle.statement_parser.specs.declared.blocks.BlockEnd.TheVariants.{ByWord, ByBrace}
 use Rattle.module_productions.specs.declared.begun.Begun.TheVariants.{Fresh}
-use Rattle.module_productions.specs.Nested.{Nested, raise_starts}
-use Rattle.module_productions.specs.Expressions.{list_option, raise}
-use Rattle.module_productions.specs.Statements.{block, conditional, extract, jump, loop, select}
+use Rattle.module_productions.specs.ReadNested.{Nested, raise_starts}
+use Rattle.module_productions.specs.ReadExpressions.{list_option, raise}
+use Rattle.module_productions.specs.ReadStatements.{block, conditional, extract, jump, loop, select}
 use Rattle.mesa_lexer.specs.declared.word.Word.TheVariants.{GoWord, GotoWord}
-use Rattle.module_productions.specs.Nested.{named}
-use Rattle.module_productions.specs.Statements.{go_to}
-use Rattle.module_productions.specs.Texts.{constant, params, type_item}
+use Rattle.module_productions.specs.ReadNested.{named}
+use Rattle.module_productions.specs.ReadStatements.{go_to}
+use Rattle.module_productions.specs.ReadModules.{constant, params, type_item}
 
 abbrev pub last_of : BlockEnd → Kind
 last_of ByWord = k.Word EndWord

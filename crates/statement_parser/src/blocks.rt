@@ -3,8 +3,8 @@
 ghost use Rattle.std.specs.Prelude.{◌≡◌};
 ghost use Rattle.token_cursor.specs.Running.{Reads};
 ghost use Rattle.token_cursor.specs.Parsing.{repeat, and_then, pure};
-ghost use Rattle.module_productions.specs.Statements.{nested};
-ghost use Rattle.module_productions.specs.Statements as spec;
+ghost use Rattle.module_productions.specs.ReadStatements.{nested};
+ghost use Rattle.module_productions.specs.ReadStatements as spec;
 ghost use Rattle.mesa_types.specs.declared.syntax.Statement.TheVariants as s;
 ghost use Rattle.statement_parser.specs.StatementTails.{last_of};
 ghost use Rattle.statement_parser.specs.StatementTails as tails;
@@ -62,7 +62,7 @@ impl<N: NestedParsers> StatementParser<N> {
     }
 
     /// What stands behind the type of a variable or constant.
-    #[tactic(auto, using(token_cursor::proofs::Choosing::choose_none, token_cursor::proofs::Choosing::choose_some), unfolding(module_productions::specs::Statements::valued, crate::specs::StatementTails::initial, crate::specs::StatementTails::fixed))]
+    #[tactic(auto, using(token_cursor::proofs::Choosing::choose_none, token_cursor::proofs::Choosing::choose_some), unfolding(module_productions::specs::ReadStatements::valued, crate::specs::StatementTails::initial, crate::specs::StatementTails::fixed))]
     fn valued(&self, tokens: &mut Cursor<'_>, of: TypeExp) -> Result<PlainItem, Stopped>
         requires { N.parse_at self.now.level.nested self.now.level.depth }
         ensures { Reads (spec.valued (nested self.now.level.depth) of tokens.old.rest.now) result tokens.new.rest.now }
@@ -76,7 +76,7 @@ impl<N: NestedParsers> StatementParser<N> {
         }
     }
 
-    #[tactic(auto, unfolding(module_productions::specs::Statements::type_is))]
+    #[tactic(auto, unfolding(module_productions::specs::ReadStatements::type_is))]
     fn type_is(&self, tokens: &mut Cursor<'_>) -> Result<PlainItem, Stopped>
         requires { N.parse_at self.now.level.nested self.now.level.depth }
         ensures { Reads (spec.type_is (nested self.now.level.depth) tokens.old.rest.now) result tokens.new.rest.now }
@@ -86,7 +86,7 @@ impl<N: NestedParsers> StatementParser<N> {
         Ok(PlainItem::TypeIs(is))
     }
 
-    #[tactic(auto, unfolding(module_productions::specs::Statements::typed))]
+    #[tactic(auto, unfolding(module_productions::specs::ReadStatements::typed))]
     fn typed(&self, tokens: &mut Cursor<'_>) -> Result<PlainItem, Stopped>
         requires { N.parse_at self.now.level.nested self.now.level.depth }
         ensures { Reads (spec.typed (nested self.now.level.depth) tokens.old.rest.now) result tokens.new.rest.now }
@@ -96,7 +96,7 @@ impl<N: NestedParsers> StatementParser<N> {
     }
 
     /// What stands behind the names of a type, a variable or a constant and their colon.
-    #[tactic(auto, using(token_cursor::proofs::Choosing::choose_none, token_cursor::proofs::Choosing::choose_some), unfolding(module_productions::specs::Statements::plain))]
+    #[tactic(auto, using(token_cursor::proofs::Choosing::choose_none, token_cursor::proofs::Choosing::choose_some), unfolding(module_productions::specs::ReadStatements::plain))]
     pub fn plain(&self, tokens: &mut Cursor<'_>) -> Result<PlainItem, Stopped>
         requires { N.parse_at self.now.level.nested self.now.level.depth }
         ensures { Reads (spec.plain (nested self.now.level.depth) tokens.old.rest.now) result tokens.new.rest.now }
@@ -108,7 +108,7 @@ impl<N: NestedParsers> StatementParser<N> {
     }
 
     /// A declaration, whose first name was taken.
-    #[tactic(auto, unfolding(module_productions::specs::Statements::local))]
+    #[tactic(auto, unfolding(module_productions::specs::ReadStatements::local))]
     fn local(&self, tokens: &mut Cursor<'_>, first: Identifier) -> Result<Local, Stopped>
         requires { N.parse_at self.now.level.nested self.now.level.depth }
         ensures { Reads (spec.local (nested self.now.level.depth) first tokens.old.rest.now) result tokens.new.rest.now }
@@ -160,7 +160,7 @@ impl<N: NestedParsers> StatementParser<N> {
     }
 
     /// A block behind its first word or brace, which stands at the place.
-    #[tactic(auto, unfolding(module_productions::specs::Statements::block))]
+    #[tactic(auto, unfolding(module_productions::specs::ReadStatements::block))]
     pub fn block(
         &self,
         tokens: &mut Cursor<'_>,

@@ -3,9 +3,9 @@
 ghost use Rattle.std.specs.Prelude.{◌≡◌};
 ghost use Rattle.token_cursor.specs.Running.{Reads};
 ghost use Rattle.token_cursor.specs.Parsing.{ended, many, repeat};
-ghost use Rattle.module_productions.specs.Nested.{begins_repeat};
-ghost use Rattle.module_productions.specs.Statements.{nested, semicolon, begins_label};
-ghost use Rattle.module_productions.specs.Statements as spec;
+ghost use Rattle.module_productions.specs.ReadNested.{begins_repeat};
+ghost use Rattle.module_productions.specs.ReadStatements.{nested, semicolon, begins_label};
+ghost use Rattle.module_productions.specs.ReadStatements as spec;
 ghost use Rattle.std.specs.Prelude.{[], ◌∷◌, MatchResult};
 ghost use Rattle.token_cursor.specs.declared.fault.Stopped.TheVariants.{Memory};
 
@@ -30,7 +30,7 @@ fn one_arm(alloc: Global, arm: Arm) -> Result<Arms, Stopped>
 }
 
 impl<N: NestedParsers> StatementParser<N> {
-    #[tactic(auto, unfolding(module_productions::specs::Statements::exit))]
+    #[tactic(auto, unfolding(module_productions::specs::ReadStatements::exit))]
     fn exit(&self, tokens: &mut Cursor<'_>) -> Result<Exit, Stopped>
         requires { N.parse_at self.now.level.nested self.now.level.depth }
         ensures { Reads (spec.exit (nested self.now.level.depth) tokens.old.rest.now) result tokens.new.rest.now }
@@ -56,7 +56,7 @@ impl<N: NestedParsers> StatementParser<N> {
         Ok(all)
     }
 
-    #[tactic(auto, unfolding(module_productions::specs::Statements::exits))]
+    #[tactic(auto, unfolding(module_productions::specs::ReadStatements::exits))]
     fn exits(&self, tokens: &mut Cursor<'_>) -> Result<Exits, Stopped>
         requires { N.parse_at self.now.level.nested self.now.level.depth }
         ensures { Reads (spec.exits (nested self.now.level.depth) tokens.old.rest.now) result tokens.new.rest.now }
@@ -67,7 +67,7 @@ impl<N: NestedParsers> StatementParser<N> {
     }
 
     /// The EXITS of a block, if there are any.
-    #[tactic(auto, using(token_cursor::proofs::Choosing::choose_none, token_cursor::proofs::Choosing::choose_some), unfolding(module_productions::specs::Statements::exit_part))]
+    #[tactic(auto, using(token_cursor::proofs::Choosing::choose_none, token_cursor::proofs::Choosing::choose_some), unfolding(module_productions::specs::ReadStatements::exit_part))]
     pub fn exit_part(&self, tokens: &mut Cursor<'_>) -> Result<Exits, Stopped>
         requires { N.parse_at self.now.level.nested self.now.level.depth }
         ensures { Reads (spec.exit_part (nested self.now.level.depth) tokens.old.rest.now) result tokens.new.rest.now }
@@ -79,7 +79,7 @@ impl<N: NestedParsers> StatementParser<N> {
     }
 
     /// What a loop does that was left by some labels, or at its end.
-    #[tactic(auto, unfolding(module_productions::specs::Statements::an_end))]
+    #[tactic(auto, unfolding(module_productions::specs::ReadStatements::an_end))]
     fn an_end(&self, tokens: &mut Cursor<'_>) -> Result<Repeat, Stopped>
         requires { N.parse_at self.now.level.nested self.now.level.depth }
         ensures { Reads (spec.an_end (nested self.now.level.depth) tokens.old.rest.now) result tokens.new.rest.now }
@@ -105,7 +105,7 @@ impl<N: NestedParsers> StatementParser<N> {
         Ok(all)
     }
 
-    #[tactic(auto, unfolding(module_productions::specs::Statements::repeats))]
+    #[tactic(auto, unfolding(module_productions::specs::ReadStatements::repeats))]
     fn repeats(&self, tokens: &mut Cursor<'_>) -> Result<Repeats, Stopped>
         requires { N.parse_at self.now.level.nested self.now.level.depth }
         ensures { Reads (spec.repeats (nested self.now.level.depth) tokens.old.rest.now) result tokens.new.rest.now }
@@ -116,7 +116,7 @@ impl<N: NestedParsers> StatementParser<N> {
     }
 
     /// The ends of a loop behind REPEAT, if there are any.
-    #[tactic(auto, using(token_cursor::proofs::Choosing::choose_none, token_cursor::proofs::Choosing::choose_some), unfolding(module_productions::specs::Statements::repeat_part))]
+    #[tactic(auto, using(token_cursor::proofs::Choosing::choose_none, token_cursor::proofs::Choosing::choose_some), unfolding(module_productions::specs::ReadStatements::repeat_part))]
     pub fn repeat_part(&self, tokens: &mut Cursor<'_>) -> Result<Repeats, Stopped>
         requires { N.parse_at self.now.level.nested self.now.level.depth }
         ensures { Reads (spec.repeat_part (nested self.now.level.depth) tokens.old.rest.now) result tokens.new.rest.now }
@@ -127,7 +127,7 @@ impl<N: NestedParsers> StatementParser<N> {
         }
     }
 
-    #[tactic(auto, unfolding(module_productions::specs::Statements::enable_many))]
+    #[tactic(auto, unfolding(module_productions::specs::ReadStatements::enable_many))]
     fn enable_many(&self, tokens: &mut Cursor<'_>, place: Place) -> Result<Option<Phrase>, Stopped>
         requires { N.parse_at self.now.level.nested self.now.level.depth }
         ensures { Reads (spec.enable_many (nested self.now.level.depth) place tokens.old.rest.now) result tokens.new.rest.now }
@@ -138,7 +138,7 @@ impl<N: NestedParsers> StatementParser<N> {
         Ok(Some(Placed { place, item }))
     }
 
-    #[tactic(auto, unfolding(module_productions::specs::Statements::enable_one))]
+    #[tactic(auto, unfolding(module_productions::specs::ReadStatements::enable_one))]
     fn enable_one(&self, tokens: &mut Cursor<'_>, place: Place) -> Result<Option<Phrase>, Stopped>
         requires { N.parse_at self.now.level.nested self.now.level.depth }
         ensures { Reads (spec.enable_one (nested self.now.level.depth) place tokens.old.rest.now) result tokens.new.rest.now }
@@ -149,7 +149,7 @@ impl<N: NestedParsers> StatementParser<N> {
     }
 
     /// The catch phrase of an ENABLE, if there is one.
-    #[tactic(auto, using(token_cursor::proofs::Choosing::choose_none, token_cursor::proofs::Choosing::choose_some), unfolding(module_productions::specs::Statements::enabling))]
+    #[tactic(auto, using(token_cursor::proofs::Choosing::choose_none, token_cursor::proofs::Choosing::choose_some), unfolding(module_productions::specs::ReadStatements::enabling))]
     pub fn enabling(&self, tokens: &mut Cursor<'_>) -> Result<Option<Phrase>, Stopped>
         requires { N.parse_at self.now.level.nested self.now.level.depth }
         ensures { Reads (spec.enabling (nested self.now.level.depth) tokens.old.rest.now) result tokens.new.rest.now }

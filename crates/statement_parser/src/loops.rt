@@ -2,8 +2,8 @@
 
 ghost use Rattle.std.specs.Prelude.{◌≡◌};
 ghost use Rattle.token_cursor.specs.Running.{Reads};
-ghost use Rattle.module_productions.specs.Statements.{nested};
-ghost use Rattle.module_productions.specs.Statements as spec;
+ghost use Rattle.module_productions.specs.ReadStatements.{nested};
+ghost use Rattle.module_productions.specs.ReadStatements as spec;
 
 use crate::nesting::StatementParser;
 use expression_parser::NestedParsers;
@@ -14,7 +14,7 @@ use module_productions::Begun;
 use token_cursor::naming::named;
 use token_cursor::{Cursor, Stopped};
 
-#[tactic(auto, using(token_cursor::proofs::Choosing::choose_none, token_cursor::proofs::Choosing::choose_some), unfolding(module_productions::specs::Statements::decreasing))]
+#[tactic(auto, using(token_cursor::proofs::Choosing::choose_none, token_cursor::proofs::Choosing::choose_some), unfolding(module_productions::specs::ReadStatements::decreasing))]
 fn decreasing(tokens: &mut Cursor<'_>) -> Result<bool, Stopped>
     ensures { Reads (spec.decreasing tokens.old.rest.now) result tokens.new.rest.now }
 {
@@ -42,7 +42,7 @@ impl<N: NestedParsers> StatementParser<N> {
         }))
     }
 
-    #[tactic(auto, unfolding(module_productions::specs::Statements::through))]
+    #[tactic(auto, unfolding(module_productions::specs::ReadStatements::through))]
     fn through_count(&self, tokens: &mut Cursor<'_>, place: Place) -> Result<Option<Count>, Stopped>
         requires { N.parse_at self.now.level.nested self.now.level.depth }
         ensures { Reads (spec.through (nested self.now.level.depth) place tokens.old.rest.now) result tokens.new.rest.now }
@@ -51,7 +51,7 @@ impl<N: NestedParsers> StatementParser<N> {
         Ok(Some(Count::Through(place, interval)))
     }
 
-    #[tactic(auto, using(token_cursor::proofs::Choosing::choose_none, token_cursor::proofs::Choosing::choose_some), unfolding(module_productions::specs::Statements::count))]
+    #[tactic(auto, using(token_cursor::proofs::Choosing::choose_none, token_cursor::proofs::Choosing::choose_some), unfolding(module_productions::specs::ReadStatements::count))]
     fn count(&self, tokens: &mut Cursor<'_>) -> Result<Option<Count>, Stopped>
         requires { N.parse_at self.now.level.nested self.now.level.depth }
         ensures { Reads (spec.count (nested self.now.level.depth) tokens.old.rest.now) result tokens.new.rest.now }
@@ -65,7 +65,7 @@ impl<N: NestedParsers> StatementParser<N> {
         }
     }
 
-    #[tactic(auto, using(token_cursor::proofs::Choosing::choose_none, token_cursor::proofs::Choosing::choose_some), unfolding(module_productions::specs::Statements::condition))]
+    #[tactic(auto, using(token_cursor::proofs::Choosing::choose_none, token_cursor::proofs::Choosing::choose_some), unfolding(module_productions::specs::ReadStatements::condition))]
     fn condition(&self, tokens: &mut Cursor<'_>) -> Result<Option<Condition>, Stopped>
         requires { N.parse_at self.now.level.nested self.now.level.depth }
         ensures { Reads (spec.condition (nested self.now.level.depth) tokens.old.rest.now) result tokens.new.rest.now }
@@ -83,7 +83,7 @@ impl<N: NestedParsers> StatementParser<N> {
         }
     }
 
-    #[tactic(auto, unfolding(module_productions::specs::Statements::control))]
+    #[tactic(auto, unfolding(module_productions::specs::ReadStatements::control))]
     fn control(&self, tokens: &mut Cursor<'_>) -> Result<Control, Stopped>
         requires { N.parse_at self.now.level.nested self.now.level.depth }
         ensures { Reads (spec.control (nested self.now.level.depth) tokens.old.rest.now) result tokens.new.rest.now }

@@ -3,9 +3,9 @@
 ghost use Rattle.std.specs.Prelude.{◌≡◌};
 ghost use Rattle.token_cursor.specs.Running.{Reads};
 ghost use Rattle.token_cursor.specs.Parsing.{ended, many};
-ghost use Rattle.module_productions.specs.Nested.{begins_test, comma};
-ghost use Rattle.module_productions.specs.Statements.{nested, semicolon};
-ghost use Rattle.module_productions.specs.Statements as spec;
+ghost use Rattle.module_productions.specs.ReadNested.{begins_test, comma};
+ghost use Rattle.module_productions.specs.ReadStatements.{nested, semicolon};
+ghost use Rattle.module_productions.specs.ReadStatements as spec;
 
 use crate::nesting::StatementParser;
 use expression_parser::NestedParsers;
@@ -19,7 +19,7 @@ use token_cursor::{Cursor, Stopped};
 
 impl<N: NestedParsers> StatementParser<N> {
     /// A test behind NOT.
-    #[tactic(auto, using(token_cursor::proofs::Choosing::choose_none, token_cursor::proofs::Choosing::choose_some), unfolding(module_productions::specs::Statements::after_not))]
+    #[tactic(auto, using(token_cursor::proofs::Choosing::choose_none, token_cursor::proofs::Choosing::choose_some), unfolding(module_productions::specs::ReadStatements::after_not))]
     fn after_not(&self, tokens: &mut Cursor<'_>, place: Place) -> Result<Test, Stopped>
         requires { N.parse_at self.now.level.nested self.now.level.depth }
         ensures { Reads (spec.after_not (nested self.now.level.depth) place tokens.old.rest.now) result tokens.new.rest.now }
@@ -50,7 +50,7 @@ impl<N: NestedParsers> StatementParser<N> {
     }
 
     /// A test that begins with no NOT, or where NOT may not be taken.
-    #[tactic(auto, using(token_cursor::proofs::Choosing::choose_none, token_cursor::proofs::Choosing::choose_some), unfolding(module_productions::specs::Statements::unnegated))]
+    #[tactic(auto, using(token_cursor::proofs::Choosing::choose_none, token_cursor::proofs::Choosing::choose_some), unfolding(module_productions::specs::ReadStatements::unnegated))]
     fn unnegated(&self, tokens: &mut Cursor<'_>) -> Result<Test, Stopped>
         requires { N.parse_at self.now.level.nested self.now.level.depth }
         ensures { Reads (spec.unnegated (nested self.now.level.depth) tokens.old.rest.now) result tokens.new.rest.now }
@@ -106,7 +106,7 @@ impl<N: NestedParsers> StatementParser<N> {
         Ok(all)
     }
 
-    #[tactic(auto, unfolding(module_productions::specs::Statements::case))]
+    #[tactic(auto, unfolding(module_productions::specs::ReadStatements::case))]
     fn case(&self, tokens: &mut Cursor<'_>) -> Result<Case, Stopped>
         requires { N.parse_at self.now.level.nested self.now.level.depth }
         ensures { Reads (spec.case (nested self.now.level.depth) tokens.old.rest.now) result tokens.new.rest.now }
@@ -134,7 +134,7 @@ impl<N: NestedParsers> StatementParser<N> {
         Ok(all)
     }
 
-    #[tactic(auto, unfolding(module_productions::specs::Statements::cases))]
+    #[tactic(auto, unfolding(module_productions::specs::ReadStatements::cases))]
     fn cases(&self, tokens: &mut Cursor<'_>) -> Result<Cases, Stopped>
         requires { N.parse_at self.now.level.nested self.now.level.depth }
         ensures { Reads (spec.cases (nested self.now.level.depth) tokens.old.rest.now) result tokens.new.rest.now }
@@ -144,7 +144,7 @@ impl<N: NestedParsers> StatementParser<N> {
         self.more_cases(tokens, all)
     }
 
-    #[tactic(auto, using(token_cursor::proofs::Choosing::when_true, token_cursor::proofs::Choosing::when_false), unfolding(module_productions::specs::Statements::case_list))]
+    #[tactic(auto, using(token_cursor::proofs::Choosing::when_true, token_cursor::proofs::Choosing::when_false), unfolding(module_productions::specs::ReadStatements::case_list))]
     fn case_list(&self, tokens: &mut Cursor<'_>) -> Result<Cases, Stopped>
         requires { N.parse_at self.now.level.nested self.now.level.depth }
         ensures { Reads (spec.case_list (nested self.now.level.depth) tokens.old.rest.now) result tokens.new.rest.now }
@@ -156,7 +156,7 @@ impl<N: NestedParsers> StatementParser<N> {
     }
 
     /// The statement for no case, behind ENDCASE.
-    #[tactic(auto, using(token_cursor::proofs::Choosing::choose_none, token_cursor::proofs::Choosing::choose_some), unfolding(module_productions::specs::Statements::otherwise))]
+    #[tactic(auto, using(token_cursor::proofs::Choosing::choose_none, token_cursor::proofs::Choosing::choose_some), unfolding(module_productions::specs::ReadStatements::otherwise))]
     fn otherwise(&self, tokens: &mut Cursor<'_>) -> Result<Option<Boxed<Statement>>, Stopped>
         requires { N.parse_at self.now.level.nested self.now.level.depth }
         ensures { Reads (spec.otherwise (nested self.now.level.depth) tokens.old.rest.now) result tokens.new.rest.now }
@@ -171,7 +171,7 @@ impl<N: NestedParsers> StatementParser<N> {
     }
 
     /// A selection behind its SELECT, which stands at the place.
-    #[tactic(auto, unfolding(module_productions::specs::Statements::select))]
+    #[tactic(auto, unfolding(module_productions::specs::ReadStatements::select))]
     pub fn select(&self, tokens: &mut Cursor<'_>, place: Place) -> Result<Statement, Stopped>
         requires { N.parse_at self.now.level.nested self.now.level.depth }
         ensures { Reads (spec.select (nested self.now.level.depth) place tokens.old.rest.now) result tokens.new.rest.now }

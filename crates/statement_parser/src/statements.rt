@@ -3,9 +3,9 @@
 ghost use Rattle.std.specs.Prelude.{◌≡◌};
 ghost use Rattle.token_cursor.specs.Running.{Reads};
 ghost use Rattle.token_cursor.specs.Parsing.{ended};
-ghost use Rattle.module_productions.specs.Nested.{begins_stmt};
-ghost use Rattle.module_productions.specs.Statements.{nested, semicolon};
-ghost use Rattle.module_productions.specs.Statements as spec;
+ghost use Rattle.module_productions.specs.ReadNested.{begins_stmt};
+ghost use Rattle.module_productions.specs.ReadStatements.{nested, semicolon};
+ghost use Rattle.module_productions.specs.ReadStatements as spec;
 ghost use Rattle.statement_parser.specs.StatementTails as tails;
 
 use crate::blocks::BlockEnd;
@@ -21,7 +21,7 @@ use token_cursor::{Cursor, Stopped};
 
 impl<N: NestedParsers> StatementParser<N> {
     /// Statements; of the first a name was taken or nothing.
-    #[tactic(auto, unfolding(module_productions::specs::Statements::stmts))]
+    #[tactic(auto, unfolding(module_productions::specs::ReadStatements::stmts))]
     pub fn stmts(
         &self,
         tokens: &mut Cursor<'_>,
@@ -55,7 +55,7 @@ impl<N: NestedParsers> StatementParser<N> {
     }
 
     /// Statements, if there are any.
-    #[tactic(auto, using(token_cursor::proofs::Choosing::when_true, token_cursor::proofs::Choosing::when_false), unfolding(module_productions::specs::Statements::body))]
+    #[tactic(auto, using(token_cursor::proofs::Choosing::when_true, token_cursor::proofs::Choosing::when_false), unfolding(module_productions::specs::ReadStatements::body))]
     pub fn body(&self, tokens: &mut Cursor<'_>) -> Result<Statements, Stopped>
         requires { N.parse_at self.now.level.nested self.now.level.depth }
         ensures { Reads (spec.body (nested self.now.level.depth) tokens.old.rest.now) result tokens.new.rest.now }
@@ -83,7 +83,7 @@ impl<N: NestedParsers> StatementParser<N> {
     }
 
     /// What stands behind the first statement of an IF.
-    #[tactic(auto, using(token_cursor::proofs::Choosing::choose_none, token_cursor::proofs::Choosing::choose_some), unfolding(module_productions::specs::Statements::else_part, crate::specs::StatementTails::alternative))]
+    #[tactic(auto, using(token_cursor::proofs::Choosing::choose_none, token_cursor::proofs::Choosing::choose_some), unfolding(module_productions::specs::ReadStatements::else_part, crate::specs::StatementTails::alternative))]
     fn else_part(
         &self,
         tokens: &mut Cursor<'_>,
@@ -100,7 +100,7 @@ impl<N: NestedParsers> StatementParser<N> {
         }
     }
 
-    #[tactic(auto, unfolding(module_productions::specs::Statements::conditional))]
+    #[tactic(auto, unfolding(module_productions::specs::ReadStatements::conditional))]
     fn conditional(&self, tokens: &mut Cursor<'_>, place: Place) -> Result<Statement, Stopped>
         requires { N.parse_at self.now.level.nested self.now.level.depth }
         ensures { Reads (spec.conditional (nested self.now.level.depth) place tokens.old.rest.now) result tokens.new.rest.now }
@@ -112,7 +112,7 @@ impl<N: NestedParsers> StatementParser<N> {
     }
 
     /// The label behind GO.
-    #[tactic(auto, unfolding(module_productions::specs::Statements::go_to))]
+    #[tactic(auto, unfolding(module_productions::specs::ReadStatements::go_to))]
     fn go_to(&self, tokens: &mut Cursor<'_>, place: Place) -> Result<Statement, Stopped>
         requires { N.parse_at self.now.level.nested self.now.level.depth }
         ensures { Reads (spec.go_to (nested self.now.level.depth) place tokens.old.rest.now) result tokens.new.rest.now }
@@ -188,7 +188,7 @@ impl<N: NestedParsers> StatementParser<N> {
     }
 
     /// A jump out of a loop or its turn, or one of the others.
-    #[tactic(auto, using(token_cursor::proofs::Choosing::choose_none, token_cursor::proofs::Choosing::choose_some), unfolding(module_productions::specs::Statements::jump, crate::specs::StatementTails::label_jump, crate::specs::StatementTails::value_jump, crate::specs::StatementTails::arm_jump))]
+    #[tactic(auto, using(token_cursor::proofs::Choosing::choose_none, token_cursor::proofs::Choosing::choose_some), unfolding(module_productions::specs::ReadStatements::jump, crate::specs::StatementTails::label_jump, crate::specs::StatementTails::value_jump, crate::specs::StatementTails::arm_jump))]
     fn jump(&self, tokens: &mut Cursor<'_>) -> Result<Statement, Stopped>
         requires { N.parse_at self.now.level.nested self.now.level.depth }
         ensures { Reads (spec.jump (nested self.now.level.depth) (tails.raise_or_loop (nested self.now.level.depth)) tokens.old.rest.now) result tokens.new.rest.now }
@@ -235,7 +235,7 @@ impl<N: NestedParsers> StatementParser<N> {
         }
     }
 
-    #[tactic(auto, using(token_cursor::proofs::Choosing::choose_none, token_cursor::proofs::Choosing::choose_some), unfolding(module_productions::specs::Statements::statement, crate::specs::StatementTails::enclosed, crate::specs::StatementTails::branching))]
+    #[tactic(auto, using(token_cursor::proofs::Choosing::choose_none, token_cursor::proofs::Choosing::choose_some), unfolding(module_productions::specs::ReadStatements::statement, crate::specs::StatementTails::enclosed, crate::specs::StatementTails::branching))]
     fn unnamed_statement(&self, tokens: &mut Cursor<'_>) -> Result<Statement, Stopped>
         requires { N.parse_at self.now.level.nested self.now.level.depth }
         ensures { Reads (spec.statement (nested self.now.level.depth) None tokens.old.rest.now) result tokens.new.rest.now }
@@ -250,7 +250,7 @@ impl<N: NestedParsers> StatementParser<N> {
     }
 
     /// A statement, of which a name was taken or nothing.
-    #[tactic(auto, unfolding(module_productions::specs::Statements::statement))]
+    #[tactic(auto, unfolding(module_productions::specs::ReadStatements::statement))]
     pub fn statement(
         &self,
         tokens: &mut Cursor<'_>,

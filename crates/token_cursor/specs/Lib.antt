@@ -1,3 +1,4 @@
+pub mod Grammars
 pub mod Parsing
 pub mod Names
 pub mod ReadNames

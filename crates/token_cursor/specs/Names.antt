@@ -4,7 +4,7 @@ use Rattle.mesa_base.specs.declared.place.Place.{Place}
 use Rattle.mesa_base.specs.declared.identifier.Identifier.{Identifier}
 use Rattle.mesa_lexer.specs.declared.token.Token.{Token}
 use Rattle.mesa_lexer.specs.declared.mark.Mark.TheVariants.{Comma}
-use Rattle.token_cursor.specs.Parsing.{mark, spelled}
+use Rattle.token_cursor.specs.Grammars.{mark, spelled}
 
 -- Names = Name {"," Name}
 pub data IsNames : List Token → List Identifier → List Token → Type 0 where

@@ -2,38 +2,14 @@
 use Rattle.std.specs.Prelude.{ℕ, zero, suc, Bool, true, false, ◌||◌, cond, List, [], ◌∷◌, length, Option, Some, None}
 use denote.Enum.Bare.{sameb}
 use Rattle.mesa_base.specs.declared.place.Place.{Place}
-use Rattle.mesa_base.specs.declared.identifier.Identifier.{Identifier}
 use Rattle.mesa_lexer.specs.declared.token.Token.{Token}
 use Rattle.mesa_lexer.specs.declared.token.Kind.{Kind}
 use Rattle.mesa_lexer.specs.declared.token.Kind.TheVariants as k
 use Rattle.mesa_lexer.specs.declared.word.Word.{Word}
 use Rattle.mesa_lexer.specs.declared.mark.Mark.{Mark}
+pub use Rattle.token_cursor.specs.Grammars.{token, word, mark, spelled, first, Why, Unexpected, TooDeep}
 use Rattle.mesa_lexer.specs.contracts.word.Word as w
 use Rattle.mesa_lexer.specs.contracts.mark.Mark as m
-
--- a token of this kind, which stands there
-abbrev pub token : Kind → Place → Token
-token kind place = record { kind = kind; place = place }
-
-abbrev pub word : Word → Place → Token
-word w place = token (k.Word w) place
-
-abbrev pub mark : Mark → Place → Token
-mark m place = token (k.Mark m) place
-
--- the token of a name
-abbrev pub spelled : Identifier → Token
-spelled i = token (k.Name i.name) i.place
-
--- why a parser stops: no text goes on with this token, or here begins what stands inside too many others
-pub data Why : Type 0 where
-  Unexpected : Why
-  TooDeep : Why
-
--- the first of two places
-abbrev pub first : Option (List Token) → Option (List Token) → Option (List Token)
-first (Some at) o = Some at
-first None o = o
 
 -- what was read, or why not, with the tokens from there on
 pub data Out (A : Type 0) : Type 0 where

@@ -1,5 +1,5 @@
 use Rattle.std.proofs.Common.{◌≡◌, ◌++◌, length}
-use Rattle.module_productions.specs.Expressions.{called}
+use Rattle.module_productions.specs.ReadExpressions.{called}
 use Rattle.expression_parser.proofs.types.all_called.Given as goal
 
 abbrev pub invariant-names : goal.invariant-names

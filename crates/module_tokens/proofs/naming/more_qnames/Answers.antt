@@ -1,6 +1,6 @@
 use Rattle.std.proofs.Common.{rules, arith}
 use Rattle.std.proofs.lemmas.Grind.{common_steps}
-use Rattle.module_productions.specs.Nested.{comma, qnames_step}
+use Rattle.module_productions.specs.ReadNested.{comma, qnames_step}
 use Rattle.module_productions.proofs.Names.{qnames_eats}
 use Rattle.token_cursor.proofs.Taking.{many_falls}
 use Rattle.module_tokens.proofs.naming.more_qnames.Goals as goal

@@ -1,6 +1,6 @@
 use Rattle.std.proofs.Common.{◌≡◌, length}
 use Rattle.token_cursor.specs.Parsing.{many}
-use Rattle.module_productions.specs.Nested.{comma, qnames_step}
+use Rattle.module_productions.specs.ReadNested.{comma, qnames_step}
 use Rattle.module_tokens.proofs.naming.more_qnames.Given as goal
 
 abbrev pub invariant-qnames : goal.invariant-qnames

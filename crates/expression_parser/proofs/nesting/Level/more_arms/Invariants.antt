@@ -2,9 +2,9 @@ use Rattle.std.proofs.Common.{◌≡◌, length}
 use Rattle.token_cursor.specs.Parsing.{ended}
 use Rattle.mesa_lexer.specs.declared.token.Kind.TheVariants as k
 use Rattle.mesa_lexer.specs.declared.mark.Mark.TheVariants.{Semicolon}
-use Rattle.module_productions.specs.Nested.{begins_arm}
-use Rattle.module_productions.specs.Expressions.{arms_step}
-use Rattle.module_productions.specs.Statements.{nested}
+use Rattle.module_productions.specs.ReadNested.{begins_arm}
+use Rattle.module_productions.specs.ReadExpressions.{arms_step}
+use Rattle.module_productions.specs.ReadStatements.{nested}
 use Rattle.expression_parser.proofs.nesting.Level.more_arms.Given as goal
 
 abbrev pub invariant-arms : goal.invariant-arms

@@ -1,8 +1,8 @@
 use Rattle.std.proofs.Common.{rules, arith}
 use Rattle.std.proofs.lemmas.Grind.{common_steps}
 use Rattle.module_productions.specs.Signs.{disjoining}
-use Rattle.module_productions.specs.Expressions.{ors_step}
-use Rattle.module_productions.specs.Statements.{nested}
+use Rattle.module_productions.specs.ReadExpressions.{ors_step}
+use Rattle.module_productions.specs.ReadStatements.{nested}
 use Rattle.module_productions.proofs.Parts.{ors_eats}
 use Rattle.token_cursor.proofs.Taking.{many_falls}
 use Rattle.expression_parser.proofs.nesting.Level.more_conjs.Goals as goal

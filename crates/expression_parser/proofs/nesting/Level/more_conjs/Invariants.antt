@@ -1,8 +1,8 @@
 use Rattle.std.proofs.Common.{◌≡◌, length}
 use Rattle.token_cursor.specs.Parsing.{many}
 use Rattle.module_productions.specs.Signs.{disjoining}
-use Rattle.module_productions.specs.Expressions.{ors_step}
-use Rattle.module_productions.specs.Statements.{nested}
+use Rattle.module_productions.specs.ReadExpressions.{ors_step}
+use Rattle.module_productions.specs.ReadStatements.{nested}
 use Rattle.expression_parser.proofs.nesting.Level.more_conjs.Given as goal
 
 abbrev pub invariant-conjs : goal.invariant-conjs

@@ -1,8 +1,8 @@
 use Rattle.std.proofs.Common.{◌≡◌, length}
 use Rattle.token_cursor.specs.Parsing.{many}
 use Rattle.module_productions.specs.Signs.{multiplying}
-use Rattle.module_productions.specs.Expressions.{products_step}
-use Rattle.module_productions.specs.Statements.{nested}
+use Rattle.module_productions.specs.ReadExpressions.{products_step}
+use Rattle.module_productions.specs.ReadStatements.{nested}
 use Rattle.expression_parser.proofs.nesting.Level.more_factors.Given as goal
 
 abbrev pub invariant-factors : goal.invariant-factors

@@ -1,8 +1,8 @@
 use Rattle.std.proofs.Common.{◌≡◌, length}
 use Rattle.token_cursor.specs.Parsing.{many}
-use Rattle.module_productions.specs.Nested.{comma}
-use Rattle.module_productions.specs.Expressions.{groups_step}
-use Rattle.module_productions.specs.Statements.{nested}
+use Rattle.module_productions.specs.ReadNested.{comma}
+use Rattle.module_productions.specs.ReadExpressions.{groups_step}
+use Rattle.module_productions.specs.ReadStatements.{nested}
 use Rattle.expression_parser.proofs.nesting.Level.more_groups.Given as goal
 
 abbrev pub invariant-groups : goal.invariant-groups

@@ -1,7 +1,7 @@
 use Rattle.std.proofs.Common.{◌≡◌, length}
 use Rattle.token_cursor.specs.Parsing.{many}
-use Rattle.module_productions.specs.Nested.{comma}
-use Rattle.module_productions.specs.Statements.{nested, key_lefts_step}
+use Rattle.module_productions.specs.ReadNested.{comma}
+use Rattle.module_productions.specs.ReadStatements.{nested, key_lefts_step}
 use Rattle.expression_parser.proofs.nesting.Level.more_key_lefts.Given as goal
 
 abbrev pub invariant-key_lefts : goal.invariant-key_lefts

@@ -1,8 +1,8 @@
 use Rattle.std.proofs.Common.{rules, arith}
 use Rattle.std.proofs.lemmas.Grind.{common_steps}
-use Rattle.module_productions.specs.Nested.{comma}
-use Rattle.module_productions.specs.Expressions.{keys_step}
-use Rattle.module_productions.specs.Statements.{nested}
+use Rattle.module_productions.specs.ReadNested.{comma}
+use Rattle.module_productions.specs.ReadExpressions.{keys_step}
+use Rattle.module_productions.specs.ReadStatements.{nested}
 use Rattle.module_productions.proofs.Parts.{keys_eats}
 use Rattle.token_cursor.proofs.Taking.{many_falls}
 use Rattle.expression_parser.proofs.nesting.Level.more_keys.Goals as goal

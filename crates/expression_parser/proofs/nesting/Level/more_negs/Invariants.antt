@@ -1,8 +1,8 @@
 use Rattle.std.proofs.Common.{◌≡◌, length}
 use Rattle.token_cursor.specs.Parsing.{many}
 use Rattle.module_productions.specs.Signs.{conjoining}
-use Rattle.module_productions.specs.Expressions.{ands_step}
-use Rattle.module_productions.specs.Statements.{nested}
+use Rattle.module_productions.specs.ReadExpressions.{ands_step}
+use Rattle.module_productions.specs.ReadStatements.{nested}
 use Rattle.expression_parser.proofs.nesting.Level.more_negs.Given as goal
 
 abbrev pub invariant-negs : goal.invariant-negs

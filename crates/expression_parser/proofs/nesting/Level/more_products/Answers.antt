@@ -1,8 +1,8 @@
 use Rattle.std.proofs.Common.{rules, arith}
 use Rattle.std.proofs.lemmas.Grind.{common_steps}
 use Rattle.module_productions.specs.Signs.{adding}
-use Rattle.module_productions.specs.Expressions.{sums_step}
-use Rattle.module_productions.specs.Statements.{nested}
+use Rattle.module_productions.specs.ReadExpressions.{sums_step}
+use Rattle.module_productions.specs.ReadStatements.{nested}
 use Rattle.module_productions.proofs.Parts.{sums_eats}
 use Rattle.token_cursor.proofs.Taking.{many_falls}
 use Rattle.expression_parser.proofs.nesting.Level.more_products.Goals as goal

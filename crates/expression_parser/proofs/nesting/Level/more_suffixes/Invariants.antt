@@ -1,7 +1,7 @@
 use Rattle.std.proofs.Common.{◌≡◌, length}
 use Rattle.token_cursor.specs.Parsing.{many}
-use Rattle.module_productions.specs.Expressions.{suffixes_step, suffixing}
-use Rattle.module_productions.specs.Statements.{nested}
+use Rattle.module_productions.specs.ReadExpressions.{suffixes_step, suffixing}
+use Rattle.module_productions.specs.ReadStatements.{nested}
 use Rattle.expression_parser.proofs.nesting.Level.more_suffixes.Given as goal
 
 abbrev pub invariant-suffixes : goal.invariant-suffixes

@@ -1,7 +1,7 @@
 use Rattle.std.proofs.Common.{◌≡◌, length}
 use Rattle.token_cursor.specs.Parsing.{repeat}
-use Rattle.module_productions.specs.Statements.{nested}
-use Rattle.module_productions.specs.Statements.{head_turn}
+use Rattle.module_productions.specs.ReadStatements.{nested}
+use Rattle.module_productions.specs.ReadStatements.{head_turn}
 use Rattle.statement_parser.proofs.nesting.StatementParser.locals.Given as goal
 
 abbrev pub invariant-locals : goal.invariant-locals

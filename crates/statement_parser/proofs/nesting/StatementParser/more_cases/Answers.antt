@@ -1,7 +1,7 @@
 use Rattle.std.proofs.Common.{rules, arith}
 use Rattle.std.proofs.lemmas.Grind.{common_steps}
-use Rattle.module_productions.specs.Nested.{begins_test}
-use Rattle.module_productions.specs.Statements.{nested, semicolon, cases_step}
+use Rattle.module_productions.specs.ReadNested.{begins_test}
+use Rattle.module_productions.specs.ReadStatements.{nested, semicolon, cases_step}
 use Rattle.module_productions.proofs.Parts.{cases_eats}
 use Rattle.token_cursor.proofs.Taking.{ended_falls}
 use Rattle.statement_parser.proofs.nesting.StatementParser.more_cases.Goals as goal

@@ -1,7 +1,7 @@
 use Rattle.std.proofs.Common.{◌≡◌, length}
 use Rattle.token_cursor.specs.Parsing.{ended}
-use Rattle.module_productions.specs.Nested.{begins_test}
-use Rattle.module_productions.specs.Statements.{nested, semicolon, cases_step}
+use Rattle.module_productions.specs.ReadNested.{begins_test}
+use Rattle.module_productions.specs.ReadStatements.{nested, semicolon, cases_step}
 use Rattle.statement_parser.proofs.nesting.StatementParser.more_cases.Given as goal
 
 abbrev pub invariant-cases : goal.invariant-cases

@@ -1,7 +1,7 @@
 use Rattle.std.proofs.Common.{rules, arith}
 use Rattle.std.proofs.lemmas.Grind.{common_steps}
-use Rattle.module_productions.specs.Nested.{begins_repeat}
-use Rattle.module_productions.specs.Statements.{nested, semicolon, repeats_step}
+use Rattle.module_productions.specs.ReadNested.{begins_repeat}
+use Rattle.module_productions.specs.ReadStatements.{nested, semicolon, repeats_step}
 use Rattle.module_productions.proofs.Parts.{repeats_eats}
 use Rattle.token_cursor.proofs.Taking.{ended_falls}
 use Rattle.statement_parser.proofs.nesting.StatementParser.more_ends.Goals as goal

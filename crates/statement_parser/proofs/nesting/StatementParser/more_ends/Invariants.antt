@@ -1,7 +1,7 @@
 use Rattle.std.proofs.Common.{◌≡◌, length}
 use Rattle.token_cursor.specs.Parsing.{ended}
-use Rattle.module_productions.specs.Nested.{begins_repeat}
-use Rattle.module_productions.specs.Statements.{nested, semicolon, repeats_step}
+use Rattle.module_productions.specs.ReadNested.{begins_repeat}
+use Rattle.module_productions.specs.ReadStatements.{nested, semicolon, repeats_step}
 use Rattle.statement_parser.proofs.nesting.StatementParser.more_ends.Given as goal
 
 abbrev pub invariant-ends : goal.invariant-ends

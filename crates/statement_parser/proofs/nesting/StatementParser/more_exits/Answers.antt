@@ -1,6 +1,6 @@
 use Rattle.std.proofs.Common.{rules, arith}
 use Rattle.std.proofs.lemmas.Grind.{common_steps}
-use Rattle.module_productions.specs.Statements.{nested, semicolon, begins_label, exits_step}
+use Rattle.module_productions.specs.ReadStatements.{nested, semicolon, begins_label, exits_step}
 use Rattle.module_productions.proofs.Parts.{exits_eats}
 use Rattle.token_cursor.proofs.Taking.{ended_falls}
 use Rattle.statement_parser.proofs.nesting.StatementParser.more_exits.Goals as goal

@@ -1,6 +1,6 @@
 use Rattle.std.proofs.Common.{◌≡◌, length}
 use Rattle.token_cursor.specs.Parsing.{ended}
-use Rattle.module_productions.specs.Statements.{nested, semicolon, begins_label, exits_step}
+use Rattle.module_productions.specs.ReadStatements.{nested, semicolon, begins_label, exits_step}
 use Rattle.statement_parser.proofs.nesting.StatementParser.more_exits.Given as goal
 
 abbrev pub invariant-exits : goal.invariant-exits

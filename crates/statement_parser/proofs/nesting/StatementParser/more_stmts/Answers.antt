@@ -1,7 +1,7 @@
 use Rattle.std.proofs.Common.{rules, arith}
 use Rattle.std.proofs.lemmas.Grind.{common_steps}
-use Rattle.module_productions.specs.Nested.{begins_stmt}
-use Rattle.module_productions.specs.Statements.{nested, semicolon, stmts_step}
+use Rattle.module_productions.specs.ReadNested.{begins_stmt}
+use Rattle.module_productions.specs.ReadStatements.{nested, semicolon, stmts_step}
 use Rattle.module_productions.proofs.Parts.{stmts_eats}
 use Rattle.token_cursor.proofs.Taking.{ended_falls}
 use Rattle.statement_parser.proofs.nesting.StatementParser.more_stmts.Goals as goal

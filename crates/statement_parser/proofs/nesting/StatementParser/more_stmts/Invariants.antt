@@ -1,7 +1,7 @@
 use Rattle.std.proofs.Common.{◌≡◌, length}
 use Rattle.token_cursor.specs.Parsing.{ended}
-use Rattle.module_productions.specs.Nested.{begins_stmt}
-use Rattle.module_productions.specs.Statements.{nested, semicolon, stmts_step}
+use Rattle.module_productions.specs.ReadNested.{begins_stmt}
+use Rattle.module_productions.specs.ReadStatements.{nested, semicolon, stmts_step}
 use Rattle.statement_parser.proofs.nesting.StatementParser.more_stmts.Given as goal
 
 abbrev pub invariant-statements : goal.invariant-statements

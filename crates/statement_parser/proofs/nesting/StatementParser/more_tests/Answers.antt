@@ -1,7 +1,7 @@
 use Rattle.std.proofs.Common.{rules, arith}
 use Rattle.std.proofs.lemmas.Grind.{common_steps}
-use Rattle.module_productions.specs.Nested.{comma}
-use Rattle.module_productions.specs.Statements.{nested, tests_step}
+use Rattle.module_productions.specs.ReadNested.{comma}
+use Rattle.module_productions.specs.ReadStatements.{nested, tests_step}
 use Rattle.module_productions.proofs.Parts.{tests_eats}
 use Rattle.token_cursor.proofs.Taking.{many_falls}
 use Rattle.statement_parser.proofs.nesting.StatementParser.more_tests.Goals as goal

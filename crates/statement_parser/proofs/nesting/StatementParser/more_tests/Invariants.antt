@@ -1,7 +1,7 @@
 use Rattle.std.proofs.Common.{◌≡◌, length}
 use Rattle.token_cursor.specs.Parsing.{many}
-use Rattle.module_productions.specs.Nested.{comma}
-use Rattle.module_productions.specs.Statements.{nested, tests_step}
+use Rattle.module_productions.specs.ReadNested.{comma}
+use Rattle.module_productions.specs.ReadStatements.{nested, tests_step}
 use Rattle.statement_parser.proofs.nesting.StatementParser.more_tests.Given as goal
 
 abbrev pub invariant-tests : goal.invariant-tests

@@ -33,8 +33,8 @@ use Rattle.mesa_types.specs.declared.syntax.PlainItem.TheVariants.{TypeIs, Varia
 use Rattle.module_productions.specs.Signs.{relating, negating}
 use Rattle.module_productions.specs.Grammar as g
 use Rattle.module_productions.specs.Grammar.{placed, keyed, labeled}
-use Rattle.module_productions.specs.Nested.{Fresh, AtNot, Nested, raise_starts, begins_type, begins_expr, begins_stmt, begins_test, begins_repeat, identifier, comma, named, names, names_from, repeat_labels}
-use Rattle.module_productions.specs.Expressions as x
+use Rattle.module_productions.specs.ReadNested.{Fresh, AtNot, Nested, raise_starts, begins_type, begins_expr, begins_stmt, begins_test, begins_repeat, identifier, comma, named, names, names_from, repeat_labels}
+use Rattle.module_productions.specs.ReadExpressions as x
 
 abbrev pub Local : Type 0
 Local = Labeled (List Identifier) PlainItem

@@ -32,7 +32,7 @@ use Rattle.mesa_types.specs.declared.syntax.Arm.{Arm}
 use Rattle.module_productions.specs.Signs.{disjoining, conjoining, adding, multiplying, signing, relating, negating, opening, closing}
 use Rattle.module_productions.specs.Grammar as g
 use Rattle.module_productions.specs.Grammar.{run, placed, keyed, labeled, qualified}
-use Rattle.module_productions.specs.Nested.{Begun, Fresh, AtName, AtNot, Nested, a_number, a_char, a_text, begins_expr, begins_arm, identifier, comma, named, names, qname, qname_from, labels}
+use Rattle.module_productions.specs.ReadNested.{Begun, Fresh, AtName, AtNot, Nested, a_number, a_char, a_text, begins_expr, begins_arm, identifier, comma, named, names, qname, qname_from, labels}
 
 -- the names, taken for types
 unfoldable pub called : List Identifier → List TypeExp

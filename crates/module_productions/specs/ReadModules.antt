@@ -24,12 +24,13 @@ use Rattle.mesa_types.specs.declared.syntax.ModuleKind.TheVariants.{Program, Int
 use Rattle.mesa_types.specs.declared.syntax.DirectoryItem.{DirectoryItem}
 use Rattle.mesa_types.specs.declared.syntax.Module.{Module}
 use Rattle.module_productions.specs.Signs.{procedure_word, accessing}
+unfoldable pub use Rattle.module_productions.specs.Depth.{limit}
 use Rattle.module_productions.specs.Grammar.{labeled}
 use Rattle.module_productions.specs.Modules as m
-use Rattle.module_productions.specs.Nested.{Fresh, Nested, a_text, identifier, comma, named, names, names_from}
-use Rattle.module_productions.specs.Expressions as x
-use Rattle.module_productions.specs.Statements as s
-use Rattle.module_productions.specs.Statements.{semicolon, nested}
+use Rattle.module_productions.specs.ReadNested.{Fresh, Nested, a_text, identifier, comma, named, names, names_from}
+use Rattle.module_productions.specs.ReadExpressions as x
+use Rattle.module_productions.specs.ReadStatements as s
+use Rattle.module_productions.specs.ReadStatements.{semicolon, nested}
 
 -- declarations of the module and the statements behind them
 abbrev pub Front : Type 0
@@ -215,10 +216,6 @@ module _ (q : Nested) where
     x ← kind
     need (k.Mark Dot)
     pure (m.module_of all i x)
-
--- so many statements, expressions and types may stand inside one another
-unfoldable pub limit : ℕ
-limit = 200
 
 abbrev pub at_end : Module → Parser Module
 at_end x [] = Got x []
