@@ -19,5 +19,6 @@ pub mod Runs
 pub mod Sealed
 pub mod Seconds
 pub mod Turns
+pub mod Trees
 pub mod TwoNodes
 pub mod Whole

@@ -13,7 +13,8 @@ use Rattle.module_productions.specs.Depth.{limit}
 abbrev pub Starts : List Token → Type 0
 Starts ts = (ws : List Token) × (x : Module) × IsModule (ts ++ ws) x []
 
--- Some text starts with the tokens up to the one at i, and in a tree of it that is where the first statement, expression or type begins that stands inside `limit` others.
+-- Some text starts with the tokens up to the one at i, and in a tree of it that is where the first statement, expression or type begins that stands inside
+-- `limit` others.
 abbrev pub TooDeepAt : List Token → ℕ → Type 0
 TooDeepAt ts i = (ws : List Token) × (x : Module) × (d : IsModule (take (suc i) ts ++ ws) x []) × (deep_module limit d ≡ Some (drop i (take (suc i) ts ++ ws)))
 
@@ -33,7 +34,8 @@ pub record UnexpectedAt (ts : List Token) (i : ℕ) : Type 0 where
   pub at_end : i ≡ length ts → (x : Module) → IsModule ts x [] → ⊥
   pub shallow : IsShallow ts (length ts)
 
--- The fault stands at the token i; i is the number of tokens where it stands at the text's end. Something is too deep there, and nothing before.
+-- The fault stands at the token i; i is the number of tokens where it stands at the text's end. Where the cause is TooDeep, something is
+-- too deep at i, and nothing before.
 abbrev pub FaultAt : List Token → Why → ℕ → Type 0
 FaultAt ts Unexpected i = UnexpectedAt ts i
 FaultAt ts TooDeep i = (i < length ts) × TooDeepAt ts i × IsShallow ts i

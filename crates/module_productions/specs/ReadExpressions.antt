@@ -3,8 +3,10 @@ use Rattle.std.specs.Prelude.{Bool, true, false, if◌then◌else◌, List, [], 
 use Rattle.mesa_base.specs.declared.place.Place.{Place}
 use Rattle.mesa_lexer.specs.declared.token.Kind.{Kind}
 use Rattle.mesa_lexer.specs.declared.token.Kind.TheVariants as k
-use Rattle.mesa_lexer.specs.declared.word.Word.TheVariants.{ArrayWord, BooleanWord, CardinalWord, CharacterWord, ErrorWord, FalseWord, InWord, IntegerWord, OfWord, RecordWord, SignalWord, StringWord, TrueWord}
-use Rattle.mesa_lexer.specs.declared.mark.Mark.TheVariants.{Semicolon, Colon, Comma, Dot, DotDot, LeftBracket, RightBracket, LeftParenthesis, RightParenthesis, LeftBrace, RightBrace, Bang, DoubleArrow}
+use Rattle.mesa_lexer.specs.declared.word.Word.TheVariants.{ArrayWord, BooleanWord, CardinalWord, CharacterWord, ErrorWord, FalseWord, InWord, IntegerWord}
+use Rattle.mesa_lexer.specs.declared.word.Word.TheVariants.{OfWord, RecordWord, SignalWord, StringWord, TrueWord}
+use Rattle.mesa_lexer.specs.declared.mark.Mark.TheVariants.{Semicolon, Colon, Comma, Dot, DotDot, LeftBracket, RightBracket, LeftParenthesis}
+use Rattle.mesa_lexer.specs.declared.mark.Mark.TheVariants.{RightParenthesis, LeftBrace, RightBrace, Bang, DoubleArrow}
 use Rattle.token_cursor.specs.Parsing.{Parser, ◌>>=◌, ◌>>◌, pure, refuse, finds, a_name, choose, option, need, when, Step, Go, Done, repeat, many, ended}
 use Rattle.mesa_base.specs.declared.identifier.Identifier.{Identifier}
 use Rattle.mesa_base.specs.declared.placed.Placed.{Placed}
@@ -32,7 +34,8 @@ use Rattle.mesa_types.specs.declared.syntax.Arm.{Arm}
 use Rattle.module_productions.specs.Signs.{disjoining, conjoining, adding, multiplying, signing, relating, negating, opening, closing}
 use Rattle.module_productions.specs.Grammar as g
 use Rattle.module_productions.specs.Grammar.{run, placed, keyed, labeled, qualified}
-use Rattle.module_productions.specs.ReadNested.{Begun, Fresh, AtName, AtNot, Nested, a_number, a_char, a_text, begins_expr, begins_arm, identifier, comma, named, names, qname, qname_from, labels}
+use Rattle.module_productions.specs.ReadNested.{Begun, Fresh, AtName, AtNot, Nested, a_number, a_char, a_text, begins_expr, begins_arm, identifier, comma}
+use Rattle.module_productions.specs.ReadNested.{named, names, qname, qname_from, labels}
 
 -- the names, taken for types
 unfoldable pub called : List Identifier → List TypeExp
@@ -172,7 +175,8 @@ module _ (q : Nested) where
     pure (SignalRaise p x b)
 
   unfoldable pub raise : Parser Raise
-  raise = option (k.Word SignalWord) signal_raise (option (k.Word ErrorWord) (λ p. choose a_name (λ n r. error_raise p (identifier n r)) (pure (UnnamedError p))) refuse)
+  raise = option (k.Word SignalWord) signal_raise
+      (option (k.Word ErrorWord) (λ p. choose a_name (λ n r. error_raise p (identifier n r)) (pure (UnnamedError p))) refuse)
 
   -- ---- expressions
 
@@ -188,7 +192,8 @@ module _ (q : Nested) where
     pure (e.Parenthesis p x)
 
   unfoldable pub literal : Parser Expr → Parser Expr
-  literal other = choose a_number (λ n p. pure (e.NumberLiteral p n)) (choose a_char (λ n p. pure (e.CharacterLiteral p n)) (choose a_text (λ bytes p. pure (e.StringLiteral p bytes))
+  literal other = choose a_number (λ n p. pure (e.NumberLiteral p n))
+      (choose a_char (λ n p. pure (e.CharacterLiteral p n)) (choose a_text (λ bytes p. pure (e.StringLiteral p bytes))
       (option (k.Word TrueWord) (λ p. pure (e.Truth p true)) (option (k.Word FalseWord) (λ p. pure (e.Truth p false)) other))))
 
   unfoldable pub primary : Option Identifier → Parser Expr
@@ -224,7 +229,8 @@ module _ (q : Nested) where
 
   -- after the sum, and after NOT where that came
   unfoldable pub relation : Expr → Bool → Parser Expr → Parser Expr
-  relation x b other = choose relating (λ r p. do y ← sum None; pure (e.Compare x b r p y)) (option (k.Word InWord) (λ p. do i ← interval; pure (e.Within x b p i)) other)
+  relation x b other = choose relating (λ r p. do y ← sum None; pure (e.Compare x b r p y))
+      (option (k.Word InWord) (λ p. do i ← interval; pure (e.Within x b p i)) other)
 
   unfoldable pub related : Expr → Parser Expr
   related x = choose negating (λ _ _. relation x true refuse) (relation x false (pure x))
@@ -330,7 +336,8 @@ module _ (q : Nested) where
   after_comma all = choose a_name (λ n p. pure (Go (record { before = all; last = identifier n p }))) (do x ← unnamed (called all); pure (Done x))
 
   unfoldable pub undecided_turn : Undecided → Parser (Step Undecided FieldList)
-  undecided_turn u = option (k.Mark Comma) (λ _. after_comma (all_names u)) (option (k.Mark Colon) (λ _. do x ← with_names (all_names u); pure (Done x)) (do x ← types_from u; pure (Done x)))
+  undecided_turn u = option (k.Mark Comma) (λ _. after_comma (all_names u))
+      (option (k.Mark Colon) (λ _. do x ← with_names (all_names u); pure (Done x)) (do x ← types_from u; pure (Done x)))
 
   unfoldable pub field_list : Parser FieldList
   field_list = if q.can then choose a_name (λ n p. repeat undecided_turn (record { before = []; last = identifier n p })) (unnamed []) else unnamed []
@@ -343,7 +350,10 @@ module _ (q : Nested) where
     pure (t.Record p x)
 
   unfoldable pub type_exp : Option Identifier → Parser TypeExp
-  type_exp None = choose a_name (λ n p. type_from (identifier n p)) (option (k.Word IntegerWord) (λ p. after_base (OfInteger p) (t.Integer p)) (option (k.Word CardinalWord) (λ p. after_base (OfCardinal p) (t.Cardinal p))
-      (option (k.Word CharacterWord) (λ p. after_base (OfCharacter p) (t.Character p)) (option (k.Word BooleanWord) (λ p. pure (t.Boolean p)) (option (k.Word StringWord) (λ p. pure (t.String p))
-      (option (k.Mark LeftBrace) enumeration (option (k.Word ArrayWord) array (option (k.Word RecordWord) a_record (do i ← interval; pure (t.Subrange Unsaid i))))))))))
+  type_exp None = choose a_name (λ n p. type_from (identifier n p))
+      (option (k.Word IntegerWord) (λ p. after_base (OfInteger p) (t.Integer p)) (option (k.Word CardinalWord) (λ p. after_base (OfCardinal p) (t.Cardinal p))
+      (option (k.Word CharacterWord) (λ p. after_base (OfCharacter p) (t.Character p))
+      (option (k.Word BooleanWord) (λ p. pure (t.Boolean p)) (option (k.Word StringWord) (λ p. pure (t.String p))
+      (option (k.Mark LeftBrace) enumeration
+      (option (k.Word ArrayWord) array (option (k.Word RecordWord) a_record (do i ← interval; pure (t.Subrange Unsaid i))))))))))
   type_exp (Some i) = type_from i

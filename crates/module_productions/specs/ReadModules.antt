@@ -3,9 +3,11 @@ use Rattle.std.specs.Prelude.{ℕ, if◌then◌else◌, List, [], ◌∷◌, ◌
 use Rattle.mesa_base.specs.declared.place.Place.{Place}
 use Rattle.mesa_lexer.specs.declared.token.Kind.TheVariants as k
 use Rattle.mesa_lexer.specs.declared.word.Word.{Word}
-use Rattle.mesa_lexer.specs.declared.word.Word.TheVariants.{BeginWord, CodeWord, DefinitionsWord, DirectoryWord, EndWord, ErrorWord, ExportsWord, FromWord, ImportsWord, OpenWord, ProgramWord, ReturnsWord, SignalWord, TypeWord, UsingWord}
+use Rattle.mesa_lexer.specs.declared.word.Word.TheVariants.{BeginWord, CodeWord, DefinitionsWord, DirectoryWord, EndWord, ErrorWord, ExportsWord, FromWord}
+use Rattle.mesa_lexer.specs.declared.word.Word.TheVariants.{ImportsWord, OpenWord, ProgramWord, ReturnsWord, SignalWord, TypeWord, UsingWord}
 use Rattle.mesa_lexer.specs.declared.mark.Mark.TheVariants.{Colon, Dot, LeftBracket, RightBracket, LeftBrace, RightBrace, Equal}
-use Rattle.token_cursor.specs.Parsing.{Parser, Got, Stop, Unexpected, ◌>>=◌, ◌>>◌, pure, refuse, a_name, choose, option, need, when, Step, Go, Done, repeat, many}
+use Rattle.token_cursor.specs.Parsing.{Parser, Got, Stop, Unexpected, ◌>>=◌, ◌>>◌, pure, refuse, a_name, choose, option, need, when, Step, Go, Done, repeat}
+use Rattle.token_cursor.specs.Parsing.{many}
 use Rattle.mesa_base.specs.declared.identifier.Identifier.{Identifier}
 use Rattle.mesa_types.specs.declared.syntax.Labeled.{Labeled}
 use Rattle.mesa_types.specs.declared.syntax.FieldList.{FieldList}
@@ -124,7 +126,8 @@ module _ (q : Nested) where
     pure (Error a)
 
   unfoldable pub declared : Parser Declared
-  declared = choose procedure_word (λ _ _. procedure) (option (k.Word SignalWord) (λ _. signal) (option (k.Word ErrorWord) (λ _. error) (do x ← s.plain q; pure (Data x))))
+  declared = choose procedure_word (λ _ _. procedure)
+      (option (k.Word SignalWord) (λ _. signal) (option (k.Word ErrorWord) (λ _. error) (do x ← s.plain q; pure (Data x))))
 
   -- a declaration, whose first name was taken
   unfoldable pub declaration : Identifier → Parser Declaration
@@ -170,7 +173,9 @@ module _ (q : Nested) where
     pure (TypeItem x)
 
   unfoldable pub defined : Parser Defined
-  defined = choose procedure_word (λ _ _. do h ← head; pure (ProcedureItem h)) (option (k.Word SignalWord) (λ _. do h ← head; pure (SignalItem h)) (option (k.Word ErrorWord) (λ _. do a ← params; pure (ErrorItem a)) (option (k.Word TypeWord) (λ _. type_item) constant)))
+  defined = choose procedure_word (λ _ _. do h ← head; pure (ProcedureItem h))
+      (option (k.Word SignalWord) (λ _. do h ← head; pure (SignalItem h))
+      (option (k.Word ErrorWord) (λ _. do a ← params; pure (ErrorItem a)) (option (k.Word TypeWord) (λ _. type_item) constant)))
 
   unfoldable pub definitions_step : List (Labeled (List Identifier) Defined) → List ℕ → Place → Parser (List (Labeled (List Identifier) Defined))
   definitions_step all n p = do

@@ -3,7 +3,11 @@ use Rattle.std.specs.Prelude.{ℕ, Bool, ◌||◌, List, [], ◌∷◌, ◌++◌
 use Rattle.mesa_base.specs.declared.place.Place.{Place}
 use Rattle.mesa_lexer.specs.declared.token.Kind.{Kind}
 use Rattle.mesa_lexer.specs.declared.token.Kind.TheVariants as k
-use Rattle.mesa_lexer.specs.declared.word.Word.TheVariants.{AnyWord, ArrayWord, BeginWord, BooleanWord, CardinalWord, CharacterWord, ContinueWord, DoWord, ErrorWord, ExitWord, FalseWord, FinishedWord, ForWord, GoWord, GotoWord, IfWord, InWord, IntegerWord, LoopWord, NotWord, NullWord, RecordWord, RejectWord, ResumeWord, RetryWord, ReturnWord, SelectWord, SignalWord, StringWord, ThroughWord, TrueWord, UntilWord, UnwindWord, WhileWord}
+use Rattle.mesa_lexer.specs.declared.word.Word.TheVariants.{AnyWord, ArrayWord, BeginWord, BooleanWord, CardinalWord, CharacterWord, ContinueWord, DoWord}
+use Rattle.mesa_lexer.specs.declared.word.Word.TheVariants.{ErrorWord, ExitWord, FalseWord, FinishedWord, ForWord, GoWord, GotoWord, IfWord, InWord}
+use Rattle.mesa_lexer.specs.declared.word.Word.TheVariants.{IntegerWord, LoopWord, NotWord, NullWord, RecordWord, RejectWord, ResumeWord, RetryWord}
+use Rattle.mesa_lexer.specs.declared.word.Word.TheVariants.{ReturnWord, SelectWord, SignalWord, StringWord, ThroughWord, TrueWord, UntilWord, UnwindWord}
+use Rattle.mesa_lexer.specs.declared.word.Word.TheVariants.{WhileWord}
 use Rattle.mesa_lexer.specs.declared.mark.Mark.TheVariants.{Comma, Dot, LeftBracket, LeftParenthesis, LeftBrace, Plus, Minus, Tilde}
 use Rattle.token_cursor.specs.Parsing.{Parser, ◌>>=◌, pure, only, among, finds, a_name, option, many}
 pub use Rattle.token_cursor.specs.Parsing.{a_number, a_char, a_text}
@@ -33,7 +37,8 @@ pub record Nested : Type 0 where
 -- ---- how texts begin
 
 abbrev pub type_starts : List Kind
-type_starts = k.Word IntegerWord ∷ k.Word CardinalWord ∷ k.Word CharacterWord ∷ k.Word BooleanWord ∷ k.Word StringWord ∷ k.Mark LeftBrace ∷ k.Word ArrayWord ∷ k.Word RecordWord ∷ k.Mark LeftBracket ∷ k.Mark LeftParenthesis ∷ []
+type_starts = k.Word IntegerWord ∷ k.Word CardinalWord ∷ k.Word CharacterWord ∷ k.Word BooleanWord ∷ k.Word StringWord ∷ k.Mark LeftBrace ∷
+    k.Word ArrayWord ∷ k.Word RecordWord ∷ k.Mark LeftBracket ∷ k.Mark LeftParenthesis ∷ []
 
 abbrev pub begins_type : Kind → Bool
 begins_type kind = finds a_name kind || among type_starts kind
@@ -42,7 +47,8 @@ abbrev pub raise_starts : List Kind
 raise_starts = k.Word SignalWord ∷ k.Word ErrorWord ∷ []
 
 abbrev pub expr_starts : List Kind
-expr_starts = k.Word TrueWord ∷ k.Word FalseWord ∷ k.Mark LeftParenthesis ∷ k.Mark LeftBracket ∷ k.Word SignalWord ∷ k.Word ErrorWord ∷ k.Mark Plus ∷ k.Mark Minus ∷ k.Mark Tilde ∷ k.Word NotWord ∷ []
+expr_starts = k.Word TrueWord ∷ k.Word FalseWord ∷ k.Mark LeftParenthesis ∷ k.Mark LeftBracket ∷ k.Word SignalWord ∷ k.Word ErrorWord ∷ k.Mark Plus ∷
+    k.Mark Minus ∷ k.Mark Tilde ∷ k.Word NotWord ∷ []
 
 abbrev pub begins_expr : Kind → Bool
 begins_expr kind = finds a_name kind || (finds a_number kind || (finds a_char kind || (finds a_text kind || among expr_starts kind)))
@@ -51,7 +57,9 @@ abbrev pub loop_starts : List Kind
 loop_starts = k.Word ForWord ∷ k.Word ThroughWord ∷ k.Word WhileWord ∷ k.Word UntilWord ∷ k.Word DoWord ∷ []
 
 abbrev pub stmt_starts : List Kind
-stmt_starts = k.Word NullWord ∷ k.Word BeginWord ∷ k.Mark LeftBrace ∷ k.Mark LeftBracket ∷ k.Word SignalWord ∷ k.Word ErrorWord ∷ k.Word IfWord ∷ k.Word SelectWord ∷ k.Word ForWord ∷ k.Word ThroughWord ∷ k.Word WhileWord ∷ k.Word UntilWord ∷ k.Word DoWord ∷ k.Word ExitWord ∷ k.Word LoopWord ∷ k.Word GotoWord ∷ k.Word GoWord ∷ k.Word ReturnWord ∷ k.Word ResumeWord ∷ k.Word RejectWord ∷ k.Word RetryWord ∷ k.Word ContinueWord ∷ []
+stmt_starts = k.Word NullWord ∷ k.Word BeginWord ∷ k.Mark LeftBrace ∷ k.Mark LeftBracket ∷ k.Word SignalWord ∷ k.Word ErrorWord ∷ k.Word IfWord ∷
+    k.Word SelectWord ∷ k.Word ForWord ∷ k.Word ThroughWord ∷ k.Word WhileWord ∷ k.Word UntilWord ∷ k.Word DoWord ∷ k.Word ExitWord ∷ k.Word LoopWord ∷
+    k.Word GotoWord ∷ k.Word GoWord ∷ k.Word ReturnWord ∷ k.Word ResumeWord ∷ k.Word RejectWord ∷ k.Word RetryWord ∷ k.Word ContinueWord ∷ []
 
 abbrev pub begins_stmt : Kind → Bool
 begins_stmt kind = finds a_name kind || among stmt_starts kind

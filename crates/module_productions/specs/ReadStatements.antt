@@ -3,9 +3,14 @@ use Rattle.std.specs.Prelude.{ℕ, zero, suc, Bool, true, false, if◌then◌els
 use Rattle.mesa_base.specs.declared.place.Place.{Place}
 use Rattle.mesa_lexer.specs.declared.token.Kind.{Kind}
 use Rattle.mesa_lexer.specs.declared.token.Kind.TheVariants as k
-use Rattle.mesa_lexer.specs.declared.word.Word.TheVariants.{BeginWord, ContinueWord, DecreasingWord, DoWord, ElseWord, EnableWord, EndWord, EndcaseWord, EndloopWord, ExitWord, ExitsWord, ForWord, FromWord, GoWord, GotoWord, IfWord, InWord, LoopWord, NullWord, RejectWord, RepeatWord, ResumeWord, RetryWord, ReturnWord, SelectWord, ThenWord, ThroughWord, ToWord, TypeWord, UntilWord, WhileWord}
-use Rattle.mesa_lexer.specs.declared.mark.Mark.TheVariants.{Arrow, Semicolon, Colon, Comma, LeftBracket, RightBracket, LeftBrace, RightBrace, Equal, DoubleArrow}
-use Rattle.token_cursor.specs.Parsing.{Parser, ◌>>=◌, ◌>>◌, pure, among, finds, a_name, choose, option, need, when, Step, Go, Done, repeat, many, ended, too_deep}
+use Rattle.mesa_lexer.specs.declared.word.Word.TheVariants.{BeginWord, ContinueWord, DecreasingWord, DoWord, ElseWord, EnableWord, EndWord, EndcaseWord}
+use Rattle.mesa_lexer.specs.declared.word.Word.TheVariants.{EndloopWord, ExitWord, ExitsWord, ForWord, FromWord, GoWord, GotoWord, IfWord, InWord, LoopWord}
+use Rattle.mesa_lexer.specs.declared.word.Word.TheVariants.{NullWord, RejectWord, RepeatWord, ResumeWord, RetryWord, ReturnWord, SelectWord, ThenWord}
+use Rattle.mesa_lexer.specs.declared.word.Word.TheVariants.{ThroughWord, ToWord, TypeWord, UntilWord, WhileWord}
+use Rattle.mesa_lexer.specs.declared.mark.Mark.TheVariants.{Arrow, Semicolon, Colon, Comma, LeftBracket, RightBracket, LeftBrace, RightBrace, Equal}
+use Rattle.mesa_lexer.specs.declared.mark.Mark.TheVariants.{DoubleArrow}
+use Rattle.token_cursor.specs.Parsing.{Parser, ◌>>=◌, ◌>>◌, pure, among, finds, a_name, choose, option, need, when, Step, Go, Done, repeat, many, ended}
+use Rattle.token_cursor.specs.Parsing.{too_deep}
 use Rattle.mesa_base.specs.declared.identifier.Identifier.{Identifier}
 use Rattle.mesa_base.specs.declared.placed.Placed.{Placed}
 use Rattle.mesa_types.specs.declared.syntax.Keyed.{Keyed}
@@ -33,7 +38,8 @@ use Rattle.mesa_types.specs.declared.syntax.PlainItem.TheVariants.{TypeIs, Varia
 use Rattle.module_productions.specs.Signs.{relating, negating}
 use Rattle.module_productions.specs.Grammar as g
 use Rattle.module_productions.specs.Grammar.{placed, keyed, labeled}
-use Rattle.module_productions.specs.ReadNested.{Fresh, AtNot, Nested, raise_starts, begins_type, begins_expr, begins_stmt, begins_test, begins_repeat, identifier, comma, named, names, names_from, repeat_labels}
+use Rattle.module_productions.specs.ReadNested.{Fresh, AtNot, Nested, raise_starts, begins_type, begins_expr, begins_stmt, begins_test, begins_repeat}
+use Rattle.module_productions.specs.ReadNested.{identifier, comma, named, names, names_from, repeat_labels}
 use Rattle.module_productions.specs.ReadExpressions as x
 
 abbrev pub Local : Type 0
@@ -78,7 +84,8 @@ module _ (q : Nested) where
   count = option (k.Word ForWord) for (option (k.Word ThroughWord) through (pure None))
 
   unfoldable pub condition : Parser (Option Condition)
-  condition = option (k.Word WhileWord) (λ p. do x ← q.expr Fresh; pure (Some (While p x))) (option (k.Word UntilWord) (λ p. do x ← q.expr Fresh; pure (Some (Until p x))) (pure None))
+  condition = option (k.Word WhileWord) (λ p. do x ← q.expr Fresh; pure (Some (While p x)))
+      (option (k.Word UntilWord) (λ p. do x ← q.expr Fresh; pure (Some (Until p x))) (pure None))
 
   unfoldable pub control : Parser Control
   control = do
@@ -161,7 +168,8 @@ module _ (q : Nested) where
   -- ---- blocks
 
   unfoldable pub valued : TypeExp → Parser PlainItem
-  valued x = option (k.Mark Arrow) (λ _. do y ← q.expr Fresh; pure (Initial x y)) (option (k.Mark Equal) (λ _. do y ← q.expr Fresh; pure (Constant x y)) (pure (Variable x)))
+  valued x = option (k.Mark Arrow) (λ _. do y ← q.expr Fresh; pure (Initial x y))
+      (option (k.Mark Equal) (λ _. do y ← q.expr Fresh; pure (Constant x y)) (pure (Variable x)))
 
   unfoldable pub type_is : Parser PlainItem
   type_is = do
@@ -213,10 +221,12 @@ module _ (q : Nested) where
   -- ---- SELECT
 
   unfoldable pub after_not : Place → Parser Test
-  after_not p = choose relating (λ r s. do x ← x.sum q None; pure (Compared true r s x)) (option (k.Word InWord) (λ s. do i ← x.interval q; pure (Inside true s i)) (do x ← q.expr (AtNot p); pure (Value x)))
+  after_not p = choose relating (λ r s. do x ← x.sum q None; pure (Compared true r s x))
+      (option (k.Word InWord) (λ s. do i ← x.interval q; pure (Inside true s i)) (do x ← q.expr (AtNot p); pure (Value x)))
 
   unfoldable pub unnegated : Parser Test
-  unnegated = choose relating (λ r s. do x ← x.sum q None; pure (Compared false r s x)) (option (k.Word InWord) (λ s. do i ← x.interval q; pure (Inside false s i)) (do x ← q.expr Fresh; pure (Value x)))
+  unnegated = choose relating (λ r s. do x ← x.sum q None; pure (Compared false r s x))
+      (option (k.Word InWord) (λ s. do i ← x.interval q; pure (Inside false s i)) (do x ← q.expr Fresh; pure (Value x)))
 
   unfoldable pub test : Parser Test
   test = if q.can then choose negating (λ _ p. after_not p) unnegated else unnegated
@@ -337,13 +347,21 @@ module _ (q : Nested) where
 
   -- the statements of one word, and those with a label or list behind it
   unfoldable pub jump : Parser Statement → Parser Statement
-  jump other = option (k.Word ExitWord) (λ p. pure (s.ExitLoop p)) (option (k.Word LoopWord) (λ p. pure (s.NextTurn p)) (option (k.Word GotoWord) (λ p. do i ← named; pure (s.Goto p i)) (option (k.Word GoWord) go_to
-      (option (k.Word ReturnWord) (λ p. do x ← x.list_option q; pure (s.Return p x)) (option (k.Word ResumeWord) (λ p. do x ← x.list_option q; pure (s.Resume p x))
-      (option (k.Word RejectWord) (λ p. pure (s.Reject p)) (option (k.Word RetryWord) (λ p. pure (s.Retry p)) (option (k.Word ContinueWord) (λ p. pure (s.Continue p)) other))))))))
+  jump other = option (k.Word ExitWord) (λ p. pure (s.ExitLoop p))
+      (option (k.Word LoopWord) (λ p. pure (s.NextTurn p)) (option (k.Word GotoWord) (λ p. do i ← named; pure (s.Goto p i)) (option (k.Word GoWord) go_to
+      (option (k.Word ReturnWord) (λ p. do x ← x.list_option q; pure (s.Return p x))
+      (option (k.Word ResumeWord) (λ p. do x ← x.list_option q; pure (s.Resume p x))
+      (option (k.Word RejectWord) (λ p. pure (s.Reject p))
+      (option (k.Word RetryWord) (λ p. pure (s.Retry p)) (option (k.Word ContinueWord) (λ p. pure (s.Continue p)) other))))))))
 
   unfoldable pub statement : Option Identifier → Parser Statement
-  statement None = choose a_name (λ n p. assigned (identifier n p)) (option (k.Word NullWord) (λ p. pure (s.Null p)) (option (k.Word BeginWord) (λ p. do b ← block (k.Word EndWord) p; pure (s.Nested b)) (option (k.Mark LeftBrace) (λ p. do b ← block (k.Mark RightBrace) p; pure (s.Nested b))
-      (option (k.Mark LeftBracket) extract (option (k.Word IfWord) conditional (option (k.Word SelectWord) select (jump (when (among raise_starts) (do x ← x.raise q; pure (s.RaiseStatement x)) loop))))))))
+  statement None = choose a_name (λ n p. assigned (identifier n p))
+      (option (k.Word NullWord) (λ p. pure (s.Null p))
+      (option (k.Word BeginWord) (λ p. do b ← block (k.Word EndWord) p; pure (s.Nested b))
+      (option (k.Mark LeftBrace) (λ p. do b ← block (k.Mark RightBrace) p; pure (s.Nested b))
+      (option (k.Mark LeftBracket) extract
+      (option (k.Word IfWord) conditional
+      (option (k.Word SelectWord) select (jump (when (among raise_starts) (do x ← x.raise q; pure (s.RaiseStatement x)) loop))))))))
   statement (Some i) = assigned i
 
 -- ---- levels

@@ -1,5 +1,5 @@
-//! The grammar of modules as a relation, one constructor for each production, and the parser functions that are proved to
-//! find its one answer. docs/LANGUAGE.md states it.
+//! The grammar of modules as relations: one for each row and each optional or repeated part, with a constructor for each
+//! alternative. The parser functions (`specs/Read..`) are proved to find its one answer. docs/LANGUAGE.md states it.
 #![tactic(auto)]
 
 mod begun;
