@@ -1,8 +1,8 @@
 //! Values that are held while more is read: where the reading fails they are let go.
 ghost use Rattle.std.specs.Prelude.{◌≡◌, ◌++◌, ◌∷◌, [], IfOk, MatchResult, Ok, Err};
 
-use crate::letting::{InBox, InList, LetGo};
-use mesa_base::{Boxed, List, OutOfMemory};
+use crate::letting::{InBox, InList, InShared, LetGo};
+use mesa_base::{Boxed, List, OutOfMemory, Shared};
 use std::alloc::{AllocFailed, Global};
 
 /// The first beside what was read. Where nothing was, the first is let go.
@@ -50,4 +50,18 @@ pub fn pushed<T: InList>(mut list: List<T>, part: T) -> Result<List<T>, OutOfMem
             Err(OutOfMemory)
         }
     }
+}
+
+/// The part with one owner.
+pub fn shared<T: InShared>(alloc: Global, part: T) -> Result<Shared<T>, OutOfMemory>
+    ensures { IfOk result (λ made. made ≡ part) }
+{
+    T::shared(alloc, part)
+}
+
+/// One more owner of the part, in one step.
+pub fn share<T: InShared>(part: &Shared<T>) -> Result<Shared<T>, OutOfMemory>
+    ensures { IfOk result (λ made. made ≡ part.now) }
+{
+    T::share(part)
 }

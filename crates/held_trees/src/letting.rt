@@ -1,7 +1,7 @@
 //! What may be let go.
 ghost use Rattle.std.specs.Prelude.{◌≡◌, IfOk};
 
-use mesa_base::{Boxed, List, OutOfMemory};
+use mesa_base::{Boxed, List, OutOfMemory, Shared};
 use std::alloc::Global;
 
 /// What may be let go by a call.
@@ -20,6 +20,18 @@ pub trait InBox: LetGo {
         ensures { IfOk result (λ made. made ≡ part) };
 }
 
+/// What has several owners.
+pub trait InShared: LetGo {
+    fn shared(alloc: Global, part: Self) -> Result<Shared<Self>, OutOfMemory>
+        ensures { IfOk result (λ made. made ≡ part) };
+
+    /// One more owner.
+    fn share(part: &Shared<Self>) -> Result<Shared<Self>, OutOfMemory>
+        ensures { IfOk result (λ made. made ≡ part.now) };
+
+    fn let_shared_go(part: Shared<Self>);
+}
+
 impl<T: InList> LetGo for List<T> {
     fn let_go(self) {
         T::let_list_go(self);
@@ -29,6 +41,12 @@ impl<T: InList> LetGo for List<T> {
 impl<T: LetGo> LetGo for Boxed<T> {
     fn let_go(self) {
         self.into_inner().let_go();
+    }
+}
+
+impl<T: InShared> LetGo for Shared<T> {
+    fn let_go(self) {
+        T::let_shared_go(self);
     }
 }
 

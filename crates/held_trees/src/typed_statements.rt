@@ -1,0 +1,92 @@
+//! Typed statements and their parts.
+ghost use Rattle.std.specs.Prelude.{◌≡◌, IfOk};
+
+use crate::letting::{InBox, InList, LetGo};
+use mesa_base::{Boxed, List, OutOfMemory};
+use mesa_types::{Case, Condition, Exit, Loop, Target, Test, TypedStmt};
+use std::alloc::Global;
+use std::mem::drop;
+
+impl LetGo for TypedStmt {
+    fn let_go(self) {
+        drop(self);
+    }
+}
+
+impl InList for TypedStmt {
+    fn let_list_go(list: List<TypedStmt>) {
+        drop(list);
+    }
+}
+
+impl InBox for TypedStmt {
+    fn boxed(alloc: Global, part: TypedStmt) -> Result<Boxed<TypedStmt>, OutOfMemory> {
+        Boxed::new(alloc, part)
+    }
+}
+
+impl LetGo for Target {
+    fn let_go(self) {
+        drop(self);
+    }
+}
+
+impl InList for Target {
+    fn let_list_go(list: List<Target>) {
+        drop(list);
+    }
+}
+
+impl LetGo for Case {
+    fn let_go(self) {
+        drop(self);
+    }
+}
+
+impl InList for Case {
+    fn let_list_go(list: List<Case>) {
+        drop(list);
+    }
+}
+
+impl LetGo for Test {
+    fn let_go(self) {
+        drop(self);
+    }
+}
+
+impl InList for Test {
+    fn let_list_go(list: List<Test>) {
+        drop(list);
+    }
+}
+
+impl LetGo for Exit {
+    fn let_go(self) {
+        drop(self);
+    }
+}
+
+impl InList for Exit {
+    fn let_list_go(list: List<Exit>) {
+        drop(list);
+    }
+}
+
+impl LetGo for Loop {
+    fn let_go(self) {
+        drop(self);
+    }
+}
+
+impl InBox for Loop {
+    fn boxed(alloc: Global, part: Loop) -> Result<Boxed<Loop>, OutOfMemory> {
+        Boxed::new(alloc, part)
+    }
+}
+
+impl LetGo for Condition {
+    fn let_go(self) {
+        drop(self);
+    }
+}
