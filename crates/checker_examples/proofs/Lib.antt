@@ -1,0 +1,7 @@
+mod Expressions
+mod Interfaces
+mod Names
+mod Orders
+mod Statements
+mod Types
+mod Worked

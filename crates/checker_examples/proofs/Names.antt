@@ -1,0 +1,72 @@
+-- Names: what is visible where, and what stands twice.
+use Rattle.std.specs.Prelude.{◌≡◌, List, [], ◌∷◌, codes}
+use Rattle.std.proofs.Common.{refl}
+use Rattle.module_checker.specs.declared.fault.Cause.TheVariants.{UnknownName, TwiceDeclared, TypeMismatch, NotConstant}
+use Rattle.module_checker.proofs.Texts.{Row, good, wrong, mistakes}
+use Rattle.module_checker.proofs.Everything.{everything}
+
+abbrev rows : List Row
+rows =
+    good (codes "")
+    ∷ wrong UnknownName (codes "^x _ 1;")
+    ∷ wrong UnknownName (codes "x: INTEGER _ ^x;")
+    ∷ wrong UnknownName (codes "x: INTEGER _ ^y; y: INTEGER;")
+    ∷ wrong UnknownName (codes "x: [0..^c]; c: INTEGER = 3;")
+    ∷ good (codes "c: INTEGER = 3; x: [0..c]; y: INTEGER _ c;")
+    ∷ wrong TwiceDeclared (codes "x, ^x: INTEGER;")
+    ∷ wrong TwiceDeclared (codes "x: INTEGER; ^x: BOOLEAN;")
+    ∷ wrong TwiceDeclared (codes "P: PROCEDURE = BEGIN x: INTEGER; ^x: INTEGER; END;")
+    ∷ good (codes "x: BOOLEAN; P: PROCEDURE = BEGIN x: INTEGER; x _ 1; END;")
+    ∷ wrong TypeMismatch (codes "x: INTEGER; P: PROCEDURE = BEGIN x: BOOLEAN; x _ ^1; END;")
+    ∷ good (codes "x: INTEGER; P: PROCEDURE = BEGIN y: INTEGER _ x; x: BOOLEAN; x _ TRUE; END;")
+    ∷ wrong UnknownName (codes "P: PROCEDURE = BEGIN y: INTEGER _ ^z; z: INTEGER; END;")
+    ∷ wrong UnknownName (codes "P: PROCEDURE = BEGIN y: INTEGER _ ^y; END;")
+    ∷ good (codes "P: PROCEDURE = BEGIN x _ 1; Q[]; END; x: INTEGER; Q: PROCEDURE = BEGIN END;")
+    ∷ good (codes "x: INTEGER _ F[]; F: PROCEDURE RETURNS [INTEGER] = BEGIN RETURN[1] END;")
+    ∷ good (codes "M: INTEGER; M _ 1;")
+    ∷ []
+
+inner_names_hide : mistakes [] 0 rows ≡ []
+unfolding everything
+inner_names_hide = refl
+
+abbrev in_blocks : List Row
+in_blocks =
+    wrong UnknownName (codes "P: PROCEDURE = BEGIN x: INTEGER; GOTO L; EXITS L => ^x _ 1 END;")
+    ∷ good (codes "P: PROCEDURE [x: INTEGER] = BEGIN GOTO L; EXITS L => x _ 1 END;")
+    ∷ good (codes "x: INTEGER; GOTO L; EXITS L => x _ 1")
+    ∷ good (codes "P: PROCEDURE = BEGIN ENABLE ANY => x _ 1; x: INTEGER; END;")
+    ∷ good (codes "c: {red, green} _ red;")
+    ∷ wrong UnknownName (codes "P: PROCEDURE = BEGIN c: {red, green} _ ^red; END;")
+    ∷ good (codes "P: PROCEDURE = BEGIN c: {red, green}; c _ red; END;")
+    ∷ wrong TwiceDeclared (codes "c: {red, ^red};")
+    ∷ wrong TwiceDeclared (codes "red: INTEGER; c: {^red, green};")
+    ∷ wrong TwiceDeclared (codes "c: {red, ^c};")
+    ∷ wrong UnknownName (codes "x: ARRAY [^red..green] OF INTEGER; c: {red, green};")
+    ∷ good (codes "P: PROCEDURE [c: {red, green}] = BEGIN c _ red; END;")
+    ∷ wrong UnknownName (codes "P: PROCEDURE [c: {red, green}] = BEGIN END; BEGIN c: BOOLEAN _ ^red; END;")
+    ∷ wrong TwiceDeclared (codes "P: PROCEDURE [x: INTEGER, ^x: INTEGER] = BEGIN END;")
+    ∷ wrong TwiceDeclared (codes "P: PROCEDURE [x: INTEGER] RETURNS [^x: INTEGER] = BEGIN END;")
+    ∷ wrong TwiceDeclared (codes "S: SIGNAL [x: INTEGER] RETURNS [^x: INTEGER] = CODE;")
+    ∷ wrong UnknownName (codes "P: PROCEDURE [x: INTEGER, y: [0..^x]] = BEGIN END;")
+    ∷ wrong TwiceDeclared (codes "R: TYPE = RECORD [x: INTEGER, ^x: INTEGER];")
+    ∷ good (codes "P: PROCEDURE [x: INTEGER] = BEGIN x: BOOLEAN; x _ TRUE; END;")
+    ∷ []
+
+what_blocks_show : mistakes [] 0 in_blocks ≡ []
+unfolding everything
+what_blocks_show = refl
+
+abbrev sorts : List Row
+sorts =
+    wrong TypeMismatch (codes "T: TYPE = INTEGER; x: INTEGER _ ^T;")
+    ∷ wrong TypeMismatch (codes "x: INTEGER; y: ^x;")
+    ∷ wrong TypeMismatch (codes "P: PROCEDURE RETURNS [INTEGER] = BEGIN RETURN[1] END; x: INTEGER _ ^P;")
+    ∷ wrong NotConstant (codes "c: INTEGER = ^F[1]; F: PROCEDURE [n: INTEGER] RETURNS [INTEGER] = BEGIN RETURN[n] END;")
+    ∷ wrong NotConstant (codes "F: PROCEDURE RETURNS [INTEGER] = BEGIN RETURN[1] END; c: INTEGER = ^F[];")
+    ∷ wrong UnknownName (codes "x: I.^T;")
+    ∷ []
+
+sorts_of_names : mistakes [] 0 sorts ≡ []
+unfolding everything
+sorts_of_names = refl

@@ -1,0 +1,5 @@
+pub mod Everything
+pub mod Lexing
+mod Noticed
+pub mod Reading
+pub mod Texts

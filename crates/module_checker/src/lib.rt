@@ -1,0 +1,6 @@
+//! What a text means as a typed module or an interface, or its first fault: the definition, and its laws.
+#![tactic(auto)]
+
+mod fault;
+
+pub use fault::{Cause, CheckFault};
