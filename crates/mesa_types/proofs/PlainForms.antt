@@ -1,10 +1,9 @@
 -- What each form of a syntax tree of the code is in the plain one, by what its parts are.
-use Rattle.std.proofs.Common.{◌≡◌, ℕ, Bool, List, [], ◌∷◌, map, Option, Some, None, refl, sym, ap, ◌∙◌}
+use Rattle.std.proofs.Common.{◌≡◌, ℕ, Bool, List, Option, Some, None, refl, sym, ap, ◌∙◌}
 use Rattle.mesa_base.specs.declared.place.Place.{Place}
 use Rattle.mesa_base.specs.declared.identifier.Identifier.{Identifier}
 use Rattle.mesa_base.specs.declared.placed.Placed.{Placed}
 use Rattle.mesa_types.specs.declared.syntax.QualifiedName.{QualifiedName}
-use Rattle.mesa_types.specs.declared.syntax.Keyed.{Keyed}
 use Rattle.mesa_types.specs.declared.syntax.Labeled.{Labeled}
 use Rattle.mesa_types.specs.declared.syntax.Entries.{Entries}
 use Rattle.mesa_types.specs.declared.syntax.Labels.{Labels}
@@ -46,82 +45,82 @@ use Rattle.mesa_types.specs.declared.syntax.Interval.{Interval}
 use Rattle.mesa_types.specs.declared.syntax.Left.{Left}
 use Rattle.mesa_types.specs.declared.syntax.Operation.{Operation}
 use Rattle.mesa_types.specs.Syntax as s
-use Rattle.mesa_types.specs.PlainSyntax.{condition, count, expr, field_list, plain_item, raise, statement, suffix, test, type_exp, arm, block, brackets, case, control, interval, left, operation, condition_step, count_step, expr_step, field_list_step, plain_item_step, raise_step, statement_step, suffix_step, test_step, type_exp_step, arm_step, block_step, brackets_step, case_step, control_step, interval_step, left_step, operation_step, exprs, keyed_exprs, items, lefts, keyed_lefts, targets, types, named_fields, operations, suffixes, tests, cases, arms, statements, locals, exits, repeats, phrase, maybe_brackets, maybe_statement, maybe_items, maybe_count, maybe_condition}
+use Rattle.mesa_types.specs.PlainSyntax.{condition, count, expr, field_list, plain_item, raise, statement, suffix, test, type_exp, arm, block, brackets, case, control, interval, left, operation, condition_step, count_step, expr_step, field_list_step, plain_item_step, raise_step, statement_step, suffix_step, test_step, type_exp_step, arm_step, block_step, brackets_step, case_step, control_step, interval_step, left_step, operation_step, items, targets, types, named_fields, operations, suffixes, tests, cases, statements, locals, exits, repeats, phrase, maybe_brackets, maybe_statement, maybe_items, maybe_count, maybe_condition}
 
 abbrev Trees : (Type 0 → Type 0 → Type 0 → Type 0 → Type 0 → Type 0 → Type 0 → Type 0 → Type 0 → Type 0 → Type 0 → Type 0 → Type 0 → Type 0 → Type 0 → Type 0 → Type 0 → Type 0 → Type 0) → Type 0
 Trees F = F Condition Count Expr FieldList PlainItem Raise Statement Suffix Test TypeExp Arm Block Brackets Case Control Interval Left Operation
 
 -- ---- one layer
 
-condition_at : (y : Trees Condition-F) {x : Condition} → roll-Condition y ≡ x → condition x ≡ condition_step (map-Condition Condition Count Expr FieldList PlainItem Raise Statement Suffix Test TypeExp Arm Block Brackets Case Control Interval Left Operation s.Condition s.Count s.Expr s.FieldList s.PlainItem s.Raise s.Statement (s.Suffixes → s.Suffixes) (s.Tests → s.Tests) s.TypeExp (s.Arms → s.Arms) s.Block s.Brackets (s.Cases → s.Cases) s.Control s.Interval s.Left (s.Operations → s.Operations) condition count expr field_list plain_item raise statement suffix test type_exp arm block brackets case control interval left operation y)
+pub condition_at : (y : Trees Condition-F) {x : Condition} → roll-Condition y ≡ x → condition x ≡ condition_step (map-Condition Condition Count Expr FieldList PlainItem Raise Statement Suffix Test TypeExp Arm Block Brackets Case Control Interval Left Operation s.Condition s.Count s.Expr s.FieldList s.PlainItem s.Raise s.Statement (s.Suffixes → s.Suffixes) (s.Tests → s.Tests) s.TypeExp (s.Arms → s.Arms) s.Block s.Brackets (s.Cases → s.Cases) s.Control s.Interval s.Left (s.Operations → s.Operations) condition count expr field_list plain_item raise statement suffix test type_exp arm block brackets case control interval left operation y)
 unfolding condition count expr field_list plain_item raise statement suffix test type_exp arm block brackets case control interval left operation
 condition_at y h = ap condition (sym h) ∙ fold-roll-Condition s.Condition s.Count s.Expr s.FieldList s.PlainItem s.Raise s.Statement (s.Suffixes → s.Suffixes) (s.Tests → s.Tests) s.TypeExp (s.Arms → s.Arms) s.Block s.Brackets (s.Cases → s.Cases) s.Control s.Interval s.Left (s.Operations → s.Operations) condition_step count_step expr_step field_list_step plain_item_step raise_step statement_step suffix_step test_step type_exp_step arm_step block_step brackets_step case_step control_step interval_step left_step operation_step y
 
-count_at : (y : Trees Count-F) {x : Count} → roll-Count y ≡ x → count x ≡ count_step (map-Count Condition Count Expr FieldList PlainItem Raise Statement Suffix Test TypeExp Arm Block Brackets Case Control Interval Left Operation s.Condition s.Count s.Expr s.FieldList s.PlainItem s.Raise s.Statement (s.Suffixes → s.Suffixes) (s.Tests → s.Tests) s.TypeExp (s.Arms → s.Arms) s.Block s.Brackets (s.Cases → s.Cases) s.Control s.Interval s.Left (s.Operations → s.Operations) condition count expr field_list plain_item raise statement suffix test type_exp arm block brackets case control interval left operation y)
+pub count_at : (y : Trees Count-F) {x : Count} → roll-Count y ≡ x → count x ≡ count_step (map-Count Condition Count Expr FieldList PlainItem Raise Statement Suffix Test TypeExp Arm Block Brackets Case Control Interval Left Operation s.Condition s.Count s.Expr s.FieldList s.PlainItem s.Raise s.Statement (s.Suffixes → s.Suffixes) (s.Tests → s.Tests) s.TypeExp (s.Arms → s.Arms) s.Block s.Brackets (s.Cases → s.Cases) s.Control s.Interval s.Left (s.Operations → s.Operations) condition count expr field_list plain_item raise statement suffix test type_exp arm block brackets case control interval left operation y)
 unfolding condition count expr field_list plain_item raise statement suffix test type_exp arm block brackets case control interval left operation
 count_at y h = ap count (sym h) ∙ fold-roll-Count s.Condition s.Count s.Expr s.FieldList s.PlainItem s.Raise s.Statement (s.Suffixes → s.Suffixes) (s.Tests → s.Tests) s.TypeExp (s.Arms → s.Arms) s.Block s.Brackets (s.Cases → s.Cases) s.Control s.Interval s.Left (s.Operations → s.Operations) condition_step count_step expr_step field_list_step plain_item_step raise_step statement_step suffix_step test_step type_exp_step arm_step block_step brackets_step case_step control_step interval_step left_step operation_step y
 
-expr_at : (y : Trees Expr-F) {x : Expr} → roll-Expr y ≡ x → expr x ≡ expr_step (map-Expr Condition Count Expr FieldList PlainItem Raise Statement Suffix Test TypeExp Arm Block Brackets Case Control Interval Left Operation s.Condition s.Count s.Expr s.FieldList s.PlainItem s.Raise s.Statement (s.Suffixes → s.Suffixes) (s.Tests → s.Tests) s.TypeExp (s.Arms → s.Arms) s.Block s.Brackets (s.Cases → s.Cases) s.Control s.Interval s.Left (s.Operations → s.Operations) condition count expr field_list plain_item raise statement suffix test type_exp arm block brackets case control interval left operation y)
+pub expr_at : (y : Trees Expr-F) {x : Expr} → roll-Expr y ≡ x → expr x ≡ expr_step (map-Expr Condition Count Expr FieldList PlainItem Raise Statement Suffix Test TypeExp Arm Block Brackets Case Control Interval Left Operation s.Condition s.Count s.Expr s.FieldList s.PlainItem s.Raise s.Statement (s.Suffixes → s.Suffixes) (s.Tests → s.Tests) s.TypeExp (s.Arms → s.Arms) s.Block s.Brackets (s.Cases → s.Cases) s.Control s.Interval s.Left (s.Operations → s.Operations) condition count expr field_list plain_item raise statement suffix test type_exp arm block brackets case control interval left operation y)
 unfolding condition count expr field_list plain_item raise statement suffix test type_exp arm block brackets case control interval left operation
 expr_at y h = ap expr (sym h) ∙ fold-roll-Expr s.Condition s.Count s.Expr s.FieldList s.PlainItem s.Raise s.Statement (s.Suffixes → s.Suffixes) (s.Tests → s.Tests) s.TypeExp (s.Arms → s.Arms) s.Block s.Brackets (s.Cases → s.Cases) s.Control s.Interval s.Left (s.Operations → s.Operations) condition_step count_step expr_step field_list_step plain_item_step raise_step statement_step suffix_step test_step type_exp_step arm_step block_step brackets_step case_step control_step interval_step left_step operation_step y
 
-field_list_at : (y : Trees FieldList-F) {x : FieldList} → roll-FieldList y ≡ x → field_list x ≡ field_list_step (map-FieldList Condition Count Expr FieldList PlainItem Raise Statement Suffix Test TypeExp Arm Block Brackets Case Control Interval Left Operation s.Condition s.Count s.Expr s.FieldList s.PlainItem s.Raise s.Statement (s.Suffixes → s.Suffixes) (s.Tests → s.Tests) s.TypeExp (s.Arms → s.Arms) s.Block s.Brackets (s.Cases → s.Cases) s.Control s.Interval s.Left (s.Operations → s.Operations) condition count expr field_list plain_item raise statement suffix test type_exp arm block brackets case control interval left operation y)
+pub field_list_at : (y : Trees FieldList-F) {x : FieldList} → roll-FieldList y ≡ x → field_list x ≡ field_list_step (map-FieldList Condition Count Expr FieldList PlainItem Raise Statement Suffix Test TypeExp Arm Block Brackets Case Control Interval Left Operation s.Condition s.Count s.Expr s.FieldList s.PlainItem s.Raise s.Statement (s.Suffixes → s.Suffixes) (s.Tests → s.Tests) s.TypeExp (s.Arms → s.Arms) s.Block s.Brackets (s.Cases → s.Cases) s.Control s.Interval s.Left (s.Operations → s.Operations) condition count expr field_list plain_item raise statement suffix test type_exp arm block brackets case control interval left operation y)
 unfolding condition count expr field_list plain_item raise statement suffix test type_exp arm block brackets case control interval left operation
 field_list_at y h = ap field_list (sym h) ∙ fold-roll-FieldList s.Condition s.Count s.Expr s.FieldList s.PlainItem s.Raise s.Statement (s.Suffixes → s.Suffixes) (s.Tests → s.Tests) s.TypeExp (s.Arms → s.Arms) s.Block s.Brackets (s.Cases → s.Cases) s.Control s.Interval s.Left (s.Operations → s.Operations) condition_step count_step expr_step field_list_step plain_item_step raise_step statement_step suffix_step test_step type_exp_step arm_step block_step brackets_step case_step control_step interval_step left_step operation_step y
 
-plain_item_at : (y : Trees PlainItem-F) {x : PlainItem} → roll-PlainItem y ≡ x → plain_item x ≡ plain_item_step (map-PlainItem Condition Count Expr FieldList PlainItem Raise Statement Suffix Test TypeExp Arm Block Brackets Case Control Interval Left Operation s.Condition s.Count s.Expr s.FieldList s.PlainItem s.Raise s.Statement (s.Suffixes → s.Suffixes) (s.Tests → s.Tests) s.TypeExp (s.Arms → s.Arms) s.Block s.Brackets (s.Cases → s.Cases) s.Control s.Interval s.Left (s.Operations → s.Operations) condition count expr field_list plain_item raise statement suffix test type_exp arm block brackets case control interval left operation y)
+pub plain_item_at : (y : Trees PlainItem-F) {x : PlainItem} → roll-PlainItem y ≡ x → plain_item x ≡ plain_item_step (map-PlainItem Condition Count Expr FieldList PlainItem Raise Statement Suffix Test TypeExp Arm Block Brackets Case Control Interval Left Operation s.Condition s.Count s.Expr s.FieldList s.PlainItem s.Raise s.Statement (s.Suffixes → s.Suffixes) (s.Tests → s.Tests) s.TypeExp (s.Arms → s.Arms) s.Block s.Brackets (s.Cases → s.Cases) s.Control s.Interval s.Left (s.Operations → s.Operations) condition count expr field_list plain_item raise statement suffix test type_exp arm block brackets case control interval left operation y)
 unfolding condition count expr field_list plain_item raise statement suffix test type_exp arm block brackets case control interval left operation
 plain_item_at y h = ap plain_item (sym h) ∙ fold-roll-PlainItem s.Condition s.Count s.Expr s.FieldList s.PlainItem s.Raise s.Statement (s.Suffixes → s.Suffixes) (s.Tests → s.Tests) s.TypeExp (s.Arms → s.Arms) s.Block s.Brackets (s.Cases → s.Cases) s.Control s.Interval s.Left (s.Operations → s.Operations) condition_step count_step expr_step field_list_step plain_item_step raise_step statement_step suffix_step test_step type_exp_step arm_step block_step brackets_step case_step control_step interval_step left_step operation_step y
 
-raise_at : (y : Trees Raise-F) {x : Raise} → roll-Raise y ≡ x → raise x ≡ raise_step (map-Raise Condition Count Expr FieldList PlainItem Raise Statement Suffix Test TypeExp Arm Block Brackets Case Control Interval Left Operation s.Condition s.Count s.Expr s.FieldList s.PlainItem s.Raise s.Statement (s.Suffixes → s.Suffixes) (s.Tests → s.Tests) s.TypeExp (s.Arms → s.Arms) s.Block s.Brackets (s.Cases → s.Cases) s.Control s.Interval s.Left (s.Operations → s.Operations) condition count expr field_list plain_item raise statement suffix test type_exp arm block brackets case control interval left operation y)
+pub raise_at : (y : Trees Raise-F) {x : Raise} → roll-Raise y ≡ x → raise x ≡ raise_step (map-Raise Condition Count Expr FieldList PlainItem Raise Statement Suffix Test TypeExp Arm Block Brackets Case Control Interval Left Operation s.Condition s.Count s.Expr s.FieldList s.PlainItem s.Raise s.Statement (s.Suffixes → s.Suffixes) (s.Tests → s.Tests) s.TypeExp (s.Arms → s.Arms) s.Block s.Brackets (s.Cases → s.Cases) s.Control s.Interval s.Left (s.Operations → s.Operations) condition count expr field_list plain_item raise statement suffix test type_exp arm block brackets case control interval left operation y)
 unfolding condition count expr field_list plain_item raise statement suffix test type_exp arm block brackets case control interval left operation
 raise_at y h = ap raise (sym h) ∙ fold-roll-Raise s.Condition s.Count s.Expr s.FieldList s.PlainItem s.Raise s.Statement (s.Suffixes → s.Suffixes) (s.Tests → s.Tests) s.TypeExp (s.Arms → s.Arms) s.Block s.Brackets (s.Cases → s.Cases) s.Control s.Interval s.Left (s.Operations → s.Operations) condition_step count_step expr_step field_list_step plain_item_step raise_step statement_step suffix_step test_step type_exp_step arm_step block_step brackets_step case_step control_step interval_step left_step operation_step y
 
-statement_at : (y : Trees Statement-F) {x : Statement} → roll-Statement y ≡ x → statement x ≡ statement_step (map-Statement Condition Count Expr FieldList PlainItem Raise Statement Suffix Test TypeExp Arm Block Brackets Case Control Interval Left Operation s.Condition s.Count s.Expr s.FieldList s.PlainItem s.Raise s.Statement (s.Suffixes → s.Suffixes) (s.Tests → s.Tests) s.TypeExp (s.Arms → s.Arms) s.Block s.Brackets (s.Cases → s.Cases) s.Control s.Interval s.Left (s.Operations → s.Operations) condition count expr field_list plain_item raise statement suffix test type_exp arm block brackets case control interval left operation y)
+pub statement_at : (y : Trees Statement-F) {x : Statement} → roll-Statement y ≡ x → statement x ≡ statement_step (map-Statement Condition Count Expr FieldList PlainItem Raise Statement Suffix Test TypeExp Arm Block Brackets Case Control Interval Left Operation s.Condition s.Count s.Expr s.FieldList s.PlainItem s.Raise s.Statement (s.Suffixes → s.Suffixes) (s.Tests → s.Tests) s.TypeExp (s.Arms → s.Arms) s.Block s.Brackets (s.Cases → s.Cases) s.Control s.Interval s.Left (s.Operations → s.Operations) condition count expr field_list plain_item raise statement suffix test type_exp arm block brackets case control interval left operation y)
 unfolding condition count expr field_list plain_item raise statement suffix test type_exp arm block brackets case control interval left operation
 statement_at y h = ap statement (sym h) ∙ fold-roll-Statement s.Condition s.Count s.Expr s.FieldList s.PlainItem s.Raise s.Statement (s.Suffixes → s.Suffixes) (s.Tests → s.Tests) s.TypeExp (s.Arms → s.Arms) s.Block s.Brackets (s.Cases → s.Cases) s.Control s.Interval s.Left (s.Operations → s.Operations) condition_step count_step expr_step field_list_step plain_item_step raise_step statement_step suffix_step test_step type_exp_step arm_step block_step brackets_step case_step control_step interval_step left_step operation_step y
 
-suffix_at : (y : Trees Suffix-F) {x : Suffix} → roll-Suffix y ≡ x → suffix x ≡ suffix_step (map-Suffix Condition Count Expr FieldList PlainItem Raise Statement Suffix Test TypeExp Arm Block Brackets Case Control Interval Left Operation s.Condition s.Count s.Expr s.FieldList s.PlainItem s.Raise s.Statement (s.Suffixes → s.Suffixes) (s.Tests → s.Tests) s.TypeExp (s.Arms → s.Arms) s.Block s.Brackets (s.Cases → s.Cases) s.Control s.Interval s.Left (s.Operations → s.Operations) condition count expr field_list plain_item raise statement suffix test type_exp arm block brackets case control interval left operation y)
+pub suffix_at : (y : Trees Suffix-F) {x : Suffix} → roll-Suffix y ≡ x → suffix x ≡ suffix_step (map-Suffix Condition Count Expr FieldList PlainItem Raise Statement Suffix Test TypeExp Arm Block Brackets Case Control Interval Left Operation s.Condition s.Count s.Expr s.FieldList s.PlainItem s.Raise s.Statement (s.Suffixes → s.Suffixes) (s.Tests → s.Tests) s.TypeExp (s.Arms → s.Arms) s.Block s.Brackets (s.Cases → s.Cases) s.Control s.Interval s.Left (s.Operations → s.Operations) condition count expr field_list plain_item raise statement suffix test type_exp arm block brackets case control interval left operation y)
 unfolding condition count expr field_list plain_item raise statement suffix test type_exp arm block brackets case control interval left operation
 suffix_at y h = ap suffix (sym h) ∙ fold-roll-Suffix s.Condition s.Count s.Expr s.FieldList s.PlainItem s.Raise s.Statement (s.Suffixes → s.Suffixes) (s.Tests → s.Tests) s.TypeExp (s.Arms → s.Arms) s.Block s.Brackets (s.Cases → s.Cases) s.Control s.Interval s.Left (s.Operations → s.Operations) condition_step count_step expr_step field_list_step plain_item_step raise_step statement_step suffix_step test_step type_exp_step arm_step block_step brackets_step case_step control_step interval_step left_step operation_step y
 
-test_at : (y : Trees Test-F) {x : Test} → roll-Test y ≡ x → test x ≡ test_step (map-Test Condition Count Expr FieldList PlainItem Raise Statement Suffix Test TypeExp Arm Block Brackets Case Control Interval Left Operation s.Condition s.Count s.Expr s.FieldList s.PlainItem s.Raise s.Statement (s.Suffixes → s.Suffixes) (s.Tests → s.Tests) s.TypeExp (s.Arms → s.Arms) s.Block s.Brackets (s.Cases → s.Cases) s.Control s.Interval s.Left (s.Operations → s.Operations) condition count expr field_list plain_item raise statement suffix test type_exp arm block brackets case control interval left operation y)
+pub test_at : (y : Trees Test-F) {x : Test} → roll-Test y ≡ x → test x ≡ test_step (map-Test Condition Count Expr FieldList PlainItem Raise Statement Suffix Test TypeExp Arm Block Brackets Case Control Interval Left Operation s.Condition s.Count s.Expr s.FieldList s.PlainItem s.Raise s.Statement (s.Suffixes → s.Suffixes) (s.Tests → s.Tests) s.TypeExp (s.Arms → s.Arms) s.Block s.Brackets (s.Cases → s.Cases) s.Control s.Interval s.Left (s.Operations → s.Operations) condition count expr field_list plain_item raise statement suffix test type_exp arm block brackets case control interval left operation y)
 unfolding condition count expr field_list plain_item raise statement suffix test type_exp arm block brackets case control interval left operation
 test_at y h = ap test (sym h) ∙ fold-roll-Test s.Condition s.Count s.Expr s.FieldList s.PlainItem s.Raise s.Statement (s.Suffixes → s.Suffixes) (s.Tests → s.Tests) s.TypeExp (s.Arms → s.Arms) s.Block s.Brackets (s.Cases → s.Cases) s.Control s.Interval s.Left (s.Operations → s.Operations) condition_step count_step expr_step field_list_step plain_item_step raise_step statement_step suffix_step test_step type_exp_step arm_step block_step brackets_step case_step control_step interval_step left_step operation_step y
 
-type_exp_at : (y : Trees TypeExp-F) {x : TypeExp} → roll-TypeExp y ≡ x → type_exp x ≡ type_exp_step (map-TypeExp Condition Count Expr FieldList PlainItem Raise Statement Suffix Test TypeExp Arm Block Brackets Case Control Interval Left Operation s.Condition s.Count s.Expr s.FieldList s.PlainItem s.Raise s.Statement (s.Suffixes → s.Suffixes) (s.Tests → s.Tests) s.TypeExp (s.Arms → s.Arms) s.Block s.Brackets (s.Cases → s.Cases) s.Control s.Interval s.Left (s.Operations → s.Operations) condition count expr field_list plain_item raise statement suffix test type_exp arm block brackets case control interval left operation y)
+pub type_exp_at : (y : Trees TypeExp-F) {x : TypeExp} → roll-TypeExp y ≡ x → type_exp x ≡ type_exp_step (map-TypeExp Condition Count Expr FieldList PlainItem Raise Statement Suffix Test TypeExp Arm Block Brackets Case Control Interval Left Operation s.Condition s.Count s.Expr s.FieldList s.PlainItem s.Raise s.Statement (s.Suffixes → s.Suffixes) (s.Tests → s.Tests) s.TypeExp (s.Arms → s.Arms) s.Block s.Brackets (s.Cases → s.Cases) s.Control s.Interval s.Left (s.Operations → s.Operations) condition count expr field_list plain_item raise statement suffix test type_exp arm block brackets case control interval left operation y)
 unfolding condition count expr field_list plain_item raise statement suffix test type_exp arm block brackets case control interval left operation
 type_exp_at y h = ap type_exp (sym h) ∙ fold-roll-TypeExp s.Condition s.Count s.Expr s.FieldList s.PlainItem s.Raise s.Statement (s.Suffixes → s.Suffixes) (s.Tests → s.Tests) s.TypeExp (s.Arms → s.Arms) s.Block s.Brackets (s.Cases → s.Cases) s.Control s.Interval s.Left (s.Operations → s.Operations) condition_step count_step expr_step field_list_step plain_item_step raise_step statement_step suffix_step test_step type_exp_step arm_step block_step brackets_step case_step control_step interval_step left_step operation_step y
 
-arm_at : (y : Trees Arm-F) {x : Arm} → roll-Arm y ≡ x → arm x ≡ arm_step (map-Arm Condition Count Expr FieldList PlainItem Raise Statement Suffix Test TypeExp Arm Block Brackets Case Control Interval Left Operation s.Condition s.Count s.Expr s.FieldList s.PlainItem s.Raise s.Statement (s.Suffixes → s.Suffixes) (s.Tests → s.Tests) s.TypeExp (s.Arms → s.Arms) s.Block s.Brackets (s.Cases → s.Cases) s.Control s.Interval s.Left (s.Operations → s.Operations) condition count expr field_list plain_item raise statement suffix test type_exp arm block brackets case control interval left operation y)
+pub arm_at : (y : Trees Arm-F) {x : Arm} → roll-Arm y ≡ x → arm x ≡ arm_step (map-Arm Condition Count Expr FieldList PlainItem Raise Statement Suffix Test TypeExp Arm Block Brackets Case Control Interval Left Operation s.Condition s.Count s.Expr s.FieldList s.PlainItem s.Raise s.Statement (s.Suffixes → s.Suffixes) (s.Tests → s.Tests) s.TypeExp (s.Arms → s.Arms) s.Block s.Brackets (s.Cases → s.Cases) s.Control s.Interval s.Left (s.Operations → s.Operations) condition count expr field_list plain_item raise statement suffix test type_exp arm block brackets case control interval left operation y)
 unfolding condition count expr field_list plain_item raise statement suffix test type_exp arm block brackets case control interval left operation
 arm_at y h = ap arm (sym h) ∙ fold-roll-Arm s.Condition s.Count s.Expr s.FieldList s.PlainItem s.Raise s.Statement (s.Suffixes → s.Suffixes) (s.Tests → s.Tests) s.TypeExp (s.Arms → s.Arms) s.Block s.Brackets (s.Cases → s.Cases) s.Control s.Interval s.Left (s.Operations → s.Operations) condition_step count_step expr_step field_list_step plain_item_step raise_step statement_step suffix_step test_step type_exp_step arm_step block_step brackets_step case_step control_step interval_step left_step operation_step y
 
-block_at : (y : Trees Block-F) {x : Block} → roll-Block y ≡ x → block x ≡ block_step (map-Block Condition Count Expr FieldList PlainItem Raise Statement Suffix Test TypeExp Arm Block Brackets Case Control Interval Left Operation s.Condition s.Count s.Expr s.FieldList s.PlainItem s.Raise s.Statement (s.Suffixes → s.Suffixes) (s.Tests → s.Tests) s.TypeExp (s.Arms → s.Arms) s.Block s.Brackets (s.Cases → s.Cases) s.Control s.Interval s.Left (s.Operations → s.Operations) condition count expr field_list plain_item raise statement suffix test type_exp arm block brackets case control interval left operation y)
+pub block_at : (y : Trees Block-F) {x : Block} → roll-Block y ≡ x → block x ≡ block_step (map-Block Condition Count Expr FieldList PlainItem Raise Statement Suffix Test TypeExp Arm Block Brackets Case Control Interval Left Operation s.Condition s.Count s.Expr s.FieldList s.PlainItem s.Raise s.Statement (s.Suffixes → s.Suffixes) (s.Tests → s.Tests) s.TypeExp (s.Arms → s.Arms) s.Block s.Brackets (s.Cases → s.Cases) s.Control s.Interval s.Left (s.Operations → s.Operations) condition count expr field_list plain_item raise statement suffix test type_exp arm block brackets case control interval left operation y)
 unfolding condition count expr field_list plain_item raise statement suffix test type_exp arm block brackets case control interval left operation
 block_at y h = ap block (sym h) ∙ fold-roll-Block s.Condition s.Count s.Expr s.FieldList s.PlainItem s.Raise s.Statement (s.Suffixes → s.Suffixes) (s.Tests → s.Tests) s.TypeExp (s.Arms → s.Arms) s.Block s.Brackets (s.Cases → s.Cases) s.Control s.Interval s.Left (s.Operations → s.Operations) condition_step count_step expr_step field_list_step plain_item_step raise_step statement_step suffix_step test_step type_exp_step arm_step block_step brackets_step case_step control_step interval_step left_step operation_step y
 
-brackets_at : (y : Trees Brackets-F) {x : Brackets} → roll-Brackets y ≡ x → brackets x ≡ brackets_step (map-Brackets Condition Count Expr FieldList PlainItem Raise Statement Suffix Test TypeExp Arm Block Brackets Case Control Interval Left Operation s.Condition s.Count s.Expr s.FieldList s.PlainItem s.Raise s.Statement (s.Suffixes → s.Suffixes) (s.Tests → s.Tests) s.TypeExp (s.Arms → s.Arms) s.Block s.Brackets (s.Cases → s.Cases) s.Control s.Interval s.Left (s.Operations → s.Operations) condition count expr field_list plain_item raise statement suffix test type_exp arm block brackets case control interval left operation y)
+pub brackets_at : (y : Trees Brackets-F) {x : Brackets} → roll-Brackets y ≡ x → brackets x ≡ brackets_step (map-Brackets Condition Count Expr FieldList PlainItem Raise Statement Suffix Test TypeExp Arm Block Brackets Case Control Interval Left Operation s.Condition s.Count s.Expr s.FieldList s.PlainItem s.Raise s.Statement (s.Suffixes → s.Suffixes) (s.Tests → s.Tests) s.TypeExp (s.Arms → s.Arms) s.Block s.Brackets (s.Cases → s.Cases) s.Control s.Interval s.Left (s.Operations → s.Operations) condition count expr field_list plain_item raise statement suffix test type_exp arm block brackets case control interval left operation y)
 unfolding condition count expr field_list plain_item raise statement suffix test type_exp arm block brackets case control interval left operation
 brackets_at y h = ap brackets (sym h) ∙ fold-roll-Brackets s.Condition s.Count s.Expr s.FieldList s.PlainItem s.Raise s.Statement (s.Suffixes → s.Suffixes) (s.Tests → s.Tests) s.TypeExp (s.Arms → s.Arms) s.Block s.Brackets (s.Cases → s.Cases) s.Control s.Interval s.Left (s.Operations → s.Operations) condition_step count_step expr_step field_list_step plain_item_step raise_step statement_step suffix_step test_step type_exp_step arm_step block_step brackets_step case_step control_step interval_step left_step operation_step y
 
-case_at : (y : Trees Case-F) {x : Case} → roll-Case y ≡ x → case x ≡ case_step (map-Case Condition Count Expr FieldList PlainItem Raise Statement Suffix Test TypeExp Arm Block Brackets Case Control Interval Left Operation s.Condition s.Count s.Expr s.FieldList s.PlainItem s.Raise s.Statement (s.Suffixes → s.Suffixes) (s.Tests → s.Tests) s.TypeExp (s.Arms → s.Arms) s.Block s.Brackets (s.Cases → s.Cases) s.Control s.Interval s.Left (s.Operations → s.Operations) condition count expr field_list plain_item raise statement suffix test type_exp arm block brackets case control interval left operation y)
+pub case_at : (y : Trees Case-F) {x : Case} → roll-Case y ≡ x → case x ≡ case_step (map-Case Condition Count Expr FieldList PlainItem Raise Statement Suffix Test TypeExp Arm Block Brackets Case Control Interval Left Operation s.Condition s.Count s.Expr s.FieldList s.PlainItem s.Raise s.Statement (s.Suffixes → s.Suffixes) (s.Tests → s.Tests) s.TypeExp (s.Arms → s.Arms) s.Block s.Brackets (s.Cases → s.Cases) s.Control s.Interval s.Left (s.Operations → s.Operations) condition count expr field_list plain_item raise statement suffix test type_exp arm block brackets case control interval left operation y)
 unfolding condition count expr field_list plain_item raise statement suffix test type_exp arm block brackets case control interval left operation
 case_at y h = ap case (sym h) ∙ fold-roll-Case s.Condition s.Count s.Expr s.FieldList s.PlainItem s.Raise s.Statement (s.Suffixes → s.Suffixes) (s.Tests → s.Tests) s.TypeExp (s.Arms → s.Arms) s.Block s.Brackets (s.Cases → s.Cases) s.Control s.Interval s.Left (s.Operations → s.Operations) condition_step count_step expr_step field_list_step plain_item_step raise_step statement_step suffix_step test_step type_exp_step arm_step block_step brackets_step case_step control_step interval_step left_step operation_step y
 
-control_at : (y : Trees Control-F) {x : Control} → roll-Control y ≡ x → control x ≡ control_step (map-Control Condition Count Expr FieldList PlainItem Raise Statement Suffix Test TypeExp Arm Block Brackets Case Control Interval Left Operation s.Condition s.Count s.Expr s.FieldList s.PlainItem s.Raise s.Statement (s.Suffixes → s.Suffixes) (s.Tests → s.Tests) s.TypeExp (s.Arms → s.Arms) s.Block s.Brackets (s.Cases → s.Cases) s.Control s.Interval s.Left (s.Operations → s.Operations) condition count expr field_list plain_item raise statement suffix test type_exp arm block brackets case control interval left operation y)
+pub control_at : (y : Trees Control-F) {x : Control} → roll-Control y ≡ x → control x ≡ control_step (map-Control Condition Count Expr FieldList PlainItem Raise Statement Suffix Test TypeExp Arm Block Brackets Case Control Interval Left Operation s.Condition s.Count s.Expr s.FieldList s.PlainItem s.Raise s.Statement (s.Suffixes → s.Suffixes) (s.Tests → s.Tests) s.TypeExp (s.Arms → s.Arms) s.Block s.Brackets (s.Cases → s.Cases) s.Control s.Interval s.Left (s.Operations → s.Operations) condition count expr field_list plain_item raise statement suffix test type_exp arm block brackets case control interval left operation y)
 unfolding condition count expr field_list plain_item raise statement suffix test type_exp arm block brackets case control interval left operation
 control_at y h = ap control (sym h) ∙ fold-roll-Control s.Condition s.Count s.Expr s.FieldList s.PlainItem s.Raise s.Statement (s.Suffixes → s.Suffixes) (s.Tests → s.Tests) s.TypeExp (s.Arms → s.Arms) s.Block s.Brackets (s.Cases → s.Cases) s.Control s.Interval s.Left (s.Operations → s.Operations) condition_step count_step expr_step field_list_step plain_item_step raise_step statement_step suffix_step test_step type_exp_step arm_step block_step brackets_step case_step control_step interval_step left_step operation_step y
 
-interval_at : (y : Trees Interval-F) {x : Interval} → roll-Interval y ≡ x → interval x ≡ interval_step (map-Interval Condition Count Expr FieldList PlainItem Raise Statement Suffix Test TypeExp Arm Block Brackets Case Control Interval Left Operation s.Condition s.Count s.Expr s.FieldList s.PlainItem s.Raise s.Statement (s.Suffixes → s.Suffixes) (s.Tests → s.Tests) s.TypeExp (s.Arms → s.Arms) s.Block s.Brackets (s.Cases → s.Cases) s.Control s.Interval s.Left (s.Operations → s.Operations) condition count expr field_list plain_item raise statement suffix test type_exp arm block brackets case control interval left operation y)
+pub interval_at : (y : Trees Interval-F) {x : Interval} → roll-Interval y ≡ x → interval x ≡ interval_step (map-Interval Condition Count Expr FieldList PlainItem Raise Statement Suffix Test TypeExp Arm Block Brackets Case Control Interval Left Operation s.Condition s.Count s.Expr s.FieldList s.PlainItem s.Raise s.Statement (s.Suffixes → s.Suffixes) (s.Tests → s.Tests) s.TypeExp (s.Arms → s.Arms) s.Block s.Brackets (s.Cases → s.Cases) s.Control s.Interval s.Left (s.Operations → s.Operations) condition count expr field_list plain_item raise statement suffix test type_exp arm block brackets case control interval left operation y)
 unfolding condition count expr field_list plain_item raise statement suffix test type_exp arm block brackets case control interval left operation
 interval_at y h = ap interval (sym h) ∙ fold-roll-Interval s.Condition s.Count s.Expr s.FieldList s.PlainItem s.Raise s.Statement (s.Suffixes → s.Suffixes) (s.Tests → s.Tests) s.TypeExp (s.Arms → s.Arms) s.Block s.Brackets (s.Cases → s.Cases) s.Control s.Interval s.Left (s.Operations → s.Operations) condition_step count_step expr_step field_list_step plain_item_step raise_step statement_step suffix_step test_step type_exp_step arm_step block_step brackets_step case_step control_step interval_step left_step operation_step y
 
-left_at : (y : Trees Left-F) {x : Left} → roll-Left y ≡ x → left x ≡ left_step (map-Left Condition Count Expr FieldList PlainItem Raise Statement Suffix Test TypeExp Arm Block Brackets Case Control Interval Left Operation s.Condition s.Count s.Expr s.FieldList s.PlainItem s.Raise s.Statement (s.Suffixes → s.Suffixes) (s.Tests → s.Tests) s.TypeExp (s.Arms → s.Arms) s.Block s.Brackets (s.Cases → s.Cases) s.Control s.Interval s.Left (s.Operations → s.Operations) condition count expr field_list plain_item raise statement suffix test type_exp arm block brackets case control interval left operation y)
+pub left_at : (y : Trees Left-F) {x : Left} → roll-Left y ≡ x → left x ≡ left_step (map-Left Condition Count Expr FieldList PlainItem Raise Statement Suffix Test TypeExp Arm Block Brackets Case Control Interval Left Operation s.Condition s.Count s.Expr s.FieldList s.PlainItem s.Raise s.Statement (s.Suffixes → s.Suffixes) (s.Tests → s.Tests) s.TypeExp (s.Arms → s.Arms) s.Block s.Brackets (s.Cases → s.Cases) s.Control s.Interval s.Left (s.Operations → s.Operations) condition count expr field_list plain_item raise statement suffix test type_exp arm block brackets case control interval left operation y)
 unfolding condition count expr field_list plain_item raise statement suffix test type_exp arm block brackets case control interval left operation
 left_at y h = ap left (sym h) ∙ fold-roll-Left s.Condition s.Count s.Expr s.FieldList s.PlainItem s.Raise s.Statement (s.Suffixes → s.Suffixes) (s.Tests → s.Tests) s.TypeExp (s.Arms → s.Arms) s.Block s.Brackets (s.Cases → s.Cases) s.Control s.Interval s.Left (s.Operations → s.Operations) condition_step count_step expr_step field_list_step plain_item_step raise_step statement_step suffix_step test_step type_exp_step arm_step block_step brackets_step case_step control_step interval_step left_step operation_step y
 
-operation_at : (y : Trees Operation-F) {x : Operation} → roll-Operation y ≡ x → operation x ≡ operation_step (map-Operation Condition Count Expr FieldList PlainItem Raise Statement Suffix Test TypeExp Arm Block Brackets Case Control Interval Left Operation s.Condition s.Count s.Expr s.FieldList s.PlainItem s.Raise s.Statement (s.Suffixes → s.Suffixes) (s.Tests → s.Tests) s.TypeExp (s.Arms → s.Arms) s.Block s.Brackets (s.Cases → s.Cases) s.Control s.Interval s.Left (s.Operations → s.Operations) condition count expr field_list plain_item raise statement suffix test type_exp arm block brackets case control interval left operation y)
+pub operation_at : (y : Trees Operation-F) {x : Operation} → roll-Operation y ≡ x → operation x ≡ operation_step (map-Operation Condition Count Expr FieldList PlainItem Raise Statement Suffix Test TypeExp Arm Block Brackets Case Control Interval Left Operation s.Condition s.Count s.Expr s.FieldList s.PlainItem s.Raise s.Statement (s.Suffixes → s.Suffixes) (s.Tests → s.Tests) s.TypeExp (s.Arms → s.Arms) s.Block s.Brackets (s.Cases → s.Cases) s.Control s.Interval s.Left (s.Operations → s.Operations) condition count expr field_list plain_item raise statement suffix test type_exp arm block brackets case control interval left operation y)
 unfolding condition count expr field_list plain_item raise statement suffix test type_exp arm block brackets case control interval left operation
 operation_at y h = ap operation (sym h) ∙ fold-roll-Operation s.Condition s.Count s.Expr s.FieldList s.PlainItem s.Raise s.Statement (s.Suffixes → s.Suffixes) (s.Tests → s.Tests) s.TypeExp (s.Arms → s.Arms) s.Block s.Brackets (s.Cases → s.Cases) s.Control s.Interval s.Left (s.Operations → s.Operations) condition_step count_step expr_step field_list_step plain_item_step raise_step statement_step suffix_step test_step type_exp_step arm_step block_step brackets_step case_step control_step interval_step left_step operation_step y
 

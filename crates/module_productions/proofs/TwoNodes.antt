@@ -39,8 +39,10 @@ use Rattle.mesa_types.specs.declared.syntax.Defined.{Defined}
 use Rattle.mesa_types.specs.declared.syntax.ModuleKind.{ModuleKind}
 use Rattle.mesa_types.specs.declared.syntax.DirectoryItem.{DirectoryItem}
 use Rattle.mesa_types.specs.declared.syntax.Module.{Module}
-use Rattle.mesa_types.specs.SyntaxNodes.{total, optional, named, keyed, entries, phrase, values, labels, repeat_labels, repeated, base, negation, condition_nodes, count_nodes, expr_nodes, field_list_nodes, plain_nodes, raise_nodes, statement_nodes, suffix_nodes, test_nodes, type_nodes, arm_nodes, block_nodes, brackets_nodes, case_nodes, control_nodes, interval_nodes, left_nodes, operation_nodes, head_nodes, declared_nodes, declaration_nodes, inner_nodes, defined_nodes, kind_nodes, directory_item_nodes, nodes}
+use Rattle.mesa_types.proofs.LayerNodes.{total, optional, named, keyed, entries, phrase, values, labels, repeat_labels, repeated, base, negation, condition_nodes, count_nodes, expr_nodes, field_list_nodes, plain_nodes, raise_nodes, statement_nodes, suffix_nodes, test_nodes, type_nodes, arm_nodes, block_nodes, brackets_nodes, case_nodes, control_nodes, interval_nodes, left_nodes, operation_nodes, head_nodes, declared_nodes, declaration_nodes, inner_nodes, defined_nodes, kind_nodes, directory_item_nodes, nodes}
 use Rattle.mesa_types.proofs.SyntaxForms as of
+use Rattle.mesa_types.proofs.NodesAgree.{nodes_agree}
+use Rattle.mesa_types.specs.SyntaxNodes as plain
 use Rattle.module_productions.specs.Grammar.{run, step, left, keyed as key_of, labeled}
 use Rattle.module_productions.specs.Grammar as g
 use Rattle.module_productions.specs.Modules as m
@@ -486,6 +488,9 @@ unfolding kind_nodes
 kind_f (m.program d f h i) = record { fits = omega (arith, (listed_f d).fits, (listed_f f).fits, (open_f h).fits, inner_f i) }
 kind_f (m.interface d f) = record { fits = omega (arith, (open_f d).fits, (definitions_f f).fits) }
 
-pub module_f : {ts rest : List Token} {x : Module} → m.IsModule ts x rest → Fits nodes ts x rest
+module_f : {ts rest : List Token} {x : Module} → m.IsModule ts x rest → Fits nodes ts x rest
 unfolding nodes
 module_f (m.a_module d f) = record { fits = omega (arith, (directory_f d).fits, (kind_f f).fits) }
+
+pub module_fits : {ts rest : List Token} {x : Module} → m.IsModule ts x rest → Fits plain.nodes ts x rest
+module_fits {x = x} d = record { fits = omega (arith, nodes_agree x, (module_f d).fits) }
