@@ -3,5 +3,6 @@ mod Interfaces
 mod Names
 mod Orders
 mod Statements
+mod Trees
 mod Types
 mod Worked

@@ -1,4 +1,5 @@
 pub mod Everything
+mod LawProofs
 pub mod Lexing
 mod Noticed
 pub mod Reading

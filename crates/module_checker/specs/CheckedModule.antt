@@ -60,12 +60,16 @@ module_of m is imports exports r =
       body = r.0.body;
     }))
 
+abbrev pub whole_in : s.Module → Known → List PlainInterface → List Identifier → List Identifier → s.Inner → Checked (Whole × State)
+whole_in m known is imports opens inner =
+    program_body known m.name.place inner (start m known (ahead inner.declarations) opens (unused (those_of m.directory is imports)))
+
+abbrev pub whole_of : s.Module → List PlainInterface → List Identifier → List Identifier → s.Inner → Checked (Whole × State)
+whole_of m is imports opens inner = whole_in m (known_of m None true imports is) is imports opens inner
+
 abbrev pub program : s.Module → List PlainInterface → List Identifier → List Identifier → List Identifier → s.Inner → Checked t.Module
 program m is imports exports opens inner =
-    and_then (lists m is imports exports opens) (λ _.
-    let known = known_of m None true imports is in
-    and_then (program_body known m.name.place inner (start m known (ahead inner.declarations) opens (unused (those_of m.directory is imports))))
-    (module_of m is imports exports))
+    and_then (lists m is imports exports opens) (λ _. and_then (whole_of m is imports opens inner) (module_of m is imports exports))
 
 abbrev pub defined_as : s.Module → ℕ → d.Defined → PlainInterface
 defined_as m stamp x = record {

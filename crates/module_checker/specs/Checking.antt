@@ -448,7 +448,7 @@ unfoldable mutual
   pub block : Around → s.Block → Check t.Stmt
   block a (s.BlockOf p ph locals ss es) = numbered a (is_catch ph) (λ a. do
     x ← in_scope nothing (do
-      hs ← heads (inside a) locals
+      hs ← heads (with_labels (labels_of_exits es) (inside a)) locals
       w ← phrase (with_labels (labels_of_exits es) (inside a)) ph
       ds ← initials (with_labels (labels_of_exits es) (inside a)) locals hs
       bs ← statements (with_labels (labels_of_exits es) (inside a)) ss

@@ -4,6 +4,7 @@ pub mod CheckedModule
 pub mod Constants
 pub mod Definitions
 pub mod Directory
+pub mod Laws
 pub mod Meanings
 pub mod Mentions
 pub mod Names

@@ -342,7 +342,7 @@ body_block w ds ss es = t.Block w (join_stmts ds ss) es
 
 unfoldable pub whole_in : Around → Place → s.Inner → Check Whole
 whole_in a p inner = do
-  ds ← all_declared (outermost a) 1 0 inner.declarations
+  ds ← all_declared (outermost (with_labels (labels_of_exits inner.exits) a)) 1 0 inner.declarations
   _ ← heads_are_done
   w ← phrase (with_labels (labels_of_exits inner.exits) a) inner.enable
   vs ← values_of (with_labels (labels_of_exits inner.exits) a) inner.declarations ds

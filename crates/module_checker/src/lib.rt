@@ -2,5 +2,6 @@
 #![tactic(auto)]
 
 mod fault;
+pub mod laws;
 
 pub use fault::{Cause, CheckFault};
