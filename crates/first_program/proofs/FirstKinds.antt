@@ -13,7 +13,7 @@ use Rattle.mesa_types.specs.declared.types.TypeTree.TheVariants as v
 use Rattle.mesa_types.specs.declared.types.TypeTree.TheFolds.{fold-roll-TypeTree, fold-roll-FieldType}
 use Rattle.interface_records.specs.Faces.{parameter, procedure}
 use Rattle.source_meaning.specs.Program.{Host, WriteChar, WriteDecimal, host_of}
-use Rattle.source_meaning.specs.FirstProgram.{AreOrdinal}
+use Rattle.source_meaning.specs.FirstProgram.{AreOrdinal, IsPrinter}
 use Rattle.first_program.specs.FirstTree as f
 
 pub integer_kind : kind_of v.Integer ≡ Ordinal
@@ -62,6 +62,7 @@ pub record IsWriter (number : ℕ) : Type 0 where
   pub takes : kinds_of item.takes ≡ a_word
   pub gives : kinds_of item.gives ≡ NoKinds
   pub is_named : host_of item.name ≡ Some host
+  pub is_printer : IsPrinter host
 
 pub writes_char : IsWriter f.number_of_write_char
 unfolding item_in imported UsedIn IsUsed host_of a_word one
@@ -74,6 +75,7 @@ writes_char = record {
   takes = character_first (codes "c");
   gives = refl;
   is_named = refl;
+  is_printer = tt;
 }
 
 pub writes_decimal : IsWriter f.number_of_write_decimal
@@ -87,4 +89,5 @@ writes_decimal = record {
   takes = integer_first (codes "n") [];
   gives = refl;
   is_named = refl;
+  is_printer = tt;
 }

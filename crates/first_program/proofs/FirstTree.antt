@@ -135,7 +135,7 @@ module _ (n : ℕ) where
         tt,
       ),
     );
-    is_first = ((w.item, w.host, w.is_there, w.is_named), a.is_quiet, refl);
+    is_first = ((w.item, w.host, w.is_there, w.is_named, w.is_printer), a.is_quiet, refl);
     none_hidden = omega (arith, a.none_hidden);
   }
 

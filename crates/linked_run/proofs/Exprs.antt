@@ -10,7 +10,7 @@ use Rattle.mesa_types.specs.declared.typed_parts.Range.TheVariants.{Every}
 use Rattle.mesa_types.specs.declared.typed_parts.Operator.TheVariants as operator
 use Rattle.mesa_types.specs.declared.relation.Relation.{Relation}
 use Rattle.mesa_types.specs.declared.relation.Relation.TheVariants.{Equal, NotEqual, Less, AtMost, Greater, AtLeast}
-use Rattle.source_meaning.specs.Value.{word, truth, related, wrap, shifted}
+use Rattle.source_meaning.specs.Operators.{truth, related, wrap, shifted}
 use Rattle.source_meaning.specs.FirstProgram.{IsQuiet, AreQuiet}
 use Rattle.frame_machine.specs.declared.image.Instruction.{Instruction}
 use Rattle.frame_machine.specs.declared.image.Instruction.TheVariants.{Lit, LoadG, Add, Sub, Eq, LessI, Not, Swap}
@@ -24,13 +24,13 @@ use Rattle.linked_run.proofs.Lies.{Lies, seam, Leads, stays, and_then, leads}
 abbrev pub here : State → ℕ → List ℕ → State
 here s a ops = record s { at = a; operands = ops }
 
-flag_is : (b : Bool) → flag b ≡ word (truth b)
-unfolding flag truth word
+flag_is : (b : Bool) → flag b ≡ truth b
+unfolding flag truth
 flag_is true = refl
 flag_is false = refl
 
-flag_not : (b : Bool) → flag (nat_eq (flag b) 0) ≡ word (truth (not b))
-unfolding flag truth word
+flag_not : (b : Bool) → flag (nat_eq (flag b) 0) ≡ truth (not b)
+unfolding flag truth
 flag_not true = refl
 flag_not false = refl
 
@@ -68,26 +68,26 @@ module _ (whole : List Instruction) where
   unfolding step_of top below
   swap_leads s a x y ops g = leads whole (here s a (y ∷ x ∷ ops)) (here s (a + 1) (x ∷ y ∷ ops)) Swap g refl
 
-  not_leads : (s : State) (a : ℕ) (b : Bool) (ops : List ℕ) → slice_get whole a ≡ Some Not → Leads whole (here s a (flag b ∷ ops)) (here s (a + 1) (word (truth (not b)) ∷ ops))
+  not_leads : (s : State) (a : ℕ) (b : Bool) (ops : List ℕ) → slice_get whole a ≡ Some Not → Leads whole (here s a (flag b ∷ ops)) (here s (a + 1) (truth (not b) ∷ ops))
   unfolding step_of push top below
-  not_leads s a b ops g = leads whole (here s a (flag b ∷ ops)) (here s (a + 1) (word (truth (not b)) ∷ ops)) Not g (ap (λ (n : ℕ). Goes (here s (a + 1) (n ∷ ops))) (flag_not b))
+  not_leads s a b ops g = leads whole (here s a (flag b ∷ ops)) (here s (a + 1) (truth (not b) ∷ ops)) Not g (ap (λ (n : ℕ). Goes (here s (a + 1) (n ∷ ops))) (flag_not b))
 
   at_end : (s s1 : State) (a b n m : ℕ) (ops : List ℕ) → a ≡ b → n ≡ m → Leads whole s (here s1 a (n ∷ ops)) → Leads whole s (here s1 b (m ∷ ops))
   at_end s s1 a b n m ops e d h = subst (λ x. Leads whole s (here s1 x (m ∷ ops))) e (subst (λ x. Leads whole s (here s1 a (x ∷ ops))) d h)
 
-  relation_leads : (r : Relation) (s : State) (a b x y : ℕ) (ops : List ℕ) → Lies whole a (code_of_relation r) b → Leads whole (here s a (y ∷ x ∷ ops)) (here s b (word (truth (related r Signed x y)) ∷ ops))
+  relation_leads : (r : Relation) (s : State) (a b x y : ℕ) (ops : List ℕ) → Lies whole a (code_of_relation r) b → Leads whole (here s a (y ∷ x ∷ ops)) (here s b (truth (related r Signed x y) ∷ ops))
   unfolding related
   relation_leads Equal s a b x y ops l = at_end _ s _ b _ _ ops l.1 (flag_is (nat_eq x y)) (eq_leads s a x y ops l.0)
   relation_leads NotEqual s a b x y ops l =
       at_end _ s _ b _ _ ops (l.1).1 refl (and_then whole _ _ _ (eq_leads s a x y ops l.0) (not_leads s (a + 1) (nat_eq x y) ops (l.1).0))
   relation_leads Less s a b x y ops l = at_end _ s _ b _ _ ops l.1 (flag_is _) (less_leads s a x y ops l.0)
   relation_leads AtMost s a b x y ops l =
-      at_end _ s _ b _ _ ops ((l.1).1).1 (ap (λ t. word (truth t)) (not_lt (shifted Signed x) (shifted Signed y)))
+      at_end _ s _ b _ _ ops ((l.1).1).1 (ap (truth) (not_lt (shifted Signed x) (shifted Signed y)))
       (and_then whole _ _ _ (swap_leads s a x y ops l.0) (and_then whole _ _ _ (less_leads s (a + 1) y x ops (l.1).0) (not_leads s (a + 1 + 1) (nat_lt (shifted Signed y) (shifted Signed x)) ops ((l.1).1).0)))
   relation_leads Greater s a b x y ops l =
       at_end _ s _ b _ _ ops (l.1).1 (flag_is (nat_lt (shifted Signed y) (shifted Signed x))) (and_then whole _ _ _ (swap_leads s a x y ops l.0) (less_leads s (a + 1) y x ops (l.1).0))
   relation_leads AtLeast s a b x y ops l =
-      at_end _ s _ b _ _ ops (l.1).1 (ap (λ t. word (truth t)) (not_lt (shifted Signed y) (shifted Signed x)))
+      at_end _ s _ b _ _ ops (l.1).1 (ap (truth) (not_lt (shifted Signed y) (shifted Signed x)))
       (and_then whole _ _ _ (less_leads s a x y ops l.0) (not_leads s (a + 1) (nat_lt (shifted Signed x) (shifted Signed y)) ops (l.1).0))
 
   module _ (imports : List Import) where

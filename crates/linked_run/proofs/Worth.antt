@@ -7,12 +7,18 @@ use Rattle.mesa_types.specs.declared.typed_parts.Base.TheVariants.{Signed}
 use Rattle.mesa_types.specs.declared.typed_parts.Range.TheVariants.{Every}
 use Rattle.mesa_types.specs.declared.typed_parts.Operator.{Operator}
 use Rattle.mesa_types.specs.declared.typed_parts.Operator.TheVariants as operator
-use Rattle.source_meaning.specs.Value.{Value, Word, Values, NoValues, AndValue, word, nth, one, truth, related, wrap}
+use Rattle.source_meaning.specs.Value.{Value, Word, Values, NoValues, AndValue, word, nth, one, part_at, path_of}
+use Rattle.source_meaning.specs.Operators.{truth, related, wrap, fits, fine_if, checked, tried}
 use Rattle.source_meaning.specs.Program.{Program}
-use Rattle.source_meaning.specs.State.{State, Run, give, carry, after, look, value_then, on_values, on_value, on_word, give_value}
-use Rattle.source_meaning.specs.Calls.{Where, Next, globals, fetch, operate}
-use Rattle.source_meaning.specs.Meaning.{value, operations}
+use Rattle.source_meaning.specs.State.{State, Store, Run, give, carry, after, look, value_then, on_values, on_value, on_word, give_value, give_word}
+use Rattle.source_meaning.specs.Variables.{Where, fetch}
+use Rattle.source_meaning.specs.Signals.{Next, on_tried}
+use Rattle.source_meaning.specs.Meaning.{value, path, operations}
 use Rattle.source_meaning.specs.FirstProgram.{IsQuiet, AreQuiet}
+
+-- the variables of the instance
+abbrev pub globals : Where → Store → Values
+globals w s = s.globals w.instance
 
 abbrev pub words : Values → List ℕ
 words NoValues = []
@@ -28,7 +34,7 @@ abbrev mutual
   worth (Number n) gs = n
   worth (Variable (Global k) NoSuffix size) gs = slice_index gs k
   worth (Operate e os) gs = worth_after os gs (worth e gs)
-  worth (Relate b r d e) gs = word (truth (related r b (worth d gs) (worth e gs)))
+  worth (Relate b r d e) gs = truth (related r b (worth d gs) (worth e gs))
   worth _ gs = 0
 
   pub worth_after : Operations → List ℕ → ℕ → ℕ
@@ -61,7 +67,7 @@ then_worth m k n j σ h i = record { found = i.found; gives = on_word_of m k n �
 
 module _ (P : Program) (next : Next) (w : Where) where
   mutual
-    unfolding value operations operate look fetch word
+    unfolding value path operations on_tried checked fine_if fits tried on_values after carry value_then look fetch part_at path_of give give_word word
 
     pub value_is : (e : Expr) (σ : State) → IsQuiet e → IsWorth (value P next e w) σ (worth e (words (globals w σ.store)))
     value_is (Number n) σ q = record { found = Word n; gives = refl; number = refl }
@@ -72,23 +78,18 @@ module _ (P : Program) (next : Next) (w : Where) where
     value_is (Relate Signed r d e) σ q =
         let x = worth d (words (globals w σ.store)) in
         let y = worth e (words (globals w σ.store)) in
-        then_worth (value P next d w) (λ x. on_word (value P next e w) λ y. give_value (truth (related r Signed x y))) x _ σ (value_is d σ q.0)
-        (then_worth (value P next e w) (λ y. give_value (truth (related r Signed x y))) y _ σ (value_is e σ q.1)
-        (record { found = truth (related r Signed x y); gives = refl; number = refl }))
+        then_worth (value P next d w) (λ x. on_word (value P next e w) λ y. give_word (truth (related r Signed x y))) x _ σ (value_is d σ q.0)
+        (then_worth (value P next e w) (λ y. give_word (truth (related r Signed x y))) y _ σ (value_is e σ q.1)
+        (record { found = Word (truth (related r Signed x y)); gives = refl; number = refl }))
     value_is _ σ q = absurd q
 
+    -- the operands are taken as they are, and a sum or difference is no fault
     pub operations_are : (os : Operations) (x : ℕ) (σ : State) → AreQuiet os → IsWorth (operations P next os w x) σ (worth_after os (words (globals w σ.store)) x)
     operations_are NoOperation x σ q = record { found = Word x; gives = refl; number = refl }
     operations_are (Then Every operator.Add e os) x σ q =
         let y = worth e (words (globals w σ.store)) in
-        then_worth (value P next e w) (λ y. on_word (operate operator.Add x y) λ z. operations P next os w z) y _ σ (value_is e σ q.0)
-        (then_worth (operate operator.Add x y) (λ z. operations P next os w z) (operated operator.Add x y) _ σ
-        (record { found = Word (operated operator.Add x y); gives = refl; number = refl })
-        (operations_are os (operated operator.Add x y) σ q.1))
+        then_worth (value P next e w) (λ y. operations P next os w (operated operator.Add x y)) y _ σ (value_is e σ q.0) (operations_are os (operated operator.Add x y) σ q.1)
     operations_are (Then Every operator.Subtract e os) x σ q =
         let y = worth e (words (globals w σ.store)) in
-        then_worth (value P next e w) (λ y. on_word (operate operator.Subtract x y) λ z. operations P next os w z) y _ σ (value_is e σ q.0)
-        (then_worth (operate operator.Subtract x y) (λ z. operations P next os w z) (operated operator.Subtract x y) _ σ
-        (record { found = Word (operated operator.Subtract x y); gives = refl; number = refl })
-        (operations_are os (operated operator.Subtract x y) σ q.1))
+        then_worth (value P next e w) (λ y. operations P next os w (operated operator.Subtract x y)) y _ σ (value_is e σ q.0) (operations_are os (operated operator.Subtract x y) σ q.1)
     operations_are _ x σ q = absurd q

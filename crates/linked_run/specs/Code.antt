@@ -39,6 +39,7 @@ abbrev pub code_of_host : Option Host → List Instruction
 code_of_host None = []
 code_of_host (Some host.WriteChar) = WriteChar ∷ []
 code_of_host (Some host.WriteDecimal) = WriteDecimal ∷ []
+code_of_host (Some _) = []
 
 -- what is called is the procedure of the host that has the item's name
 abbrev pub code_of_link : Option Item → List Instruction

@@ -3,7 +3,7 @@ use Rattle.std.specs.Prelude.{◌≡◌, ◌≢◌, ℕ, ◌⊎◌, List, Some, 
 use Rattle.mesa_base.specs.Outside.{Files, Rose}
 use Rattle.mesa_base.specs.declared.status.Status.{Status}
 use Rattle.mesa_base.specs.declared.status.Status.TheVariants as status
-use Rattle.source_meaning.specs.State.{Answer, Normal, Gives, Spent, FrameLimit, NoRow}
+use Rattle.source_meaning.specs.State.{Answer, Normal, Spent, FrameLimit}
 use Rattle.mesa_command.specs.Forms.{IsGo, file_of}
 use Rattle.mesa_command.specs.Outputs.{Stream, HasFaulted, Receives}
 use Rattle.mesa_command.specs.Case.{Case, Absent, Memory, status_of, line_of}
@@ -37,8 +37,7 @@ abbrev pub IsStatusOf : Answer → Status → Type 0
 IsStatusOf Normal s = s ≡ status.Done
 IsStatusOf Spent s = s ≡ status.Spent
 IsStatusOf FrameLimit s = s ≡ status.FrameLimit
-IsStatusOf (Gives _) s = ⊥
-IsStatusOf NoRow s = ⊥
+IsStatusOf _ s = ⊥
 
 -- a text of the language that is there is run, and the call ends as its module does
 abbrev pub IsComplete : List (List ℕ) → Shelf → Shelf → Stream → Stream → Status → Type 0

@@ -1,13 +1,15 @@
-pub mod Activations
+pub mod Bodies
 pub mod Bounds
 pub mod Ends
-pub mod First
 pub mod Fuel
 pub mod Input
 pub mod Kept
-pub mod Laws
+pub mod Made
+pub mod Mild
 pub mod Only
-pub mod Room
-mod Rows
-pub mod Statements
+pub mod Outward
+pub mod Points
+pub mod Standing
+pub mod Telling
+pub mod Through
 pub mod Whole

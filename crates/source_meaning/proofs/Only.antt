@@ -1,124 +1,231 @@
--- Which answers a run may give: a statement gives no value, and what an expression gives is taken or dropped.
-use Rattle.std.specs.Prelude.{ℕ, zero, suc, List, Bool, true, false}
+-- Runs that give only some answers. What follows the input stays, and a run is broken only where that is a fault.
+use Rattle.std.specs.Prelude.{◌≡◌, refl, ℕ, zero, suc, List, [], ◌∷◌, Bool, true, false}
+use mathlib.Core.Path.{◌∙◌, sym}
+use Rattle.mesa_types.specs.Typed.{Point}
 use Rattle.source_meaning.specs.Value.{Value, Values, nth, word}
-use Rattle.source_meaning.specs.State.{State, Store, Answer, Normal, Gives, Spent, FrameLimit, NoRow, Run, give, give_value, carry, after, look, change, spend_of, spend, leave, enter_if, enter, put, branch, value_then, on_values, on_value, on_word, normal_then, on_normal, dropped_of, dropped}
-use Rattle.source_meaning.specs.Calls.{push, pop, in_frame}
+use Rattle.source_meaning.specs.State.{ProcedureId, State, Store, Ending, End, Fault, Answer, Normal, Gives, Go, Resumed, Rejected, Retried, Continued, Uncaught, Spent, FrameLimit, Broken, Run, give, give_value, give_word, carry, after, look, change, spend_of, spend, leave, enter_if, enter, put, read_of, read, peek_of, peek, branch, value_then, on_values, on_value, on_word, normal_then, on_normal, dropped_of, dropped}
+use Rattle.source_meaning.specs.Variables.{add_frame, in_frame}
 
-abbrev Holds : Bool → Type 0
-Holds true = Unit {0}
-Holds false = ⊥
+-- which answers: `again` says of which statements RETRY and CONTINUE may be, `jumps` to which points of which frames
+pub record Answers : Type 1 where
+  pub ending : Ending
+  pub normal : Type 0
+  pub gives : Type 0
+  pub resumed : Type 0
+  pub rejected : Type 0
+  pub again : ℕ → Type 0
+  pub jumps : ℕ → Point → Type 0
 
-abbrev Fails : Bool → Type 0
-Fails true = ⊥
-Fails false = Unit {0}
+unfoldable pub Allow : Answers → Answer → Type 0
+Allow A Normal = A.normal
+Allow A (Gives vs) = A.gives
+Allow A (Go f p) = A.jumps f p
+Allow A (Resumed vs) = A.resumed
+Allow A Rejected = A.rejected
+Allow A (Retried n) = A.again n
+Allow A (Continued n) = A.again n
+Allow A (Uncaught s) = Unit {0}
+Allow A Spent = Unit {0}
+Allow A FrameLimit = Unit {0}
+Allow A Broken = A.ending ≡ Fault
 
--- the answers of a statement or else of an expression; Full says that the frames may be full, Bare that a construct
--- may have no row
-abbrev pub Allow : (statement : Bool) → (Full Bare : Type 0) → Answer → Type 0
-Allow b Full Bare Normal = Holds b
-Allow b Full Bare (Gives vs) = Fails b
-Allow b Full Bare Spent = Unit {0}
-Allow b Full Bare FrameLimit = Full
-Allow b Full Bare NoRow = Bare
+-- of an expression: values alone
+abbrev pub as_expression : Answers → Answers
+as_expression A = record { ending = A.ending; normal = ⊥; gives = Unit {0}; resumed = ⊥; rejected = ⊥; again = λ n. ⊥; jumps = A.jumps }
 
-pub record Only (statement : Bool) (Full Bare : Type 0) (m : Run) : Type 0 where
-  pub its : (σ : State) → Allow statement Full Bare (m σ).answer
+-- of a fault: neither values nor an end of a statement
+abbrev pub as_fault : Answers → Answers
+as_fault A = record { ending = A.ending; normal = ⊥; gives = ⊥; resumed = ⊥; rejected = ⊥; again = λ n. ⊥; jumps = A.jumps }
 
-module _ (Full Bare : Type 0) where
-  pub give_only : {b : Bool} → (a : Answer) → Allow b Full Bare a → Only b Full Bare (give a)
-  unfolding give
-  give_only a h = record { its = λ σ. h }
+pub record Only (A : Answers) (m : Run) : Type 0 where
+  pub its : (σ : State) → σ.ending ≡ A.ending → Allow A (m σ).answer
+  pub stays : (σ : State) → σ.ending ≡ A.ending → (m σ).state.ending ≡ A.ending
 
-  pub after_only : {b c : Bool} {m : Run} {k : Answer → Run} → Only b Full Bare m → ((a : Answer) → Allow b Full Bare a → Only c Full Bare (k a)) → Only c Full Bare (after m k)
-  unfolding after carry
-  after_only h g = record { its = λ σ. (g _ (h.its σ)).its _ }
+pub only_give : (A : Answers) (a : Answer) → Allow A a → Only A (give a)
+unfolding give
+only_give A a h = record { its = λ σ e. h; stays = λ σ e. e }
 
-  pub look_only : {b : Bool} {k : Store → Run} → ((s : Store) → Only b Full Bare (k s)) → Only b Full Bare (look k)
-  unfolding look
-  look_only g = record { its = λ σ. (g _).its σ }
+-- what is allowed less is allowed
+pub record Wider (A B : Answers) : Type 0 where
+  pub ending : A.ending ≡ B.ending
+  pub normal : A.normal → B.normal
+  pub gives : A.gives → B.gives
+  pub resumed : A.resumed → B.resumed
+  pub rejected : A.rejected → B.rejected
+  pub again : (n : ℕ) → A.again n → B.again n
+  pub jumps : (f : ℕ) (p : Point) → A.jumps f p → B.jumps f p
 
-  pub change_only : {b : Bool} {m : Run} → (f : Store → Store) → Only b Full Bare m → Only b Full Bare (change f m)
-  unfolding change
-  change_only f h = record { its = λ σ. h.its _ }
+allow_wider : {A B : Answers} → Wider A B → (a : Answer) → Allow A a → Allow B a
+unfolding Allow
+allow_wider w Normal h = w.normal h
+allow_wider w (Gives vs) h = w.gives h
+allow_wider w (Go f p) h = w.jumps f p h
+allow_wider w (Resumed vs) h = w.resumed h
+allow_wider w Rejected h = w.rejected h
+allow_wider w (Retried n) h = w.again n h
+allow_wider w (Continued n) h = w.again n h
+allow_wider w (Uncaught s) h = tt
+allow_wider w Spent h = tt
+allow_wider w FrameLimit h = tt
+allow_wider w Broken h = sym w.ending ∙ h
 
-  spend_of_only : {b : Bool} {m : Run} → Only b Full Bare m → (t : ℕ) (σ : State) → Allow b Full Bare (spend_of t m σ).answer
-  unfolding spend_of give
-  spend_of_only h zero σ = tt
-  spend_of_only h (suc t) σ = h.its _
+pub only_wider : {A B : Answers} {m : Run} → Wider A B → Only A m → Only B m
+only_wider w h = record { its = λ σ e. allow_wider w _ (h.its σ (e ∙ sym w.ending)); stays = λ σ e. h.stays σ (e ∙ sym w.ending) ∙ w.ending }
 
-  pub spend_only : {b : Bool} {m : Run} → Only b Full Bare m → Only b Full Bare (spend m)
-  unfolding spend
-  spend_only h = record { its = λ σ. spend_of_only h σ.turns σ }
+pub only_after : {A B : Answers} {m : Run} {k : Answer → Run} → A.ending ≡ B.ending → Only A m → ((a : Answer) → Allow A a → Only B (k a)) → Only B (after m k)
+unfolding after carry
+only_after same h g = record {
+  its = λ σ e. (g _ (h.its σ (e ∙ sym same))).its _ (h.stays σ (e ∙ sym same) ∙ same);
+  stays = λ σ e. (g _ (h.its σ (e ∙ sym same))).stays _ (h.stays σ (e ∙ sym same) ∙ same);
+}
 
-  enter_if_only : {b : Bool} {m : Run} → Full → Only b Full Bare m → (room : Bool) (σ : State) → Allow b Full Bare (enter_if room m σ).answer
-  unfolding enter_if give leave
-  enter_if_only f h false σ = f
-  enter_if_only f h true σ = h.its _
+pub only_look : {A : Answers} {k : Store → Run} → ((s : Store) → Only A (k s)) → Only A (look k)
+unfolding look
+only_look g = record { its = λ σ e. (g _).its σ e; stays = λ σ e. (g _).stays σ e }
 
-  pub enter_only : {b : Bool} {m : Run} → Full → Only b Full Bare m → Only b Full Bare (enter m)
-  unfolding enter
-  enter_only f h = record { its = λ σ. enter_if_only f h _ σ }
+pub only_change : {A : Answers} {m : Run} → (f : Store → Store) → Only A m → Only A (change f m)
+unfolding change
+only_change f h = record { its = λ σ e. h.its _ e; stays = λ σ e. h.stays _ e }
 
-  pub put_only : {b : Bool} {m : Run} → (text : List ℕ) → Only b Full Bare m → Only b Full Bare (put text m)
-  unfolding put
-  put_only text h = record { its = λ σ. h.its _ }
+spend_of_only : {A : Answers} {m : Run} → Only A m → (n : ℕ) (σ : State) → σ.ending ≡ A.ending → Allow A (spend_of n m σ).answer × ((spend_of n m σ).state.ending ≡ A.ending)
+unfolding spend_of give Allow
+spend_of_only h zero σ e = (tt, e)
+spend_of_only h (suc n) σ e = (h.its _ e, h.stays _ e)
 
-  pub branch_only : {b : Bool} {m n : Run} → (c : Bool) → Only b Full Bare m → Only b Full Bare n → Only b Full Bare (branch c m n)
-  unfolding branch
-  branch_only true h g = h
-  branch_only false h g = g
+pub only_spend : {A : Answers} {m : Run} → Only A m → Only A (spend m)
+unfolding spend
+only_spend h = record { its = λ σ e. (spend_of_only h σ.turns σ e).0; stays = λ σ e. (spend_of_only h σ.turns σ e).1 }
 
-  pub in_frame_only : {b : Bool} {k : ℕ → Run} → (vs : Values) → ((h : ℕ) → Only b Full Bare (k h)) → Only b Full Bare (in_frame vs k)
-  unfolding in_frame
-  in_frame_only {b} vs g = look_only λ s. change_only (push vs) (after_only {b = b} (g s.fresh) λ a h. change_only pop (give_only a h))
+enter_if_only : {A : Answers} {m : Run} → Only A m → (b : Bool) (σ : State) → σ.ending ≡ A.ending → Allow A (enter_if b m σ).answer × ((enter_if b m σ).state.ending ≡ A.ending)
+unfolding enter_if give leave Allow
+enter_if_only h false σ e = (tt, e)
+enter_if_only h true σ e = (h.its _ e, h.stays _ e)
 
-  pub give_value_only : (v : Value) → Only false Full Bare (give_value v)
-  unfolding give_value
-  give_value_only v = give_only _ tt
+pub only_enter : {A : Answers} {m : Run} → Only A m → Only A (enter m)
+unfolding enter
+only_enter h = record { its = λ σ e. (enter_if_only h _ σ e).0; stays = λ σ e. (enter_if_only h _ σ e).1 }
 
-  value_then_only : {b : Bool} {k : Values → Run} → ((vs : Values) → Only b Full Bare (k vs)) → (a : Answer) → Allow false Full Bare a → Only b Full Bare (value_then k a)
-  unfolding value_then
-  value_then_only g Normal h = absurd h
-  value_then_only g (Gives vs) h = g vs
-  value_then_only g Spent h = give_only _ tt
-  value_then_only g FrameLimit h = give_only _ h
-  value_then_only g NoRow h = give_only _ h
+pub only_put : {A : Answers} {m : Run} → (text : List ℕ) → Only A m → Only A (put text m)
+unfolding put
+only_put text h = record { its = λ σ e. h.its _ e; stays = λ σ e. h.stays _ e }
 
-  pub on_values_only : {b : Bool} {m : Run} {k : Values → Run} → Only false Full Bare m → ((vs : Values) → Only b Full Bare (k vs)) → Only b Full Bare (on_values m k)
-  unfolding on_values
-  on_values_only h g = after_only h (value_then_only g)
+-- broken only where a fault follows the input
 
-  pub on_value_only : {b : Bool} {m : Run} {k : Value → Run} → Only false Full Bare m → ((v : Value) → Only b Full Bare (k v)) → Only b Full Bare (on_value m k)
-  unfolding on_value
-  on_value_only h g = on_values_only h λ vs. g (nth vs 0)
+read_of_only : {A : Answers} {k : ℕ → Run} {m : Run} → ((b : ℕ) → Only A (k b)) → Only A m → (bs : List ℕ) (end : Ending) (σ : State) → σ.ending ≡ end → σ.ending ≡ A.ending →
+    Allow A (read_of bs end k m σ).answer × ((read_of bs end k m σ).state.ending ≡ A.ending)
+unfolding read_of give Allow
+read_of_only g h (b ∷ bs) end σ d e = ((g b).its _ e, (g b).stays _ e)
+read_of_only g h [] End σ d e = (h.its σ e, h.stays σ e)
+read_of_only g h [] Fault σ d e = (sym e ∙ d, e)
 
-  pub on_word_only : {b : Bool} {m : Run} {k : ℕ → Run} → Only false Full Bare m → ((n : ℕ) → Only b Full Bare (k n)) → Only b Full Bare (on_word m k)
-  unfolding on_word
-  on_word_only h g = on_values_only h λ vs. g (word (nth vs 0))
+pub only_read : {A : Answers} {k : ℕ → Run} {m : Run} → ((b : ℕ) → Only A (k b)) → Only A m → Only A (read k m)
+unfolding read
+only_read g h = record { its = λ σ e. (read_of_only g h _ _ σ refl e).0; stays = λ σ e. (read_of_only g h _ _ σ refl e).1 }
 
-  pub normal_only : Only true Full Bare (give Normal)
-  normal_only = give_only Normal tt
+peek_of_only : {A : Answers} {k : Bool → Run} → ((b : Bool) → Only A (k b)) → (bs : List ℕ) (end : Ending) (σ : State) → σ.ending ≡ end → σ.ending ≡ A.ending →
+    Allow A (peek_of bs end k σ).answer × ((peek_of bs end k σ).state.ending ≡ A.ending)
+unfolding peek_of give Allow
+peek_of_only g (b ∷ bs) end σ d e = ((g _).its σ e, (g _).stays σ e)
+peek_of_only g [] End σ d e = ((g _).its σ e, (g _).stays σ e)
+peek_of_only g [] Fault σ d e = (sym e ∙ d, e)
 
-  normal_then_only : {n : Run} → Only true Full Bare n → (a : Answer) → Allow true Full Bare a → Only true Full Bare (normal_then n a)
-  unfolding normal_then
-  normal_then_only g Normal h = g
-  normal_then_only g (Gives vs) h = absurd h
-  normal_then_only g Spent h = give_only _ tt
-  normal_then_only g FrameLimit h = give_only _ h
-  normal_then_only g NoRow h = give_only _ h
+pub only_peek : {A : Answers} {k : Bool → Run} → ((b : Bool) → Only A (k b)) → Only A (peek k)
+unfolding peek
+only_peek g = record { its = λ σ e. (peek_of_only g _ _ σ refl e).0; stays = λ σ e. (peek_of_only g _ _ σ refl e).1 }
 
-  pub on_normal_only : {m n : Run} → Only true Full Bare m → Only true Full Bare n → Only true Full Bare (on_normal m n)
-  unfolding on_normal
-  on_normal_only h g = after_only h (normal_then_only g)
+-- What is made of these.
 
-  dropped_of_only : (a : Answer) → Allow false Full Bare a → Only true Full Bare (dropped_of a)
-  unfolding dropped_of
-  dropped_of_only Normal h = absurd h
-  dropped_of_only (Gives vs) h = normal_only
-  dropped_of_only Spent h = give_only _ tt
-  dropped_of_only FrameLimit h = give_only _ h
-  dropped_of_only NoRow h = give_only _ h
+pub only_branch : {A : Answers} {m n : Run} → (b : Bool) → Only A m → Only A n → Only A (branch b m n)
+unfolding branch
+only_branch true h g = h
+only_branch false h g = g
 
-  pub dropped_only : {m : Run} → Only false Full Bare m → Only true Full Bare (dropped m)
-  unfolding dropped
-  dropped_only h = after_only h dropped_of_only
+pub only_frame : {A : Answers} {k : ℕ → Run} → (p : ProcedureId) (vs : Values) → ((h : ℕ) → Only A (k h)) → Only A (in_frame p vs k)
+unfolding in_frame
+only_frame p vs g = only_look λ s. only_change (add_frame p vs) (g s.fresh)
+
+value_then_only : (A : Answers) {k : Values → Run} → ((vs : Values) → Only A (k vs)) → (a : Answer) → Allow (as_expression A) a → Only A (value_then k a)
+unfolding value_then Allow
+value_then_only A g (Gives vs) h = g vs
+value_then_only A g Normal h = absurd h
+value_then_only A g (Go f p) h = only_give A (Go f p) h
+value_then_only A g (Resumed vs) h = absurd h
+value_then_only A g Rejected h = absurd h
+value_then_only A g (Retried n) h = absurd h
+value_then_only A g (Continued n) h = absurd h
+value_then_only A g (Uncaught s) h = only_give A (Uncaught s) tt
+value_then_only A g Spent h = only_give A Spent tt
+value_then_only A g FrameLimit h = only_give A FrameLimit tt
+value_then_only A g Broken h = only_give A Broken h
+
+pub only_values : (A : Answers) {m : Run} {k : Values → Run} → Only (as_expression A) m → ((vs : Values) → Only A (k vs)) → Only A (on_values m k)
+unfolding on_values
+only_values A h g = only_after refl h (value_then_only A g)
+
+pub only_value : (A : Answers) {m : Run} {k : Value → Run} → Only (as_expression A) m → ((x : Value) → Only A (k x)) → Only A (on_value m k)
+unfolding on_value
+only_value A h g = only_values A h λ vs. g (nth vs 0)
+
+pub only_word : (A : Answers) {m : Run} {k : ℕ → Run} → Only (as_expression A) m → ((n : ℕ) → Only A (k n)) → Only A (on_word m k)
+unfolding on_word
+only_word A h g = only_values A h λ vs. g (word (nth vs 0))
+
+pub only_result : (A : Answers) → A.gives → (v : Value) → Only A (give_value v)
+unfolding give_value Allow
+only_result A g v = only_give A _ g
+
+pub only_number : (A : Answers) → A.gives → (n : ℕ) → Only A (give_word n)
+unfolding give_word
+only_number A g n = only_result A g _
+
+-- of a statement before others: it may end
+abbrev pub as_first : Answers → Answers
+as_first A = record { ending = A.ending; normal = Unit {0}; gives = ⊥; resumed = A.resumed; rejected = A.rejected; again = A.again; jumps = A.jumps }
+
+normal_then_only : (A : Answers) {n : Run} → Only A n → (a : Answer) → Allow (as_first A) a → Only A (normal_then n a)
+unfolding normal_then Allow
+normal_then_only A g Normal h = g
+normal_then_only A g (Gives vs) h = absurd h
+normal_then_only A g (Go f p) h = only_give A (Go f p) h
+normal_then_only A g (Resumed vs) h = only_give A (Resumed vs) h
+normal_then_only A g Rejected h = only_give A Rejected h
+normal_then_only A g (Retried n) h = only_give A (Retried n) h
+normal_then_only A g (Continued n) h = only_give A (Continued n) h
+normal_then_only A g (Uncaught s) h = only_give A (Uncaught s) tt
+normal_then_only A g Spent h = only_give A Spent tt
+normal_then_only A g FrameLimit h = only_give A FrameLimit tt
+normal_then_only A g Broken h = only_give A Broken h
+
+pub only_normal : (A : Answers) {m n : Run} → Only (as_first A) m → Only A n → Only A (on_normal m n)
+unfolding on_normal
+only_normal A h g = only_after refl h (normal_then_only A g)
+
+dropped_of_only : (A : Answers) → A.normal → (a : Answer) → Allow (as_expression A) a → Only A (dropped_of a)
+unfolding dropped_of Allow
+dropped_of_only A o (Gives vs) h = only_give A Normal o
+dropped_of_only A o Normal h = absurd h
+dropped_of_only A o (Go f p) h = only_give A (Go f p) h
+dropped_of_only A o (Resumed vs) h = absurd h
+dropped_of_only A o Rejected h = absurd h
+dropped_of_only A o (Retried n) h = absurd h
+dropped_of_only A o (Continued n) h = absurd h
+dropped_of_only A o (Uncaught s) h = only_give A (Uncaught s) tt
+dropped_of_only A o Spent h = only_give A Spent tt
+dropped_of_only A o FrameLimit h = only_give A FrameLimit tt
+dropped_of_only A o Broken h = only_give A Broken h
+
+pub only_dropped : (A : Answers) {m : Run} → A.normal → Only (as_expression A) m → Only A (dropped m)
+unfolding dropped
+only_dropped A o h = only_after refl h (dropped_of_only A o)
+
+-- a fault serves expressions and statements alike
+pub only_fault : (A : Answers) {m : Run} → Only (as_fault A) m → Only A m
+only_fault A h = only_wider (record {
+  ending = refl;
+  normal = λ x. absurd x;
+  gives = λ x. absurd x;
+  resumed = λ x. absurd x;
+  rejected = λ x. absurd x;
+  again = λ n x. absurd x;
+  jumps = λ f p x. x;
+}) h

@@ -1,7 +1,7 @@
 -- The modules of the first program: their variables are words, they have no procedures, signals, strings and exports,
 -- and a procedure of the host is called with one argument, as a statement and nowhere else (rule of this project).
-use Rattle.std.specs.Prelude.{◌≡◌, ℕ, List, [], ◌∷◌, Some, slice_get}
-use Rattle.mesa_types.specs.Typed.{Kinds, NoKinds, AndKind, Ordinal, Endless, Expr, Number, Variable, Operate, Relate, Call, NoExprs, AndExpr, NoSuffix, Operations, NoOperation, Then, NoPhrase, Stmt, Null, Declare, DeclareAs, Assign, Perform, Block, Repeat, Stmts, NoStmts, AndStmt, NoExits, LoopOf, NoFinish, While, Module}
+use Rattle.std.specs.Prelude.{◌≡◌, ℕ, List, [], ◌∷◌, Some}
+use Rattle.mesa_types.specs.Typed.{Kinds, NoKinds, AndKind, Ordinal, Endless, Expr, Number, Variable, Operate, Relate, Call, NoExprs, AndExpr, NoSuffix, Operations, NoOperation, Then, NoPhrase, Stmt, Declare, DeclareAs, Assign, Perform, Block, Repeat, Stmts, NoStmts, AndStmt, NoExits, LoopOf, NoFinish, While, Module}
 use Rattle.mesa_types.specs.declared.typed_parts.Home.TheVariants.{Global}
 use Rattle.mesa_types.specs.declared.typed_parts.Base.TheVariants.{Signed}
 use Rattle.mesa_types.specs.declared.typed_parts.Range.TheVariants.{Every}
@@ -10,7 +10,7 @@ use Rattle.mesa_types.specs.declared.typed_parts.Callee.TheVariants.{LinkedProce
 use Rattle.mesa_types.specs.Links.{imported}
 use Rattle.mesa_types.specs.declared.faces.Import.{Import}
 use Rattle.mesa_types.specs.declared.faces.Item.{Item}
-use Rattle.source_meaning.specs.Program.{Host, Instance, host_of, targets_of}
+use Rattle.source_meaning.specs.Program.{Host, WriteChar, WriteDecimal, host_of}
 
 abbrev pub AreOrdinal : Kinds → Type 0
 AreOrdinal NoKinds = Unit {0}
@@ -32,9 +32,15 @@ abbrev mutual
   AreQuiet (Then Every Subtract e os) = IsQuiet e × AreQuiet os
   AreQuiet _ = ⊥
 
--- the item of an import, by their numbers, is for a procedure of the host
+-- the procedures of the host that are called: they print a character or a number
+abbrev pub IsPrinter : Host → Type 0
+IsPrinter WriteChar = Unit {0}
+IsPrinter WriteDecimal = Unit {0}
+IsPrinter _ = ⊥
+
+-- the item of an import, by their numbers, is for such a procedure
 abbrev pub IsHostItem : List Import → ℕ → ℕ → Type 0
-IsHostItem imports k n = (i : Item) × (h : Host) × (imported imports k n ≡ Some i) × (host_of i.name ≡ Some h)
+IsHostItem imports k n = (i : Item) × (h : Host) × (imported imports k n ≡ Some i) × (host_of i.name ≡ Some h) × IsPrinter h
 
 abbrev pub IsHostCall : List Import → Expr → Type 0
 IsHostCall imports (Call (LinkedProcedure k n) [] (AndExpr e NoExprs) words NoPhrase) =
@@ -67,8 +73,3 @@ pub record FirstProgram (m : Module) : Type 0 where
   pub exports : m.exports ≡ []
   pub variables : m.body.variables ≡ NoKinds
   pub does : IsFirstBlock m.imports m.body.does
-
--- a first program whose imports stand for what they name
-pub record IsFirstInstance (i : Instance) : Type 0 where
-  pub is_first : FirstProgram i.code
-  pub is_linked : i.links ≡ targets_of i.code

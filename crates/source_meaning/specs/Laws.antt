@@ -1,11 +1,14 @@
 -- The laws of the meaning.
-use Rattle.std.specs.Prelude.{◌≡◌, ◌≢◌, ℕ, ◌+◌, ◌<◌, ◌≤◌, ◌⊎◌, List, ◌++◌, All}
-use Rattle.mesa_types.specs.Typed.{Stmt}
-use Rattle.source_meaning.specs.Program.{Program}
-use Rattle.source_meaning.specs.State.{State, Ending, Answer, Normal, Spent, FrameLimit, Result}
-use Rattle.source_meaning.specs.Calls.{Where}
-use Rattle.source_meaning.specs.FirstProgram.{IsFirstInstance}
-use Rattle.source_meaning.specs.Meaning.{meaning}
+use Rattle.std.specs.Prelude.{◌≡◌, ◌≢◌, ℕ, ◌+◌, ◌<◌, ◌≤◌, List, ◌++◌, true}
+use Rattle.mesa_types.specs.Typed.{Stmt, Expr}
+use Rattle.source_meaning.specs.Value.{Values}
+use Rattle.source_meaning.specs.Program.{Signal, Target, Program}
+use Rattle.source_meaning.specs.Lawful.{Lawful}
+use Rattle.source_meaning.specs.State.{Store, State, Ending, Fault, Answer, Normal, Gives, Go, Resumed, Rejected, Retried, Continued, Uncaught, Spent, FrameLimit, Broken, Result}
+use Rattle.source_meaning.specs.Variables.{Where}
+use Rattle.source_meaning.specs.Signals.{raise}
+use Rattle.source_meaning.specs.Calls.{start, call}
+use Rattle.source_meaning.specs.Meaning.{value, meaning}
 use Rattle.source_meaning.specs.Means.{outcome, Means}
 
 -- ys begins with xs
@@ -13,9 +16,32 @@ pub record Begins (xs ys : List ℕ) : Type 0 where
   pub rest : List ℕ
   pub whole : ys ≡ xs ++ rest
 
--- the number of activations is left as it was found
-abbrev pub ActivationsAsFound : Type 0
-ActivationsAsFound = (P : Program) (n : ℕ) (s : Stmt) (w : Where) (σ : State) → (meaning P n s w σ).state.standing ≡ σ.standing
+-- what is left of an input, some of which was taken from its front
+pub record LeftOf (input left : List ℕ) : Type 0 where
+  pub taken : List ℕ
+  pub whole : input ≡ taken ++ left
+
+-- each frame that was there is of the same procedure, no number is drawn twice, and what is started stays so
+pub record GoesOn (s s' : Store) : Type 0 where
+  pub frames : (f : ℕ) → f < s.fresh → s'.procedures f ≡ s.procedures f
+  pub fresh : s.fresh ≤ s'.fresh
+  pub started : (i : ℕ) → s.started i ≡ true → s'.started i ≡ true
+
+-- as many activations as there were, and the frames as they were found
+pub record AsFound (before after : State) : Type 0 where
+  pub activations : after.standing ≡ before.standing
+  pub store : GoesOn before.store after.store
+
+-- each construct leaves what stands as it was found
+pub record LeavesAsFound (P : Program) (fuel : ℕ) (w : Where) (σ : State) : Type 0 where
+  pub by_statement : (s : Stmt) → AsFound σ (meaning P fuel s w σ).state
+  pub by_expression : (e : Expr) → AsFound σ (value P (meaning P fuel) e w σ).state
+  pub by_call : (t : Target) (vs : Values) → AsFound σ (call P (meaning P fuel) w t vs σ).state
+  pub by_start : (j : ℕ) → AsFound σ (start P (meaning P fuel) j w.chain σ).state
+  pub by_raise : (sig : Signal) (vs : Values) → AsFound σ (raise P (meaning P fuel) w sig vs σ).state
+
+abbrev pub NothingIsLeftStanding : Type 0
+NothingIsLeftStanding = (P : Program) (fuel : ℕ) (w : Where) (σ : State) → LeavesAsFound P fuel w σ
 
 -- there is one output, end, number of turns left and number of bytes taken, and no other
 pub record OneResult (P : Program) (input : List ℕ) (e : Ending) (turns : ℕ) : Type 0 where
@@ -41,19 +67,35 @@ pub record LargerBound (r : Result) (d : ℕ) (r' : Result) : Type 0 where
 abbrev pub BoundsAreCuts : Type 0
 BoundsAreCuts = (P : Program) (input : List ℕ) (e : Ending) (turns d : ℕ) → LargerBound (outcome P input e turns) d (outcome P input e (turns + d))
 
--- a program of first programs comes to an end: it is done, or its turns are spent, or its frames are full
+-- more input in the place of a fault: the output begins with the one before, and an end that was not Broken is the same,
+-- with as much more of the input left
+pub record MoreInput (r : Result) (xs : List ℕ) (e : Ending) (r' : Result) : Type 0 where
+  pub begins : Begins r.state.output r'.state.output
+  pub ends : r.answer ≢ Broken → r' ≡ record { answer = r.answer; state = record r.state { input = r.state.input ++ xs; ending = e } }
+
+abbrev pub FaultsAreCuts : Type 0
+FaultsAreCuts = (P : Program) (input xs : List ℕ) (e : Ending) (turns : ℕ) →
+    MoreInput (outcome P input Fault turns) xs e (outcome P (input ++ xs) e turns)
+
+-- what is taken of the input is taken from its front
+abbrev pub InputIsTakenInOrder : Type 0
+InputIsTakenInOrder = (P : Program) (input : List ℕ) (e : Ending) (turns : ℕ) → LeftOf input (outcome P input e turns).state.input
+
+-- the ends of a program
+unfoldable pub IsEnd : Ending → Answer → Type 0
+IsEnd e Normal = Unit {0}
+IsEnd e (Uncaught s) = Unit {0}
+IsEnd e Spent = Unit {0}
+IsEnd e FrameLimit = Unit {0}
+IsEnd e Broken = e ≡ Fault
+IsEnd e (Gives vs) = ⊥
+IsEnd e (Go f p) = ⊥
+IsEnd e (Resumed vs) = ⊥
+IsEnd e Rejected = ⊥
+IsEnd e (Retried n) = ⊥
+IsEnd e (Continued n) = ⊥
+
+-- a lawful program is done, or ends with a signal that nothing catches, with its turns spent or its frames full, or is
+-- broken off, and that only where a fault follows the input
 abbrev pub AlwaysEnds : Type 0
-AlwaysEnds = (P : Program) (input : List ℕ) (e : Ending) (turns : ℕ) → All IsFirstInstance P.instances →
-    let end = (outcome P input e turns).answer in (end ≡ Normal) ⊎ (end ≡ Spent) ⊎ (end ≡ FrameLimit)
-
--- the same result with another input left, and what follows it
-unfoldable pub with_input : List ℕ → Ending → Result → Result
-with_input input e r = record { answer = r.answer; state = record r.state { input = input; ending = e } }
-
--- nothing of the input is read: it is left as it was given, and nothing else depends on it
-abbrev pub InputIsNotRead : Type 0
-InputIsNotRead = (P : Program) (input other : List ℕ) (e f : Ending) (turns : ℕ) → outcome P other f turns ≡ with_input other f (outcome P input e turns)
-
--- one activation at a time, the start's, so the frames are never full
-abbrev pub FramesAreNeverFull : Type 0
-FramesAreNeverFull = (P : Program) (input : List ℕ) (e : Ending) (turns : ℕ) → (outcome P input e turns).answer ≢ FrameLimit
+AlwaysEnds = (P : Program) → Lawful P → (input : List ℕ) (e : Ending) (turns : ℕ) → IsEnd e (outcome P input e turns).answer

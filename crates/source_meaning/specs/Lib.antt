@@ -1,8 +1,12 @@
 pub mod Calls
 pub mod FirstProgram
+pub mod Lawful
 pub mod Laws
 pub mod Meaning
 pub mod Means
+pub mod Operators
 pub mod Program
+pub mod Signals
 pub mod State
 pub mod Value
+pub mod Variables

@@ -1,24 +1,26 @@
 -- What a whole program means: its output, its end, the turns left and the bytes of the input taken.
-use Rattle.std.specs.Prelude.{◌≡◌, ℕ, suc, ◌-◌, List, [], ◌∷◌, map, false, length}
-use Rattle.source_meaning.specs.Value.{zeros}
-use Rattle.source_meaning.specs.Program.{Program, Instance}
+use Rattle.std.specs.Prelude.{◌≡◌, ℕ, suc, ◌-◌, List, [], ◌∷◌, false, length}
+use Rattle.source_meaning.specs.Value.{NoValues, zeros}
+use Rattle.source_meaning.specs.Program.{Program, module_of}
 use Rattle.source_meaning.specs.State.{State, Ending, Answer, Normal, Result, Run, give, look, branch, on_normal}
-use Rattle.source_meaning.specs.Calls.{Next, is_started, start}
+use Rattle.source_meaning.specs.Signals.{Next}
+use Rattle.source_meaning.specs.Calls.{start}
 use Rattle.source_meaning.specs.Meaning.{meaning}
 
 -- the instances to start, in order; a started one is passed over
 unfoldable pub control : Program → Next → List ℕ → Run
 control P next [] = give Normal
 control P next (j ∷ js) =
-    look λ s. branch (is_started j s) (control P next js) (on_normal (start P next j []) (control P next js))
+    look λ s. branch (s.started j) (control P next js) (on_normal (start P next j []) (control P next js))
 
 -- zero globals, nothing started, an empty output
 unfoldable pub first_state : Program → List ℕ → Ending → ℕ → State
 first_state P input ending turns = record {
   store = record {
-    globals = map (λ (i : Instance). zeros i.code.globals) P.instances;
-    frames = [];
-    started = map (λ (i : Instance). false) P.instances;
+    globals = λ i. zeros (module_of P i).globals;
+    started = λ i. false;
+    procedures = λ f. record { instance = 0; number = 0 };
+    variables = λ f. NoValues;
     fresh = 0;
   };
   input = input;

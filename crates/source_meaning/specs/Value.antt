@@ -1,11 +1,6 @@
--- Values, and what the operators make of words (Language Manual, chapter 2: INTEGER is -32768 to 32767, CARDINAL 0 to
--- 65535).
-use Rattle.std.specs.Prelude.{ℕ, zero, suc, ◌+◌, ◌-◌, ◌%◌, List, [], Bool, true, false, not, nat_eq, nat_lt, nat_le}
+-- Values (Language Manual, chapters 2 and 3), and how parts of them are found, changed and put in order.
+use Rattle.std.specs.Prelude.{ℕ, zero, suc, List, [], ◌∷◌, nat_eq, if◌then◌else◌}
 use Rattle.mesa_types.specs.Typed.{Kind, Ordinal, Texts, Array, Record, Kinds, NoKinds, AndKind}
-use Rattle.mesa_types.specs.declared.typed_parts.Base.{Base}
-use Rattle.mesa_types.specs.declared.typed_parts.Base.TheVariants.{Signed, Unsigned}
-use Rattle.mesa_types.specs.declared.relation.Relation.{Relation}
-use Rattle.mesa_types.specs.declared.relation.Relation.TheVariants.{Equal, NotEqual, Less, AtMost, Greater, AtLeast}
 
 -- a word, the bytes of a string, or the elements of an array or the fields of a record
 mutual
@@ -22,6 +17,14 @@ unfoldable pub word : Value → ℕ
 word (Word n) = n
 word _ = 0
 
+unfoldable pub bytes : Value → List ℕ
+bytes (Text t) = t
+bytes _ = []
+
+unfoldable pub parts : Value → Values
+parts (Many vs) = vs
+parts _ = NoValues
+
 unfoldable pub nth : Values → ℕ → Value
 nth NoValues _ = Word 0
 nth (AndValue v vs) zero = v
@@ -37,11 +40,45 @@ with_nth (AndValue v vs) (suc n) x = AndValue v (with_nth vs n x)
 unfoldable pub one : Value → Values
 one v = AndValue v NoValues
 
+unfoldable pub join : Values → Values → Values
+join NoValues ws = ws
+join (AndValue v vs) ws = AndValue v (join vs ws)
+
+unfoldable pub how_many : Values → ℕ
+how_many NoValues = 0
+how_many (AndValue v vs) = suc (how_many vs)
+
+-- from this place on, these values
+unfoldable pub with_from : Values → ℕ → Values → Values
+with_from vs n NoValues = vs
+with_from vs n (AndValue w ws) = with_from (with_nth vs n w) (suc n) ws
+
+-- so many values, from this place on
+unfoldable pub some_from : Values → ℕ → ℕ → Values
+some_from vs n zero = NoValues
+some_from vs n (suc count) = AndValue (nth vs n) (some_from vs (suc n) count)
+
+-- the value that is for this place
+unfoldable pub find_place : List ℕ → Values → ℕ → Value
+find_place [] vs n = Word 0
+find_place (p ∷ ps) NoValues n = Word 0
+find_place (p ∷ ps) (AndValue v vs) n = if nat_eq p n then v else find_place ps vs n
+
+-- one value for each of these, from place n on
+unfoldable pub arranged_from : ℕ → List ℕ → List ℕ → Values → Values
+arranged_from n [] places vs = NoValues
+arranged_from n (q ∷ qs) places vs = AndValue (find_place places vs n) (arranged_from (suc n) qs places vs)
+
+-- the values in the order of their places; where no places are said they stand in order
+unfoldable pub arrange : List ℕ → Values → Values
+arrange [] vs = vs
+arrange (p ∷ ps) vs = arranged_from 0 (p ∷ ps) (p ∷ ps) vs
+
 unfoldable pub copies : ℕ → Value → Values
 copies zero v = NoValues
 copies (suc n) v = AndValue v (copies n v)
 
--- what a variable of a kind holds before anything is written to it
+-- what a variable of a kind holds before anything is given to it
 unfoldable mutual
   pub zero_of : Kind → Value
   zero_of Ordinal = Word 0
@@ -53,31 +90,16 @@ unfoldable mutual
   zeros NoKinds = NoValues
   zeros (AndKind k ks) = AndValue (zero_of k) (zeros ks)
 
--- a number as a word
-unfoldable pub wrap : ℕ → ℕ
-wrap n = n % 65536
+-- the part of a value along a path of places, and the value with another part there
+unfoldable pub part_at : List ℕ → Value → Value
+part_at [] v = v
+part_at (p ∷ ps) v = part_at ps (nth (parts v) p)
 
--- the word of the number with the other sign
-unfoldable pub opposite : ℕ → ℕ
-opposite w = wrap (65536 - w)
+unfoldable pub with_part : List ℕ → Value → Value → Value
+with_part [] v x = x
+with_part (p ∷ ps) v x = Many (with_nth (parts v) p (with_part ps (nth (parts v) p) x))
 
--- a word as a plain number, plus 32768
-unfoldable pub shifted : Base → ℕ → ℕ
-shifted Signed w = (w + 32768) % 65536
-shifted Unsigned w = w + 32768
-
-unfoldable pub related : Relation → Base → ℕ → ℕ → Bool
-related Equal b x y = nat_eq x y
-related NotEqual b x y = not (nat_eq x y)
-related Less b x y = nat_lt (shifted b x) (shifted b y)
-related AtMost b x y = nat_le (shifted b x) (shifted b y)
-related Greater b x y = nat_lt (shifted b y) (shifted b x)
-related AtLeast b x y = nat_le (shifted b y) (shifted b x)
-
-unfoldable pub truth : Bool → Value
-truth true = Word 1
-truth false = Word 0
-
-unfoldable pub is_true : ℕ → Bool
-is_true zero = false
-is_true (suc n) = true
+-- values that are places, as a path
+unfoldable pub path_of : Values → List ℕ
+path_of NoValues = []
+path_of (AndValue v vs) = word v ∷ path_of vs
