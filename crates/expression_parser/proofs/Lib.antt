@@ -1,1 +1,2 @@
 pub mod FieldLoops
+pub mod RunTurns

@@ -1,5 +1,5 @@
 -- Parts of parser functions that are functions of the code.
-use Rattle.std.specs.Prelude.{Bool, true, false, None}
+use Rattle.std.specs.Prelude.{Bool, true, false, List, None}
 use Rattle.mesa_base.specs.declared.place.Place.{Place}
 use Rattle.mesa_lexer.specs.declared.token.Kind.TheVariants as k
 use Rattle.mesa_lexer.specs.declared.mark.Mark.TheVariants.{Colon, LeftBrace, LeftBracket, LeftParenthesis}
@@ -14,10 +14,14 @@ use Rattle.mesa_types.specs.declared.syntax.TypeExp.TheVariants as t
 use Rattle.mesa_types.specs.declared.syntax.FieldList.{FieldList}
 use Rattle.mesa_types.specs.declared.relation.Relation.{Relation}
 use Rattle.mesa_types.specs.declared.syntax.Sign.{Sign}
+use Rattle.mesa_types.specs.declared.syntax.Suffix.{Suffix}
+use Rattle.mesa_types.specs.declared.syntax.Statement.{Statement}
+use Rattle.mesa_types.specs.declared.syntax.Statement.TheVariants as s
 use Rattle.mesa_types.specs.declared.syntax.Expr.{Expr}
 use Rattle.mesa_types.specs.declared.syntax.Expr.TheVariants as e
 use Rattle.module_productions.specs.ReadNested.{Nested, identifier}
-use Rattle.module_productions.specs.Grammar.{qualified}
+use Rattle.module_productions.specs.declared.begun.Begun.TheVariants.{Fresh}
+use Rattle.module_productions.specs.Grammar.{left, qualified}
 use Rattle.module_productions.specs.ReadExpressions as ex
 use Rattle.module_productions.specs.ReadExpressions.{Undecided, all_names, with_names, types_from, enumeration, array, a_record, reference, parens, list, raise, primary, sum, interval}
 
@@ -54,9 +58,9 @@ module _ (q : Nested) where
 
   -- behind the sign
   unfoldable pub signed : Sign → Place → Parser Expr
-  signed s p = do
+  signed sign p = do
     x ← primary q None
-    pure (e.Signed s p x)
+    pure (e.Signed sign p x)
 
   -- behind the mark of a comparison
   unfoldable pub compared : Expr → Bool → Relation → Place → Parser Expr
@@ -69,3 +73,9 @@ module _ (q : Nested) where
   within x b p = do
     i ← interval q
     pure (e.Within x b p i)
+
+  -- behind the arrow of an assignment
+  unfoldable pub assignment : Identifier → List Suffix → Parser Statement
+  assignment i ss = do
+    x ← q.expr Fresh
+    pure (s.Assign (left i ss) x)

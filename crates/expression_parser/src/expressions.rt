@@ -1,36 +1,21 @@
 //! Expressions.
-ghost use Rattle.std.specs.Prelude.{◌≡◌, IfOk, cond};
-ghost use Rattle.token_cursor.specs.Parsing.{and_then, many, pure, refuse};
+ghost use Rattle.std.specs.Prelude.{cond};
+ghost use Rattle.token_cursor.specs.Parsing.{and_then, pure, refuse};
 ghost use Rattle.module_productions.specs.ReadExpressions as spec;
-ghost use Rattle.module_productions.specs.Grammar as g;
 ghost use Rattle.token_cursor.specs.Running.{Reads};
-ghost use Rattle.module_productions.specs.Signs.{adding, conjoining, disjoining, multiplying};
 ghost use Rattle.module_productions.specs.ReadStatements.{nested};
 ghost use Rattle.expression_parser.specs.Tails as tails;
 ghost use Rattle.mesa_types.specs.declared.syntax.Expr.TheVariants as e;
 
 use crate::nesting::{Level, NestedParsers};
-use mesa_base::{Boxed, Identifier, List, OutOfMemory, Place};
+use crate::operators::{Ands, Ors, Products, Sums};
+use held_trees::{LetGo, both, boxed, boxed_pair};
+use mesa_base::{Identifier, Place};
 use mesa_lexer::{Mark, Word};
-use mesa_types::syntax::{Expr, Left, Operation, Operations, Relation, Sign};
+use mesa_types::syntax::{Expr, Left, Relation, Sign};
 use module_productions::Begun;
-use module_tokens::signs::{
-    takes_adding, takes_conjoining, takes_disjoining, takes_multiplying, takes_negating,
-    takes_relating, takes_signing,
-};
-use std::alloc::Global;
+use module_tokens::signs::{takes_negating, takes_relating, takes_signing};
 use token_cursor::{Cursor, Stopped};
-
-/// The operand with its steps; alone where there are none.
-#[tactic(auto, using(module_productions::proofs::Runs::run_none, module_productions::proofs::Runs::run_some))]
-fn run(alloc: Global, first: Expr, steps: Operations) -> Result<Expr, OutOfMemory>
-    ensures { IfOk result (λ whole. whole ≡ g.run first steps) }
-{
-    if steps.is_empty() {
-        return Ok(first);
-    }
-    Ok(Expr::Run(Boxed::new(alloc, first)?, steps))
-}
 
 impl<N: NestedParsers> Level<N> {
     /// A name that was taken, with what follows it.
@@ -39,7 +24,7 @@ impl<N: NestedParsers> Level<N> {
         requires { N.parse_at self.now.nested self.now.depth }
         ensures { Reads (spec.reference (nested self.now.depth) name tokens.old.rest.now) result tokens.new.rest.now }
     {
-        let suffixes = self.suffixes(tokens)?;
+        let (name, suffixes) = both(name, self.suffixes(tokens))?;
         Ok(Expr::Reference(Left { name, suffixes }))
     }
 
@@ -50,17 +35,16 @@ impl<N: NestedParsers> Level<N> {
         ensures { Reads (spec.parens (nested self.now.depth) place tokens.old.rest.now) result tokens.new.rest.now }
     {
         let inner = self.expr(tokens, Begun::Fresh)?;
-        tokens.need_mark(Mark::RightParenthesis)?;
-        Ok(Expr::Parenthesis(place, Boxed::new(self.alloc, inner)?))
+        let (inner, _) = both(inner, tokens.need_mark(Mark::RightParenthesis))?;
+        Ok(Expr::Parenthesis(place, boxed(self.alloc, inner)?))
     }
 
-    #[tactic(auto)]
     fn raised(&self, tokens: &mut Cursor<'_>) -> Result<Expr, Stopped>
         requires { N.parse_at self.now.nested self.now.depth }
         ensures { Reads (and_then (spec.raise (nested self.now.depth) tokens.old.rest.now) (λ x. pure (e.Raised x))) result tokens.new.rest.now }
     {
         let raise = self.raise(tokens)?;
-        Ok(Expr::Raised(Boxed::new(self.alloc, raise)?))
+        Ok(Expr::Raised(boxed(self.alloc, raise)?))
     }
 
     /// What begins with no literal.
@@ -115,11 +99,11 @@ impl<N: NestedParsers> Level<N> {
     }
 
     #[tactic(auto, unfolding(module_productions::specs::ReadExpressions::primary))]
-    fn primary(&self, tokens: &mut Cursor<'_>, begun: Option<Identifier>) -> Result<Expr, Stopped>
+    fn primary(&self, tokens: &mut Cursor<'_>, name: Option<Identifier>) -> Result<Expr, Stopped>
         requires { N.parse_at self.now.nested self.now.depth }
-        ensures { Reads (spec.primary (nested self.now.depth) begun tokens.old.rest.now) result tokens.new.rest.now }
+        ensures { Reads (spec.primary (nested self.now.depth) name tokens.old.rest.now) result tokens.new.rest.now }
     {
-        match begun {
+        match name {
             Some(name) => self.reference(tokens, name),
             None => self.fresh_primary(tokens),
         }
@@ -131,12 +115,12 @@ impl<N: NestedParsers> Level<N> {
         ensures { Reads (tails.signed (nested self.now.depth) sign place tokens.old.rest.now) result tokens.new.rest.now }
     {
         let operand = self.fresh_primary(tokens)?;
-        Ok(Expr::Signed(sign, place, Boxed::new(self.alloc, operand)?))
+        Ok(Expr::Signed(sign, place, boxed(self.alloc, operand)?))
     }
 
     /// A factor, of which nothing was taken.
     #[tactic(auto, using(token_cursor::proofs::Choosing::choose_none, token_cursor::proofs::Choosing::choose_some), unfolding(module_productions::specs::ReadExpressions::factor, crate::specs::Tails::signed))]
-    fn fresh_factor(&self, tokens: &mut Cursor<'_>) -> Result<Expr, Stopped>
+    pub fn fresh_factor(&self, tokens: &mut Cursor<'_>) -> Result<Expr, Stopped>
         requires { N.parse_at self.now.nested self.now.depth }
         ensures { Reads (spec.factor (nested self.now.depth) None tokens.old.rest.now) result tokens.new.rest.now }
     {
@@ -147,75 +131,37 @@ impl<N: NestedParsers> Level<N> {
     }
 
     #[tactic(auto, unfolding(module_productions::specs::ReadExpressions::factor))]
-    fn factor(&self, tokens: &mut Cursor<'_>, begun: Option<Identifier>) -> Result<Expr, Stopped>
+    fn factor(&self, tokens: &mut Cursor<'_>, name: Option<Identifier>) -> Result<Expr, Stopped>
         requires { N.parse_at self.now.nested self.now.depth }
-        ensures { Reads (spec.factor (nested self.now.depth) begun tokens.old.rest.now) result tokens.new.rest.now }
+        ensures { Reads (spec.factor (nested self.now.depth) name tokens.old.rest.now) result tokens.new.rest.now }
     {
-        match begun {
+        match name {
             Some(name) => self.primary(tokens, Some(name)),
             None => self.fresh_factor(tokens),
         }
     }
 
-    #[tactic(auto, using(token_cursor::proofs::Taking::many_by, module_productions::proofs::Parts::products_eats))]
-    fn more_factors(
-        &self,
-        tokens: &mut Cursor<'_>,
-        mut steps: Operations,
-    ) -> Result<Operations, Stopped>
-        requires { N.parse_at self.now.nested self.now.depth }
-        ensures { Reads (many multiplying (spec.products_step (nested self.now.depth)) steps tokens.old.rest.now) result tokens.new.rest.now }
-    {
-        'factors: while let Some((operator, place)) = takes_multiplying(tokens) {
-            let right = self.fresh_factor(tokens)?;
-            steps.push(Operation {
-                operator,
-                place,
-                right,
-            })?;
-        }
-        Ok(steps)
-    }
-
     #[tactic(auto, unfolding(module_productions::specs::ReadExpressions::product))]
-    fn product(&self, tokens: &mut Cursor<'_>, begun: Option<Identifier>) -> Result<Expr, Stopped>
-        requires { N.parse_at self.now.nested self.now.depth }
-        ensures { Reads (spec.product (nested self.now.depth) begun tokens.old.rest.now) result tokens.new.rest.now }
-    {
-        let first = self.factor(tokens, begun)?;
-        let steps = self.more_factors(tokens, List::new(self.alloc))?;
-        Ok(run(self.alloc, first, steps)?)
-    }
-
-    #[tactic(auto, using(token_cursor::proofs::Taking::many_by, module_productions::proofs::Parts::sums_eats))]
-    fn more_products(
+    pub fn product(
         &self,
         tokens: &mut Cursor<'_>,
-        mut steps: Operations,
-    ) -> Result<Operations, Stopped>
+        name: Option<Identifier>,
+    ) -> Result<Expr, Stopped>
         requires { N.parse_at self.now.nested self.now.depth }
-        ensures { Reads (many adding (spec.sums_step (nested self.now.depth)) steps tokens.old.rest.now) result tokens.new.rest.now }
+        ensures { Reads (spec.product (nested self.now.depth) name tokens.old.rest.now) result tokens.new.rest.now }
     {
-        'products: while let Some((operator, place)) = takes_adding(tokens) {
-            let right = self.product(tokens, None)?;
-            steps.push(Operation {
-                operator,
-                place,
-                right,
-            })?;
-        }
-        Ok(steps)
+        let first = self.factor(tokens, name)?;
+        self.run_behind::<Products>(tokens, first)
     }
 
     /// A sum, which the sides of a relation are; its first name may have been taken.
     #[tactic(auto, unfolding(module_productions::specs::ReadExpressions::sum))]
-    pub fn sum(&self, tokens: &mut Cursor<'_>, begun: Option<Identifier>) -> Result<Expr, Stopped>
+    pub fn sum(&self, tokens: &mut Cursor<'_>, name: Option<Identifier>) -> Result<Expr, Stopped>
         requires { N.parse_at self.now.nested self.now.depth }
-        ensures { Reads (spec.sum (nested self.now.depth) begun tokens.old.rest.now) result tokens.new.rest.now }
+        ensures { Reads (spec.sum (nested self.now.depth) name tokens.old.rest.now) result tokens.new.rest.now }
     {
-        let first = self.product(tokens, begun)?;
-        let steps = self.more_products(tokens, List::new(self.alloc))?;
-        Ok(run(self.alloc, first, steps)?)
+        let first = self.product(tokens, name)?;
+        self.run_behind::<Sums>(tokens, first)
     }
 
     #[tactic(auto, unfolding(crate::specs::Tails::compared))]
@@ -230,13 +176,14 @@ impl<N: NestedParsers> Level<N> {
         requires { N.parse_at self.now.nested self.now.depth }
         ensures { Reads (tails.compared (nested self.now.depth) left is_negated relation place tokens.old.rest.now) result tokens.new.rest.now }
     {
-        let right = self.sum(tokens, None)?;
+        let (left, right) = both(left, self.sum(tokens, None))?;
+        let (left, right) = boxed_pair(self.alloc, left, right)?;
         Ok(Expr::Compare {
-            left: Boxed::new(self.alloc, left)?,
+            left,
             is_negated,
             relation,
             place,
-            right: Boxed::new(self.alloc, right)?,
+            right,
         })
     }
 
@@ -251,9 +198,10 @@ impl<N: NestedParsers> Level<N> {
         requires { N.parse_at self.now.nested self.now.depth }
         ensures { Reads (tails.within (nested self.now.depth) left is_negated place tokens.old.rest.now) result tokens.new.rest.now }
     {
-        let interval = self.interval(tokens)?;
+        let (left, interval) = both(left, self.interval(tokens))?;
+        let (interval, value) = both(interval, boxed(self.alloc, left))?;
         Ok(Expr::Within {
-            value: Boxed::new(self.alloc, left)?,
+            value,
             is_negated,
             place,
             interval,
@@ -278,6 +226,7 @@ impl<N: NestedParsers> Level<N> {
             return self.within(tokens, left, is_negated, place);
         }
         if is_negated {
+            left.let_go();
             return Err(Stopped::Unexpected);
         }
         Ok(left)
@@ -295,11 +244,11 @@ impl<N: NestedParsers> Level<N> {
     }
 
     #[tactic(auto, unfolding(module_productions::specs::ReadExpressions::rel))]
-    fn rel(&self, tokens: &mut Cursor<'_>, begun: Option<Identifier>) -> Result<Expr, Stopped>
+    fn rel(&self, tokens: &mut Cursor<'_>, name: Option<Identifier>) -> Result<Expr, Stopped>
         requires { N.parse_at self.now.nested self.now.depth }
-        ensures { Reads (spec.rel (nested self.now.depth) begun tokens.old.rest.now) result tokens.new.rest.now }
+        ensures { Reads (spec.rel (nested self.now.depth) name tokens.old.rest.now) result tokens.new.rest.now }
     {
-        let left = self.sum(tokens, begun)?;
+        let left = self.sum(tokens, name)?;
         self.related(tokens, left)
     }
 
@@ -309,12 +258,12 @@ impl<N: NestedParsers> Level<N> {
         ensures { Reads (spec.negation (nested self.now.depth) place tokens.old.rest.now) result tokens.new.rest.now }
     {
         let operand = self.rel(tokens, None)?;
-        Ok(Expr::Not(place, Boxed::new(self.alloc, operand)?))
+        Ok(Expr::Not(place, boxed(self.alloc, operand)?))
     }
 
     /// NOT with a comparison, or one alone, of which nothing was taken.
     #[tactic(auto, using(token_cursor::proofs::Choosing::choose_none, token_cursor::proofs::Choosing::choose_some), unfolding(module_productions::specs::ReadExpressions::neg))]
-    fn fresh_neg(&self, tokens: &mut Cursor<'_>) -> Result<Expr, Stopped>
+    pub fn fresh_neg(&self, tokens: &mut Cursor<'_>) -> Result<Expr, Stopped>
         requires { N.parse_at self.now.nested self.now.depth }
         ensures { Reads (spec.neg (nested self.now.depth) Begun.Fresh tokens.old.rest.now) result tokens.new.rest.now }
     {
@@ -336,54 +285,13 @@ impl<N: NestedParsers> Level<N> {
         }
     }
 
-    #[tactic(auto, using(token_cursor::proofs::Taking::many_by, module_productions::proofs::Parts::ands_eats))]
-    fn more_negs(
-        &self,
-        tokens: &mut Cursor<'_>,
-        mut steps: Operations,
-    ) -> Result<Operations, Stopped>
-        requires { N.parse_at self.now.nested self.now.depth }
-        ensures { Reads (many conjoining (spec.ands_step (nested self.now.depth)) steps tokens.old.rest.now) result tokens.new.rest.now }
-    {
-        'negs: while let Some((operator, place)) = takes_conjoining(tokens) {
-            let right = self.fresh_neg(tokens)?;
-            steps.push(Operation {
-                operator,
-                place,
-                right,
-            })?;
-        }
-        Ok(steps)
-    }
-
     #[tactic(auto, unfolding(module_productions::specs::ReadExpressions::conj))]
-    fn conj(&self, tokens: &mut Cursor<'_>, begun: Begun) -> Result<Expr, Stopped>
+    pub fn conj(&self, tokens: &mut Cursor<'_>, begun: Begun) -> Result<Expr, Stopped>
         requires { N.parse_at self.now.nested self.now.depth }
         ensures { Reads (spec.conj (nested self.now.depth) begun tokens.old.rest.now) result tokens.new.rest.now }
     {
         let first = self.neg(tokens, begun)?;
-        let steps = self.more_negs(tokens, List::new(self.alloc))?;
-        Ok(run(self.alloc, first, steps)?)
-    }
-
-    #[tactic(auto, using(token_cursor::proofs::Taking::many_by, module_productions::proofs::Parts::ors_eats))]
-    fn more_conjs(
-        &self,
-        tokens: &mut Cursor<'_>,
-        mut steps: Operations,
-    ) -> Result<Operations, Stopped>
-        requires { N.parse_at self.now.nested self.now.depth }
-        ensures { Reads (many disjoining (spec.ors_step (nested self.now.depth)) steps tokens.old.rest.now) result tokens.new.rest.now }
-    {
-        'conjs: while let Some((operator, place)) = takes_disjoining(tokens) {
-            let right = self.conj(tokens, Begun::Fresh)?;
-            steps.push(Operation {
-                operator,
-                place,
-                right,
-            })?;
-        }
-        Ok(steps)
+        self.run_behind::<Ands>(tokens, first)
     }
 
     /// An expression of this level.
@@ -393,7 +301,6 @@ impl<N: NestedParsers> Level<N> {
         ensures { Reads (spec.expr (nested self.now.depth) begun tokens.old.rest.now) result tokens.new.rest.now }
     {
         let first = self.conj(tokens, begun)?;
-        let steps = self.more_conjs(tokens, List::new(self.alloc))?;
-        Ok(run(self.alloc, first, steps)?)
+        self.run_behind::<Ors>(tokens, first)
     }
 }

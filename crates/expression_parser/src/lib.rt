@@ -4,6 +4,7 @@
 mod expressions;
 mod lists;
 mod nesting;
+mod operators;
 mod targets;
 mod types;
 

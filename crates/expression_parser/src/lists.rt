@@ -10,7 +10,8 @@ ghost use Rattle.token_cursor.specs.Running.{Reads};
 ghost use Rattle.module_productions.specs.ReadStatements.{nested};
 
 use crate::nesting::{Level, NestedParsers};
-use mesa_base::{Boxed, Identifier, List, OutOfMemory, Place, Placed};
+use held_trees::{both, boxed_pair, pushed};
+use mesa_base::{Identifier, List, OutOfMemory, Place, Placed};
 use mesa_lexer::{Mark, Word};
 use mesa_types::syntax::{
     Arm, Arms, Brackets, Entries, Expr, Exprs, Interval, Keyed, ListExpr, Phrase, Raise, Suffix,
@@ -44,11 +45,12 @@ fn bounded(
 ) -> Result<Interval, OutOfMemory>
     ensures { IfOk result (λ made. made ≡ g.interval place is_open.0 low high is_open.1) }
 {
+    let (low, high) = boxed_pair(alloc, low, high)?;
     Ok(Interval {
         place,
         is_open_below: is_open.0,
-        low: Boxed::new(alloc, low)?,
-        high: Boxed::new(alloc, high)?,
+        low,
+        high,
         is_open_above: is_open.1,
     })
 }
@@ -66,9 +68,9 @@ impl<N: NestedParsers> Level<N> {
         ensures { Reads (spec.bounds (nested self.now.depth) is_open_below place tokens.old.rest.now) result tokens.new.rest.now }
     {
         let low = self.expr(tokens, Begun::Fresh)?;
-        tokens.need_mark(Mark::DotDot)?;
-        let high = self.expr(tokens, Begun::Fresh)?;
-        let is_open_above = closed(tokens)?;
+        let (low, _) = both(low, tokens.need_mark(Mark::DotDot))?;
+        let (low, high) = both(low, self.expr(tokens, Begun::Fresh))?;
+        let ((low, high), is_open_above) = both((low, high), closed(tokens))?;
         let ends = (is_open_below, is_open_above);
         Ok(bounded(self.alloc, place, ends, low, high)?)
     }
@@ -92,8 +94,8 @@ impl<N: NestedParsers> Level<N> {
         ensures { Reads (spec.arm (nested self.now.depth) tokens.old.rest.now) result tokens.new.rest.now }
     {
         let labels = labels(self.alloc, tokens)?;
-        tokens.need_mark(Mark::DoubleArrow)?;
-        let body = self.stmt(tokens, None)?;
+        let (labels, _) = both(labels, tokens.need_mark(Mark::DoubleArrow))?;
+        let (labels, body) = both(labels, self.stmt(tokens, None))?;
         Ok(Arm { labels, body })
     }
 
@@ -106,7 +108,8 @@ impl<N: NestedParsers> Level<N> {
             if !begins_arm(tokens) {
                 break;
             }
-            all.push(self.arm(tokens)?)?;
+            let (held, arm) = both(all, self.arm(tokens))?;
+            all = pushed(held, arm)?;
         }
         Ok(all)
     }
@@ -117,8 +120,8 @@ impl<N: NestedParsers> Level<N> {
         requires { N.parse_at self.now.nested self.now.depth }
         ensures { Reads (spec.arm_list (nested self.now.depth) tokens.old.rest.now) result tokens.new.rest.now }
     {
-        let mut all = List::new(self.alloc);
-        all.push(self.arm(tokens)?)?;
+        let first = self.arm(tokens)?;
+        let all = pushed(List::new(self.alloc), first)?;
         self.more_arms(tokens, all)
     }
 
@@ -143,7 +146,8 @@ impl<N: NestedParsers> Level<N> {
         ensures { Reads (many comma (spec.exprs_step (nested self.now.depth)) all tokens.old.rest.now) result tokens.new.rest.now }
     {
         'exprs: while tokens.takes_mark(Mark::Comma).is_some() {
-            all.push(self.expr(tokens, Begun::Fresh)?)?;
+            let (held, item) = both(all, self.expr(tokens, Begun::Fresh))?;
+            all = pushed(held, item)?;
         }
         Ok(all)
     }
@@ -153,10 +157,26 @@ impl<N: NestedParsers> Level<N> {
         requires { N.parse_at self.now.nested self.now.depth }
         ensures { Reads (spec.in_order (nested self.now.depth) begun tokens.old.rest.now) result tokens.new.rest.now }
     {
-        let mut all = List::new(self.alloc);
-        all.push(self.expr(tokens, begun)?)?;
+        let first = self.expr(tokens, begun)?;
+        let all = pushed(List::new(self.alloc), first)?;
         let all = self.more_exprs(tokens, all)?;
         Ok(Entries::InOrder(all))
+    }
+
+    /// These values with one more and its key, behind its comma.
+    fn key(
+        &self,
+        tokens: &mut Cursor<'_>,
+        all: List<Keyed<Expr>>,
+        place: Place,
+    ) -> Result<List<Keyed<Expr>>, Stopped>
+        requires { N.parse_at self.now.nested self.now.depth }
+        ensures { Reads (spec.keys_step (nested self.now.depth) all tt place tokens.old.rest.now) result tokens.new.rest.now }
+    {
+        let (all, key) = both(all, named(self.alloc, tokens))?;
+        let ((all, key), _) = both((all, key), tokens.need_mark(Mark::Colon))?;
+        let ((all, key), item) = both((all, key), self.expr(tokens, Begun::Fresh))?;
+        Ok(pushed(all, Keyed { key, item })?)
     }
 
     #[tactic(auto, using(token_cursor::proofs::Taking::many_by, module_productions::proofs::Parts::keys_eats))]
@@ -168,11 +188,8 @@ impl<N: NestedParsers> Level<N> {
         requires { N.parse_at self.now.nested self.now.depth }
         ensures { Reads (many comma (spec.keys_step (nested self.now.depth)) all tokens.old.rest.now) result tokens.new.rest.now }
     {
-        'keys: while tokens.takes_mark(Mark::Comma).is_some() {
-            let key = named(self.alloc, tokens)?;
-            tokens.need_mark(Mark::Colon)?;
-            let item = self.expr(tokens, Begun::Fresh)?;
-            all.push(Keyed { key, item })?;
+        'keys: while let Some(place) = tokens.takes_mark(Mark::Comma) {
+            all = self.key(tokens, all, place)?;
         }
         Ok(all)
     }
@@ -183,9 +200,8 @@ impl<N: NestedParsers> Level<N> {
         requires { N.parse_at self.now.nested self.now.depth }
         ensures { Reads (spec.by_key (nested self.now.depth) key tokens.old.rest.now) result tokens.new.rest.now }
     {
-        let item = self.expr(tokens, Begun::Fresh)?;
-        let mut all = List::new(self.alloc);
-        all.push(Keyed { key, item })?;
+        let (key, item) = both(key, self.expr(tokens, Begun::Fresh))?;
+        let all = pushed(List::new(self.alloc), Keyed { key, item })?;
         let all = self.more_keys(tokens, all)?;
         Ok(Entries::ByKey(all))
     }
@@ -240,7 +256,7 @@ impl<N: NestedParsers> Level<N> {
         ensures { Reads (spec.list (nested self.now.depth) place tokens.old.rest.now) result tokens.new.rest.now }
     {
         let item = self.args(tokens)?;
-        tokens.need_mark(Mark::RightBracket)?;
+        let (item, _) = both(item, tokens.need_mark(Mark::RightBracket))?;
         Ok(Placed { place, item })
     }
 
@@ -262,8 +278,8 @@ impl<N: NestedParsers> Level<N> {
         ensures { Reads (spec.brackets (nested self.now.depth) place tokens.old.rest.now) result tokens.new.rest.now }
     {
         let items = self.args(tokens)?;
-        let catch = self.catch(tokens)?;
-        tokens.need_mark(Mark::RightBracket)?;
+        let (items, catch) = both(items, self.catch(tokens))?;
+        let ((items, catch), _) = both((items, catch), tokens.need_mark(Mark::RightBracket))?;
         Ok(Brackets {
             place,
             items,
@@ -287,7 +303,7 @@ impl<N: NestedParsers> Level<N> {
     fn suffix(
         &self,
         tokens: &mut Cursor<'_>,
-        mut all: Suffixes,
+        all: Suffixes,
         is_bracket: bool,
         place: Place,
     ) -> Result<Suffixes, Stopped>
@@ -295,11 +311,11 @@ impl<N: NestedParsers> Level<N> {
         ensures { Reads (spec.suffixes_step (nested self.now.depth) all is_bracket place tokens.old.rest.now) result tokens.new.rest.now }
     {
         if is_bracket {
-            all.push(Suffix::Applied(self.brackets(tokens, place)?))?;
-        } else {
-            all.push(Suffix::Field(named(self.alloc, tokens)?))?;
+            let (all, brackets) = both(all, self.brackets(tokens, place))?;
+            return Ok(pushed(all, Suffix::Applied(brackets))?);
         }
-        Ok(all)
+        let (all, field) = both(all, named(self.alloc, tokens))?;
+        Ok(pushed(all, Suffix::Field(field))?)
     }
 
     #[tactic(auto, using(token_cursor::proofs::Taking::many_by, module_productions::proofs::Parts::suffixes_eats))]
@@ -334,7 +350,7 @@ impl<N: NestedParsers> Level<N> {
         ensures { Reads (spec.error_raise (nested self.now.depth) place first tokens.old.rest.now) result tokens.new.rest.now }
     {
         let name = qname_from(self.alloc, tokens, first)?;
-        let given = self.brackets_option(tokens)?;
+        let (name, given) = both(name, self.brackets_option(tokens))?;
         Ok(Raise::ErrorRaise(place, name, given))
     }
 
@@ -344,7 +360,7 @@ impl<N: NestedParsers> Level<N> {
         ensures { Reads (spec.signal_raise (nested self.now.depth) place tokens.old.rest.now) result tokens.new.rest.now }
     {
         let name = qname(self.alloc, tokens)?;
-        let given = self.brackets_option(tokens)?;
+        let (name, given) = both(name, self.brackets_option(tokens))?;
         Ok(Raise::SignalRaise(place, name, given))
     }
 

@@ -21,10 +21,10 @@ pub trait NestedParsers {
         alloc: Global,
         tokens: &mut Cursor<'_>,
         depth: usize,
-        begun: Option<Identifier>,
+        name: Option<Identifier>,
     ) -> Result<Statement, Stopped>
         requires { parse_at self.now depth }
-        ensures { Reads ((nested depth).stmt begun tokens.old.rest.now) result tokens.new.rest.now };
+        ensures { Reads ((nested depth).stmt name tokens.old.rest.now) result tokens.new.rest.now };
 
     /// An expression; what decided that it is one may have been taken.
     fn expr(
@@ -43,10 +43,10 @@ pub trait NestedParsers {
         alloc: Global,
         tokens: &mut Cursor<'_>,
         depth: usize,
-        begun: Option<Identifier>,
+        name: Option<Identifier>,
     ) -> Result<TypeExp, Stopped>
         requires { parse_at self.now depth }
-        ensures { Reads ((nested depth).type begun tokens.old.rest.now) result tokens.new.rest.now };
+        ensures { Reads ((nested depth).type name tokens.old.rest.now) result tokens.new.rest.now };
 }
 
 /// Functions as the nested parsers.
@@ -69,9 +69,9 @@ impl<
         alloc: Global,
         tokens: &mut Cursor<'_>,
         depth: usize,
-        begun: Option<Identifier>,
+        name: Option<Identifier>,
     ) -> Result<Statement, Stopped> {
-        (self.stmt)(alloc, tokens, depth, begun)
+        (self.stmt)(alloc, tokens, depth, name)
     }
 
     fn expr(
@@ -89,9 +89,9 @@ impl<
         alloc: Global,
         tokens: &mut Cursor<'_>,
         depth: usize,
-        begun: Option<Identifier>,
+        name: Option<Identifier>,
     ) -> Result<TypeExp, Stopped> {
-        (self.type_exp)(alloc, tokens, depth, begun)
+        (self.type_exp)(alloc, tokens, depth, name)
     }
 }
 
@@ -117,12 +117,12 @@ impl<N: NestedParsers> Level<N> {
     pub fn stmt(
         &self,
         tokens: &mut Cursor<'_>,
-        begun: Option<Identifier>,
+        name: Option<Identifier>,
     ) -> Result<Statement, Stopped>
         requires { N.parse_at self.now.nested self.now.depth }
-        ensures { Reads ((nested self.now.depth).stmt begun tokens.old.rest.now) result tokens.new.rest.now }
+        ensures { Reads ((nested self.now.depth).stmt name tokens.old.rest.now) result tokens.new.rest.now }
     {
-        self.nested.stmt(self.alloc, tokens, self.depth, begun)
+        self.nested.stmt(self.alloc, tokens, self.depth, name)
     }
 
     /// An expression; what decided that it is one may have been taken.
@@ -137,11 +137,11 @@ impl<N: NestedParsers> Level<N> {
     pub fn type_exp(
         &self,
         tokens: &mut Cursor<'_>,
-        begun: Option<Identifier>,
+        name: Option<Identifier>,
     ) -> Result<TypeExp, Stopped>
         requires { N.parse_at self.now.nested self.now.depth }
-        ensures { Reads ((nested self.now.depth).type begun tokens.old.rest.now) result tokens.new.rest.now }
+        ensures { Reads ((nested self.now.depth).type name tokens.old.rest.now) result tokens.new.rest.now }
     {
-        self.nested.type_exp(self.alloc, tokens, self.depth, begun)
+        self.nested.type_exp(self.alloc, tokens, self.depth, name)
     }
 }

@@ -2,20 +2,37 @@
 
 ghost use Rattle.std.specs.Prelude.{◌≡◌};
 ghost use Rattle.token_cursor.specs.Running.{Reads};
+ghost use Rattle.expression_parser.specs.Tails as tails;
 ghost use Rattle.token_cursor.specs.Parsing.{many};
 ghost use Rattle.module_productions.specs.ReadNested.{comma};
 ghost use Rattle.module_productions.specs.ReadStatements.{nested};
 ghost use Rattle.module_productions.specs.ReadStatements as spec;
 
 use crate::nesting::{Level, NestedParsers};
+use held_trees::{both, pushed};
 use mesa_base::{Identifier, List, Place};
 use mesa_lexer::Mark;
-use mesa_types::syntax::{Entries, Keyed, Left, Statement};
+use mesa_types::syntax::{Entries, Keyed, Left, Statement, Suffixes};
 use module_productions::Begun;
 use token_cursor::naming::named;
 use token_cursor::{Cursor, Stopped};
 
 impl<N: NestedParsers> Level<N> {
+    /// These targets with one more, behind its comma.
+    fn left(
+        &self,
+        tokens: &mut Cursor<'_>,
+        all: List<Left>,
+        place: Place,
+    ) -> Result<List<Left>, Stopped>
+        requires { N.parse_at self.now.nested self.now.depth }
+        ensures { Reads (spec.lefts_step (nested self.now.depth) all tt place tokens.old.rest.now) result tokens.new.rest.now }
+    {
+        let (all, name) = both(all, named(self.alloc, tokens))?;
+        let ((all, name), suffixes) = both((all, name), self.suffixes(tokens))?;
+        Ok(pushed(all, Left { name, suffixes })?)
+    }
+
     /// Further targets behind these.
     #[tactic(auto, using(token_cursor::proofs::Taking::many_by, module_productions::proofs::Parts::lefts_eats))]
     fn more_lefts(
@@ -26,10 +43,8 @@ impl<N: NestedParsers> Level<N> {
         requires { N.parse_at self.now.nested self.now.depth }
         ensures { Reads (many comma (spec.lefts_step (nested self.now.depth)) all tokens.old.rest.now) result tokens.new.rest.now }
     {
-        'lefts: while tokens.takes_mark(Mark::Comma).is_some() {
-            let name = named(self.alloc, tokens)?;
-            let suffixes = self.suffixes(tokens)?;
-            all.push(Left { name, suffixes })?;
+        'lefts: while let Some(place) = tokens.takes_mark(Mark::Comma) {
+            all = self.left(tokens, all, place)?;
         }
         Ok(all)
     }
@@ -40,11 +55,28 @@ impl<N: NestedParsers> Level<N> {
         requires { N.parse_at self.now.nested self.now.depth }
         ensures { Reads (spec.lefts (nested self.now.depth) name tokens.old.rest.now) result tokens.new.rest.now }
     {
-        let suffixes = self.suffixes(tokens)?;
-        let mut all = List::new(self.alloc);
-        all.push(Left { name, suffixes })?;
+        let (name, suffixes) = both(name, self.suffixes(tokens))?;
+        let all = pushed(List::new(self.alloc), Left { name, suffixes })?;
         let all = self.more_lefts(tokens, all)?;
         Ok(Entries::InOrder(all))
+    }
+
+    /// These targets with one more and its key, behind its comma.
+    fn key_left(
+        &self,
+        tokens: &mut Cursor<'_>,
+        all: List<Keyed<Left>>,
+        place: Place,
+    ) -> Result<List<Keyed<Left>>, Stopped>
+        requires { N.parse_at self.now.nested self.now.depth }
+        ensures { Reads (spec.key_lefts_step (nested self.now.depth) all tt place tokens.old.rest.now) result tokens.new.rest.now }
+    {
+        let (all, key) = both(all, named(self.alloc, tokens))?;
+        let ((all, key), _) = both((all, key), tokens.need_mark(Mark::Colon))?;
+        let ((all, key), name) = both((all, key), named(self.alloc, tokens))?;
+        let (((all, key), name), suffixes) = both(((all, key), name), self.suffixes(tokens))?;
+        let item = Left { name, suffixes };
+        Ok(pushed(all, Keyed { key, item })?)
     }
 
     /// Further targets behind these, each with its key.
@@ -57,13 +89,8 @@ impl<N: NestedParsers> Level<N> {
         requires { N.parse_at self.now.nested self.now.depth }
         ensures { Reads (many comma (spec.key_lefts_step (nested self.now.depth)) all tokens.old.rest.now) result tokens.new.rest.now }
     {
-        'key_lefts: while tokens.takes_mark(Mark::Comma).is_some() {
-            let key = named(self.alloc, tokens)?;
-            tokens.need_mark(Mark::Colon)?;
-            let name = named(self.alloc, tokens)?;
-            let suffixes = self.suffixes(tokens)?;
-            let item = Left { name, suffixes };
-            all.push(Keyed { key, item })?;
+        'key_lefts: while let Some(place) = tokens.takes_mark(Mark::Comma) {
+            all = self.key_left(tokens, all, place)?;
         }
         Ok(all)
     }
@@ -74,11 +101,10 @@ impl<N: NestedParsers> Level<N> {
         requires { N.parse_at self.now.nested self.now.depth }
         ensures { Reads (spec.key_lefts (nested self.now.depth) key tokens.old.rest.now) result tokens.new.rest.now }
     {
-        let name = named(self.alloc, tokens)?;
-        let suffixes = self.suffixes(tokens)?;
+        let (key, name) = both(key, named(self.alloc, tokens))?;
+        let ((key, name), suffixes) = both((key, name), self.suffixes(tokens))?;
         let item = Left { name, suffixes };
-        let mut all = List::new(self.alloc);
-        all.push(Keyed { key, item })?;
+        let all = pushed(List::new(self.alloc), Keyed { key, item })?;
         let all = self.more_key_lefts(tokens, all)?;
         Ok(Entries::ByKey(all))
     }
@@ -116,26 +142,38 @@ impl<N: NestedParsers> Level<N> {
         ensures { Reads (spec.extract (nested self.now.depth) place tokens.old.rest.now) result tokens.new.rest.now }
     {
         let targets = self.all_targets(tokens)?;
-        tokens.need_mark(Mark::RightBracket)?;
-        tokens.need_mark(Mark::Arrow)?;
-        let value = self.expr(tokens, Begun::Fresh)?;
+        let (targets, _) = both(targets, tokens.need_mark(Mark::RightBracket))?;
+        let (targets, _) = both(targets, tokens.need_mark(Mark::Arrow))?;
+        let (targets, value) = both(targets, self.expr(tokens, Begun::Fresh))?;
         Ok(Statement::Extract(place, targets, value))
     }
 
+    /// An assignment, behind its arrow.
+    #[tactic(auto, unfolding(crate::specs::Tails::assignment))]
+    fn assignment(
+        &self,
+        tokens: &mut Cursor<'_>,
+        name: Identifier,
+        suffixes: Suffixes,
+    ) -> Result<Statement, Stopped>
+        requires { N.parse_at self.now.nested self.now.depth }
+        ensures { Reads (tails.assignment (nested self.now.depth) name suffixes tokens.old.rest.now) result tokens.new.rest.now }
+    {
+        let value = self.expr(tokens, Begun::Fresh);
+        let ((name, suffixes), value) = both((name, suffixes), value)?;
+        Ok(Statement::Assign(Left { name, suffixes }, value))
+    }
+
     /// An assignment or a call, whose name was taken.
-    #[tactic(auto, using(token_cursor::proofs::Choosing::choose_none, token_cursor::proofs::Choosing::choose_some), unfolding(module_productions::specs::ReadStatements::assigned))]
+    #[tactic(auto, using(token_cursor::proofs::Choosing::choose_none, token_cursor::proofs::Choosing::choose_some), unfolding(module_productions::specs::ReadStatements::assigned, crate::specs::Tails::assignment))]
     pub fn assigned(&self, tokens: &mut Cursor<'_>, name: Identifier) -> Result<Statement, Stopped>
         requires { N.parse_at self.now.nested self.now.depth }
         ensures { Reads (spec.assigned (nested self.now.depth) name tokens.old.rest.now) result tokens.new.rest.now }
     {
         let suffixes = self.suffixes(tokens)?;
-        let to = Left { name, suffixes };
         match tokens.takes_mark(Mark::Arrow) {
-            Some(_) => {
-                let value = self.expr(tokens, Begun::Fresh)?;
-                Ok(Statement::Assign(to, value))
-            }
-            None => Ok(Statement::Call(to)),
+            Some(_) => self.assignment(tokens, name, suffixes),
+            None => Ok(Statement::Call(Left { name, suffixes })),
         }
     }
 }

@@ -8,7 +8,8 @@ ghost use Rattle.module_productions.specs.ReadStatements.{nested};
 ghost use Rattle.expression_parser.specs.Tails as tails;
 
 use crate::nesting::{Level, NestedParsers};
-use mesa_base::{Boxed, Identifier, Identifiers, List, OutOfMemory, Place};
+use held_trees::{LetGo, both, boxed_pair, pushed};
+use mesa_base::{Identifier, Identifiers, List, OutOfMemory, Place};
 use mesa_lexer::{Mark, Word};
 use mesa_types::syntax::{FieldList, Labeled, QualifiedName, TypeBase, TypeExp, TypeExps};
 use module_tokens::begins::begins_interval;
@@ -38,7 +39,8 @@ fn all_called(alloc: Global, names: &[Identifier]) -> Result<TypeExps, OutOfMemo
     let mut all = List::new(alloc);
     let mut rest = names;
     'names: while let Some((first, tail)) = rest.split_first() {
-        all.push(called(alloc, first)?)?;
+        let (held, item) = both(all, called(alloc, first))?;
+        all = pushed(held, item)?;
         rest = tail;
     }
     Ok(all)
@@ -57,9 +59,11 @@ impl<N: NestedParsers> Level<N> {
         ensures { Reads (spec.after_base (nested self.now.depth) base alone tokens.old.rest.now) result tokens.new.rest.now }
     {
         if !begins_interval(tokens) {
+            base.let_go();
             return Ok(alone);
         }
-        let interval = self.interval(tokens)?;
+        alone.let_go();
+        let (base, interval) = both(base, self.interval(tokens))?;
         Ok(TypeExp::Subrange(base, interval))
     }
 
@@ -73,7 +77,7 @@ impl<N: NestedParsers> Level<N> {
         if !begins_interval(tokens) {
             return Ok(TypeExp::Called(name));
         }
-        let interval = self.interval(tokens)?;
+        let (name, interval) = both(name, self.interval(tokens))?;
         Ok(TypeExp::Subrange(TypeBase::OfName(name), interval))
     }
 
@@ -83,7 +87,7 @@ impl<N: NestedParsers> Level<N> {
         ensures { Reads (spec.enumeration (nested self.now.depth) place tokens.old.rest.now) result tokens.new.rest.now }
     {
         let names = names(self.alloc, tokens)?;
-        tokens.need_mark(Mark::RightBrace)?;
+        let (names, _) = both(names, tokens.need_mark(Mark::RightBrace))?;
         Ok(TypeExp::Enumeration(place, names))
     }
 
@@ -93,13 +97,10 @@ impl<N: NestedParsers> Level<N> {
         ensures { Reads (spec.array (nested self.now.depth) place tokens.old.rest.now) result tokens.new.rest.now }
     {
         let index = self.type_exp(tokens, None)?;
-        tokens.need_word(Word::OfWord)?;
-        let element = self.type_exp(tokens, None)?;
-        Ok(TypeExp::Array(
-            place,
-            Boxed::new(self.alloc, index)?,
-            Boxed::new(self.alloc, element)?,
-        ))
+        let (index, _) = both(index, tokens.need_word(Word::OfWord))?;
+        let (index, element) = both(index, self.type_exp(tokens, None))?;
+        let (index, element) = boxed_pair(self.alloc, index, element)?;
+        Ok(TypeExp::Array(place, index, element))
     }
 
     #[tactic(auto, using(token_cursor::proofs::Taking::many_by, crate::proofs::FieldLoops::types_eats))]
@@ -108,20 +109,38 @@ impl<N: NestedParsers> Level<N> {
         ensures { Reads (many comma (spec.types_step (nested self.now.depth)) all tokens.old.rest.now) result tokens.new.rest.now }
     {
         'types: while tokens.takes_mark(Mark::Comma).is_some() {
-            all.push(self.type_exp(tokens, None)?)?;
+            let (held, item) = both(all, self.type_exp(tokens, None))?;
+            all = pushed(held, item)?;
         }
         Ok(all)
     }
 
     /// Types without names, of which some were taken.
     #[tactic(auto, unfolding(module_productions::specs::ReadExpressions::unnamed, module_productions::specs::ReadExpressions::more_types))]
-    fn unnamed(&self, tokens: &mut Cursor<'_>, mut all: TypeExps) -> Result<FieldList, Stopped>
+    fn unnamed(&self, tokens: &mut Cursor<'_>, all: TypeExps) -> Result<FieldList, Stopped>
         requires { N.parse_at self.now.nested self.now.depth }
         ensures { Reads (spec.unnamed (nested self.now.depth) all tokens.old.rest.now) result tokens.new.rest.now }
     {
-        all.push(self.type_exp(tokens, None)?)?;
+        let (all, item) = both(all, self.type_exp(tokens, None))?;
+        let all = pushed(all, item)?;
         let all = self.more_types(tokens, all)?;
         Ok(FieldList::Unnamed(all))
+    }
+
+    /// These groups with one more, behind its comma.
+    fn group(
+        &self,
+        tokens: &mut Cursor<'_>,
+        all: List<Labeled<Identifiers, TypeExp>>,
+        place: Place,
+    ) -> Result<List<Labeled<Identifiers, TypeExp>>, Stopped>
+        requires { N.parse_at self.now.nested self.now.depth }
+        ensures { Reads (spec.groups_step (nested self.now.depth) all tt place tokens.old.rest.now) result tokens.new.rest.now }
+    {
+        let (all, labels) = both(all, names(self.alloc, tokens))?;
+        let ((all, labels), _) = both((all, labels), tokens.need_mark(Mark::Colon))?;
+        let ((all, labels), item) = both((all, labels), self.type_exp(tokens, None))?;
+        Ok(pushed(all, Labeled { labels, item })?)
     }
 
     #[tactic(auto, using(token_cursor::proofs::Taking::many_by, module_productions::proofs::Parts::groups_eats))]
@@ -133,11 +152,8 @@ impl<N: NestedParsers> Level<N> {
         requires { N.parse_at self.now.nested self.now.depth }
         ensures { Reads (many comma (spec.groups_step (nested self.now.depth)) all tokens.old.rest.now) result tokens.new.rest.now }
     {
-        'groups: while tokens.takes_mark(Mark::Comma).is_some() {
-            let labels = names(self.alloc, tokens)?;
-            tokens.need_mark(Mark::Colon)?;
-            let item = self.type_exp(tokens, None)?;
-            all.push(Labeled { labels, item })?;
+        'groups: while let Some(place) = tokens.takes_mark(Mark::Comma) {
+            all = self.group(tokens, all, place)?;
         }
         Ok(all)
     }
@@ -148,9 +164,8 @@ impl<N: NestedParsers> Level<N> {
         requires { N.parse_at self.now.nested self.now.depth }
         ensures { Reads (spec.with_names (nested self.now.depth) labels tokens.old.rest.now) result tokens.new.rest.now }
     {
-        let item = self.type_exp(tokens, None)?;
-        let mut all = List::new(self.alloc);
-        all.push(Labeled { labels, item })?;
+        let (labels, item) = both(labels, self.type_exp(tokens, None))?;
+        let all = pushed(List::new(self.alloc), Labeled { labels, item })?;
         let all = self.more_groups(tokens, all)?;
         Ok(FieldList::WithNames(all))
     }
@@ -166,9 +181,11 @@ impl<N: NestedParsers> Level<N> {
         requires { N.parse_at self.now.nested self.now.depth }
         ensures { Reads (spec.types_from (nested self.now.depth) (record { before = before; last = last }) tokens.old.rest.now) result tokens.new.rest.now }
     {
-        let item = self.type_exp(tokens, Some(last))?;
-        let mut all = all_called(self.alloc, before.as_slice())?;
-        all.push(item)?;
+        let (before, item) = both(before, self.type_exp(tokens, Some(last)))?;
+        let called = all_called(self.alloc, before.as_slice());
+        before.let_go();
+        let (item, all) = both(item, called)?;
+        let all = pushed(all, item)?;
         let all = self.more_types(tokens, all)?;
         Ok(FieldList::Unnamed(all))
     }
@@ -178,7 +195,7 @@ impl<N: NestedParsers> Level<N> {
     fn decided(
         &self,
         tokens: &mut Cursor<'_>,
-        mut before: Identifiers,
+        before: Identifiers,
         last: Identifier,
     ) -> Result<FieldList, Stopped>
         requires { N.parse_at self.now.nested self.now.depth }
@@ -186,8 +203,8 @@ impl<N: NestedParsers> Level<N> {
     {
         match tokens.takes_mark(Mark::Colon) {
             Some(_) => {
-                before.push(last)?;
-                self.with_names(tokens, before)
+                let names = pushed(before, last)?;
+                self.with_names(tokens, names)
             }
             None => self.types_from(tokens, before, last),
         }
@@ -237,7 +254,7 @@ impl<N: NestedParsers> Level<N> {
     {
         tokens.need_mark(Mark::LeftBracket)?;
         let fields = self.field_list(tokens)?;
-        tokens.need_mark(Mark::RightBracket)?;
+        let (fields, _) = both(fields, tokens.need_mark(Mark::RightBracket))?;
         Ok(TypeExp::Record(place, fields))
     }
 
@@ -317,12 +334,12 @@ impl<N: NestedParsers> Level<N> {
     pub fn any_type(
         &self,
         tokens: &mut Cursor<'_>,
-        begun: Option<Identifier>,
+        name: Option<Identifier>,
     ) -> Result<TypeExp, Stopped>
         requires { N.parse_at self.now.nested self.now.depth }
-        ensures { Reads (spec.type_exp (nested self.now.depth) begun tokens.old.rest.now) result tokens.new.rest.now }
+        ensures { Reads (spec.type_exp (nested self.now.depth) name tokens.old.rest.now) result tokens.new.rest.now }
     {
-        match begun {
+        match name {
             Some(name) => self.type_from(tokens, name),
             None => self.fresh_type(tokens),
         }

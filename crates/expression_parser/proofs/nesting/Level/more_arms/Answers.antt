@@ -10,4 +10,4 @@ use Rattle.token_cursor.proofs.Taking.{ended_falls}
 use Rattle.expression_parser.proofs.nesting.Level.more_arms.Goals as goal
 
 pub arms-smaller : goal.arms-smaller
-arms-smaller g c = ended_falls (k.Mark Semicolon) begins_arm (arms_step (nested c.args.self.now.depth)) (arms_eats c.args.self.now.depth) c.arms.all c.push.new.self _ _ (first_of (search rules, grind (arith, common_steps)))
+arms-smaller g c = ended_falls (k.Mark Semicolon) begins_arm (arms_step (nested c.args.self.now.depth)) (arms_eats c.args.self.now.depth) c.arms.all c.in_ok-all.all _ _ (first_of (search rules, grind (arith, common_steps)))

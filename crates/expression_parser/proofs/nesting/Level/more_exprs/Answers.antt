@@ -8,4 +8,4 @@ use Rattle.token_cursor.proofs.Taking.{many_falls}
 use Rattle.expression_parser.proofs.nesting.Level.more_exprs.Goals as goal
 
 pub exprs-smaller : goal.exprs-smaller
-exprs-smaller g c = many_falls comma (exprs_step (nested c.args.self.now.depth)) (exprs_eats c.args.self.now.depth) c.exprs.all c.push.new.self _ _ (first_of (search rules, grind (arith, common_steps)))
+exprs-smaller g c = many_falls comma (exprs_step (nested c.args.self.now.depth)) (exprs_eats c.args.self.now.depth) c.exprs.all c.in_ok-all.all _ _ (first_of (search rules, grind (arith, common_steps)))

@@ -8,4 +8,4 @@ use Rattle.token_cursor.proofs.Taking.{many_falls}
 use Rattle.expression_parser.proofs.nesting.Level.more_groups.Goals as goal
 
 pub groups-smaller : goal.groups-smaller
-groups-smaller g c = many_falls comma (groups_step (nested c.args.self.now.depth)) (groups_eats c.args.self.now.depth) c.groups.all c.push.new.self _ _ (first_of (search rules, grind (arith, common_steps)))
+groups-smaller g c = many_falls comma (groups_step (nested c.args.self.now.depth)) (groups_eats c.args.self.now.depth) c.groups.all c.in_ok-all.all _ _ (first_of (search rules, grind (arith, common_steps)))

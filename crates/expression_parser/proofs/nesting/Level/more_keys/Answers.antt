@@ -8,4 +8,4 @@ use Rattle.token_cursor.proofs.Taking.{many_falls}
 use Rattle.expression_parser.proofs.nesting.Level.more_keys.Goals as goal
 
 pub keys-smaller : goal.keys-smaller
-keys-smaller g c = many_falls comma (keys_step (nested c.args.self.now.depth)) (keys_eats c.args.self.now.depth) c.keys.all c.push.new.self _ _ (first_of (search rules, grind (arith, common_steps)))
+keys-smaller g c = many_falls comma (keys_step (nested c.args.self.now.depth)) (keys_eats c.args.self.now.depth) c.keys.all c.in_ok-all.all _ _ (first_of (search rules, grind (arith, common_steps)))

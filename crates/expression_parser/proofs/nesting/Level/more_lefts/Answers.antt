@@ -7,4 +7,4 @@ use Rattle.token_cursor.proofs.Taking.{many_falls}
 use Rattle.expression_parser.proofs.nesting.Level.more_lefts.Goals as goal
 
 pub lefts-smaller : goal.lefts-smaller
-lefts-smaller g c = many_falls comma (lefts_step (nested c.args.self.now.depth)) (lefts_eats c.args.self.now.depth) c.lefts.all c.push.new.self _ _ (first_of (search rules, grind (arith, common_steps)))
+lefts-smaller g c = many_falls comma (lefts_step (nested c.args.self.now.depth)) (lefts_eats c.args.self.now.depth) c.lefts.all c.in_ok-all.all _ _ (first_of (search rules, grind (arith, common_steps)))

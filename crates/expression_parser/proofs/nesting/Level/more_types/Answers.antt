@@ -8,4 +8,4 @@ use Rattle.token_cursor.proofs.Taking.{many_falls}
 use Rattle.expression_parser.proofs.nesting.Level.more_types.Goals as goal
 
 pub types-smaller : goal.types-smaller
-types-smaller g c = many_falls comma (types_step (nested c.args.self.now.depth)) (types_eats c.args.self.now.depth) c.types.all c.push.new.self _ _ (first_of (search rules, grind (arith, common_steps)))
+types-smaller g c = many_falls comma (types_step (nested c.args.self.now.depth)) (types_eats c.args.self.now.depth) c.types.all c.in_ok-all.all _ _ (first_of (search rules, grind (arith, common_steps)))
