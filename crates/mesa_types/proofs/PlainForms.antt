@@ -36,14 +36,14 @@ use Rattle.mesa_types.specs.declared.syntax.Test.{Test}
 use Rattle.mesa_types.specs.declared.syntax.Test.TheVariants as tv
 use Rattle.mesa_types.specs.declared.syntax.TypeExp.{TypeExp}
 use Rattle.mesa_types.specs.declared.syntax.TypeExp.TheVariants as yv
-use Rattle.mesa_types.specs.declared.syntax.Arm.{Arm}
-use Rattle.mesa_types.specs.declared.syntax.Block.{Block}
-use Rattle.mesa_types.specs.declared.syntax.Brackets.{Brackets}
-use Rattle.mesa_types.specs.declared.syntax.Case.{Case}
-use Rattle.mesa_types.specs.declared.syntax.Control.{Control}
-use Rattle.mesa_types.specs.declared.syntax.Interval.{Interval}
-use Rattle.mesa_types.specs.declared.syntax.Left.{Left}
-use Rattle.mesa_types.specs.declared.syntax.Operation.{Operation}
+use Rattle.mesa_types.specs.declared.syntax.Arm.{Arm, out-Arm, roll-out-Arm}
+use Rattle.mesa_types.specs.declared.syntax.Block.{Block, out-Block, roll-out-Block}
+use Rattle.mesa_types.specs.declared.syntax.Brackets.{Brackets, out-Brackets, roll-out-Brackets}
+use Rattle.mesa_types.specs.declared.syntax.Case.{Case, out-Case, roll-out-Case}
+use Rattle.mesa_types.specs.declared.syntax.Control.{Control, out-Control, roll-out-Control}
+use Rattle.mesa_types.specs.declared.syntax.Interval.{Interval, out-Interval, roll-out-Interval}
+use Rattle.mesa_types.specs.declared.syntax.Left.{Left, out-Left, roll-out-Left}
+use Rattle.mesa_types.specs.declared.syntax.Operation.{Operation, out-Operation, roll-out-Operation}
 use Rattle.mesa_types.specs.Syntax as s
 use Rattle.mesa_types.specs.PlainSyntax.{condition, count, expr, field_list, plain_item, raise, statement, suffix, test, type_exp, arm, block, brackets, case, control, interval, left, operation, condition_step, count_step, expr_step, field_list_step, plain_item_step, raise_step, statement_step, suffix_step, test_step, type_exp_step, arm_step, block_step, brackets_step, case_step, control_step, interval_step, left_step, operation_step, items, targets, types, named_fields, operations, suffixes, tests, cases, statements, locals, exits, repeats, phrase, maybe_brackets, maybe_statement, maybe_items, maybe_count, maybe_condition}
 
@@ -356,3 +356,53 @@ of_left i ss = left_at (record { name = i; suffixes = ss }) refl
 
 pub of_operation : (o : Operator) (p : Place) (e : Expr) → operation (roll-Operation (record { operator = o; place = p; right = e })) ≡ s.AndOperation o p (expr e)
 of_operation o p e = operation_at (record { operator = o; place = p; right = e }) refl
+
+-- ---- each struct, by its fields
+
+pub parts_of_arm : (x : Arm) → arm x ≡ s.AndArm (out-Arm x).labels (statement (out-Arm x).body)
+parts_of_arm x = ap arm (sym (roll-out-Arm x)) ∙ of_arm (out-Arm x).labels (out-Arm x).body
+
+pub parts_of_block : (x : Block) → block x ≡ s.BlockOf (out-Block x).place (phrase (out-Block x).enable) (locals (out-Block x).locals) (statements (out-Block x).statements) (exits (out-Block x).exits)
+parts_of_block x = ap block (sym (roll-out-Block x)) ∙ of_block (out-Block x).place (out-Block x).enable (out-Block x).locals (out-Block x).statements (out-Block x).exits
+
+pub parts_of_brackets : (x : Brackets) → brackets x ≡ s.BracketsOf (out-Brackets x).place (items (out-Brackets x).items) (phrase (out-Brackets x).catch)
+parts_of_brackets x = ap brackets (sym (roll-out-Brackets x)) ∙ of_brackets (out-Brackets x).place (out-Brackets x).items (out-Brackets x).catch
+
+pub parts_of_case : (x : Case) → case x ≡ s.AndCase (tests (out-Case x).tests) (statement (out-Case x).body)
+parts_of_case x = ap case (sym (roll-out-Case x)) ∙ of_case (out-Case x).tests (out-Case x).body
+
+pub parts_of_control : (x : Control) → control x ≡ s.ControlOf (maybe_count (out-Control x).count) (maybe_condition (out-Control x).condition)
+parts_of_control x = ap control (sym (roll-out-Control x)) ∙ of_control (out-Control x).count (out-Control x).condition
+
+pub parts_of_interval : (x : Interval) → interval x ≡ s.Between (out-Interval x).place (out-Interval x).is_open_below (expr (out-Interval x).low) (expr (out-Interval x).high) (out-Interval x).is_open_above
+parts_of_interval x = ap interval (sym (roll-out-Interval x)) ∙ of_interval (out-Interval x).place (out-Interval x).is_open_below (out-Interval x).low (out-Interval x).high (out-Interval x).is_open_above
+
+pub parts_of_left : (x : Left) → left x ≡ s.LeftOf (out-Left x).name (suffixes (out-Left x).suffixes)
+parts_of_left x = ap left (sym (roll-out-Left x)) ∙ of_left (out-Left x).name (out-Left x).suffixes
+
+pub parts_of_operation : (x : Operation) → operation x ≡ s.AndOperation (out-Operation x).operator (out-Operation x).place (expr (out-Operation x).right)
+parts_of_operation x = ap operation (sym (roll-out-Operation x)) ∙ of_operation (out-Operation x).operator (out-Operation x).place (out-Operation x).right
+
+-- ---- the equations of each type, for functions that match on its trees
+
+pub ruleset condition_forms = (of_while, of_until)
+
+pub ruleset count_forms = (of_for, of_through)
+
+pub ruleset expr_forms = (of_run, of_not, of_compare, of_within, of_signed, of_number_literal, of_character_literal, of_string_literal, of_truth, of_parenthesis, of_reference, of_constructor, of_raised)
+
+pub ruleset field_list_forms = (of_with_names, of_unnamed)
+
+pub ruleset plain_item_forms = (of_type_is, of_variable, of_initial, of_constant)
+
+pub ruleset raise_forms = (of_signal_raise, of_error_raise, of_unnamed_error)
+
+pub ruleset statement_forms = (of_null, of_nested, of_assign, of_extract, of_call, of_raise_statement, of_if, of_select, of_loop, of_exit_loop, of_next_turn, of_goto, of_return, of_resume, of_reject, of_retry, of_continue)
+
+pub ruleset suffix_forms = (of_field, of_applied)
+
+pub ruleset test_forms = (of_value, of_compared, of_inside)
+
+pub ruleset type_exp_forms = (of_integer, of_cardinal, of_boolean, of_character, of_string, of_called, of_enumeration, of_subrange, of_array, of_record)
+
+pub ruleset parts = (parts_of_arm, parts_of_block, parts_of_brackets, parts_of_case, parts_of_control, parts_of_interval, parts_of_left, parts_of_operation)
