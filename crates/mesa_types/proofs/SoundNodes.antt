@@ -32,7 +32,7 @@ module _ (Γ : Scope) where
   expr_has_node (LengthOf e) ks h = omega arith
   expr_has_node (ByteOf e i) ks h = omega arith
   expr_has_node (Checked r e) ks h = omega arith
-  expr_has_node (Operate e os) ks h = omega (arith, expr_has_node e _ h.1)
+  expr_has_node (Operate e os) ks h = omega (arith, expr_has_node e _ h.0)
   expr_has_node (Negate e) ks h = omega arith
   expr_has_node (Relate b o d e) ks h = omega arith
   expr_has_node (Within b e i) ks h = omega arith

@@ -84,7 +84,7 @@ module _ (Γ : Scope) where
     words_are (LengthOf e) ks h = as_word ks h.1
     words_are (ByteOf e i) ks h = as_word ks h.2
     words_are (Checked r e) ks h = as_word ks h.2
-    words_are (Operate e os) ks h = as_word ks h.3
+    words_are (Operate e os) ks h = as_word ks h.2
     words_are (Negate e) ks h = as_word ks h.1
     words_are (Relate b o d e) ks h = as_word ks h.2
     words_are (Within b e i) ks h = as_word ks h.2
