@@ -1,7 +1,11 @@
 -- Catch phrases and arms that are sound at a place, and beside each one that is not.
 use Rattle.std.proofs.Common.{◌≡◌, ℕ, zero, suc, ◌+◌, List, [], ◌∷◌, length, Some, None, refl, sym, ap, ◌∙◌, inl, inr, arith}
 use Rattle.std.specs.Prelude.{Contains}
-use Rattle.mesa_types.specs.Typed.{Kind, Ordinal, Kinds, NoKinds, AndKind, Point, Start, After, At, Leave, Goal, PastStatement, ToLabel, ToReturn, point_of, Label, OnAny, OnUnwind, OnOwn, OnLinked, OnBounds, OnZero, Exprs, NoExprs, AndExpr, Number, NoPhrase, Catch, Arms, NoArms, AndArm, Stmt, Null, Jump, Resume, Reject, Retry, Continue, ReturnWith}
+use Rattle.mesa_types.specs.Typed.{Kind, Ordinal, Kinds, NoKinds, AndKind, Point, Start, After, At, Leave, point_of, Exprs, NoExprs, AndExpr, Number, NoPhrase, Catch, Arms, NoArms, AndArm, Stmt, Null, Jump, Resume, Reject, Retry, Continue, ReturnWith}
+use Rattle.mesa_types.specs.declared.typed_parts.Goal.{Goal}
+use Rattle.mesa_types.specs.declared.typed_parts.Goal.TheVariants.{PastStatement, ToLabel, ToReturn}
+use Rattle.mesa_types.specs.declared.typed_parts.Label.{Label}
+use Rattle.mesa_types.specs.declared.typed_parts.Label.TheVariants.{OnAny, OnUnwind, OnOwn, OnLinked, OnBounds, OnZero}
 use Rattle.mesa_types.specs.Plain.{kinds_of}
 use Rattle.mesa_types.specs.Counts.{operands, operands_of, operands_of_stmt}
 use Rattle.mesa_types.specs.Shapes.{count_in, one, KindAt}
@@ -23,7 +27,7 @@ unfolding AreLabels NamesSignal UsedItem imported item_in IsUsed UsedIn IsSignal
 named = inr (inr ((λ e. omega (arith, ap length e)), all_two (NamesSignal here) (OnOwn 0) (OnLinked 0 2) (omega arith) (fail, (refl, (1, omega arith, refl)), inr refl)))
 
 -- the labels of an arm by number, to tell them apart
-first_label : List Label → ℕ
+abbrev first_label : List Label → ℕ
 first_label [] = 9
 first_label (OnAny ∷ ls) = 0
 first_label (OnUnwind ∷ ls) = 1
@@ -33,13 +37,13 @@ first_label (OnBounds ∷ ls) = 4
 first_label (OnZero ∷ ls) = 5
 
 no_label : AreLabels here [] → ⊥
-unfolding AreLabels first_label
+unfolding AreLabels
 no_label (inl e) = omega (arith, ap first_label e)
 no_label (inr (inl e)) = omega (arith, ap first_label e)
 no_label (inr (inr h)) = h.0 refl
 
 any_and_another : AreLabels here (OnAny ∷ OnOwn 0 ∷ []) → ⊥
-unfolding AreLabels NamesSignal first_label
+unfolding AreLabels NamesSignal
 any_and_another (inl e) = omega (arith, ap length e)
 any_and_another (inr (inl e)) = omega (arith, ap first_label e)
 any_and_another (inr (inr h)) = h.1 0 OnAny (omega arith)
@@ -78,7 +82,7 @@ no_parameter h = omega (arith, ap kind_number h.0)
 -- ---- phrases
 
 -- R[! Ask => REJECT], whose parameter is local 0
-reject : Arms
+abbrev reject : Arms
 reject = AndArm (OnOwn 0 ∷ []) 0 1 Reject NoArms
 
 asked : AreLabels here (OnOwn 0 ∷ [])
@@ -86,7 +90,7 @@ unfolding AreLabels NamesSignal
 asked = inr (inr ((λ e. omega (arith, ap length e)), all_one (NamesSignal here) (OnOwn 0) (omega arith)))
 
 caught : PhraseIn here (Catch 0 reject)
-unfolding PhraseIn HasArm Reaches ArmsIn reject StmtIn in_arm count_in a_word one
+unfolding PhraseIn HasArm Reaches ArmsIn StmtIn in_arm count_in a_word one
 caught = (tt, (0, (0, omega arith, refl), refl), (0, (1, omega arith, refl), refl), (asked, a_word, refl, parameter, takes_a_word, omega arith, tt))
 
 -- two variables for the signal's one parameter
@@ -107,12 +111,11 @@ unfolding PhraseIn HasArm
 no_arm h = h.0
 
 -- a phrase of a statement that is not around, or with an arm between
-statement_of : Point → ℕ
+abbrev statement_of : Point → ℕ
 statement_of (Start n) = n
 statement_of _ = 0
 
 no_statement_5 : (d : ℕ) → Contains here.points (record { point = Start 5; depth = d }) → ⊥
-unfolding statement_of
 no_statement_5 d (zero, lt, is) = omega (arith, ap (λ (x : Seen). statement_of x.point) is)
 no_statement_5 d (suc zero, lt, is) = omega (arith, ap (λ (x : Seen). statement_of x.point) is)
 no_statement_5 d (suc (suc zero), lt, is) = omega (arith, ap (λ (x : Seen). statement_of x.point) is)
@@ -153,11 +156,11 @@ return_out_of_unwind arms first places es h = omega (arith, h.3.1.1)
 -- ---- RESUME, REJECT, RETRY, CONTINUE
 
 answer : ExprsIn (within (OnOwn 0 ∷ [])) one_word a_word
-unfolding one_word ExprsIn ExprIn a_word one
+unfolding ExprsIn ExprIn a_word one
 answer = (Ordinal, NoKinds, (omega arith, refl), refl, refl)
 
 resumed : StmtIn (within (OnOwn 0 ∷ [])) (Resume [] one_word)
-unfolding StmtIn Fits operands_of_stmt operands one_word in_arm IsForRaises LabelGives Arranged
+unfolding StmtIn Fits operands_of_stmt operands in_arm IsForRaises LabelGives Arranged
 resumed = (omega arith, a_word, kinds_of ask.gives, tt, all_one (LabelGives (within (OnOwn 0 ∷ [])) (kinds_of ask.gives)) (OnOwn 0) (ask, refl, refl, refl), answer, sym an_integer)
 
 -- the third signal is an error

@@ -1,7 +1,14 @@
 -- Expressions that are sound at a place, and beside each one that is not.
 use Rattle.std.proofs.Common.{◌≡◌, ℕ, zero, suc, List, [], ◌∷◌, length, Some, None, refl, sym, ap, ◌∙◌, inr, arith}
 use Rattle.std.specs.Prelude.{Contains, true, false}
-use Rattle.mesa_types.specs.Typed.{Global, Local, Every, From, Signed, Unsigned, Add, Part, Kind, Ordinal, Texts, Array, Record, Kinds, NoKinds, AndKind, OwnProcedure, LinkedProcedure, OwnSignal, LinkedSignal, TheBoundsFault, Expr, Number, Literal, Variable, FieldOf, LengthOf, ByteOf, Checked, Operate, Negate, Relate, Within, Not, AllOf, SomeOf, Construct, Call, Raise, Exprs, NoExprs, AndExpr, NoSuffix, Field, Index, NoOperation, Then, Interval, Between, NoPhrase}
+use Rattle.mesa_types.specs.Typed.{Kind, Ordinal, Texts, Array, Record, Kinds, NoKinds, AndKind, Expr, Number, Literal, Variable, FieldOf, LengthOf, ByteOf, Checked, Operate, Negate, Relate, Within, Not, AllOf, SomeOf, Construct, Call, Raise, Exprs, NoExprs, AndExpr, NoSuffix, Field, Index, NoOperation, Then, Interval, Between, NoPhrase}
+use Rattle.mesa_types.specs.declared.typed_parts.Home.TheVariants.{Global, Local}
+use Rattle.mesa_types.specs.declared.typed_parts.Range.TheVariants.{Every, From}
+use Rattle.mesa_types.specs.declared.typed_parts.Base.TheVariants.{Signed, Unsigned}
+use Rattle.mesa_types.specs.declared.typed_parts.Operator.TheVariants.{Add}
+use Rattle.mesa_types.specs.declared.typed_parts.Part.{Part}
+use Rattle.mesa_types.specs.declared.typed_parts.Callee.TheVariants.{OwnProcedure, LinkedProcedure}
+use Rattle.mesa_types.specs.declared.typed_parts.Raised.TheVariants.{OwnSignal, LinkedSignal, TheBoundsFault}
 use Rattle.mesa_types.specs.Plain.{kinds_of}
 use Rattle.mesa_types.specs.Nodes.{count_of}
 use Rattle.mesa_types.specs.Shapes.{words_in, words_in_all, words_before, count_in, one, copies, HasWords, AllHaveWords, KindAt, PartOf}
@@ -71,11 +78,11 @@ checks_nothing : (ks : Kinds) → ExprIn here (Checked Every (Number 1)) ks → 
 unfolding ExprIn IsCheck
 checks_nothing ks h = h.0
 
-two : Exprs
+abbrev pub two : Exprs
 two = AndExpr (Number 0) (AndExpr (Number 1) NoExprs)
 
 both : ExprIn here (AllOf two) a_word
-unfolding two ExprIn WordsIn count_of
+unfolding ExprIn WordsIn count_of
 both = (omega arith, ((omega arith, refl), ((omega arith, refl), tt)), refl)
 
 and_of_one : (ks : Kinds) → ExprIn here (AllOf (AndExpr (Number 1) NoExprs)) ks → ⊥
@@ -89,29 +96,27 @@ or_of_none ks h = omega (arith, h.0)
 -- ---- fields of what is made, constructors
 
 -- a pair of a number and a string, made in order, by keys in order, and by keys out of order
-values : Exprs
+abbrev pub values : Exprs
 values = AndExpr (Number 1) (AndExpr (Literal 0) NoExprs)
 
-turned : Exprs
+abbrev pub turned : Exprs
 turned = AndExpr (Literal 0) (AndExpr (Number 1) NoExprs)
 
 values_in : ExprsIn here values pair
-unfolding values ExprsIn ExprIn one a_word
+unfolding ExprsIn ExprIn one a_word
 values_in = (Ordinal, AndKind Texts NoKinds, (omega arith, refl), (Texts, NoKinds, (omega arith, refl), refl, refl), refl)
 
 turned_in : ExprsIn here turned (AndKind Texts (AndKind Ordinal NoKinds))
-unfolding turned ExprsIn ExprIn one a_word
+unfolding ExprsIn ExprIn one a_word
 turned_in = (Texts, AndKind Ordinal NoKinds, (omega arith, refl), (Ordinal, NoKinds, (omega arith, refl), refl, refl), refl)
 
-two_places : AllDiffer (1 ∷ 0 ∷ [])
+only_0 : Contains {X = ℕ} (0 ∷ []) 1 → ⊥
+only_0 (zero, lt, is) = omega (arith, is)
+only_0 (suc k, lt, is) = omega (arith, lt)
+
+two_places : AllDiffer {A = ℕ} (1 ∷ 0 ∷ [])
 unfolding AllDiffer
-two_places = (only, (none, tt))
-  where
-    only : Contains (0 ∷ []) 1 → ⊥
-    only (zero, lt, is) = omega (arith, is)
-    only (suc k, lt, is) = omega (arith, lt)
-    none : Contains {X = ℕ} [] 0 → ⊥
-    none c = omega (arith, c.1)
+two_places = (only_0, ((λ c. omega (arith, c.1)), tt))
 
 pub made : ExprIn here (Construct [] values) (one (Record pair))
 unfolding ExprIn HasWords AllHaveWords Constructs Arranged
@@ -159,11 +164,11 @@ no_field e ks h = h.0 refl
 
 -- ---- calls and raises
 
-one_word : Exprs
+abbrev pub one_word : Exprs
 one_word = AndExpr (Number 7) NoExprs
 
 pub one_word_in : ExprsIn here one_word a_word
-unfolding one_word ExprsIn ExprIn a_word one
+unfolding ExprsIn ExprIn a_word one
 one_word_in = (Ordinal, NoKinds, (omega arith, refl), refl, refl)
 
 pub own_call : ExprIn here (Call (OwnProcedure 1) [] one_word 1 NoPhrase) (kinds_of twice.gives)
@@ -199,7 +204,7 @@ linked_raise = (kinds_of fail.takes, a_word, (fail, (refl, (1, omega arith, refl
 
 -- a predeclared error takes nothing
 bounds_with_a_word : (ks : Kinds) → ExprIn here (Raise TheBoundsFault [] one_word 0 NoPhrase) ks → ⊥
-unfolding one_word ExprIn ExprsIn RaisedIs Arranged how_many
+unfolding ExprIn ExprsIn RaisedIs Arranged how_many
 bounds_with_a_word ks h =
     let none : h.1 ≡ NoKinds = h.4 ∙ h.2.0 in
     omega (arith, ap how_many (sym h.3.4 ∙ none))

@@ -2,7 +2,8 @@
 use Rattle.std.proofs.Common.{◌≡◌, ℕ, zero, suc, ◌+◌, ◌*◌, ◌<◌, ◌≤◌, List, [], ◌∷◌, length, Some, None, refl, sym, ap, ◌∙◌, subst, inl, inr, arith}
 use Rattle.std.specs.Prelude.{All, Contains, replicate}
 use Rattle.std.proofs.Math.Seq.{length-replicate}
-use Rattle.mesa_types.specs.Typed.{Local, Kind, Ordinal, Texts, Array, Record, Kinds, NoKinds, AndKind, Expr, Variable, Exprs, NoExprs, AndExpr, NoSuffix, Stmt, Null, Perform, Module, Body}
+use Rattle.mesa_types.specs.Typed.{Kind, Ordinal, Texts, Array, Record, Kinds, NoKinds, AndKind, Expr, Variable, Exprs, NoExprs, AndExpr, NoSuffix, Stmt, Null, Perform, Module, Body}
+use Rattle.mesa_types.specs.declared.typed_parts.Home.TheVariants.{Local}
 use Rattle.mesa_types.specs.Plain.{kinds_of}
 use Rattle.mesa_types.specs.Types.{Measure, measure_step, field_step, elements_of, IsWithinLimits}
 use Rattle.mesa_types.specs.TypesInside.{Nest, FieldNest, nest_step, field_nest_step, types_inside}

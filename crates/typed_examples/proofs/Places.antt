@@ -2,7 +2,8 @@
 -- stand in.
 use Rattle.std.proofs.Common.{◌≡◌, ℕ, zero, suc, ◌+◌, List, [], ◌∷◌, Option, Some, None, refl, sym, ap, ◌∙◌, arith}
 use Rattle.std.specs.Prelude.{All, Contains}
-use Rattle.mesa_types.specs.Typed.{Kind, Ordinal, Texts, Array, Record, Kinds, NoKinds, AndKind, Point, Start, After, At, Leave, Label}
+use Rattle.mesa_types.specs.Typed.{Kind, Ordinal, Texts, Array, Record, Kinds, NoKinds, AndKind, Point, Start, After, At, Leave}
+use Rattle.mesa_types.specs.declared.typed_parts.Label.{Label}
 use Rattle.mesa_types.specs.Plain.{Shaped, shape_step, field_kind_step, kind_of, field_kind, kinds_of}
 use Rattle.mesa_types.specs.Shapes.{one}
 use Rattle.mesa_types.specs.Sound.{Scope, Seen, in_arm, a_word}
@@ -29,36 +30,30 @@ all_two P x y p q (suc zero) d lt = q
 all_two P x y p q (suc (suc i)) d lt = absurd (omega (arith, lt))
 
 -- kinds by number, to tell them apart
-pub kind_number : Kind → ℕ
+unfoldable pub kind_number : Kind → ℕ
 kind_number Ordinal = 0
 kind_number Texts = 1
 kind_number (Array n k) = 2
 kind_number (Record ks) = 3
 
-pub first_number : Kinds → ℕ
-unfolding kind_number
-first_number NoKinds = 7
-first_number (AndKind k ks) = kind_number k
-
-pub how_many : Kinds → ℕ
+unfoldable pub how_many : Kinds → ℕ
 how_many NoKinds = 0
 how_many (AndKind k ks) = suc (how_many ks)
 
-pub takes_of : Option Item → Kinds
+unfoldable pub takes_of : Option Item → Kinds
 takes_of None = NoKinds
 takes_of (Some i) = kinds_of i.takes
 
-pub gives_of : Option Item → Kinds
+unfoldable pub gives_of : Option Item → Kinds
 gives_of None = NoKinds
 gives_of (Some i) = kinds_of i.gives
 
-pub error : ItemKind → ℕ
+abbrev pub error : ItemKind → ℕ
 error item.Error = 1
 error _ = 0
 
 -- 1 where it is an error
-pub is_error : Option Item → ℕ
-unfolding error
+unfoldable pub is_error : Option Item → ℕ
 is_error None = 0
 is_error (Some i) = error i.kind
 

@@ -1,12 +1,22 @@
 -- Statements that are sound at a place, and beside each one that is not.
 use Rattle.std.proofs.Common.{◌≡◌, ℕ, zero, suc, ◌+◌, List, [], ◌∷◌, length, Some, None, refl, sym, ap, ◌∙◌, inl, inr, arith}
 use Rattle.std.specs.Prelude.{All, Contains, true, false}
-use Rattle.mesa_types.specs.Typed.{Home, Global, Local, Every, From, Signed, Unsigned, NoVariable, GivenTo, Endless, Counting, Equal, Part, Kind, Ordinal, Texts, Array, Record, Kinds, NoKinds, AndKind, OwnProcedure, Goal, PastStatement, ToLabel, ToReturn, point_of, Expr, Number, Literal, Variable, Call, Exprs, NoExprs, AndExpr, NoSuffix, Interval, Between, NoPhrase, Stmt, Null, Marked, Declare, DeclareAs, Assign, Extract, Perform, If, Select, Block, Repeat, For, Jump, ReturnWith, Stmts, NoStmts, AndStmt, Targets, NoTargets, AndTarget, Cases, Otherwise, AndCase, Tests, NoTests, IfRelated, Exits, NoExits, AndExit, Loop, LoopOf, NoFinish, Always}
+use Rattle.mesa_types.specs.Typed.{Endless, Counting, Kind, Ordinal, Texts, Array, Record, Kinds, NoKinds, AndKind, point_of, Expr, Number, Literal, Variable, Call, Exprs, NoExprs, AndExpr, NoSuffix, Interval, Between, NoPhrase, Stmt, Null, Marked, Declare, DeclareAs, Assign, Extract, Perform, If, Select, Block, Repeat, For, Jump, ReturnWith, Stmts, NoStmts, AndStmt, Targets, NoTargets, AndTarget, Cases, Otherwise, AndCase, Tests, NoTests, IfRelated, Exits, NoExits, AndExit, Loop, LoopOf, NoFinish, Always}
+use Rattle.mesa_types.specs.declared.typed_parts.Home.{Home}
+use Rattle.mesa_types.specs.declared.typed_parts.Home.TheVariants.{Global, Local}
+use Rattle.mesa_types.specs.declared.typed_parts.Range.TheVariants.{Every, From}
+use Rattle.mesa_types.specs.declared.typed_parts.Base.TheVariants.{Signed, Unsigned}
+use Rattle.mesa_types.specs.declared.typed_parts.Given.TheVariants.{NoVariable, GivenTo}
+use Rattle.mesa_types.specs.declared.relation.Relation.TheVariants.{Equal}
+use Rattle.mesa_types.specs.declared.typed_parts.Part.{Part}
+use Rattle.mesa_types.specs.declared.typed_parts.Callee.TheVariants.{OwnProcedure}
+use Rattle.mesa_types.specs.declared.typed_parts.Goal.{Goal}
+use Rattle.mesa_types.specs.declared.typed_parts.Goal.TheVariants.{PastStatement, ToLabel, ToReturn}
 use Rattle.mesa_types.specs.Plain.{kinds_of}
 use Rattle.mesa_types.specs.Counts.{operands, operands_of, operands_in, operands_of_targets, operands_of_cases, operands_of_tests, operands_of_interval, operands_of_loop, operands_of_condition, operands_of_stmt, words_of}
 use Rattle.mesa_types.specs.Shapes.{words_in, words_in_all, words_before, count_in, one, KindAt, PartOf}
 use Rattle.mesa_types.specs.Sound.{Fits, VariableIn, RangeIn, IsCheck, ChecksKind, AllDiffer, Arranged, Reaches, in_marked, labels_in, in_labelled, LabelsIn, CountIn, GivenIn, Selects, HasTest, HasValue, IsCall, taken, a_word, CalleeIs, ExprIn, ExprsIn, SuffixesIn, IntervalIn, PhraseIn, StmtIn, StmtsIn, TargetsIn, CasesIn, TestsIn, ExitsIn, LoopIn, FinishIn, ConditionIn}
-use Rattle.typed_examples.proofs.Places.{all_none, all_one, all_two, how_many, kind_number, first_number, an_integer, here, pair, twice}
+use Rattle.typed_examples.proofs.Places.{all_none, all_one, all_two, how_many, kind_number, an_integer, here, pair, twice}
 use Rattle.typed_examples.proofs.Expressions.{one_word, one_word_in}
 
 -- ---- declarations
@@ -34,22 +44,22 @@ nothing_declared_as k e h = h.1 refl
 
 -- ---- extractors
 
-record_value : Expr
+abbrev record_value : Expr
 record_value = Variable (Global 3) NoSuffix 3
 
-first_part : Part
+abbrev first_part : Part
 first_part = record { field = 0; offset = 0; words = 1 }
 
 -- [x] ← r, by key
-one_field : Targets
+abbrev one_field : Targets
 one_field = AndTarget first_part (Global 0) NoSuffix Every NoTargets
 
-differ_one : AllDiffer (0 ∷ [])
+differ_one : AllDiffer {A = ℕ} (0 ∷ [])
 unfolding AllDiffer
 differ_one = ((λ c. omega (arith, c.1)), tt)
 
 extracted : StmtIn here (Extract true one_field record_value)
-unfolding record_value one_field first_part StmtIn Fits operands_of_stmt operands_of_targets operands operands_in taken ExprIn VariableIn KindAt SuffixesIn TargetsIn ChecksKind words_in words_in_all words_before one
+unfolding StmtIn Fits operands_of_stmt operands_of_targets operands operands_in taken ExprIn VariableIn KindAt SuffixesIn TargetsIn ChecksKind words_in words_in_all words_before one
 extracted = (
   omega arith,
   differ_one,
@@ -60,12 +70,12 @@ extracted = (
 
 -- each part at most once
 twice_taken : (e : Expr) (ts : Targets) → StmtIn here (Extract true (AndTarget first_part (Global 0) NoSuffix Every one_field) e) → ⊥
-unfolding first_part one_field StmtIn taken AllDiffer
+unfolding StmtIn taken AllDiffer
 twice_taken e ts h = h.1.0 (0, omega arith, refl)
 
 -- results are those of a call or raise
 no_results : (ts : Targets) → StmtIn here (Extract false ts record_value) → ⊥
-unfolding record_value StmtIn IsCall
+unfolding StmtIn IsCall
 no_results ts h = h.2
 
 performed_number : StmtIn here (Perform (Number 5)) → ⊥
@@ -76,7 +86,7 @@ performed_number h = h.1
 
 -- a record may be selected where nothing compares it
 of_record : StmtIn here (Select record_value (Otherwise Null))
-unfolding record_value StmtIn Fits operands_of_stmt operands_of_cases operands operands_in ExprIn VariableIn KindAt SuffixesIn words_in words_in_all one Selects CasesIn
+unfolding StmtIn Fits operands_of_stmt operands_of_cases operands operands_in ExprIn VariableIn KindAt SuffixesIn words_in words_in_all one Selects CasesIn
 of_record = (Record pair, omega arith, (Record pair, Record pair, refl, refl, refl, refl), tt, tt)
 
 compared_record : (ts : Tests) (s : Stmt) (cs : Cases) → Selects (Record pair) (AndCase ts s cs) → ⊥
@@ -106,11 +116,11 @@ jumps_past_itself : StmtIn here (Marked 1 (Jump 0 (PastStatement 1)))
 unfolding StmtIn in_marked Reaches point_of
 jumps_past_itself = (omega arith, 0, (1, omega arith, refl), refl)
 
-one_label : Exits
+abbrev one_label : Exits
 one_label = AndExit (1 ∷ []) Null NoExits
 
 labelled : StmtIn here (Block NoPhrase (AndStmt (Jump 0 (ToLabel 1)) NoStmts) one_label)
-unfolding one_label StmtIn LabelsIn labels_in AllDiffer PhraseIn in_labelled StmtsIn Reaches point_of ExitsIn
+unfolding StmtIn LabelsIn labels_in AllDiffer PhraseIn in_labelled StmtsIn Reaches point_of ExitsIn
 labelled = (2, (omega arith, all_one (λ l. (1 ≤ l) × (l < 2)) 1 (omega arith, omega arith), ((λ c. omega (arith, c.1)), tt)), tt, ((0, (0, omega arith, refl), refl), tt), ((λ e. omega (arith, ap length e)), tt, tt))
 
 -- label 0 is around already; a label twice; statements without a label
@@ -128,11 +138,11 @@ exit_without_label s es h = h.0 refl
 
 -- ---- loops
 
-plain_loop : Loop
+abbrev plain_loop : Loop
 plain_loop = LoopOf Always (Block NoPhrase NoStmts NoExits) NoExits NoFinish
 
 looped : StmtIn here (Repeat Endless plain_loop)
-unfolding plain_loop StmtIn Fits operands_of_stmt operands_of_loop operands_of_condition CountIn LoopIn LabelsIn labels_in AllDiffer in_labelled ConditionIn PhraseIn StmtsIn ExitsIn FinishIn
+unfolding StmtIn Fits operands_of_stmt operands_of_loop operands_of_condition CountIn LoopIn LabelsIn labels_in AllDiffer in_labelled ConditionIn PhraseIn StmtsIn ExitsIn FinishIn
 looped = (omega arith, tt, (1, (omega arith, all_none _, tt), tt, (1, (omega arith, all_none _, tt), tt, tt, tt), tt, tt))
 
 -- no tree of a text has a loop in the middle of its rounds
@@ -151,7 +161,7 @@ given_to_string h = omega (arith, ap kind_number h.0)
 -- ---- RETURN
 
 returned : StmtIn here (ReturnWith 0 1 [] one_word)
-unfolding one_word StmtIn Fits operands_of_stmt operands operands_of HasValue Reaches Arranged a_word one
+unfolding StmtIn Fits operands_of_stmt operands operands_of HasValue Reaches Arranged a_word one
 returned = (omega arith, tt, a_word, (0, (3, omega arith, refl), refl), refl, one_word_in, refl)
 
 -- the result is variable 1, since there is one parameter; there is one; without values it is a jump
