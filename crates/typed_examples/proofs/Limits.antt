@@ -5,8 +5,7 @@ use Rattle.std.proofs.Math.Seq.{length-replicate}
 use Rattle.mesa_types.specs.Typed.{Kind, Ordinal, Texts, Array, Record, Kinds, NoKinds, AndKind, Expr, Variable, Exprs, NoExprs, AndExpr, NoSuffix, Stmt, Null, Perform, Module, Body}
 use Rattle.mesa_types.specs.declared.typed_parts.Home.TheVariants.{Local}
 use Rattle.mesa_types.specs.Plain.{kinds_of}
-use Rattle.mesa_types.specs.Types.{Measure, measure_step, field_step, elements_of, IsWithinLimits}
-use Rattle.mesa_types.specs.TypesInside.{Nest, FieldNest, nest_step, field_nest_step, types_inside}
+use Rattle.mesa_types.specs.Types.{longest_of, IsWithinLimits}
 use Rattle.mesa_types.specs.Counts.{hidden, operands, operands_in, operands_of, operands_of_stmt, words_of}
 use Rattle.mesa_types.specs.Shapes.{words_in, words_in_all, join, HasWords, AllHaveWords}
 use Rattle.mesa_types.specs.Sound.{Fits, IsSignal, HeadIn, FieldsWithin, SignalIn, BodyIn, IsAscending, AllDiffer, scope_of, StmtIn, Sound}
@@ -16,7 +15,6 @@ use Rattle.mesa_types.specs.declared.types.Origin.{Origin}
 use Rattle.mesa_types.specs.declared.types.FieldType.{FieldType, roll-FieldType}
 use Rattle.mesa_types.specs.declared.types.TypeTree.{TypeTree, roll-TypeTree}
 use Rattle.mesa_types.specs.declared.types.TypeTree.TheOpen.{TypeTree-F}
-use Rattle.mesa_types.specs.declared.types.TypeTree.TheVariants as v
 use Rattle.mesa_types.specs.declared.types.TypeTree.TheFolds.{fold-roll-TypeTree, fold-roll-FieldType}
 use Rattle.typed_examples.proofs.Places.{all_none}
 
@@ -97,7 +95,7 @@ error_that_gives gives h = omega (arith, ap length (h.2 refl))
 -- ---- types inside types
 
 abbrev origin : Origin
-origin = record { module = 77 ∷ []; stamp = None; number = 0 }
+origin = record { «module» = 77 ∷ []; stamp = None; number = 0 }
 
 abbrev names : ℕ → List (List ℕ)
 names n = replicate n (97 ∷ [])
@@ -113,19 +111,12 @@ field t = roll-FieldType (record { name = None; kind = t })
 abbrev record_of : TypeTree → TypeTree
 record_of t = roll-TypeTree (TypeTree-F.Record origin (field t ∷ []))
 
-elements : (n : ℕ) → elements_of (v.Enumeration origin (names n)) ≡ n
-elements n =
-    ap elements_of (sym (v.rolls-Enumeration origin (names n)))
-    ∙ ap (λ (m : Measure). m.elements) (fold-roll-TypeTree Measure ℕ measure_step field_step (TypeTree-F.Enumeration origin (names n)))
-    ∙ length-replicate n (97 ∷ [])
-
 -- what stands in the record is looked at too
-nests : (n : ℕ) → (x : TypeTree) × (types_inside (field (record_of (enumeration n)) ∷ []) ≡ x ∷ v.Enumeration origin (names n) ∷ [])
-nests n = (v.Record origin (field (v.Enumeration origin (names n)) ∷ []), rw (fold-roll-FieldType, fold-roll-TypeTree) refl)
+longest : (n : ℕ) → longest_of (record_of (enumeration n)) ≡ n
+longest n = simp (fold-roll-TypeTree, fold-roll-FieldType) (omega (arith, length-replicate n (97 ∷ [])))
 
-inner_within : (n : ℕ) → All IsWithinLimits (types_inside (field (record_of (enumeration n)) ∷ [])) → IsWithinLimits (v.Enumeration origin (names n))
-inner_within n h = let m = nests n in subst (All IsWithinLimits) m.1 h 1 (v.Enumeration origin (names n)) (omega arith)
+too_many_names : IsWithinLimits (record_of (enumeration 65537)) → ⊥
+too_many_names h = omega (arith, longest 65537, h.2)
 
-too_many_names : FieldsWithin (field (record_of (enumeration 65537)) ∷ []) → ⊥
-unfolding FieldsWithin
-too_many_names h = omega (arith, elements 65537, (inner_within 65537 h.0).2)
+as_many_names : longest_of (record_of (enumeration 65536)) ≤ 65536
+as_many_names = omega (arith, longest 65536)

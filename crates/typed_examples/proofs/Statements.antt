@@ -1,5 +1,5 @@
 -- Statements that are sound at a place, and beside each one that is not.
-use Rattle.std.proofs.Common.{◌≡◌, ℕ, zero, suc, ◌+◌, List, [], ◌∷◌, length, Some, None, refl, sym, ap, ◌∙◌, inl, inr, arith}
+use Rattle.std.proofs.Common.{◌≡◌, ℕ, zero, suc, ◌+◌, ◌<◌, ◌≤◌, List, [], ◌∷◌, length, Some, None, refl, sym, ap, ◌∙◌, inl, inr, arith}
 use Rattle.std.specs.Prelude.{All, Contains, true, false}
 use Rattle.mesa_types.specs.Typed.{Endless, Counting, Kind, Ordinal, Texts, Array, Record, Kinds, NoKinds, AndKind, point_of, Expr, Number, Literal, Variable, Call, Exprs, NoExprs, AndExpr, NoSuffix, Interval, Between, NoPhrase, Stmt, Null, Marked, Declare, DeclareAs, Assign, Extract, Perform, If, Select, Block, Repeat, For, Jump, ReturnWith, Stmts, NoStmts, AndStmt, Targets, NoTargets, AndTarget, Cases, Otherwise, AndCase, Tests, NoTests, IfRelated, Exits, NoExits, AndExit, Loop, LoopOf, NoFinish, Always}
 use Rattle.mesa_types.specs.declared.typed_parts.Home.{Home}
@@ -36,7 +36,7 @@ another_kind h = omega (arith, ap kind_number (h.1 0 (Local 2) (omega arith)))
 
 declared_as : StmtIn here (DeclareAs (Local 0 ∷ []) Ordinal (Number 5))
 unfolding StmtIn Fits operands_of_stmt operands VariableIn KindAt ExprIn one a_word
-declared_as = (omega arith, (λ e. omega (arith, ap length e)), all_one (λ h. VariableIn here h Ordinal) (Local 0) refl, omega arith, refl)
+declared_as = (omega arith, (λ e. omega (arith, ap length e)), all_one (λ h. VariableIn here h Ordinal) (Local 0) refl, (omega arith, refl))
 
 nothing_declared_as : (k : Kind) (e : Expr) → StmtIn here (DeclareAs [] k e) → ⊥
 unfolding StmtIn
@@ -114,7 +114,7 @@ marked_twice s h = omega (arith, h.0)
 
 jumps_past_itself : StmtIn here (Marked 1 (Jump 0 (PastStatement 1)))
 unfolding StmtIn in_marked Reaches point_of
-jumps_past_itself = (omega arith, 0, (1, omega arith, refl), refl)
+jumps_past_itself = (omega arith, (0, (1, omega arith, refl), refl))
 
 abbrev one_label : Exits
 one_label = AndExit (1 ∷ []) Null NoExits
