@@ -1,14 +1,14 @@
 -- What the parts of the first program's typed trees keep: their variables are among the first n, they have few operands and no
 -- hidden words, and calls stand only where the first program has them.
-use Rattle.std.proofs.Common.{◌≡◌, ℕ, zero, suc, ◌+◌, ◌<◌, ◌≤◌, Bool, true, false, List, [], ◌∷◌, ◌++◌, All, refl, sym, ap, ◌∙◌, subst, arith}
+use Rattle.std.proofs.Common.{◌≡◌, ℕ, zero, suc, ◌+◌, ◌<◌, ◌≤◌, Bool, true, false, List, [], ◌∷◌, ◌++◌, length, All, refl, sym, ap, ◌∙◌, subst, arith}
 use Rattle.mesa_types.specs.Typed as t
 use Rattle.mesa_types.specs.Typed.{Ordinal, NoKinds, NoExits}
 use Rattle.mesa_types.specs.Plain.{chain, stmts, kinds_of}
 use Rattle.mesa_types.specs.Links.{imported, IsUsed}
 use Rattle.mesa_types.specs.declared.faces.Import.{Import}
 use Rattle.mesa_types.specs.Counts.{hidden, hidden_expr, hidden_exprs, hidden_suffixes, hidden_operations, hidden_stmts, hidden_phrase, hidden_exits, hidden_loop, hidden_finish, hidden_condition, operands, operands_of, operands_in, operands_of_run, operands_of_condition, operands_of_loop, operands_of_stmt, words_of}
-use Rattle.mesa_types.specs.Shapes.{words_in, words_in_all, one, join, copies, KindAt}
-use Rattle.mesa_types.specs.Sound.{Scope, VariableIn, RangeIn, Fits, CountIn, CalleeIs, Arranged, labels_in, in_labelled, AllDiffer, LabelsIn, a_word, ExprIn, ExprsIn, SuffixesIn, OperationsIn, PhraseIn, StmtIn, StmtsIn, ExitsIn, LoopIn, FinishIn, ConditionIn, ImportIn, UsedItem, scope_of, Sound}
+use Rattle.mesa_types.specs.Shapes.{words_in, words_in_all, one, join, copies, HasWords, AllHaveWords, KindAt}
+use Rattle.mesa_types.specs.Sound.{Scope, VariableIn, RangeIn, Fits, CountIn, CalleeIs, Arranged, labels_in, in_labelled, AllDiffer, LabelsIn, a_word, ExprIn, ExprsIn, SuffixesIn, OperationsIn, PhraseIn, StmtIn, StmtsIn, ExitsIn, LoopIn, FinishIn, ConditionIn, IsCall, IsAscending, ImportIn, UsedItem, scope_of, Sound}
 use Rattle.mesa_types.specs.declared.relation.Relation.{Relation}
 use Rattle.mesa_types.specs.declared.typed_parts.Home.{Home}
 use Rattle.mesa_types.specs.declared.typed_parts.Home.TheVariants.{Global}
@@ -17,6 +17,7 @@ use Rattle.mesa_types.specs.declared.typed_parts.Operator.TheVariants.{Add, Subt
 use Rattle.mesa_types.specs.declared.types.FieldType.{FieldType}
 use Rattle.source_meaning.specs.FirstProgram.{AreOrdinal, IsQuiet, AreQuiet, IsFirst, AreFirst, FirstProgram}
 use Rattle.first_program.specs.FirstTree as f
+use Rattle.first_program.proofs.HostFace.{host_face}
 use Rattle.first_program.proofs.FirstKinds.{IsWriter, word_at, words_of_copies, copies_are_ordinal}
 
 -- the first n variables of the module are words
@@ -119,10 +120,11 @@ module _ (n : ℕ) where
   }
 
   pub good_call : (item k : ℕ) (e : t.Expr) → IsWriter item → k ≤ 1000 → IsGoodExpr n k e → IsGoodStmt n true (f.call_of item e)
-  unfolding StmtIn Fits operands_of_stmt operands operands_of ExprIn ExprsIn CalleeIs UsedItem Arranged PhraseIn a_word one words_in_all hidden hidden_expr hidden_exprs hidden_phrase
+  unfolding StmtIn Fits operands_of_stmt operands operands_of ExprIn ExprsIn CalleeIs UsedItem Arranged IsCall PhraseIn a_word one words_in_all hidden hidden_expr hidden_exprs hidden_phrase
   good_call item k e w le a = record {
     is_in = λ Γ h. (
       omega (arith, a.few),
+      tt,
       NoKinds,
       (
         w.item,
@@ -151,7 +153,7 @@ module _ (n : ℕ) where
     pub good_declare : (k : ℕ) → k < n → IsGoodStmt n host (f.declare k)
     unfolding StmtIn VariableIn words_in hidden
     good_declare k lt = record {
-      is_in = λ Γ h. all_one (λ (x : Home). VariableIn Γ x Ordinal) (Global k) (h.words.word k lt);
+      is_in = λ Γ h. ((λ e. omega (arith, ap length e)), all_one (λ (x : Home). VariableIn Γ x Ordinal) (Global k) (h.words.word k lt));
       is_first = refl;
       none_hidden = refl;
     }
@@ -159,7 +161,7 @@ module _ (n : ℕ) where
     pub good_declare_as : (k j : ℕ) (e : t.Expr) → k < n → j ≤ 1000 → IsGoodExpr n j e → IsGoodStmt n host (f.declare_as k e)
     unfolding StmtIn Fits operands_of_stmt VariableIn a_word hidden
     good_declare_as k j e lt le a = record {
-      is_in = λ Γ h. (omega (arith, a.few), all_one (λ (x : Home). VariableIn Γ x Ordinal) (Global k) (h.words.word k lt), a.is_in Γ h.words);
+      is_in = λ Γ h. (omega (arith, a.few), (λ e. omega (arith, ap length e)), all_one (λ (x : Home). VariableIn Γ x Ordinal) (Global k) (h.words.word k lt), a.is_in Γ h.words);
       is_first = (refl, a.is_quiet);
       none_hidden = a.none_hidden;
     }
@@ -219,7 +221,7 @@ module _ (n : ℕ) where
             (
               Γ.labels,
               no_labels Γ,
-              a.is_in (inside Γ) (stands_inside Γ h).words,
+              a.is_in Γ h.words,
               body.is_in (inside Γ) (stands_inside Γ h),
               tt,
               tt,
@@ -235,10 +237,19 @@ used_below zero d lt = omega arith
 used_below (suc zero) d lt = omega arith
 used_below (suc (suc i)) d lt = absurd (omega (arith, lt))
 
+ascending : IsAscending (0 ∷ 2 ∷ [])
+unfolding IsAscending
+ascending = (omega arith, tt)
+
 used_are_there : (host : Bool) → All ImportIn (f.imports host)
 unfolding ImportIn
 used_are_there false = all_none _
-used_are_there true = all_one ImportIn _ used_below
+used_are_there true = all_one ImportIn _ (host_face, ascending, used_below)
+
+have_words : (n : ℕ) → AllHaveWords (copies n Ordinal)
+unfolding copies AllHaveWords HasWords
+have_words zero = tt
+have_words (suc n) = (tt, have_words n)
 
 module _ (name : List ℕ) (host : Bool) (n : ℕ) (globals : List FieldType) (ss : List t.Stmt) (are_words : kinds_of globals ≡ copies n Ordinal) (good : AreGoodStmts n host ss) where
   stands_there : Stands n host (scope_of (f.module_of name host globals ss) [] [] (f.module_of name host globals ss).body)
@@ -249,18 +260,20 @@ module _ (name : List ℕ) (host : Bool) (n : ℕ) (globals : List FieldType) (s
   }
 
   pub sound_module : n ≤ 16384 → Sound (f.module_of name host globals ss)
-  unfolding scope_of join words_in_all
+  unfolding scope_of join words_in_all AllHaveWords AllDiffer
   sound_module few =
       let block = good_block n host ss good in
       record {
         globals = omega (arith, ap words_in_all are_words, words_of_copies n);
+        have_words = subst AllHaveWords (sym are_words) (have_words n);
         strings = omega arith;
+        strings_differ = tt;
         short_strings = all_none _;
         imports = used_are_there host;
         exports = all_none _;
         signals = all_none _;
         procedures = all_none _;
-        body = record { does = block.is_in _ stands_there; small = omega (arith, block.none_hidden) };
+        body = record { variables = tt; does = block.is_in _ stands_there; small = omega (arith, block.none_hidden) };
       }
 
   pub first_module_of : FirstProgram (f.module_of name host globals ss)

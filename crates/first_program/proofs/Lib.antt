@@ -3,3 +3,4 @@ pub mod FirstLists
 pub mod FirstStatements
 pub mod FirstText
 pub mod FirstTree
+pub mod HostFace

@@ -6,7 +6,7 @@ ghost use Rattle.mesa_types.specs.Plain.{expr, operation, stmt};
 ghost use Rattle.first_program.specs.FirstTree as spec;
 
 use interface_records::iodefs;
-use mesa_base::{Boxed, List, Name, OutOfMemory};
+use mesa_base::{Boxed, List, Name, OutOfMemory, Shared};
 use mesa_types::{
     Base, Callee, Condition, FieldType, Fields, Home, Import, Imports, Loop, Operation, Operator,
     Phrase, Range, Relation, TypeTree, TypedBody, TypedExpr, TypedModule, TypedStmt, syntax,
@@ -203,7 +203,7 @@ pub fn module_of(
         procedures: List::new(alloc),
         body: TypedBody {
             variables: List::new(alloc),
-            does,
+            does: Shared::new(alloc, does)?,
         },
     })
 }

@@ -1,8 +1,8 @@
 //! Typed statements and their parts.
 ghost use Rattle.std.specs.Prelude.{◌≡◌, IfOk};
 
-use crate::letting::{InBox, InList, LetGo};
-use mesa_base::{Boxed, List, OutOfMemory};
+use crate::letting::{InBox, InList, InShared, LetGo};
+use mesa_base::{Boxed, List, OutOfMemory, Shared};
 use mesa_types::{Case, Condition, Exit, Loop, Target, Test, TypedStmt};
 use std::alloc::Global;
 use std::mem::drop;
@@ -10,6 +10,20 @@ use std::mem::drop;
 impl LetGo for TypedStmt {
     fn let_go(self) {
         drop(self);
+    }
+}
+
+impl InShared for TypedStmt {
+    fn shared(alloc: Global, part: TypedStmt) -> Result<Shared<TypedStmt>, OutOfMemory> {
+        Shared::new(alloc, part)
+    }
+
+    fn share(part: &Shared<TypedStmt>) -> Result<Shared<TypedStmt>, OutOfMemory> {
+        part.share()
+    }
+
+    fn let_shared_go(part: Shared<TypedStmt>) {
+        drop(part);
     }
 }
 

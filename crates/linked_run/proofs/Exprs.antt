@@ -10,7 +10,7 @@ use Rattle.mesa_types.specs.declared.typed_parts.Range.TheVariants.{Every}
 use Rattle.mesa_types.specs.declared.typed_parts.Operator.TheVariants as operator
 use Rattle.mesa_types.specs.declared.relation.Relation.{Relation}
 use Rattle.mesa_types.specs.declared.relation.Relation.TheVariants.{Equal, NotEqual, Less, AtMost, Greater, AtLeast}
-use Rattle.source_meaning.specs.Operators.{truth, related, wrap, shifted}
+use Rattle.mesa_types.specs.Operators.{truth, related, wrap, shifted}
 use Rattle.source_meaning.specs.FirstProgram.{IsQuiet, AreQuiet}
 use Rattle.frame_machine.specs.declared.image.Instruction.{Instruction}
 use Rattle.frame_machine.specs.declared.image.Instruction.TheVariants.{Lit, LoadG, Add, Sub, Eq, LessI, Not, Swap}

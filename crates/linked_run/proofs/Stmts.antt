@@ -10,7 +10,7 @@ use Rattle.mesa_types.specs.declared.typed_parts.Callee.TheVariants.{LinkedProce
 use Rattle.mesa_base.specs.Decimal.{signed_word}
 use Rattle.mesa_types.specs.Typed.{Kind, Ordinal}
 use Rattle.source_meaning.specs.Value.{Value, Values, NoValues, AndValue, nth, word, zero_of, with_part, path_of, arrange}
-use Rattle.source_meaning.specs.Operators.{is_true}
+use Rattle.mesa_types.specs.Operators.{is_true}
 use Rattle.source_meaning.specs.Program.{Host, WriteChar, WriteDecimal, ToHost, Program, instance_of, callee_of}
 use Rattle.source_meaning.specs.State.{State, Result, Run, Answer, Normal, Gives, Go, Resumed, Rejected, Retried, Continued, Uncaught, Spent, FrameLimit, Broken, give, carry, change, spend, spend_of, put, branch, normal_then, on_normal, on_value, on_values, on_word, dropped, dropped_of, after, value_then, labelled, labelled_of}
 use Rattle.source_meaning.specs.Variables.{Where, fetch, store, store_all, store_part}

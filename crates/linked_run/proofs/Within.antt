@@ -42,8 +42,8 @@ module _ (imports : List Import) where
     unfolding StmtIn StmtsIn LoopIn in_labelled
 
     pub within : (n : ℕ) (Γ : Scope) (s : Stmt) → count_in Γ.globals ≡ n → StmtIn Γ s → IsFirst imports s → Within n s
-    within n Γ (Declare (Global k ∷ []) j) e h q = global_within Γ n k _ e (h zero (Global k) (omega arith))
-    within n Γ (DeclareAs (Global k ∷ []) j d) e h q = global_within Γ n k _ e (h.1 zero (Global k) (omega arith))
+    within n Γ (Declare (Global k ∷ []) j) e h q = global_within Γ n k _ e (h.1 zero (Global k) (omega arith))
+    within n Γ (DeclareAs (Global k ∷ []) j d) e h q = global_within Γ n k _ e (h.2 zero (Global k) (omega arith))
     within n Γ (Assign (Global k) NoSuffix d) e h q = global_within Γ n k _ e h.3
     within n Γ (Perform d) e h q = tt
     within n Γ (Block NoPhrase ss NoExits) e h q = all_within n _ ss e h.3 q

@@ -8,7 +8,7 @@ use Rattle.mesa_types.specs.declared.typed_parts.Range.TheVariants.{Every}
 use Rattle.mesa_types.specs.declared.typed_parts.Operator.{Operator}
 use Rattle.mesa_types.specs.declared.typed_parts.Operator.TheVariants as operator
 use Rattle.source_meaning.specs.Value.{Value, Word, Values, NoValues, AndValue, word, nth, one, part_at, path_of}
-use Rattle.source_meaning.specs.Operators.{truth, related, wrap, fits, fine_if, checked, tried}
+use Rattle.mesa_types.specs.Operators.{truth, related, wrap, fits, fine_if, checked, tried}
 use Rattle.source_meaning.specs.Program.{Program}
 use Rattle.source_meaning.specs.State.{State, Store, Run, give, carry, after, look, value_then, on_values, on_value, on_word, give_value, give_word}
 use Rattle.source_meaning.specs.Variables.{Where, fetch}

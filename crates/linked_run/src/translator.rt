@@ -275,7 +275,7 @@ pub fn translate(alloc: Global, module: &TypedModule) -> Result<Image, OutOfMemo
     ensures { IfOk result (λ image. image ≡ image_of (plain «module».now)) }
 {
     let mut code = List::new(alloc);
-    put_stmt(&mut code, &module.body.does, &module.imports)?;
+    put_stmt(&mut code, module.body.does.get(), &module.imports)?;
     Ok(Image {
         globals: words_of(&module.globals),
         code,

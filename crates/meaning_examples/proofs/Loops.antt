@@ -11,7 +11,7 @@ use Rattle.mesa_types.specs.declared.typed_parts.Raised.TheVariants.{OwnSignal}
 use Rattle.mesa_types.specs.declared.typed_parts.Label.TheVariants.{OnOwn}
 use Rattle.mesa_types.specs.declared.typed_parts.Given.{Given}
 use Rattle.mesa_types.specs.declared.typed_parts.Given.TheVariants.{NoVariable, GivenTo}
-use Rattle.source_meaning.specs.Operators.{first_of, beyond, past, shifted, unshifted, wrap}
+use Rattle.mesa_types.specs.Operators.{first_of, beyond, past, shifted, unshifted, wrap}
 use Rattle.source_meaning.specs.Meaning.{rounds_of, one_round_less}
 use Rattle.source_meaning.specs.Program.{BoundsFault, Program}
 use Rattle.source_meaning.specs.State.{Normal, Uncaught, Spent}

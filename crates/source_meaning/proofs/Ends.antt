@@ -6,7 +6,7 @@ use Rattle.mesa_types.specs.Typed.{Number, Literal, Variable, FieldOf, LengthOf,
 use Rattle.mesa_types.specs.declared.typed_parts.Given.TheVariants.{NoVariable, GivenTo}
 use Rattle.mesa_types.specs.Sound.{Seen, Scope, labels_in, in_marked, in_labelled, in_arm, ExprIn, ExprsIn, WordsIn, SuffixesIn, OperationsIn, PhraseIn, StmtIn, StmtsIn, TargetsIn, CasesIn, TestsIn, ExitsIn, LoopIn, FinishIn, ConditionIn}
 use Rattle.source_meaning.specs.Value.{Values, NoValues}
-use Rattle.source_meaning.specs.Operators.{WordFault, OutOfBounds, DividedByZero, Tried, Fine, Faulty}
+use Rattle.mesa_types.specs.Operators.{WordFault, OutOfBounds, DividedByZero, Tried, Fine, Faulty}
 use Rattle.source_meaning.specs.Program.{Program, Host, WriteChar, WriteString, WriteDecimal, ReadChar, EndOfInput, Signal, NoInput, Target, ToProcedure, ToHost, ToSignal, procedure_of, resumes}
 use Rattle.source_meaning.specs.Lawful.{Lawful}
 use Rattle.source_meaning.specs.State.{Ending, Answer, Normal, Gives, Go, Resumed, Rejected, Retried, Continued, Uncaught, Spent, FrameLimit, Broken, Run, give_word}
@@ -202,7 +202,7 @@ module _ (e : Ending) (P : Program) (lawful : Lawful P) (next : Next)
     value_only (Number n) w Γ cs ks h g = number _ _
     value_only (Literal k) w Γ cs ks h g = only_result (of_expression e _) tt _
     value_only (Variable x s words) w Γ cs ks h g = only_values (of_expression e _) (path_only s w Γ cs _ _ h.3 g) λ p. only_look λ st. only_result (of_expression e _) tt _
-    value_only (FieldOf t ps) w Γ cs ks h g = only_value (of_expression e _) (value_only t w Γ cs _ h.2 g) λ x. only_result (of_expression e _) tt _
+    value_only (FieldOf t ps) w Γ cs ks h g = only_value (of_expression e _) (value_only t w Γ cs _ h.3 g) λ x. only_result (of_expression e _) tt _
     value_only (LengthOf t) w Γ cs ks h g = only_value (of_expression e _) (value_only t w Γ cs _ h.0 g) λ x. number _ _
     value_only (ByteOf t i) w Γ cs ks h g =
         only_value (of_expression e _) (value_only t w Γ cs _ h.0 g) λ x. only_word (of_expression e _) (value_only i w Γ cs _ h.1 g) λ n. tried_value w _ Γ.points cs g λ b. number _ _
@@ -215,9 +215,9 @@ module _ (e : Ending) (P : Program) (lawful : Lawful P) (next : Next)
         only_word (of_expression e _) (value_only t w Γ cs _ h.0 g) λ x. only_word (of_expression e _) (value_only c w Γ cs _ (h.1).0 g) λ y.
         only_word (of_expression e _) (value_only d w Γ cs _ (h.1).1 g) λ z. number _ _
     value_only (Not t) w Γ cs ks h g = only_word (of_expression e _) (value_only t w Γ cs _ h.0 g) λ x. number _ _
-    value_only (AllOf es) w Γ cs ks h g = all_of_only es w Γ cs h.0 g
-    value_only (SomeOf es) w Γ cs ks h g = some_of_only es w Γ cs h.0 g
-    value_only (Construct places es) w Γ cs ks h g = only_values (of_expression e _) (values_only es w Γ cs _ h.4 g) λ vs. only_result (of_expression e _) tt _
+    value_only (AllOf es) w Γ cs ks h g = all_of_only es w Γ cs h.1 g
+    value_only (SomeOf es) w Γ cs ks h g = some_of_only es w Γ cs h.1 g
+    value_only (Construct places es) w Γ cs ks h g = only_values (of_expression e _) (values_only es w Γ cs _ h.5 g) λ vs. only_result (of_expression e _) tt _
     value_only (Call c places es words ph) w Γ cs ks h g =
         only_values (of_expression e _) (values_only es w Γ cs _ h.3 g) λ vs. under_only w ph Γ cs h.7 g (call_only _ _ _ _ (caught_chain ph w Γ cs h.7 g))
     value_only (Raise r places es words ph) w Γ cs ks h g =
@@ -278,12 +278,12 @@ module _ (e : Ending) (P : Program) (lawful : Lawful P) (next : Next)
     does_only Null w Γ cs h g = only_give (of_statement e Γ _) Normal tt
     does_only (Marked n s) w Γ cs h g = marked_only e Γ w cs n Γ.depth (does_only s w (in_marked n Γ) cs h.1 g) (later (Marked n s) w Γ cs h g)
     does_only (Declare hs k) w Γ cs h g = only_change _ (only_give (of_statement e Γ _) Normal tt)
-    does_only (DeclareAs hs k t) w Γ cs h g = only_change _ (only_value (of_statement e Γ _) (value_only t w Γ cs _ h.2 g) λ x. only_change _ (only_give (of_statement e Γ _) Normal tt))
+    does_only (DeclareAs hs k t) w Γ cs h g = only_change _ (only_value (of_statement e Γ _) (value_only t w Γ cs _ h.3 g) λ x. only_change _ (only_give (of_statement e Γ _) Normal tt))
     does_only (Assign x s t) w Γ cs h g =
         only_values (of_statement e Γ _) (path_only s w Γ cs _ _ h.4 g) λ p. only_value (of_statement e Γ _) (value_only t w Γ cs _ h.5 g) λ y. only_change _ (only_give (of_statement e Γ _) Normal tt)
-    does_only (Extract true ts t) w Γ cs h g = only_value (of_statement e Γ _) (value_only t w Γ cs _ h.2 g) λ x. targets_only ts w _ Γ cs _ h.3 g
-    does_only (Extract false ts t) w Γ cs h g = only_values (of_statement e Γ _) (value_only t w Γ cs _ h.2 g) λ vs. targets_only ts w _ Γ cs _ h.3 g
-    does_only (Perform t) w Γ cs h g = only_dropped (of_statement e Γ _) tt (value_only t w Γ cs _ h.2 g)
+    does_only (Extract true ts t) w Γ cs h g = only_value (of_statement e Γ _) (value_only t w Γ cs _ h.3 g) λ x. targets_only ts w _ Γ cs _ h.4 g
+    does_only (Extract false ts t) w Γ cs h g = only_values (of_statement e Γ _) (value_only t w Γ cs _ h.4 g) λ vs. targets_only ts w _ Γ cs _ h.5 g
+    does_only (Perform t) w Γ cs h g = only_dropped (of_statement e Γ _) tt (value_only t w Γ cs _ h.3 g)
     does_only (If t s u) w Γ cs h g = only_word (of_statement e Γ _) (value_only t w Γ cs _ h.1 g) λ x. only_branch _ (does_only s w Γ cs h.2 g) (does_only u w Γ cs h.3 g)
     does_only (Select t ks) w Γ cs h g = only_word (of_statement e Γ _) (value_only t w Γ cs _ h.2 g) λ x. cases_only ks w x Γ cs h.4 g
     does_only (Block ph ss es) w Γ cs h g =
@@ -298,7 +298,7 @@ module _ (e : Ending) (P : Program) (lawful : Lawful P) (next : Next)
         only_word (of_statement e Γ _) (value_only c w Γ cs _ (h.2).0 g) λ x. only_word (of_statement e Γ _) (value_only t w Γ cs _ (h.2).1 g) λ y. loop_only l w _ Γ cs h.3 g
     does_only (Jump arms goal) w Γ cs h g = go_only e Γ w cs (point_of goal) (among_of Γ arms (point_of goal) h)
     does_only (ReturnWith arms first places es) w Γ cs h g =
-        only_values (of_statement e Γ _) (values_only es w Γ cs _ h.4 g) λ vs. only_change _ (go_only e Γ w cs Leave (among_of Γ arms Leave h.2))
+        only_values (of_statement e Γ _) (values_only es w Γ cs _ h.5 g) λ vs. only_change _ (go_only e Γ w cs Leave (among_of Γ arms Leave h.3))
     does_only (Resume places es) w Γ cs h g = only_values (of_statement e Γ _) (values_only es w Γ cs _ h.5 g) λ vs. only_give (of_statement e Γ _) _ h.3
     does_only Reject w Γ cs h g = only_give (of_statement e Γ _) Rejected h
     does_only (Retry n) w Γ cs h g = only_give (of_statement e Γ _) (Retried n) h
@@ -311,20 +311,20 @@ module _ (e : Ending) (P : Program) (lawful : Lawful P) (next : Next)
     cases_only : (ks : Cases) (w : Where) (x : ℕ) (Γ : Scope) (cs : List Scope) → CasesIn Γ ks → ChainIn w.chain cs → Only (of_statement e Γ (Here Γ.points w cs)) (cases P next ks w x)
     cases_only (Otherwise s) w x Γ cs h g = does_only s w Γ cs h g
     cases_only (AndCase ts s ks) w x Γ cs h g =
-        only_word (of_statement e Γ _) (tests_only ts w x Γ cs h.0 g) λ y. only_branch _ (does_only s w Γ cs h.1 g) (cases_only ks w x Γ cs h.2 g)
+        only_word (of_statement e Γ _) (tests_only ts w x Γ cs h.1 g) λ y. only_branch _ (does_only s w Γ cs h.2 g) (cases_only ks w x Γ cs h.3 g)
 
     exits_only : (es : Exits) (w : Where) (l : ℕ) (Γ : Scope) (cs : List Scope) → ExitsIn Γ es → ChainIn w.chain cs → Here (label_points (labels_in es) Γ.depth Γ.points) w cs w.frame (At l) →
         Only (of_statement e Γ (Here Γ.points w cs)) (exits P next es w l)
     exits_only NoExits w l Γ cs h g x = only_give (of_statement e Γ _) (Go w.frame (At l)) x
     exits_only (AndExit ls s es) w l Γ cs h g x =
-        choice (has_label l ls) (λ t. does_only s w Γ cs h.0 g) λ t. exits_only es w l Γ cs h.1 g (not_these w ls (labels_in es) Γ.depth Γ.points cs l t x)
+        choice (has_label l ls) (λ t. does_only s w Γ cs h.1 g) λ t. exits_only es w l Γ cs h.2 g (not_these w ls (labels_in es) Γ.depth Γ.points cs l t x)
 
     loop_only : (l : Loop) (w : Where) (n : Count) (Γ : Scope) (cs : List Scope) → LoopIn Γ l → ChainIn w.chain cs → Only (of_statement e Γ (Here Γ.points w cs)) (loop P next l w n)
     loop_only (LoopOf c s es fin) w n Γ cs h g =
         let Δ = in_labelled h.0 es Γ in
         labelled_only e Γ w cs (labels_in es) Γ.depth
         (counted_only Γ w n Δ.points cs g
-        (only_word (of_statement e Γ (Here Δ.points w cs)) (condition_only c w Δ cs h.2 g) λ x. only_branch _
+        (only_word (of_statement e Γ (Here Δ.points w cs)) (more_expression e (here_labels w (labels_in es) Γ.depth Γ.points cs) (condition_only c w Γ cs h.2 g)) λ x. only_branch _
         (only_normal (of_statement e Γ (Here Δ.points w cs)) (does_only s w Δ cs h.3 g)
         (more_statement e Γ (here_labels w (labels_in es) Γ.depth Γ.points cs) (only_spend (later (Repeat _ (LoopOf c s es fin)) w Γ cs h g))))
         (more_statement e Γ (here_labels w (labels_in es) Γ.depth Γ.points cs) (finish_only fin w Γ cs h.5 g)))

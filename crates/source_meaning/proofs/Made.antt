@@ -17,7 +17,7 @@ use Rattle.mesa_types.specs.declared.faces.ItemKind.TheVariants as kind
 use Rattle.mesa_types.specs.declared.faces.Item.{Item}
 use Rattle.mesa_types.specs.declared.faces.Import.{Import}
 use Rattle.source_meaning.specs.Value as v
-use Rattle.source_meaning.specs.Operators as o
+use Rattle.mesa_types.specs.Operators as o
 use Rattle.source_meaning.specs.Program.{Target, ToSignal, Unnamed, Instance, Program, or_else, no_body, head_named, no_procedure, no_module, no_instance, instance_of, module_of, main_of, procedure_in, procedure_of, beyond_parameters, string_of, callee_of, signal_in, linked_signal, raised_of, is_signal, takes_back, resumes, host_of, host_target, target_of, single}
 use Rattle.source_meaning.specs.State.{Ending, End, Answer, Result, give, carry, after, look, change, spend_of, spend, leave, enter_if, enter, put, read_of, read, peek_of, peek, branch, value_then, on_values, on_value, on_word, give_value, give_word, normal_then, on_normal, dropped_of, dropped, marked_of, marked, labelled_of, labelled, body_end_of, body_end}
 use Rattle.source_meaning.specs.Variables.{at_if, put_at, set_globals, set_variables, fetch, store, store_part, store_all, store_from, add_frame, in_frame}

@@ -70,7 +70,7 @@ arm_in_fits Γ n fits (AndArm ls first count s arms) x y h =
 pub first_arm_fits : (Γ : Scope) (fits : Label → Bool) (ph : Phrase) → PhraseIn Γ ph → ArmFits Γ (first_arm fits ph)
 unfolding first_arm StmtIn ArmFits
 first_arm_fits Γ fits NoPhrase h = tt
-first_arm_fits Γ fits (Catch n arms) h = arm_in_fits Γ n fits arms (among_of Γ 0 (Start n) h.0) (among_of Γ 0 (After n) h.1) h.2
+first_arm_fits Γ fits (Catch n arms) h = arm_in_fits Γ n fits arms (among_of Γ 0 (Start n) h.1) (among_of Γ 0 (After n) h.2) h.3
 
 past_points : (ls : List Label) (p : Point) (pts : List Seen) → Among p (points_past ls pts) → Among p pts
 unfolding points_past

@@ -6,7 +6,7 @@ use Rattle.mesa_types.specs.declared.typed_parts.Goal.{Goal}
 use Rattle.mesa_types.specs.declared.typed_parts.Goal.TheVariants.{PastStatement, ToLabel, ToReturn}
 use Rattle.mesa_types.specs.declared.typed_parts.Given.TheVariants.{NoVariable, GivenTo}
 use Rattle.source_meaning.specs.Value.{Values, NoValues}
-use Rattle.source_meaning.specs.Operators.{Tried, Fine, Faulty}
+use Rattle.mesa_types.specs.Operators.{Tried, Fine, Faulty}
 use Rattle.source_meaning.specs.Program.{Program, Host, WriteChar, WriteString, WriteDecimal, ReadChar, EndOfInput, Signal, Target, ToProcedure, ToHost, ToSignal}
 use Rattle.source_meaning.specs.State.{ProcedureId, Answer, Normal, Gives, Go, Resumed, Rejected, Retried, Continued, Spent, Broken, Run, give, branch}
 use Rattle.source_meaning.specs.Variables.{Enabled, Where, in_frame}

@@ -6,7 +6,7 @@ use Rattle.mesa_types.specs.Typed.{Procedure}
 use Rattle.mesa_types.specs.Shapes.{count_in}
 use Rattle.mesa_types.specs.Plain.{kinds_of}
 use Rattle.source_meaning.specs.Value.{Values, NoValues, nth, some_from, join, word, bytes, zeros}
-use Rattle.source_meaning.specs.Operators.{truth}
+use Rattle.mesa_types.specs.Operators.{truth}
 use Rattle.source_meaning.specs.Program.{Host, WriteChar, WriteString, WriteDecimal, ReadChar, EndOfInput, NoInput, Target, ToProcedure, ToHost, ToSignal, Program, procedure_of, beyond_parameters}
 use Rattle.source_meaning.specs.State.{Store, Normal, Gives, Run, give, give_word, look, change, spend, enter, put, read, peek, branch, on_normal, body_end}
 use Rattle.source_meaning.specs.Variables.{Enabled, Where, put_at, in_frame}

@@ -4,7 +4,6 @@ pub mod Lawful
 pub mod Laws
 pub mod Meaning
 pub mod Means
-pub mod Operators
 pub mod Program
 pub mod Signals
 pub mod State

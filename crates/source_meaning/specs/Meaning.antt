@@ -6,7 +6,7 @@ use Rattle.mesa_types.specs.declared.typed_parts.Part.{Part}
 use Rattle.mesa_types.specs.declared.typed_parts.Given.{Given}
 use Rattle.mesa_types.specs.declared.typed_parts.Given.TheVariants.{NoVariable, GivenTo}
 use Rattle.source_meaning.specs.Value.{Word, Text, Many, Values, NoValues, AndValue, word, bytes, parts, nth, zero_of, part_at, path_of, arrange}
-use Rattle.source_meaning.specs.Operators.{wrap, unshifted, opposite, differ, related, first_of, beyond, lies_in, truth, is_true, checked, tried, indexed, byte_at}
+use Rattle.mesa_types.specs.Operators.{wrap, unshifted, opposite, differ, related, first_of, beyond, lies_in, truth, is_true, checked, tried, indexed, byte_at}
 use Rattle.source_meaning.specs.Program.{Program, string_of, callee_of, raised_of}
 use Rattle.source_meaning.specs.State.{Normal, Gives, Go, Resumed, Rejected, Retried, Continued, Spent, Run, give, give_value, give_word, look, change, spend, branch, on_values, on_value, on_word, on_normal, dropped, marked, labelled}
 use Rattle.source_meaning.specs.Variables.{Where, fetch, store, store_part, store_all, store_from}

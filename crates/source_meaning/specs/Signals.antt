@@ -6,7 +6,7 @@ use Rattle.mesa_types.specs.Typed.{Start, After, Phrase, NoPhrase, Catch, Arms, 
 use Rattle.mesa_types.specs.declared.typed_parts.Label.{Label}
 use Rattle.mesa_types.specs.declared.typed_parts.Label.TheVariants.{OnAny, OnUnwind, OnOwn, OnLinked, OnBounds, OnZero}
 use Rattle.source_meaning.specs.Value.{Values, NoValues, how_many, some_from}
-use Rattle.source_meaning.specs.Operators.{WordFault, OutOfBounds, DividedByZero, Tried, Fine, Faulty}
+use Rattle.mesa_types.specs.Operators.{WordFault, OutOfBounds, DividedByZero, Tried, Fine, Faulty}
 use Rattle.source_meaning.specs.Program.{Signal, SignalOf, BoundsFault, ZeroDivisor, NoInput, Unnamed, Program, linked_signal, resumes}
 use Rattle.source_meaning.specs.State.{Store, Answer, Normal, Gives, Go, Resumed, Rejected, Retried, Continued, Uncaught, Run, give, after, change, spend, enter, branch}
 use Rattle.source_meaning.specs.Variables.{Enabled, Where, store_from}

@@ -1,0 +1,57 @@
+-- Which expressions are constant (Language Manual, chapter 2): a literal, and an operator over constants that raises nothing.
+-- A constant's name, TRUE and FALSE are numbers in the typed tree already; a string's literal has no word.
+use Rattle.std.specs.Prelude.{ℕ, Bool, true, false, not, ◌&&◌, ◌||◌, Option, Some, None}
+use Rattle.mesa_types.specs.Typed.{Expr, Number, Checked, Operate, Negate, Relate, Within, Not, AllOf, SomeOf, Exprs, NoExprs, AndExpr, Operations, NoOperation, Then, Interval, Between}
+use Rattle.mesa_types.specs.Operators.{Tried, Fine, Faulty, opposite, truth, is_true, related, lies_in, checked, tried}
+
+infixl 10 ◌>>=◌
+abbrev pub ◌>>=◌ : {A B : Type 0} → Option A → (A → Option B) → Option B
+None >>= k = None
+Some a >>= k = k a
+
+-- what raises has no value
+abbrev pub fine : Tried → Option ℕ
+fine (Fine n) = Some n
+fine (Faulty f) = None
+
+unfoldable mutual
+  pub constant : Expr → Option ℕ
+  constant (Number n) = Some n
+  constant (Checked r e) = constant e >>= λ x. fine (checked r x)
+  constant (Operate e os) = constant e >>= constant_run os
+  constant (Negate e) = constant e >>= λ x. Some (opposite x)
+  constant (Relate b o d e) = constant d >>= λ x. constant e >>= λ y. Some (truth (related o b x y))
+  constant (Within b e (Between f p g q)) = do
+    x ← constant e
+    y ← constant f
+    z ← constant g
+    Some (truth (lies_in b x p y q z))
+  constant (Not e) = constant e >>= λ x. Some (truth (not (is_true x)))
+  constant (AllOf es) = all_true es >>= λ b. Some (truth b)
+  constant (SomeOf es) = some_true es >>= λ b. Some (truth b)
+  constant _ = None
+
+  -- of a run, behind the value of what stands to the left
+  pub constant_run : Operations → ℕ → Option ℕ
+  constant_run NoOperation x = Some x
+  constant_run (Then r o e os) x = do
+    x ← fine (checked r x)
+    y ← constant e
+    z ← fine (tried o x y)
+    constant_run os z
+
+  -- AND and OR are over constants too, so that each of their operands is one
+  pub all_true : Exprs → Option Bool
+  all_true NoExprs = Some true
+  all_true (AndExpr e es) = constant e >>= λ x. all_true es >>= λ b. Some (is_true x && b)
+
+  pub some_true : Exprs → Option Bool
+  some_true NoExprs = Some false
+  some_true (AndExpr e es) = constant e >>= λ x. some_true es >>= λ b. Some (is_true x || b)
+
+-- one operand more of an AND, and of an OR
+abbrev pub and_true : Bool → Expr → Option Bool
+and_true b e = constant e >>= λ x. Some (b && is_true x)
+
+abbrev pub or_true : Bool → Expr → Option Bool
+or_true b e = constant e >>= λ x. Some (b || is_true x)

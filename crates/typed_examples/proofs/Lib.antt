@@ -1,0 +1,6 @@
+pub mod ArmExamples
+pub mod CountExamples
+pub mod Expressions
+pub mod Limits
+pub mod Places
+pub mod Statements
