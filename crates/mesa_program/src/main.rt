@@ -3,19 +3,8 @@
 
 ghost use Rattle.std.specs.Prelude.{◌≡◌, ◌<◌, [], IsUtf8};
 
-mod cause;
-mod forms;
-mod laws;
-#[cfg(test)]
-mod readings;
-mod reply;
-#[cfg(test)]
-mod tests;
-mod top;
-
-pub use laws::{one_case, one_module};
 use mesa_base::{DirFolder, InSource, OutOfMemory, OutSink, Status, Steps, Words};
-use reply::Reply;
+use mesa_command::{Reply, mesa};
 use std::alloc::Global;
 use std::env::FillError;
 use std::io::Input;
@@ -23,7 +12,6 @@ use std::marker::Brand;
 use std::process::ExitCode;
 use std::rt::Env;
 use std::sync::ledger::{Blank, Ledger};
-pub use top::mesa;
 
 /// The most bytes of a word that has a form are far below this; a longer word is handed on as one that has none.
 const WORD_ROOM: usize = 4096;

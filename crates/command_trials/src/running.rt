@@ -1,10 +1,10 @@
 //! Runs of the first program's language, and calls that fail, through `mesa` over objects in memory.
 ghost use Rattle.std.specs.Prelude.{◌≡◌, ◌<◌};
 
-use crate::top::mesa;
 use mesa_base::{
     Bytes, List, MemoryFolder, MemorySink, MemorySource, Numbers, OutOfMemory, Status, Steps, Words,
 };
+use mesa_command::mesa;
 use std::alloc::{AllocError, Global};
 use std::marker::Brand;
 use std::sync::ledger::{Blank, Ledger};

@@ -1,9 +1,7 @@
 //! Texts that are read, and texts that are refused at a place, through `mesa` over objects in memory.
 ghost use Rattle.std.specs.Prelude.{◌≡◌, ◌<◌};
 
-use crate::tests::{is_left, left_by};
-use mesa_grammar::module;
-use mesa_lexer::tokens;
+use crate::running::{is_left, left_by};
 use std::alloc::{AllocError, Global};
 use std::test::Fail;
 
