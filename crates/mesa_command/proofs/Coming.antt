@@ -24,7 +24,7 @@ use Rattle.mesa_command.specs.Text.{HasTree, Reads, HasSyntaxFault, HasFault, le
 use Rattle.mesa_command.specs.Outputs.{Stream, stream}
 use Rattle.mesa_command.specs.Worlds.{Shelf, shelf, Holds}
 use Rattle.linked_run.specs.Running.{MeansAtAnyInput, Ran, CutOff, answer_of}
-use Rattle.mesa_command.specs.Comes.{Ends, done, spent, write_fault, memory_in_run, Refuses, fault, HasModule}
+use Rattle.mesa_command.specs.Comes.{Ends, done, spent, write_fault, memory_in_run, Refuses, fault, memory as want, HasModule}
 use Rattle.mesa_command.specs.Case.{Case, Refused, WriteFault, Memory}
 use Rattle.mesa_command.specs.Reply.{case_of_end}
 
@@ -122,6 +122,7 @@ fault-whole : (part whole : List ℕ) (why : TextFault) → part ≡ take 104857
 fault-whole part whole (f.Lexical _) e (lexical why h) = lexical why (lexical-whole part whole why e h)
 fault-whole part whole (f.Syntactic _) e (syntactic why h) = syntactic why (syntax-whole part whole why e h)
 fault-whole part whole f.NotYet e (not_yet tree h none) = not_yet tree (tree-whole part whole tree e h) none
+fault-whole part whole f.Memory e x = elim x [ ]
 
 reads-whole : (part whole : List ℕ) (m : Module) → part ≡ take 1048577 whole → Reads part m → Reads whole m
 reads-whole part whole m e r =
@@ -135,9 +136,28 @@ file-has file part None faults misses m given r = record { text = part; holds = 
 file-has file part (Some all) faults misses m given r =
     record { text = given.whole; holds = given.is_there; reads = reads-whole part given.whole m given.bytes_are r }
 
-pub file-refuses : (file part : List ℕ) (files : Option Files) (faults misses : ℕ) (folder' : Shelf) (why : TextFault) →
+refuses-part : (file part : List ℕ) (files : Option Files) (faults misses : ℕ) (folder' : Shelf) (why : TextFault) →
     IfSome files (λ all. FileReads all file 1048576 part) → HasFault part why →
     Refuses file (shelf files faults misses) folder' (Refused file why)
-file-refuses file part None faults misses folder' why given h = fault part why tt h
-file-refuses file part (Some all) faults misses folder' why given h =
+refuses-part file part None faults misses folder' why given h = fault part why tt h
+refuses-part file part (Some all) faults misses folder' why given h =
     fault given.whole why given.is_there (fault-whole part given.whole why given.bytes_are h)
+
+refuses-as : (file part : List ℕ) (files : Option Files) (faults misses : ℕ) (folder' : Shelf) (why : TextFault) (case : Case) →
+    IfSome files (λ all. FileReads all file 1048576 part) → (why ≢ f.Memory → HasFault part why) →
+    (why ≢ f.Memory → case ≡ Refused file why) → why ≢ f.Memory → Refuses file (shelf files faults misses) folder' case
+refuses-as file part files faults misses folder' why case given has shown other =
+    subst (Refuses file (shelf files faults misses) folder') (sym (shown other))
+    (refuses-part file part files faults misses folder' why given (has other))
+
+pub file-refuses : (file part : List ℕ) (files : Option Files) (faults misses : ℕ) (folder' : Shelf) (why : TextFault) (case : Case) →
+    IfSome files (λ all. FileReads all file 1048576 part) → (why ≢ f.Memory → HasFault part why) → (why ≡ f.Memory → case ≡ Memory) →
+    (why ≢ f.Memory → case ≡ Refused file why) → Refuses file (shelf files faults misses) folder' case
+file-refuses file part files faults misses folder' f.Memory case given has memory shown =
+    subst (Refuses file (shelf files faults misses) folder') (sym (memory refl)) want
+file-refuses file part files faults misses folder' (f.Lexical why) case given has memory shown =
+    refuses-as file part files faults misses folder' (f.Lexical why) case given has shown (λ no. cc)
+file-refuses file part files faults misses folder' (f.Syntactic why) case given has memory shown =
+    refuses-as file part files faults misses folder' (f.Syntactic why) case given has shown (λ no. cc)
+file-refuses file part files faults misses folder' f.NotYet case given has memory shown =
+    refuses-as file part files faults misses folder' f.NotYet case given has shown (λ no. cc)

@@ -110,6 +110,10 @@ run-clean words text turns files m old new Spent h reads (spent output left mean
 run-clean words text turns files m old new WriteFault h reads (write_fault output end left means fails prints) =
     is_there text turns h (is_cut output end (does text output turns left m end reads means) fails)
 run-clean words text turns files m old new Memory h reads (memory_in_run output end left means prints) = no_memory refl
+run-clean words text turns files m old new (Refused _ _) h reads x = elim x [ ]
+run-clean words text turns files m old new (Absent _) h reads x = elim x [ ]
+run-clean words text turns files m old new (FolderFault _) h reads x = elim x [ ]
+run-clean words text turns files m old new Usage h reads x = elim x [ ]
 
 told : (o : Option Files) (files : Files) (P : Files → Type 0) → o ≡ Some files → IfSome o P → P files
 told o files P e h = subst (λ x. IfSome x P) e h
@@ -117,21 +121,25 @@ told o files P e h = subst (λ x. IfSome x P) e h
 refused-clean : (F : Type 0) (words : List (List ℕ)) (base : List ℕ) (turns : ℕ) (folder folder' : Shelf) (files : Files) (case : Case) →
     folder.files ≡ Some files → ¬ (Rose folder.faults folder'.faults) → IsGo words base turns →
     Refuses (file_of base) folder folder' case → Clean F words files case
-refused-clean F words base turns folder folder' files (Refused _ _) e still go (fault text why holds has) =
+refused-clean F words base turns folder folder' files (Refused _ _) e still go (fault text why holds it) =
     is_there text turns
     (record { base = base; go = go; there = told folder.files files (λ all. all (file_of base) ≡ Some text) e holds })
-    (is_refused why has refl)
+    (is_refused why it refl)
 refused-clean F words base turns folder folder' files (Absent _) e still go (absent rose none) =
     no_file base turns go (told folder.files files (λ all. all (file_of base) ≡ None) e none) refl
 refused-clean F words base turns folder folder' files (FolderFault _) e still go (folder_fault rose) = absurd (still rose)
 refused-clean F words base turns folder folder' files Memory e still go memory = no_memory refl
+refused-clean F words base turns folder folder' files Done e still go x = elim x [ ]
+refused-clean F words base turns folder folder' files Spent e still go x = elim x [ ]
+refused-clean F words base turns folder folder' files WriteFault e still go x = elim x [ ]
+refused-clean F words base turns folder folder' files Usage e still go x = elim x [ ]
 
 clean : (words : List (List ℕ)) (folder folder' : Shelf) (old new : Stream) (files : Files) (case : Case) → folder.files ≡ Some files →
     ¬ (Rose folder.faults folder'.faults) → Comes words folder folder' old new case → Clean (HasFaulted old new) words files case
-clean words folder folder' old new files case e still (ran base turns m _ go has ends) =
-    run-clean words has.text turns files m old new case
-    (record { base = base; go = go; there = told folder.files files (λ all. all (file_of base) ≡ Some has.text) e has.holds })
-    has.reads ends
+clean words folder folder' old new files case e still (ran base turns m _ go it ends_so) =
+    run-clean words it.text turns files m old new case
+    (record { base = base; go = go; there = told folder.files files (λ all. all (file_of base) ≡ Some it.text) e it.holds })
+    it.reads ends_so
 clean words folder folder' old new files case e still (refused base turns _ go why same) =
     refused-clean (HasFaulted old new) words base turns folder folder' files case e still go why
 clean words folder folder' old new files Usage e still (usage none same) = no_form none refl
@@ -215,27 +223,85 @@ refused-beside F words files text turns case why h r (no_memory e) = inl e
 refused-beside F words files text turns case why h r (is_there t n h' y) =
     inr (beside-fault F (file_of h.base) text turns why case r (there-again F words files text t turns n case h h' y))
 
-refuses : (words : List (List ℕ)) (folder folder' : Shelf) (old new : Stream) (case : Case) → HasNoForm words →
+refuses : (words : List (List ℕ)) (before after : World) (case : Case) (s : Status) →
+    Comes words before.folder after.folder before.out after.out case → s ≡ status_of case →
+    Receives (line_of case) before.err after.err → IsRefused words before after s
+unfolding has
+refuses words before after case s comes e line text turns why asks r still =
+    answered case (Refused (file_of asks.base) why) before.err after.err s e line
+    (refused-beside (HasFaulted before.out after.out) words asks.files text turns case why (has words before.folder text turns asks) r
+    (clean words before.folder after.folder before.out after.out asks.files case asks.tells still comes))
+
+absent-beside : (F : Type 0) (words : List (List ℕ)) (files : Files) (base : List ℕ) (turns : ℕ) (case : Case) → IsGo words base turns →
+    files (file_of base) ≡ None → Clean F words files case → (case ≡ Memory) ⊎ (case ≡ Absent (file_of base))
+absent-beside F words files base turns case go gone (no_form none e) = absurd (none base turns go)
+absent-beside F words files base turns case go gone (no_file b n go' none e) =
+    inr (e ∙ ap Absent (same-file words b base n turns go' go))
+absent-beside F words files base turns case go gone (is_there t n h y) = absurd (there-and-not words files base turns t n go gone h)
+absent-beside F words files base turns case go gone (no_memory e) = inl e
+
+misses : (words : List (List ℕ)) (before after : World) (case : Case) (s : Status) →
+    Comes words before.folder after.folder before.out after.out case → s ≡ status_of case →
+    Receives (line_of case) before.err after.err → IsAbsent words before after s
+misses words before after case s comes e line asks still =
+    answered case (Absent (file_of asks.base)) before.err after.err s e line
+    (absent-beside (HasFaulted before.out after.out) words asks.files asks.base asks.turns case asks.form asks.is_gone
+    (clean words before.folder after.folder before.out after.out asks.files case asks.tells still comes))
+
+-- what is not Memory and comes under the same words is the same
+agree : (F G : Type 0) (words : List (List ℕ)) (files : Files) (c c' : Case) → ¬ F → ¬ G → Clean F words files c →
+    Clean G words files c' → c ≢ Memory → c' ≢ Memory → c ≡ c'
+agree F G words files c c' calm calm' (no_memory e) b m m' = absurd (m e)
+agree F G words files c c' calm calm' a (no_memory e) m m' = absurd (m' e)
+agree F G words files c c' calm calm' (no_form f e) (no_form f' e') m m' = e ∙ sym e'
+agree F G words files c c' calm calm' (no_form f e) (no_file b n go none e') m m' = absurd (f b n go)
+agree F G words files c c' calm calm' (no_form f e) (is_there t n h x) m m' = absurd (f h.base n h.go)
+agree F G words files c c' calm calm' (no_file b n go none e) (no_form f e') m m' = absurd (f b n go)
+agree F G words files c c' calm calm' (no_file b n go none e) (no_file b' n' go' none' e') m m' =
+    e ∙ ap Absent (same-file words b b' n n' go go') ∙ sym e'
+agree F G words files c c' calm calm' (no_file b n go none e) (is_there t n' h x) m m' =
+    absurd (there-and-not words files b n t n' go none h)
+agree F G words files c c' calm calm' (is_there t n h x) (no_form f e') m m' = absurd (f h.base n h.go)
+agree F G words files c c' calm calm' (is_there t n' h x) (no_file b n go none e) m m' =
+    absurd (there-and-not words files b n t n' go none h)
+agree F G words files c c' calm calm' (is_there t n h x) (is_there t' n' h' y) m m' =
+    one-there F G (file_of h.base) t n c c' calm calm' x (there-again G words files t t' n n' c' h h' y)
+
+pub one-case : OneCaseComes
+one-case words folder folder' folder'' old new new' files c c' e calm calm' comes comes' m m' =
+    agree (HasFaulted old new) (HasFaulted old new') words files c c' calm.no_out_fault calm'.no_out_fault
+    (clean words folder folder' old new files c e calm.no_folder_fault comes)
+    (clean words folder folder'' old new' files c' e calm'.no_folder_fault comes') m m'
+
+uses : (words : List (List ℕ)) (folder folder' : Shelf) (old new : Stream) (case : Case) → HasNoForm words →
     Comes words folder folder' old new case → case ≡ Usage
-uses words folder folder' old new case none (ran base turns m _ go has ends) = absurd (none base turns go)
+uses words folder folder' old new case none (ran base turns m _ go it ends_so) = absurd (none base turns go)
 uses words folder folder' old new case none (refused base turns _ go why same) = absurd (none base turns go)
 uses words folder folder' old new Usage none (usage none' same) = refl
 
 used-refusal : (file : List ℕ) (folder folder' : Shelf) (case : Case) → Refuses file folder folder' case → status_of case ≢ status.Usage
-used-refusal file folder folder' (Refused _ _) (fault text why holds has) e = cc
+used-refusal file folder folder' (Refused _ _) (fault text why holds it) e = cc
 used-refusal file folder folder' (Absent _) (absent rose none) e = cc
 used-refusal file folder folder' (FolderFault _) (folder_fault rose) e = cc
 used-refusal file folder folder' Memory memory e = cc
+used-refusal file folder folder' Done x e = elim x [ ]
+used-refusal file folder folder' Spent x e = elim x [ ]
+used-refusal file folder folder' WriteFault x e = elim x [ ]
+used-refusal file folder folder' Usage x e = elim x [ ]
 
 used-run : (m : Module) (turns : ℕ) (old new : Stream) (case : Case) → Ends m turns old new case → status_of case ≢ status.Usage
 used-run m turns old new Done (done output left means prints) e = cc
 used-run m turns old new Spent (spent output left means prints) e = cc
 used-run m turns old new WriteFault (write_fault output end left means fails prints) e = cc
 used-run m turns old new Memory (memory_in_run output end left means prints) e = cc
+used-run m turns old new (Refused _ _) x e = elim x [ ]
+used-run m turns old new (Absent _) x e = elim x [ ]
+used-run m turns old new (FolderFault _) x e = elim x [ ]
+used-run m turns old new Usage x e = elim x [ ]
 
 usage-only : (words : List (List ℕ)) (folder folder' : Shelf) (old new : Stream) (case : Case) →
     Comes words folder folder' old new case → status_of case ≡ status.Usage → HasNoForm words
-usage-only words folder folder' old new case (ran base turns m _ go has ends) e = absurd (used-run m turns old new case ends e)
+usage-only words folder folder' old new case (ran base turns m _ go it ends_so) e = absurd (used-run m turns old new case ends_so e)
 usage-only words folder folder' old new case (refused base turns _ go why same) e =
     absurd (used-refusal (file_of base) folder folder' case why e)
 usage-only words folder folder' old new Usage (usage none same) e = none

@@ -77,6 +77,7 @@ of_syntax : (text : List ℕ) (fault : SyntaxFault) (tokens : Tokens) → HasTok
 unfolding fault_of
 of_syntax text (s.Unexpected place) tokens h (unexpected_token stops) = of_stop text Unexpected place tokens h stops
 of_syntax text (s.TooDeep place) tokens h (too_deep_token stops) = of_stop text TooDeep place tokens h stops
+of_syntax text s.Memory tokens h x = elim x [ ]
 
 of_tree : (text : List ℕ) (tree : Module) (o : Option t.Module) → HasTree text tree → first_module tree ≡ o →
     Shows text (unless_typed o)
@@ -92,6 +93,7 @@ unfolding shown unless_typed
 shows_fault text (f.Lexical _) (lexical_fault fault h) = record { verdict = Lexical fault; reached = lexical fault h; shows = refl }
 shows_fault text (f.Syntactic _) (syntactic fault h) = of_syntax text fault h.tokens h.has_tokens h.has_fault
 shows_fault text f.NotYet (not_yet tree h e) = of_tree text tree None h e
+shows_fault text f.Memory x = elim x [ ]
 
 -- one text shows one thing
 one_shown : (text : List ℕ) (o p : Option TextFault) → Shows text o → Shows text p → o ≡ p

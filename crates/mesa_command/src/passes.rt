@@ -5,6 +5,7 @@ ghost use Rattle.mesa_types.specs.Plain.{plain};
 ghost use Rattle.mesa_types.specs.Sound.{Sound};
 ghost use Rattle.source_meaning.specs.FirstProgram.{FirstProgram};
 ghost use Rattle.mesa_command.specs.Text.{Reads, HasFault};
+ghost use Rattle.mesa_command.specs.Case.{Memory, Refused};
 ghost use Rattle.mesa_command.specs.Comes.{Refuses, HasModule};
 ghost use Rattle.mesa_command.specs.Worlds.{shelf};
 ghost use Rattle.mesa_command.specs.Reply.{reply_case};
@@ -55,9 +56,19 @@ pub fn module_of_file<'a, F: Folder>(
         Err(FolderError::Failed) => Err(Reply::FolderFault(file)),
         Err(FolderError::Memory) => Err(Reply::Memory),
         Ok(text) => match module_of_text(alloc, text.as_slice()) {
-            Ok(module) => Ok(module),
-            Err(TextFault::Memory) => Err(Reply::Memory),
-            Err(fault) => Err(Reply::Refused(file, fault)),
+            Ok(typed) => Ok(typed),
+            Err(fault) => Err(refusal(file, fault)),
         },
+    }
+}
+
+/// The answer that refuses a text with this fault.
+fn refusal<'a>(file: &'a str, fault: TextFault) -> Reply<'a>
+    ensures memory { fault ≡ TextFault.Memory → reply_case result ≡ Memory }
+    ensures refused { fault ≢ TextFault.Memory → reply_case result ≡ Refused file.entry.now fault }
+{
+    match fault {
+        TextFault::Memory => Reply::Memory,
+        fault => Reply::Refused(file, fault),
     }
 }

@@ -68,27 +68,27 @@ fn answer<'a, F: Folder, S: Source, K: Sink, L: Ledger>(
     };
     match module_of_file(alloc, folder, go.file) {
         Err(reply) => reply,
-        Ok(module) => run(alloc, module, go.turns, input, out, steps),
+        Ok(typed) => run(alloc, typed, go.turns, input, out, steps),
     }
 }
 
 /// Runs a module that may spend so many turns, and lets it go.
 fn run<'a, S: Source, K: Sink, L: Ledger>(
     alloc: Global,
-    module: Boxed<TypedModule>,
+    typed: Boxed<TypedModule>,
     turns: u64,
     input: &mut S,
     out: &mut K,
     steps: &mut Steps<L>,
 ) -> Reply<'a>
-    requires sound { Sound (plain «module».entry) }
-    requires first { FirstProgram (plain «module».entry) }
-    ensures ends { Ends (plain «module».entry) turns.entry (stream (K.written out.old) (K.faults out.old)) (stream (K.written out.new) (K.faults out.new)) (reply_case result) }
+    requires sound { Sound (plain typed) }
+    requires first { FirstProgram (plain typed) }
+    ensures ends { Ends (plain typed) turns (stream (K.written out.old) (K.faults out.old)) (stream (K.written out.new) (K.faults out.new)) (reply_case result) }
     ensures in_run { ¬ (IsBeforeRun (status_of (reply_case result))) }
     ensures input { input.new ≡ input.old }
 {
-    let ended = run_module(alloc, module.get(), turns, input, out, steps);
-    module.let_go();
+    let ended = run_module(alloc, typed.get(), turns, input, out, steps);
+    typed.let_go();
     match ended {
         Ok(outcome) => ended_with(outcome.end),
         Err(RunFault::WriteFault) => Reply::WriteFault,
