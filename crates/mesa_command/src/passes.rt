@@ -14,14 +14,12 @@ use crate::reply::Reply;
 use crate::text_fault::TextFault;
 use first_program::first_module;
 use held_trees::LetGo;
+use mesa_base::limits::TEXT_BYTES;
 use mesa_base::{Boxed, Folder, FolderError};
 use mesa_grammar::module;
 use mesa_lexer::tokens;
 use mesa_types::TypedModule;
 use std::alloc::Global;
-
-/// The most bytes of a text.
-const TEXT_LIMIT: usize = 1_048_576;
 
 /// The module of a text, or the text's first fault: a lexical one before a syntax fault, and that before what isn't built
 /// yet. The tokens and the tree are let go here.
@@ -51,7 +49,7 @@ pub fn module_of_file<'a, F: Folder>(
     ensures refuses { IfErr result (λ reply. Refuses file.entry.now (shelf (F.files folder.old) (F.faults folder.old) (F.misses folder.old)) (shelf (F.files folder.new) (F.faults folder.new) (F.misses folder.new)) (reply_case reply)) }
     ensures files { F.files folder.new ≡ F.files folder.old }
 {
-    match folder.read(alloc, file, TEXT_LIMIT) {
+    match folder.read(alloc, file, TEXT_BYTES) {
         Err(FolderError::Absent) => Err(Reply::Absent(file)),
         Err(FolderError::Failed) => Err(Reply::FolderFault(file)),
         Err(FolderError::Memory) => Err(Reply::Memory),
