@@ -1,10 +1,9 @@
--- What comes of a text, from what its reader and its run ensure.
+-- What comes of a text, from what its passes and its run ensure.
 use Rattle.std.proofs.Common.{◌≡◌, ◌≢◌, ℕ, ◌≤◌, List, ◌++◌, length, take, min, Option, Some, None, IfSome, refl, sym, ◌∙◌, ap, subst, arith}
 use Rattle.std.proofs.lemmas.List.{length-take, take_min}
 use Rattle.std.proofs.Math.Seq.{take-length}
 use Rattle.mesa_base.specs.Outside.{Files, Reads as FileReads, Rose}
 use Rattle.mesa_types.specs.Typed.{Module}
-use Rattle.source_meaning.specs.State.{Answer}
 use Rattle.frame_machine.specs.declared.outcome.End.{End}
 use Rattle.frame_machine.specs.declared.outcome.End.TheVariants as end
 use Rattle.frame_machine.specs.declared.outcome.Outcome.{Outcome}
@@ -12,76 +11,75 @@ use Rattle.mesa_lexer.specs.declared.token.Tokens.{Tokens}
 use Rattle.module_productions.specs.Answer as grammar
 use Rattle.mesa_lexer.specs.Tokens.{HasTokens, HasLexFault, text_too_long, no_token, not_in_text, open_text, too_large, too_long}
 use Rattle.mesa_lexer.specs.declared.fault.SyntaxFault.{SyntaxFault}
-use Rattle.mesa_lexer.specs.declared.fault.SyntaxFault.TheVariants as fault
+use Rattle.mesa_lexer.specs.declared.fault.SyntaxFault.TheVariants as syntax_fault
 use Rattle.mesa_lexer.specs.declared.fault.LexFault.{LexFault}
 use Rattle.mesa_lexer.specs.declared.fault.LexFault.TheVariants as lex
 use Rattle.mesa_types.specs.declared.syntax.Module as syntax
 use Rattle.first_program.specs.FirstText.{first_module}
 use Rattle.first_program.specs.declared.first_fault.FirstFault.{FirstFault}
 use Rattle.first_program.specs.declared.first_fault.FirstFault.TheVariants as first
-use Rattle.mesa_command.specs.Text as r
-use Rattle.mesa_command.specs.Text.{HasTree, Reads, HasSyntaxFault, IsRefusedAs}
-use Rattle.mesa_command.specs.Forms.{IsGo, file_of}
+use Rattle.mesa_command.specs.TextFaults as f
+use Rattle.mesa_command.specs.TextFaults.{TextFault, of_lexical, of_syntactic, of_first}
+use Rattle.mesa_command.specs.Text.{HasTree, Reads, HasSyntaxFault, HasFault, lexical, syntactic, not_yet}
 use Rattle.mesa_command.specs.Outputs.{Stream, stream}
+use Rattle.mesa_command.specs.Worlds.{Shelf, shelf, Holds}
 use Rattle.linked_run.specs.Running.{MeansAtAnyInput, Ran, CutOff, answer_of}
-use Rattle.mesa_command.specs.Comes.{OfText, done, spent, write_fault, refused, memory_before, memory_in_run, Does, Comes, of_text, absent, folder_fault, Shelf}
-use Rattle.mesa_command.specs.Case.{Case, Done, Spent, Fault, TextTooLong, NotYet, Absent, WriteFault, FolderFault, Memory, Usage}
+use Rattle.mesa_command.specs.Comes.{Ends, done, spent, write_fault, memory_in_run, Refuses, fault, memory as want, HasModule}
+use Rattle.mesa_command.specs.Case.{Case, Refused, WriteFault, Memory}
 use Rattle.mesa_command.specs.Reply.{case_of_end}
 
-by-end : (file text : List ℕ) (m : Module) (turns left : ℕ) (output : List ℕ) (e : End) (old new : Option (List ℕ)) (n k : ℕ) →
-    Reads text m → MeansAtAnyInput m turns output (answer_of e) left → IfSome old (λ bytes. new ≡ Some (bytes ++ output)) →
-    OfText file text turns (stream old n) (stream new k) (case_of_end e)
-by-end file text m turns left output end.Done old new n k reads means wrote =
-    done output (record { tree = m; reads = reads; left = left; means = means }) wrote
-by-end file text m turns left output end.Spent old new n k reads means wrote =
-    spent output (record { tree = m; reads = reads; left = left; means = means }) wrote
+-- how a run ends
 
-pub ran-comes : (file text : List ℕ) (m : Module) (turns : ℕ) (o : Outcome) (old new : Option (List ℕ)) (n k : ℕ) →
-    Reads text m → Ran m turns o old new → OfText file text turns (stream old n) (stream new k) (case_of_end o.end)
-ran-comes file text m turns o old new n k reads ran =
-    by-end file text m turns o.left ran.output o.end old new n k reads ran.means ran.wrote
+by-end : (m : Module) (turns left : ℕ) (output : List ℕ) (e : End) (old new : Option (List ℕ)) (n k : ℕ) →
+    MeansAtAnyInput m turns output (answer_of e) left → IfSome old (λ bytes. new ≡ Some (bytes ++ output)) →
+    Ends m turns (stream old n) (stream new k) (case_of_end e)
+by-end m turns left output end.Done old new n k means wrote = done output left means wrote
+by-end m turns left output end.Spent old new n k means wrote = spent output left means wrote
 
-pub cut-comes : (file text : List ℕ) (m : Module) (turns : ℕ) (old new : Option (List ℕ)) (n k : ℕ) →
-    Reads text m → CutOff m turns old new → Rose n k → OfText file text turns (stream old n) (stream new k) WriteFault
-cut-comes file text m turns old new n k reads cut rose =
-    write_fault cut.output cut.end (record { tree = m; reads = reads; left = cut.left; means = cut.means }) rose cut.wrote
+pub ran-ends : (m : Module) (turns : ℕ) (o : Outcome) (old new : Option (List ℕ)) (n k : ℕ) → Ran m turns o old new →
+    Ends m turns (stream old n) (stream new k) (case_of_end o.end)
+ran-ends m turns o old new n k ran = by-end m turns o.left ran.output o.end old new n k ran.means ran.wrote
 
-pub memory-comes : (file text : List ℕ) (m : Module) (turns : ℕ) (old new : Option (List ℕ)) (n k : ℕ) →
-    Reads text m → CutOff m turns old new → OfText file text turns (stream old n) (stream new k) Memory
-memory-comes file text m turns old new n k reads cut =
-    memory_in_run cut.output cut.end (record { tree = m; reads = reads; left = cut.left; means = cut.means }) cut.wrote
+pub cut-ends : (m : Module) (turns : ℕ) (old new : Option (List ℕ)) (n k : ℕ) → CutOff m turns old new → Rose n k →
+    Ends m turns (stream old n) (stream new k) WriteFault
+cut-ends m turns old new n k cut rose = write_fault cut.output cut.end cut.left cut.means rose cut.wrote
 
-pub lexical-comes : (file text : List ℕ) (turns : ℕ) (fault : LexFault) (old : Stream) (case : Case) →
-    (fault ≢ lex.Memory → HasLexFault text fault) → ((t : List ℕ) → HasLexFault t fault → IsRefusedAs file t case) →
-    (fault ≡ lex.Memory → case ≡ Memory) → OfText file text turns old old case
-lexical-comes file text turns lex.Memory old case has refuses memory =
-    subst (λ c. OfText file text turns old old c) (sym (memory refl)) (memory_before refl)
-lexical-comes file text turns (lex.BadByte place) old case has refuses memory = refused case (refuses text (has (λ e. cc)))
-lexical-comes file text turns (lex.OpenString place) old case has refuses memory = refused case (refuses text (has (λ e. cc)))
-lexical-comes file text turns (lex.NumberTooLarge place) old case has refuses memory = refused case (refuses text (has (λ e. cc)))
-lexical-comes file text turns (lex.TokenTooLong place) old case has refuses memory = refused case (refuses text (has (λ e. cc)))
-lexical-comes file text turns lex.TextTooLong old case has refuses memory = refused case (refuses text (has (λ e. cc)))
+pub memory-ends : (m : Module) (turns : ℕ) (old new : Option (List ℕ)) (n k : ℕ) → CutOff m turns old new →
+    Ends m turns (stream old n) (stream new k) Memory
+memory-ends m turns old new n k cut = memory_in_run cut.output cut.end cut.left cut.means cut.wrote
 
-pub no-memory-fault : (text : List ℕ) → HasSyntaxFault text fault.Memory → ⊥
-no-memory-fault text h = elim (h.has_fault) [ ]
+-- the faults of the passes are the text's
 
-pub syntax-comes : (file text : List ℕ) (tokens : Tokens) (turns : ℕ) (why : SyntaxFault) (old : Stream) (case : Case) → HasTokens text tokens →
-    (why ≢ fault.Memory → grammar.HasSyntaxFault tokens.items tokens.end why) →
-    ((t : List ℕ) → HasSyntaxFault t why → IsRefusedAs file t case) → (why ≡ fault.Memory → case ≡ Memory) → OfText file text turns old old case
-syntax-comes file text tokens turns fault.Memory old case made has refuses memory =
-    subst (λ c. OfText file text turns old old c) (sym (memory refl)) (memory_before refl)
-syntax-comes file text tokens turns (fault.Unexpected place) old case made has refuses memory =
-    refused case (refuses text (record { tokens = tokens; has_tokens = made; has_fault = has (λ e. cc) }))
-syntax-comes file text tokens turns (fault.TooDeep place) old case made has refuses memory =
-    refused case (refuses text (record { tokens = tokens; has_tokens = made; has_fault = has (λ e. cc) }))
+pub lexical-is : (text : List ℕ) (why : LexFault) (shown : TextFault) → (why ≢ lex.Memory → HasLexFault text why) →
+    shown ≡ of_lexical why → shown ≢ f.Memory → HasFault text shown
+lexical-is text lex.Memory shown has e other = absurd (other e)
+lexical-is text (lex.BadByte place) shown has e other = subst (HasFault text) (sym e) (lexical (lex.BadByte place) (has (λ no. cc)))
+lexical-is text (lex.OpenString place) shown has e other = subst (HasFault text) (sym e) (lexical (lex.OpenString place) (has (λ no. cc)))
+lexical-is text (lex.NumberTooLarge place) shown has e other =
+    subst (HasFault text) (sym e) (lexical (lex.NumberTooLarge place) (has (λ no. cc)))
+lexical-is text (lex.TokenTooLong place) shown has e other =
+    subst (HasFault text) (sym e) (lexical (lex.TokenTooLong place) (has (λ no. cc)))
+lexical-is text lex.TextTooLong shown has e other = subst (HasFault text) (sym e) (lexical lex.TextTooLong (has (λ no. cc)))
 
-pub unbuilt-comes : (file text : List ℕ) (tree : syntax.Module) (turns : ℕ) (fault : FirstFault) (old : Stream) (case : Case) →
-    HasTree text tree → (fault ≢ first.Memory → first_module tree ≡ None) → (fault ≡ first.NotYet → case ≡ NotYet file) →
-    (fault ≡ first.Memory → case ≡ Memory) → OfText file text turns old old case
-unbuilt-comes file text tree turns first.NotYet old case has none named memory =
-    subst (λ c. OfText file text turns old old c) (sym (named refl)) (refused (NotYet file) (r.not_yet tree has (none (λ e. cc))))
-unbuilt-comes file text tree turns first.Memory old case has none named memory =
-    subst (λ c. OfText file text turns old old c) (sym (memory refl)) (memory_before refl)
+pub syntax-is : (text : List ℕ) (tokens : Tokens) (why : SyntaxFault) (shown : TextFault) → HasTokens text tokens →
+    (why ≢ syntax_fault.Memory → grammar.HasSyntaxFault tokens.items tokens.end why) → shown ≡ of_syntactic why →
+    shown ≢ f.Memory → HasFault text shown
+syntax-is text tokens syntax_fault.Memory shown made has e other = absurd (other e)
+syntax-is text tokens (syntax_fault.Unexpected place) shown made has e other =
+    subst (HasFault text) (sym e) (syntactic (syntax_fault.Unexpected place)
+    (record { tokens = tokens; has_tokens = made; has_fault = has (λ no. cc) }))
+syntax-is text tokens (syntax_fault.TooDeep place) shown made has e other =
+    subst (HasFault text) (sym e) (syntactic (syntax_fault.TooDeep place)
+    (record { tokens = tokens; has_tokens = made; has_fault = has (λ no. cc) }))
+
+pub has-tree : (text : List ℕ) (tokens : Tokens) (tree : syntax.Module) → HasTokens text tokens → grammar.Parses tokens.items tree →
+    HasTree text tree
+has-tree text tokens tree made parses = record { tokens = tokens; has_tokens = made; parses = parses }
+
+pub unbuilt-is : (text : List ℕ) (tree : syntax.Module) (why : FirstFault) (shown : TextFault) → HasTree text tree →
+    (why ≢ first.Memory → first_module tree ≡ None) → shown ≡ of_first why → shown ≢ f.Memory → HasFault text shown
+unbuilt-is text tree first.Memory shown has none e other = absurd (other e)
+unbuilt-is text tree first.NotYet shown has none e other = subst (HasFault text) (sym e) (not_yet tree has (none (λ no. cc)))
 
 -- a text that was read up to a byte past the limit is the whole one, or is no text at all
 
@@ -91,16 +89,8 @@ is-whole part whole e few =
     let all : min 1048577 (length whole) ≡ length whole = omega arith in
     e ∙ sym (take_min 1048577 whole) ∙ ap (λ n. take n whole) all ∙ take-length whole
 
-reads-short : (text : List ℕ) (m : Module) → Reads text m → length text ≤ 1048576
-reads-short text m reads = reads.has_tree.has_tokens.not_long
-
-does-whole : (part whole : List ℕ) (turns : ℕ) (output : List ℕ) (a : Answer) → part ≡ take 1048577 whole →
-    Does part turns output a → Does whole turns output a
-does-whole part whole turns output a e does =
-    subst (λ t. Does t turns output a) (is-whole part whole e (reads-short part does.tree does.reads)) does
-
 -- a text with another lexical fault is not too long
-lexical-short : (text : List ℕ) (fault : LexFault) → HasLexFault text fault → (fault ≡ lex.TextTooLong → ⊥) → length text ≤ 1048576
+lexical-short : (text : List ℕ) (why : LexFault) → HasLexFault text why → (why ≡ lex.TextTooLong → ⊥) → length text ≤ 1048576
 lexical-short text lex.TextTooLong (text_too_long long) other = absurd (other refl)
 lexical-short text (lex.BadByte _) (no_token stops none) other = stops.not_long
 lexical-short text (lex.BadByte _) (not_in_text stops longest within) other = stops.not_long
@@ -109,84 +99,65 @@ lexical-short text (lex.NumberTooLarge _) (too_large stops longest large) other 
 lexical-short text (lex.TokenTooLong _) (too_long stops longest long) other = stops.not_long
 lexical-short text lex.Memory x other = elim x [ ]
 
-lexical-whole : (part whole : List ℕ) (fault : LexFault) → part ≡ take 1048577 whole → (fault ≡ lex.TextTooLong → ⊥) →
-    HasLexFault part fault → HasLexFault whole fault
-lexical-whole part whole fault e other h =
-    subst (λ t. HasLexFault t fault) (is-whole part whole e (lexical-short part fault h other)) h
+lexical-moves : (part whole : List ℕ) (why : LexFault) → part ≡ take 1048577 whole → (why ≡ lex.TextTooLong → ⊥) →
+    HasLexFault part why → HasLexFault whole why
+lexical-moves part whole why e other h = subst (λ t. HasLexFault t why) (is-whole part whole e (lexical-short part why h other)) h
 
-long-whole : (part whole : List ℕ) → part ≡ take 1048577 whole → HasLexFault part lex.TextTooLong → HasLexFault whole lex.TextTooLong
-long-whole part whole e (text_too_long long) = text_too_long (omega (arith, long, ap length e ∙ length-take 1048577 whole))
-
-syntax-whole : (part whole : List ℕ) (fault : SyntaxFault) → part ≡ take 1048577 whole → HasSyntaxFault part fault →
-    HasSyntaxFault whole fault
-syntax-whole part whole fault e h = subst (λ t. HasSyntaxFault t fault) (is-whole part whole e h.has_tokens.not_long) h
+lexical-whole : (part whole : List ℕ) (why : LexFault) → part ≡ take 1048577 whole → HasLexFault part why → HasLexFault whole why
+lexical-whole part whole lex.TextTooLong e (text_too_long long) =
+    text_too_long (omega (arith, long, ap length e ∙ length-take 1048577 whole))
+lexical-whole part whole (lex.BadByte place) e h = lexical-moves part whole (lex.BadByte place) e (λ no. cc) h
+lexical-whole part whole (lex.OpenString place) e h = lexical-moves part whole (lex.OpenString place) e (λ no. cc) h
+lexical-whole part whole (lex.NumberTooLarge place) e h = lexical-moves part whole (lex.NumberTooLarge place) e (λ no. cc) h
+lexical-whole part whole (lex.TokenTooLong place) e h = lexical-moves part whole (lex.TokenTooLong place) e (λ no. cc) h
+lexical-whole part whole lex.Memory e x = elim x [ ]
 
 tree-whole : (part whole : List ℕ) (tree : syntax.Module) → part ≡ take 1048577 whole → HasTree part tree → HasTree whole tree
 tree-whole part whole tree e h = subst (λ t. HasTree t tree) (is-whole part whole e h.has_tokens.not_long) h
 
-refusal-whole : (file part whole : List ℕ) (case : Case) → part ≡ take 1048577 whole → IsRefusedAs file part case →
-    IsRefusedAs file whole case
-refusal-whole file part whole (TextTooLong _) e (r.text_too_long h) = r.text_too_long (long-whole part whole e h)
-refusal-whole file part whole (Fault _ _ _) e (r.bad_byte place h) =
-    r.bad_byte place (lexical-whole part whole (lex.BadByte place) e (λ no. cc) h)
-refusal-whole file part whole (Fault _ _ _) e (r.open_string place h) =
-    r.open_string place (lexical-whole part whole (lex.OpenString place) e (λ no. cc) h)
-refusal-whole file part whole (Fault _ _ _) e (r.number_too_large place h) =
-    r.number_too_large place (lexical-whole part whole (lex.NumberTooLarge place) e (λ no. cc) h)
-refusal-whole file part whole (Fault _ _ _) e (r.token_too_long place h) =
-    r.token_too_long place (lexical-whole part whole (lex.TokenTooLong place) e (λ no. cc) h)
-refusal-whole file part whole (Fault _ _ _) e (r.unexpected place h) =
-    r.unexpected place (syntax-whole part whole (fault.Unexpected place) e h)
-refusal-whole file part whole (Fault _ _ _) e (r.too_deep place h) = r.too_deep place (syntax-whole part whole (fault.TooDeep place) e h)
-refusal-whole file part whole (NotYet _) e (r.not_yet tree h none) = r.not_yet tree (tree-whole part whole tree e h) none
-refusal-whole file part whole Done e x = elim x [ ]
-refusal-whole file part whole Spent e x = elim x [ ]
-refusal-whole file part whole (Absent _) e x = elim x [ ]
-refusal-whole file part whole WriteFault e x = elim x [ ]
-refusal-whole file part whole (FolderFault _) e x = elim x [ ]
-refusal-whole file part whole Memory e x = elim x [ ]
-refusal-whole file part whole Usage e x = elim x [ ]
+syntax-whole : (part whole : List ℕ) (why : SyntaxFault) → part ≡ take 1048577 whole → HasSyntaxFault part why → HasSyntaxFault whole why
+syntax-whole part whole why e h = subst (λ t. HasSyntaxFault t why) (is-whole part whole e h.has_tokens.not_long) h
 
-pub text-whole : (file part whole : List ℕ) (turns : ℕ) (old new : Stream) (case : Case) → part ≡ take 1048577 whole →
-    OfText file part turns old new case → OfText file whole turns old new case
-text-whole file part whole turns old new Done e (done output does prints) = done output (does-whole part whole turns output _ e does) prints
-text-whole file part whole turns old new Spent e (spent output does prints) = spent output (does-whole part whole turns output _ e does) prints
-text-whole file part whole turns old new WriteFault e (write_fault output a does fault prints) =
-    write_fault output a (does-whole part whole turns output a e does) fault prints
-text-whole file part whole turns old new case e (refused _ r) = refused case (refusal-whole file part whole case e r)
-text-whole file part whole turns old new Memory e (memory_before same) = memory_before same
-text-whole file part whole turns old new Memory e (memory_in_run output a does prints) =
-    memory_in_run output a (does-whole part whole turns output a e does) prints
+fault-whole : (part whole : List ℕ) (why : TextFault) → part ≡ take 1048577 whole → HasFault part why → HasFault whole why
+fault-whole part whole (f.Lexical _) e (lexical why h) = lexical why (lexical-whole part whole why e h)
+fault-whole part whole (f.Syntactic _) e (syntactic why h) = syntactic why (syntax-whole part whole why e h)
+fault-whole part whole f.NotYet e (not_yet tree h none) = not_yet tree (tree-whole part whole tree e h) none
+fault-whole part whole f.Memory e x = elim x [ ]
 
--- what comes of the words
+reads-whole : (part whole : List ℕ) (m : Module) → part ≡ take 1048577 whole → Reads part m → Reads whole m
+reads-whole part whole m e r =
+    record { tree = r.tree; has_tree = tree-whole part whole r.tree e r.has_tree; is_typed = r.is_typed }
 
-pub absent-comes : (words : List (List ℕ)) (base file : List ℕ) (turns : ℕ) (folder folder' : Shelf) (out : Stream) →
-    file ≡ file_of base → IsGo words base turns → Rose folder.misses folder'.misses →
-    IfSome folder.files (λ files. files file ≡ None) → Comes words folder folder' out out (Absent file)
-absent-comes words base file turns folder folder' out e go rose none =
-    subst (λ x. Comes words folder folder' out out (Absent x)) (sym e)
-    (absent base turns go rose (subst (λ x. IfSome folder.files (λ files. files x ≡ None)) e none))
+-- what a file comes to, whose bytes were read up to a byte past the limit
 
-pub failed-comes : (words : List (List ℕ)) (base file : List ℕ) (turns : ℕ) (folder folder' : Shelf) (out : Stream) →
-    file ≡ file_of base → IsGo words base turns → Rose folder.faults folder'.faults →
-    Comes words folder folder' out out (FolderFault file)
-failed-comes words base file turns folder folder' out e go rose =
-    subst (λ x. Comes words folder folder' out out (FolderFault x)) (sym e) (folder_fault base turns go rose)
+pub file-has : (file part : List ℕ) (files : Option Files) (faults misses : ℕ) (m : Module) →
+    IfSome files (λ all. FileReads all file 1048576 part) → Reads part m → HasModule file (shelf files faults misses) m
+file-has file part None faults misses m given r = record { text = part; holds = tt; reads = r }
+file-has file part (Some all) faults misses m given r =
+    record { text = given.whole; holds = given.is_there; reads = reads-whole part given.whole m given.bytes_are r }
 
-of-part : (words : List (List ℕ)) (base part : List ℕ) (turns : ℕ) (files : Option Files) (faults misses : ℕ) (folder' : Shelf)
-    (old new : Stream) (case : Case) → IsGo words base turns →
-    IfSome files (λ all. FileReads all (file_of base) 1048576 part) → OfText (file_of base) part turns old new case →
-    Comes words (record { files = files; faults = faults; misses = misses }) folder' old new case
-of-part words base part turns None faults misses folder' old new case go given comes = of_text base part turns case go tt comes
-of-part words base part turns (Some all) faults misses folder' old new case go given comes =
-    of_text base given.whole turns case go given.is_there
-    (text-whole (file_of base) part given.whole turns old new case given.bytes_are comes)
+refuses-part : (file part : List ℕ) (files : Option Files) (faults misses : ℕ) (folder' : Shelf) (why : TextFault) →
+    IfSome files (λ all. FileReads all file 1048576 part) → HasFault part why →
+    Refuses file (shelf files faults misses) folder' (Refused file why)
+refuses-part file part None faults misses folder' why given h = fault part why tt h
+refuses-part file part (Some all) faults misses folder' why given h =
+    fault given.whole why given.is_there (fault-whole part given.whole why given.bytes_are h)
 
-pub text-comes : (words : List (List ℕ)) (base file part : List ℕ) (turns : ℕ) (folder folder' : Shelf) (old new : Stream)
-    (case : Case) → file ≡ file_of base → IsGo words base turns →
-    IfSome folder.files (λ all. FileReads all file 1048576 part) → OfText file part turns old new case →
-    Comes words folder folder' old new case
-text-comes words base file part turns folder folder' old new case e go given comes =
-    of-part words base part turns folder.files folder.faults folder.misses folder' old new case go
-    (subst (λ x. IfSome folder.files (λ all. FileReads all x 1048576 part)) e given)
-    (subst (λ x. OfText x part turns old new case) e comes)
+refuses-as : (file part : List ℕ) (files : Option Files) (faults misses : ℕ) (folder' : Shelf) (why : TextFault) (case : Case) →
+    IfSome files (λ all. FileReads all file 1048576 part) → (why ≢ f.Memory → HasFault part why) →
+    (why ≢ f.Memory → case ≡ Refused file why) → why ≢ f.Memory → Refuses file (shelf files faults misses) folder' case
+refuses-as file part files faults misses folder' why case given has shown other =
+    subst (Refuses file (shelf files faults misses) folder') (sym (shown other))
+    (refuses-part file part files faults misses folder' why given (has other))
+
+pub file-refuses : (file part : List ℕ) (files : Option Files) (faults misses : ℕ) (folder' : Shelf) (why : TextFault) (case : Case) →
+    IfSome files (λ all. FileReads all file 1048576 part) → (why ≢ f.Memory → HasFault part why) → (why ≡ f.Memory → case ≡ Memory) →
+    (why ≢ f.Memory → case ≡ Refused file why) → Refuses file (shelf files faults misses) folder' case
+file-refuses file part files faults misses folder' f.Memory case given has memory shown =
+    subst (Refuses file (shelf files faults misses) folder') (sym (memory refl)) want
+file-refuses file part files faults misses folder' (f.Lexical why) case given has memory shown =
+    refuses-as file part files faults misses folder' (f.Lexical why) case given has shown (λ no. cc)
+file-refuses file part files faults misses folder' (f.Syntactic why) case given has memory shown =
+    refuses-as file part files faults misses folder' (f.Syntactic why) case given has shown (λ no. cc)
+file-refuses file part files faults misses folder' f.NotYet case given has memory shown =
+    refuses-as file part files faults misses folder' f.NotYet case given has shown (λ no. cc)

@@ -8,13 +8,17 @@ use Rattle.mesa_base.specs.declared.status.Status.TheVariants as status
 use Rattle.source_meaning.specs.Program.{single}
 use Rattle.source_meaning.specs.Means.{outcome}
 use Rattle.source_meaning.specs.State.{End, Answer, Normal, Spent as TurnsSpent}
-use Rattle.mesa_command.specs.Text.{IsRefusedAs, text_too_long, bad_byte, open_string, number_too_large, token_too_long, unexpected, too_deep, not_yet}
+use Rattle.linked_run.specs.Running.{MeansAtAnyInput}
+use Rattle.mesa_types.specs.Typed.{Module}
+use Rattle.mesa_command.specs.TextFaults.{TextFault}
+use Rattle.mesa_command.specs.Text.{HasFault, Reads}
 use Rattle.mesa_command.specs.Forms.{IsGo, HasNoForm, file_of}
 use Rattle.mesa_command.specs.Outputs.{Stream, HasFaulted, Receives}
-use Rattle.mesa_command.specs.Comes.{OfText, done, spent, write_fault, refused, memory_before, memory_in_run, Does, Comes, of_text, absent, folder_fault, memory, usage, Shelf}
-use Rattle.mesa_command.specs.Case.{Case, Done, Spent, Fault, TextTooLong, NotYet, Absent, WriteFault, FolderFault, Memory, Usage, status_of, line_of}
-use Rattle.mesa_command.specs.Complete.{Asks, IsStatusOf, IsComplete, IsAnswer, IsRefused, IsAbsent, OneCaseComes}
-use Rattle.mesa_command.proofs.Verdicts.{one_module, one_refusal, never_both}
+use Rattle.mesa_command.specs.Worlds.{Shelf, World, world}
+use Rattle.mesa_command.specs.Comes.{Ends, done, spent, write_fault, memory_in_run, Refuses, fault, absent, folder_fault, memory, HasModule, Comes, usage, refused, ran}
+use Rattle.mesa_command.specs.Case.{Case, Done, Spent, Refused, Absent, WriteFault, FolderFault, Memory, Usage, status_of, line_of}
+use Rattle.mesa_command.specs.Complete.{Asks, Does, IsStatusOf, IsComplete, IsAnswer, IsRefused, IsAbsent, OneCaseComes, Answered}
+use Rattle.mesa_command.proofs.Verdicts.{one_module, one_fault, never_both}
 
 -- words are `go` of one file and one number of turns
 
@@ -79,7 +83,7 @@ one-answer words files t t' n n' out out' a a' h h' d d' =
 
 -- what a text that is there comes to; F says that `out` failed
 data There (F : Type 0) (file text : List ℕ) (turns : ℕ) (case : Case) : Type 0 where
-  is_refused : IsRefusedAs file text case → There F file text turns case
+  is_refused : (why : TextFault) → HasFault text why → case ≡ Refused file why → There F file text turns case
   is_done : (output : List ℕ) → Does text turns output Normal → case ≡ Done → There F file text turns case
   is_spent : (output : List ℕ) → Does text turns output TurnsSpent → case ≡ Spent → There F file text turns case
   is_cut : (output : List ℕ) (end : Answer) → Does text turns output end → F → There F file text turns case
@@ -93,32 +97,52 @@ data Clean (F : Type 0) (words : List (List ℕ)) (files : Files) (case : Case) 
       Clean F words files case
   no_memory : case ≡ Memory → Clean F words files case
 
-text-clean : (words : List (List ℕ)) (base text : List ℕ) (turns : ℕ) (files : Files) (old new : Stream) (case : Case) →
-    IsGo words base turns → files (file_of base) ≡ Some text → OfText (file_of base) text turns old new case →
-    Clean (HasFaulted old new) words files case
-text-clean words base text turns files old new Done go there (done output does prints) =
-    is_there text turns (record { base = base; go = go; there = there }) (is_done output does refl)
-text-clean words base text turns files old new Spent go there (spent output does prints) =
-    is_there text turns (record { base = base; go = go; there = there }) (is_spent output does refl)
-text-clean words base text turns files old new WriteFault go there (write_fault output a does fault prints) =
-    is_there text turns (record { base = base; go = go; there = there }) (is_cut output a does fault)
-text-clean words base text turns files old new case go there (refused _ r) =
-    is_there text turns (record { base = base; go = go; there = there }) (is_refused r)
-text-clean words base text turns files old new Memory go there (memory_before same) = no_memory refl
-text-clean words base text turns files old new Memory go there (memory_in_run output a does prints) = no_memory refl
+does : (text output : List ℕ) (turns left : ℕ) (m : Module) (end : Answer) → Reads text m → MeansAtAnyInput m turns output end left →
+    Does text turns output end
+does text output turns left m end reads means = record { tree = m; reads = reads; left = left; means = means }
+
+run-clean : (words : List (List ℕ)) (text : List ℕ) (turns : ℕ) (files : Files) (m : Module) (old new : Stream) (case : Case)
+    (h : Has words files text turns) → Reads text m → Ends m turns old new case → Clean (HasFaulted old new) words files case
+run-clean words text turns files m old new Done h reads (done output left means prints) =
+    is_there text turns h (is_done output (does text output turns left m Normal reads means) refl)
+run-clean words text turns files m old new Spent h reads (spent output left means prints) =
+    is_there text turns h (is_spent output (does text output turns left m TurnsSpent reads means) refl)
+run-clean words text turns files m old new WriteFault h reads (write_fault output end left means fails prints) =
+    is_there text turns h (is_cut output end (does text output turns left m end reads means) fails)
+run-clean words text turns files m old new Memory h reads (memory_in_run output end left means prints) = no_memory refl
+run-clean words text turns files m old new (Refused _ _) h reads x = elim x [ ]
+run-clean words text turns files m old new (Absent _) h reads x = elim x [ ]
+run-clean words text turns files m old new (FolderFault _) h reads x = elim x [ ]
+run-clean words text turns files m old new Usage h reads x = elim x [ ]
 
 told : (o : Option Files) (files : Files) (P : Files → Type 0) → o ≡ Some files → IfSome o P → P files
 told o files P e h = subst (λ x. IfSome x P) e h
 
+refused-clean : (F : Type 0) (words : List (List ℕ)) (base : List ℕ) (turns : ℕ) (folder folder' : Shelf) (files : Files) (case : Case) →
+    folder.files ≡ Some files → ¬ (Rose folder.faults folder'.faults) → IsGo words base turns →
+    Refuses (file_of base) folder folder' case → Clean F words files case
+refused-clean F words base turns folder folder' files (Refused _ _) e still go (fault text why holds it) =
+    is_there text turns
+    (record { base = base; go = go; there = told folder.files files (λ all. all (file_of base) ≡ Some text) e holds })
+    (is_refused why it refl)
+refused-clean F words base turns folder folder' files (Absent _) e still go (absent rose none) =
+    no_file base turns go (told folder.files files (λ all. all (file_of base) ≡ None) e none) refl
+refused-clean F words base turns folder folder' files (FolderFault _) e still go (folder_fault rose) = absurd (still rose)
+refused-clean F words base turns folder folder' files Memory e still go memory = no_memory refl
+refused-clean F words base turns folder folder' files Done e still go x = elim x [ ]
+refused-clean F words base turns folder folder' files Spent e still go x = elim x [ ]
+refused-clean F words base turns folder folder' files WriteFault e still go x = elim x [ ]
+refused-clean F words base turns folder folder' files Usage e still go x = elim x [ ]
+
 clean : (words : List (List ℕ)) (folder folder' : Shelf) (old new : Stream) (files : Files) (case : Case) → folder.files ≡ Some files →
     ¬ (Rose folder.faults folder'.faults) → Comes words folder folder' old new case → Clean (HasFaulted old new) words files case
-clean words folder folder' old new files case e still (of_text base text turns _ go there comes) =
-    text-clean words base text turns files old new case go (told folder.files files (λ all. all (file_of base) ≡ Some text) e there) comes
-clean words folder folder' old new files (Absent _) e still (absent base turns go rose none) =
-    no_file base turns go (told folder.files files (λ all. all (file_of base) ≡ None) e none) refl
-clean words folder folder' old new files (FolderFault _) e still (folder_fault base turns go rose) = absurd (still rose)
-clean words folder folder' old new files Memory e still (memory base turns go same) = no_memory refl
-clean words folder folder' old new files Usage e still (usage none) = no_form none refl
+clean words folder folder' old new files case e still (ran base turns m _ go it ends_so) =
+    run-clean words it.text turns files m old new case
+    (record { base = base; go = go; there = told folder.files files (λ all. all (file_of base) ≡ Some it.text) e it.holds })
+    it.reads ends_so
+clean words folder folder' old new files case e still (refused base turns _ go why same) =
+    refused-clean (HasFaulted old new) words base turns folder folder' files case e still go why
+clean words folder folder' old new files Usage e still (usage none same) = no_form none refl
 
 there-and-not : (words : List (List ℕ)) (files : Files) (b : List ℕ) (n : ℕ) (text : List ℕ) (turns : ℕ) → IsGo words b n →
     files (file_of b) ≡ None → Has words files text turns → ⊥
@@ -128,19 +152,19 @@ there-and-not words files b n text turns go none h =
 no-both-ends : (text : List ℕ) (turns : ℕ) (o o' : List ℕ) → Does text turns o Normal → Does text turns o' TurnsSpent → ⊥
 no-both-ends text turns o o' d d' = let e : Normal ≡ TurnsSpent = one-end text turns o o' Normal TurnsSpent d d' in cc
 
--- beside a refusal only that comes
-beside-refused : (F : Type 0) (file text : List ℕ) (turns : ℕ) (c case : Case) → IsRefusedAs file text c → There F file text turns case →
-    case ≡ c
-beside-refused F file text turns c case r (is_refused r') = one_refusal file text case c r' r
-beside-refused F file text turns c case r (is_done o d e) = absurd (never_both file text c d.tree r d.reads)
-beside-refused F file text turns c case r (is_spent o d e) = absurd (never_both file text c d.tree r d.reads)
-beside-refused F file text turns c case r (is_cut o a d f) = absurd (never_both file text c d.tree r d.reads)
+-- beside a fault only its refusal comes
+beside-fault : (F : Type 0) (file text : List ℕ) (turns : ℕ) (why : TextFault) (case : Case) → HasFault text why →
+    There F file text turns case → case ≡ Refused file why
+beside-fault F file text turns why case h (is_refused why' h' e) = e ∙ ap (Refused file) (one_fault text why' why h' h)
+beside-fault F file text turns why case h (is_done o d e) = absurd (never_both text why d.tree h d.reads)
+beside-fault F file text turns why case h (is_spent o d e) = absurd (never_both text why d.tree h d.reads)
+beside-fault F file text turns why case h (is_cut o a d f) = absurd (never_both text why d.tree h d.reads)
 
 -- where `out` didn't fail one thing comes
 one-there : (F G : Type 0) (file text : List ℕ) (turns : ℕ) (c c' : Case) → ¬ F → ¬ G → There F file text turns c →
     There G file text turns c' → c ≡ c'
-one-there F G file text turns c c' calm calm' (is_refused r) x = sym (beside-refused G file text turns c c' r x)
-one-there F G file text turns c c' calm calm' x (is_refused r) = beside-refused F file text turns c' c r x
+one-there F G file text turns c c' calm calm' (is_refused why h e) x = e ∙ sym (beside-fault G file text turns why c' h x)
+one-there F G file text turns c c' calm calm' x (is_refused why h e) = beside-fault F file text turns why c h x ∙ sym e
 one-there F G file text turns c c' calm calm' (is_cut o a d f) x = absurd (calm f)
 one-there F G file text turns c c' calm calm' x (is_cut o a d f) = absurd (calm' f)
 one-there F G file text turns c c' calm calm' (is_done o d e) (is_done o' d' e') = e ∙ sym e'
@@ -158,7 +182,7 @@ there-again F words files t t' n n' case h h' x =
 
 ends : (F : Type 0) (file text output : List ℕ) (turns : ℕ) (end : Answer) (case : Case) → ¬ F → Does text turns output end →
     There F file text turns case → IsStatusOf end (status_of case)
-ends F file text output turns end case calm d (is_refused r) = absurd (never_both file text case d.tree r d.reads)
+ends F file text output turns end case calm d (is_refused why h e) = absurd (never_both text why d.tree h d.reads)
 ends F file text output turns end case calm d (is_done o d' e) =
     subst (λ a. IsStatusOf a (status_of case)) (one-end text turns o output Normal end d' d) (ap status_of e)
 ends F file text output turns end case calm d (is_spent o d' e) =
@@ -178,33 +202,35 @@ status-of-end F words files text output turns end case h calm d (is_there t n h'
 has : (words : List (List ℕ)) (folder : Shelf) (text : List ℕ) (turns : ℕ) (asks : Asks words folder text turns) → Has words asks.files text turns
 has words folder text turns asks = record { base = asks.base; go = asks.form; there = asks.is_there }
 
-pub complete : (words : List (List ℕ)) (folder folder' : Shelf) (old new : Stream) (case : Case) →
-    Comes words folder folder' old new case → IsComplete words folder folder' old new (status_of case)
-complete words folder folder' old new case comes text output turns end asks does calm =
-    status-of-end (HasFaulted old new) words asks.files text output turns end case (has words folder text turns asks) calm.no_out_fault does
-    (clean words folder folder' old new asks.files case asks.tells calm.no_folder_fault comes)
+complete : (words : List (List ℕ)) (before after : World) (case : Case) →
+    Comes words before.folder after.folder before.out after.out case → IsComplete words before after (status_of case)
+complete words before after case comes text output turns end asks what calm =
+    status-of-end (HasFaulted before.out after.out) words asks.files text output turns end case (has words before.folder text turns asks)
+    calm.no_out_fault what
+    (clean words before.folder after.folder before.out after.out asks.files case asks.tells calm.no_folder_fault comes)
 
 answered : (case c : Case) (said said' : Stream) (s : Status) → s ≡ status_of case → Receives (line_of case) said said' →
     (case ≡ Memory) ⊎ (case ≡ c) → IsAnswer c said said' s
 answered case c said said' s e line (inl m) = inr (e ∙ ap status_of m)
 answered case c said said' s e line (inr m) = inl (e ∙ ap status_of m, subst (λ x. Receives (line_of x) said said') m line)
 
-refused-beside : (F : Type 0) (words : List (List ℕ)) (files : Files) (text : List ℕ) (turns : ℕ) (case c : Case)
-    (h : Has words files text turns) → IsRefusedAs (file_of h.base) text c → Clean F words files case → (case ≡ Memory) ⊎ (case ≡ c)
-refused-beside F words files text turns case c h r (no_form none e) = absurd (none h.base turns h.go)
-refused-beside F words files text turns case c h r (no_file b n go none e) = absurd (there-and-not words files b n text turns go none h)
-refused-beside F words files text turns case c h r (no_memory e) = inl e
-refused-beside F words files text turns case c h r (is_there t n h' y) =
-    inr (beside-refused F (file_of h.base) text turns c case r (there-again F words files text t turns n case h h' y))
+refused-beside : (F : Type 0) (words : List (List ℕ)) (files : Files) (text : List ℕ) (turns : ℕ) (case : Case) (why : TextFault)
+    (h : Has words files text turns) → HasFault text why → Clean F words files case →
+    (case ≡ Memory) ⊎ (case ≡ Refused (file_of h.base) why)
+refused-beside F words files text turns case why h r (no_form none e) = absurd (none h.base turns h.go)
+refused-beside F words files text turns case why h r (no_file b n go none e) = absurd (there-and-not words files b n text turns go none h)
+refused-beside F words files text turns case why h r (no_memory e) = inl e
+refused-beside F words files text turns case why h r (is_there t n h' y) =
+    inr (beside-fault F (file_of h.base) text turns why case r (there-again F words files text t turns n case h h' y))
 
-pub refuses : (words : List (List ℕ)) (folder folder' : Shelf) (old new said said' : Stream) (case : Case) (s : Status) →
-    Comes words folder folder' old new case → s ≡ status_of case → Receives (line_of case) said said' →
-    IsRefused words folder folder' said said' s
+refuses : (words : List (List ℕ)) (before after : World) (case : Case) (s : Status) →
+    Comes words before.folder after.folder before.out after.out case → s ≡ status_of case →
+    Receives (line_of case) before.err after.err → IsRefused words before after s
 unfolding has
-refuses words folder folder' old new said said' case s comes e line text turns c asks r still =
-    answered case c said said' s e line
-    (refused-beside (HasFaulted old new) words asks.files text turns case c (has words folder text turns asks) r
-    (clean words folder folder' old new asks.files case asks.tells still comes))
+refuses words before after case s comes e line text turns why asks r still =
+    answered case (Refused (file_of asks.base) why) before.err after.err s e line
+    (refused-beside (HasFaulted before.out after.out) words asks.files text turns case why (has words before.folder text turns asks) r
+    (clean words before.folder after.folder before.out after.out asks.files case asks.tells still comes))
 
 absent-beside : (F : Type 0) (words : List (List ℕ)) (files : Files) (base : List ℕ) (turns : ℕ) (case : Case) → IsGo words base turns →
     files (file_of base) ≡ None → Clean F words files case → (case ≡ Memory) ⊎ (case ≡ Absent (file_of base))
@@ -214,13 +240,13 @@ absent-beside F words files base turns case go gone (no_file b n go' none e) =
 absent-beside F words files base turns case go gone (is_there t n h y) = absurd (there-and-not words files base turns t n go gone h)
 absent-beside F words files base turns case go gone (no_memory e) = inl e
 
-pub misses : (words : List (List ℕ)) (folder folder' : Shelf) (old new said said' : Stream) (case : Case) (s : Status) →
-    Comes words folder folder' old new case → s ≡ status_of case → Receives (line_of case) said said' →
-    IsAbsent words folder folder' said said' s
-misses words folder folder' old new said said' case s comes e line asks still =
-    answered case (Absent (file_of asks.base)) said said' s e line
-    (absent-beside (HasFaulted old new) words asks.files asks.base asks.turns case asks.form asks.is_gone
-    (clean words folder folder' old new asks.files case asks.tells still comes))
+misses : (words : List (List ℕ)) (before after : World) (case : Case) (s : Status) →
+    Comes words before.folder after.folder before.out after.out case → s ≡ status_of case →
+    Receives (line_of case) before.err after.err → IsAbsent words before after s
+misses words before after case s comes e line asks still =
+    answered case (Absent (file_of asks.base)) before.err after.err s e line
+    (absent-beside (HasFaulted before.out after.out) words asks.files asks.base asks.turns case asks.form asks.is_gone
+    (clean words before.folder after.folder before.out after.out asks.files case asks.tells still comes))
 
 -- what is not Memory and comes under the same words is the same
 agree : (F G : Type 0) (words : List (List ℕ)) (files : Files) (c c' : Case) → ¬ F → ¬ G → Clean F words files c →
@@ -249,49 +275,55 @@ one-case words folder folder' folder'' old new new' files c c' e calm calm' come
 
 uses : (words : List (List ℕ)) (folder folder' : Shelf) (old new : Stream) (case : Case) → HasNoForm words →
     Comes words folder folder' old new case → case ≡ Usage
-uses words folder folder' old new case none (of_text base text turns _ go there comes) = absurd (none base turns go)
-uses words folder folder' old new (Absent _) none (absent base turns go rose gone) = absurd (none base turns go)
-uses words folder folder' old new (FolderFault _) none (folder_fault base turns go rose) = absurd (none base turns go)
-uses words folder folder' old new Memory none (memory base turns go same) = absurd (none base turns go)
-uses words folder folder' old new Usage none (usage none') = refl
+uses words folder folder' old new case none (ran base turns m _ go it ends_so) = absurd (none base turns go)
+uses words folder folder' old new case none (refused base turns _ go why same) = absurd (none base turns go)
+uses words folder folder' old new Usage none (usage none' same) = refl
 
-used-refusal : (file text : List ℕ) (case : Case) → IsRefusedAs file text case → status_of case ≢ status.Usage
-used-refusal file text (TextTooLong _) (text_too_long h) e = cc
-used-refusal file text (Fault _ _ _) (bad_byte place h) e = cc
-used-refusal file text (Fault _ _ _) (open_string place h) e = cc
-used-refusal file text (Fault _ _ _) (number_too_large place h) e = cc
-used-refusal file text (Fault _ _ _) (token_too_long place h) e = cc
-used-refusal file text (Fault _ _ _) (unexpected place h) e = cc
-used-refusal file text (Fault _ _ _) (too_deep place h) e = cc
-used-refusal file text (NotYet _) (not_yet tree h n) e = cc
-used-refusal file text Done x e = elim x [ ]
-used-refusal file text Spent x e = elim x [ ]
-used-refusal file text (Absent _) x e = elim x [ ]
-used-refusal file text WriteFault x e = elim x [ ]
-used-refusal file text (FolderFault _) x e = elim x [ ]
-used-refusal file text Memory x e = elim x [ ]
-used-refusal file text Usage x e = elim x [ ]
+used-refusal : (file : List ℕ) (folder folder' : Shelf) (case : Case) → Refuses file folder folder' case → status_of case ≢ status.Usage
+used-refusal file folder folder' (Refused _ _) (fault text why holds it) e = cc
+used-refusal file folder folder' (Absent _) (absent rose none) e = cc
+used-refusal file folder folder' (FolderFault _) (folder_fault rose) e = cc
+used-refusal file folder folder' Memory memory e = cc
+used-refusal file folder folder' Done x e = elim x [ ]
+used-refusal file folder folder' Spent x e = elim x [ ]
+used-refusal file folder folder' WriteFault x e = elim x [ ]
+used-refusal file folder folder' Usage x e = elim x [ ]
 
-used-text : (file text : List ℕ) (turns : ℕ) (old new : Stream) (case : Case) → OfText file text turns old new case →
-    status_of case ≢ status.Usage
-used-text file text turns old new Done (done output does prints) e = cc
-used-text file text turns old new Spent (spent output does prints) e = cc
-used-text file text turns old new WriteFault (write_fault output a does fault prints) e = cc
-used-text file text turns old new case (refused _ r) e = used-refusal file text case r e
-used-text file text turns old new Memory (memory_before same) e = cc
-used-text file text turns old new Memory (memory_in_run output a does prints) e = cc
+used-run : (m : Module) (turns : ℕ) (old new : Stream) (case : Case) → Ends m turns old new case → status_of case ≢ status.Usage
+used-run m turns old new Done (done output left means prints) e = cc
+used-run m turns old new Spent (spent output left means prints) e = cc
+used-run m turns old new WriteFault (write_fault output end left means fails prints) e = cc
+used-run m turns old new Memory (memory_in_run output end left means prints) e = cc
+used-run m turns old new (Refused _ _) x e = elim x [ ]
+used-run m turns old new (Absent _) x e = elim x [ ]
+used-run m turns old new (FolderFault _) x e = elim x [ ]
+used-run m turns old new Usage x e = elim x [ ]
 
-pub usage-only : (words : List (List ℕ)) (folder folder' : Shelf) (old new : Stream) (case : Case) →
+usage-only : (words : List (List ℕ)) (folder folder' : Shelf) (old new : Stream) (case : Case) →
     Comes words folder folder' old new case → status_of case ≡ status.Usage → HasNoForm words
-usage-only words folder folder' old new case (of_text base text turns _ go there comes) e =
-    absurd (used-text (file_of base) text turns old new case comes e)
-usage-only words folder folder' old new (Absent _) (absent base turns go rose gone) e = cc
-usage-only words folder folder' old new (FolderFault _) (folder_fault base turns go rose) e = cc
-usage-only words folder folder' old new Memory (memory base turns go same) e = cc
-usage-only words folder folder' old new Usage (usage none) e = none
+usage-only words folder folder' old new case (ran base turns m _ go it ends_so) e = absurd (used-run m turns old new case ends_so e)
+usage-only words folder folder' old new case (refused base turns _ go why same) e =
+    absurd (used-refusal (file_of base) folder folder' case why e)
+usage-only words folder folder' old new Usage (usage none same) e = none
 
 -- the words have no form exactly where the answer is Usage
-pub usage-exact : (words : List (List ℕ)) (folder folder' : Shelf) (old new : Stream) (case : Case) →
+usage-exact : (words : List (List ℕ)) (folder folder' : Shelf) (old new : Stream) (case : Case) →
     Comes words folder folder' old new case → (status_of case ≡ status.Usage) ↔ HasNoForm words
 usage-exact words folder folder' old new case comes =
     (usage-only words folder folder' old new case comes, λ none. ap status_of (uses words folder folder' old new case none comes))
+
+-- what a call answers, from its case and line
+pub is-answered : (words : List (List ℕ)) (before after : World) (case : Case) (s : Status) →
+    Comes words before.folder after.folder before.out after.out case → s ≡ status_of case →
+    Receives (line_of case) before.err after.err → Answered words before after s
+is-answered words before after case s comes e line = record {
+  case = case;
+  status_is = e;
+  comes = comes;
+  said = line;
+  usage = subst (λ z. (z ≡ status.Usage) ↔ HasNoForm words) (sym e)
+      (usage-exact words before.folder after.folder before.out after.out case comes);
+  complete = subst (IsComplete words before after) (sym e) (complete words before after case comes);
+  refused = refuses words before after case s comes e line;
+  absent = misses words before after case s comes e line;
+}

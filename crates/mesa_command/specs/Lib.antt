@@ -5,3 +5,5 @@ pub mod Forms
 pub mod Outputs
 pub mod Reply
 pub mod Text
+pub mod TextFaults
+pub mod Worlds

@@ -3,27 +3,15 @@ use Rattle.std.specs.Prelude.{ℕ, List, [], ◌∷◌, ◌++◌, decimal}
 use Rattle.mesa_command.specs.Case as c
 use Rattle.frame_machine.specs.declared.outcome.End.{End}
 use Rattle.frame_machine.specs.declared.outcome.End.TheVariants as end
-use Rattle.mesa_command.specs.declared.cause.Cause.{Cause}
-use Rattle.mesa_command.specs.declared.cause.Cause.TheVariants as cause
 use Rattle.mesa_command.specs.declared.reply.Piece.{Piece}
 use Rattle.mesa_command.specs.declared.reply.Piece.TheVariants.{Text, Number}
 use Rattle.mesa_command.specs.declared.reply.Reply.{Reply}
-use Rattle.mesa_command.specs.declared.reply.Reply.TheVariants.{Done, Spent, Fault, TextTooLong, NotYet, Absent, WriteFault, FolderFault, Memory, Usage}
-
-abbrev pub reply_cause : Cause → c.Cause
-reply_cause cause.BadByte = c.BadByte
-reply_cause cause.OpenString = c.OpenString
-reply_cause cause.NumberTooLarge = c.NumberTooLarge
-reply_cause cause.TokenTooLong = c.TokenTooLong
-reply_cause cause.Unexpected = c.Unexpected
-reply_cause cause.TooDeep = c.TooDeep
+use Rattle.mesa_command.specs.declared.reply.Reply.TheVariants.{Done, Spent, Refused, Absent, WriteFault, FolderFault, Memory, Usage}
 
 abbrev pub reply_case : Reply → c.Case
 reply_case Done = c.Done
 reply_case Spent = c.Spent
-reply_case (Fault file place why) = c.Fault file.now place (reply_cause why)
-reply_case (TextTooLong file) = c.TextTooLong file.now
-reply_case (NotYet file) = c.NotYet file.now
+reply_case (Refused file why) = c.Refused file.now why
 reply_case (Absent file) = c.Absent file.now
 reply_case WriteFault = c.WriteFault
 reply_case (FolderFault file) = c.FolderFault file.now

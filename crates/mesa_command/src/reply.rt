@@ -1,11 +1,12 @@
 //! How a call ends, and the line that says so.
 
-ghost use Rattle.std.specs.Prelude.{◌≡◌, ◌++◌, ◌≤◌, IsTrue, false};
-ghost use Rattle.mesa_command.specs.Case.{status_of, line_of, of_place};
-ghost use Rattle.mesa_command.specs.Reply.{reply_case, reply_cause, bytes_of, joined};
+ghost use Rattle.std.specs.Prelude.{◌≡◌, ◌++◌, ◌≤◌, IsTrue, false, Some};
+ghost use Rattle.mesa_command.specs.Case.{status_of, line_of, of_cause};
+ghost use Rattle.mesa_command.specs.Reply.{reply_case, bytes_of, joined};
+ghost use Rattle.mesa_command.specs.TextFaults.{fault_name, fault_place};
 ghost use Rattle.mesa_command.specs.Outputs.{stream, PrintsAll, PrintsPrefix, HasFaulted, Receives};
 
-use crate::cause::Cause;
+use crate::text_fault::TextFault;
 use mesa_base::{Decimal, Place, Sink, Status};
 
 /// How a call ends, with what its line shows.
@@ -13,9 +14,7 @@ use mesa_base::{Decimal, Place, Sink, Status};
 pub enum Reply<'a> {
     Done,
     Spent,
-    Fault(&'a str, Place, Cause),
-    TextTooLong(&'a str),
-    NotYet(&'a str),
+    Refused(&'a str, TextFault),
     Absent(&'a str),
     WriteFault,
     FolderFault(&'a str),
@@ -30,7 +29,7 @@ impl Reply<'_> {
         match self {
             Reply::Done => Status::Done,
             Reply::Spent => Status::Spent,
-            Reply::Fault(..) | Reply::TextTooLong(_) | Reply::NotYet(_) => Status::Refused,
+            Reply::Refused(..) => Status::Refused,
             Reply::Absent(_) => Status::Absent,
             Reply::WriteFault => Status::WriteFault,
             Reply::FolderFault(_) => Status::FolderFault,
@@ -46,9 +45,7 @@ impl Reply<'_> {
         match self {
             Reply::Done => {}
             Reply::Spent => say("", "turns spent\n", err),
-            Reply::Fault(file, place, cause) => say_place(file, *place, *cause, err),
-            Reply::TextTooLong(file) => say(file, ": TextTooLong\n", err),
-            Reply::NotYet(file) => say(file, ": NotYet\n", err),
+            Reply::Refused(file, fault) => say_fault(file, *fault, err),
             Reply::Absent(file) => say(file, ": absent\n", err),
             Reply::WriteFault => say("", "output failed\n", err),
             Reply::FolderFault(file) => say(file, ": folder failed\n", err),
@@ -69,9 +66,26 @@ enum Piece<'a> {
     Number(u32),
 }
 
-/// FILE:LINE:COLUMN: Cause
-fn say_place<E: Sink>(file: &str, place: Place, cause: Cause, err: &mut E)
-    ensures { Receives (of_place file.now place (reply_cause cause)) (stream (E.written err.old) (E.faults err.old)) (stream (E.written err.new) (E.faults err.new)) }
+/// FILE:LINE:COLUMN: Cause, or FILE: Cause where the fault has no place.
+fn say_fault<E: Sink>(file: &str, fault: TextFault, err: &mut E)
+    ensures { Receives (of_cause file.now (fault_place fault) (fault_name fault)) (stream (E.written err.old) (E.faults err.old)) (stream (E.written err.new) (E.faults err.new)) }
+{
+    match fault.place() {
+        Some(place) => say_place(file, place, fault.name(), err),
+        None => say_all(
+            &[
+                Piece::Text(file),
+                Piece::Text(": "),
+                Piece::Text(fault.name()),
+                Piece::Text("\n"),
+            ],
+            err,
+        ),
+    }
+}
+
+fn say_place<'a, E: Sink>(file: &'a str, place: Place, cause: &'a str, err: &mut E)
+    ensures { Receives (of_cause file.now (Some place) cause.now) (stream (E.written err.old) (E.faults err.old)) (stream (E.written err.new) (E.faults err.new)) }
 {
     let pieces = [
         Piece::Text(file),
@@ -80,7 +94,7 @@ fn say_place<E: Sink>(file: &str, place: Place, cause: Cause, err: &mut E)
         Piece::Text(":"),
         Piece::Number(place.column),
         Piece::Text(": "),
-        Piece::Text(cause.name()),
+        Piece::Text(cause),
         Piece::Text("\n"),
     ];
     say_all(&pieces, err);

@@ -3,9 +3,6 @@ use Rattle.mesa_command.proofs.reply.Reply.tell.Goals as goal
 pub returns-in-Spent : goal.returns-in-Spent
 returns-in-Spent g c = record { received = rw c.in-Spent.is c.say.ensures }
 
-pub returns-in-TextTooLong : goal.returns-in-TextTooLong
-returns-in-TextTooLong g c = record { received = rw c.in-TextTooLong.is c.say-in-TextTooLong.ensures }
-
 pub returns-in-WriteFault : goal.returns-in-WriteFault
 returns-in-WriteFault g c = record { received = rw c.in-WriteFault.is c.say-in-WriteFault.ensures }
 

@@ -1,4 +1,0 @@
-use Rattle.mesa_command.proofs.main.Given as goal
-
-abbrev pub ghosts-command : goal.ghosts-command
-ghosts-command a = record { name = a.blank.name; parts = a.blank.parts }
