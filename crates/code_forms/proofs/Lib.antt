@@ -1,0 +1,10 @@
+pub mod Begun
+pub mod Depths
+pub mod Leading
+pub mod NoFault
+pub mod Ordered
+pub mod Outward
+pub mod Passing
+pub mod PhraseOrder
+pub mod Points
+pub mod Whole

@@ -3,7 +3,9 @@ use Rattle.std.specs.Prelude.{◌≡◌, ℕ, ◌<◌, ◌≤◌, Some}
 use Rattle.code_forms.specs.declared.instruction.Instruction.{Instruction}
 use Rattle.code_forms.specs.declared.instruction.Instruction.TheVariants.{Lit, Str, LoadL, StoreL, LoadG, StoreG, LoadLX, StoreLX, LoadGX, StoreGX, Index, Add, Sub, Mul, Neg, DivI, ModI, DivC, ModC, Eq, LessI, LessC, Not, CheckI, CheckC, Jump, JumpIf, JumpIfNot, JumpBack, StrLen, StrAt, Call, CallLink, Return, Raise, RaiseLink, RaiseHost, ArmEnd, Resume, Leave, LeaveReturn, Pop, Roll, ZeroL, ZeroG}
 use Rattle.code_forms.specs.Routine.{Routine, Spot, IsStart}
-use Rattle.code_forms.specs.Regions.{Region, Body, region_at, outward}
+use Rattle.code_forms.specs.declared.region.Region.{Region}
+use Rattle.code_forms.specs.declared.region.Region.TheVariants.{Body}
+use Rattle.code_forms.specs.Regions.{region_at, outward}
 
 -- to an instruction of the same region, after this one
 pub record GoesForward (r : Routine) (at target : ℕ) : Type 0 where

@@ -1,9 +1,15 @@
+pub mod Around
 pub mod Depths
+pub mod Exact
 pub mod Instructions
 pub mod Jumps
+pub mod Marks
+pub mod Nesting
 pub mod Operands
 pub mod Phrases
 pub mod Ranges
 pub mod Regions
+pub mod Rising
 pub mod Routine
+pub mod Same
 pub mod Valid

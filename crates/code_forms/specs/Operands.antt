@@ -10,7 +10,9 @@ use Rattle.code_forms.specs.declared.module_code.CodeSignal.{CodeSignal}
 use Rattle.code_forms.specs.declared.module_code.Label.{Label}
 use Rattle.code_forms.specs.declared.module_code.Label.TheVariants as l
 use Rattle.code_forms.specs.Routine.{Routine, Spot}
-use Rattle.code_forms.specs.Regions.{Region, Body, region_at, arm_of}
+use Rattle.code_forms.specs.declared.region.Region.{Region}
+use Rattle.code_forms.specs.declared.region.Region.TheVariants.{Body}
+use Rattle.code_forms.specs.Regions.{region_at, arm_of}
 
 -- a link to a procedure; to a signal or an error
 abbrev pub IsCalled : CodeKind → Type 0

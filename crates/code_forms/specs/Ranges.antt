@@ -1,5 +1,6 @@
 -- The ranges that the code of each module keeps, valid or not (rule of this project).
 use Rattle.std.specs.Prelude.{◌≡◌, ℕ, ◌+◌, ◌<◌, ◌≤◌, ◌^◌, List, length, All, Option, Some, None, slice_get}
+use Rattle.std.specs.List.{AllAdjacentBelow, HoldsAt}
 use Rattle.code_forms.specs.declared.module_code.Arm.{Arm}
 use Rattle.code_forms.specs.declared.module_code.CodeEntry.{CodeEntry}
 use Rattle.code_forms.specs.declared.module_code.CodeKind.{CodeKind}
@@ -51,12 +52,12 @@ pub record PhraseInRange (signals : List CodeSignal) (links : List CodeLink) (ph
   pub armed : 0 < length phrase.arms
   pub arms : All (ArmInRange signals links) phrase.arms
 
--- there is an instruction; the first begins at 0, and each where the one before it ends, within 32 bits
+-- there is an instruction; the first begins at 0, and each other where the one before it ends, within 32 bits
 pub record InOrder (code : List CodeEntry) : Type 0 where
   pub some : 0 < length code
-  pub first : (e : CodeEntry) → slice_get code 0 ≡ Some e → e.at ≡ 0
-  pub next : (i : ℕ) (e f : CodeEntry) → slice_get code i ≡ Some e → slice_get code (i + 1) ≡ Some f → e.at + bytes_of e.instruction ≡ f.at
-  pub short : (i : ℕ) (e : CodeEntry) → slice_get code i ≡ Some e → e.at + bytes_of e.instruction < 2 ^ 32
+  pub first : HoldsAt (λ e. e.at ≡ 0) code 0
+  pub joined : AllAdjacentBelow (λ e f. e.at + bytes_of e.instruction ≡ f.at) code (length code)
+  pub short : All (λ e. e.at + bytes_of e.instruction < 2 ^ 32) code
 
 pub record ProcedureInRange (signals : List CodeSignal) (links : List CodeLink) (p : CodeProcedure) : Type 0 where
   pub frame : p.frame ≤ 2048
@@ -64,6 +65,12 @@ pub record ProcedureInRange (signals : List CodeSignal) (links : List CodeLink) 
   pub depth : p.depth ≤ 65535
   pub code : InOrder p.code
   pub phrases : All (PhraseInRange signals links) p.phrases
+
+-- what `validate` needs of a procedure to read it
+pub record CanBeRead (p : CodeProcedure) : Type 0 where
+  pub code : InOrder p.code
+  pub armed : All (λ q. 0 < length q.arms) p.phrases
+  pub small : p.depth ≤ 65535
 
 -- the first procedure is the body, which takes and gives nothing
 abbrev pub IsBody : Option CodeProcedure → Type 0

@@ -2,11 +2,8 @@
 use Rattle.std.specs.Prelude.{◌≡◌, ℕ, zero, suc, ◌+◌, List, [], ◌∷◌, Option, Some, None, nat_le, slice_get, if◌then◌else◌}
 use Rattle.code_forms.specs.declared.module_code.Arm.{Arm}
 use Rattle.code_forms.specs.declared.module_code.Phrase.{Phrase}
-
--- the body, or an arm by the number of its phrase and its number in that phrase
-pub data Region : Type 0 where
-  Body : Region
-  ArmOf : (phrase arm : ℕ) → Region
+use Rattle.code_forms.specs.declared.region.Region.{Region}
+use Rattle.code_forms.specs.declared.region.Region.TheVariants.{Body, ArmOf}
 
 abbrev pub later_arm : ℕ → ℕ → List Arm → ℕ → Region → Region
 later_arm phrase arm [] offset before = before

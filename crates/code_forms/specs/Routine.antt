@@ -2,6 +2,7 @@
 use Rattle.std.specs.Prelude.{◌≡◌, ℕ, ◌+◌, ◌-◌, List, length, map, Bool, true, false, not, Option, Some, None, slice_get}
 use Rattle.code_forms.specs.declared.instruction.Instruction.{Instruction}
 use Rattle.code_forms.specs.declared.instruction.Instruction.TheVariants.{Lit, Str, LoadL, StoreL, LoadG, StoreG, LoadLX, StoreLX, LoadGX, StoreGX, Index, Add, Sub, Mul, Neg, DivI, ModI, DivC, ModC, Eq, LessI, LessC, Not, CheckI, CheckC, Jump, JumpIf, JumpIfNot, JumpBack, StrLen, StrAt, Call, CallLink, Return, Raise, RaiseLink, RaiseHost, ArmEnd, Resume, Leave, LeaveReturn, Pop, Roll, ZeroL, ZeroG}
+use Rattle.code_forms.specs.declared.around.Moved.{Moved}
 use Rattle.code_forms.specs.declared.module_code.CodeEntry.{CodeEntry}
 use Rattle.code_forms.specs.declared.module_code.CodeKind.{CodeKind}
 use Rattle.code_forms.specs.declared.module_code.CodeKind.TheVariants.{Procedure, Signal, Error}
@@ -24,14 +25,10 @@ abbrev pub spots : List CodeEntry → List Spot
 spots code = map spot_of code
 
 -- the words that a call takes and puts
-pub record Words : Type 0 where
-  pub takes : ℕ
-  pub puts : ℕ
-
-abbrev pub words : ℕ → ℕ → Words
+abbrev pub words : ℕ → ℕ → Moved
 words takes puts = record { takes = takes; puts = puts }
 
-abbrev pub words_of : CodeProcedure → Words
+abbrev pub words_of : CodeProcedure → Moved
 words_of p = words p.args p.results
 
 -- the globals, strings, signals, links and procedures of the module, and the frame, the room for operands, the code and the
@@ -41,46 +38,49 @@ pub record Routine : Type 0 where
   pub strings : ℕ
   pub signals : List CodeSignal
   pub links : List CodeLink
-  pub procedures : List Words
+  pub procedures : List Moved
   pub frame : ℕ
   pub room : ℕ
   pub code : List Spot
   pub phrases : List Phrase
 
-abbrev pub routine : ModuleCode → CodeProcedure → Routine
-routine m p = record {
-  globals = m.global_words;
-  strings = length m.strings;
-  signals = m.signals;
-  links = m.links;
-  procedures = map words_of m.procedures;
+abbrev pub routine_with : ℕ → ℕ → List CodeSignal → List CodeLink → List CodeProcedure → CodeProcedure → Routine
+routine_with globals strings signals links procedures p = record {
+  globals = globals;
+  strings = strings;
+  signals = signals;
+  links = links;
+  procedures = map words_of procedures;
   frame = p.frame;
   room = p.depth;
   code = spots p.code;
   phrases = p.phrases;
 }
 
+abbrev pub routine : ModuleCode → CodeProcedure → Routine
+routine m p = routine_with m.global_words (length m.strings) m.signals m.links m.procedures p
+
 -- what is not there takes and puts nothing; a link of any kind takes and puts its words
-abbrev pub words_there : Option Words → Words
+abbrev pub words_there : Option Moved → Moved
 words_there None = words 0 0
 words_there (Some w) = w
 
-abbrev pub signal_words : Option CodeSignal → Words
+abbrev pub signal_words : Option CodeSignal → Moved
 signal_words None = words 0 0
 signal_words (Some s) = words s.args s.results
 
-abbrev pub link_words : Option CodeLink → Words
+abbrev pub link_words : Option CodeLink → Moved
 link_words None = words 0 0
 link_words (Some l) = words l.args l.results
 
-abbrev pub effect_words : Routine → Effect → Words
+abbrev pub effect_words : Routine → Effect → Moved
 effect_words r (Fixed takes puts) = words takes puts
 effect_words r (OfProcedure k) = words_there (slice_get r.procedures k)
 effect_words r (OfSignal k) = signal_words (slice_get r.signals k)
 effect_words r (OfLink k) = link_words (slice_get r.links k)
 
 -- the words that an instruction takes and puts
-abbrev pub moves : Routine → Instruction → Words
+abbrev pub moves : Routine → Instruction → Moved
 moves r i = effect_words r (effect_of i)
 
 abbrev pub is_error : CodeKind → Bool

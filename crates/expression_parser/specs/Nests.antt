@@ -19,11 +19,11 @@ pub record Nests (depth : ℕ) (stmt_pre : Global → MutBor Cursor → ℕ → 
     (type_pre : Global → MutBor Cursor → ℕ → Option Identifier → Type 0)
     (type_post : Global → MutBor Cursor → ℕ → Option Identifier → Result TypeExp Stopped → MutBor Cursor → Type 0) : Type 0 where
   pub stmt_callable : (alloc : Global) (old : MutBor Cursor) (begun : Option Identifier) → stmt_pre alloc old depth begun
-  pub stmt_reads : (alloc : Global) (old new : MutBor Cursor) (begun : Option Identifier) (r : Result Statement Stopped) → stmt_post alloc old depth begun r new
-      → Reads ((nested depth).stmt begun old.now.rest.now) r new.now.rest.now
+  pub stmt_reads : (alloc : Global) (old new : MutBor Cursor) (begun : Option Identifier) (r : Result Statement Stopped)
+      → stmt_post alloc old depth begun r new → Reads ((nested depth).stmt begun old.now.rest.now) r new.now.rest.now
   pub expr_callable : (alloc : Global) (old : MutBor Cursor) (begun : Begun) → expr_pre alloc old depth begun
-  pub expr_reads : (alloc : Global) (old new : MutBor Cursor) (begun : Begun) (r : Result Expr Stopped) → expr_post alloc old depth begun r new
-      → Reads ((nested depth).expr begun old.now.rest.now) r new.now.rest.now
+  pub expr_reads : (alloc : Global) (old new : MutBor Cursor) (begun : Begun) (r : Result Expr Stopped)
+      → expr_post alloc old depth begun r new → Reads ((nested depth).expr begun old.now.rest.now) r new.now.rest.now
   pub type_callable : (alloc : Global) (old : MutBor Cursor) (begun : Option Identifier) → type_pre alloc old depth begun
-  pub type_reads : (alloc : Global) (old new : MutBor Cursor) (begun : Option Identifier) (r : Result TypeExp Stopped) → type_post alloc old depth begun r new
-      → Reads ((nested depth).type begun old.now.rest.now) r new.now.rest.now
+  pub type_reads : (alloc : Global) (old new : MutBor Cursor) (begun : Option Identifier) (r : Result TypeExp Stopped)
+      → type_post alloc old depth begun r new → Reads ((nested depth).type begun old.now.rest.now) r new.now.rest.now

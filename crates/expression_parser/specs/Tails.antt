@@ -23,7 +23,8 @@ use Rattle.module_productions.specs.ReadNested.{Nested, identifier}
 use Rattle.module_productions.specs.declared.begun.Begun.TheVariants.{Fresh}
 use Rattle.module_productions.specs.Grammar.{left, qualified}
 use Rattle.module_productions.specs.ReadExpressions as ex
-use Rattle.module_productions.specs.ReadExpressions.{Undecided, all_names, with_names, types_from, enumeration, array, a_record, reference, parens, list, raise, primary, sum, interval}
+use Rattle.module_productions.specs.ReadExpressions.{Undecided, all_names, with_names, types_from, enumeration, array, a_record}
+use Rattle.module_productions.specs.ReadExpressions.{reference, parens, list, raise, primary, sum, interval}
 
 -- a name, taken for a type
 abbrev pub called : Identifier → TypeExp
@@ -36,21 +37,37 @@ module _ (q : Nested) where
 
   -- a type that begins with no name and is no base of an interval
   unfoldable pub other_type : Parser TypeExp
-  other_type = option (k.Word BooleanWord) (λ p. pure (t.Boolean p)) (option (k.Word StringWord) (λ p. pure (t.String p))
-      (option (k.Mark LeftBrace) (enumeration q) (option (k.Word ArrayWord) (array q) (option (k.Word RecordWord) (a_record q) (do i ← interval q; pure (t.Subrange Unsaid i))))))
+  other_type =
+      option (k.Word BooleanWord) (λ p. pure (t.Boolean p))
+      (option (k.Word StringWord) (λ p. pure (t.String p))
+      (option (k.Mark LeftBrace) (enumeration q)
+      (option (k.Word ArrayWord) (array q)
+      (option (k.Word RecordWord) (a_record q)
+      (do i ← interval q; pure (t.Subrange Unsaid i))))))
 
   -- a type that begins with no word of a simple type
   unfoldable pub built_type : Parser TypeExp
-  built_type = option (k.Mark LeftBrace) (enumeration q) (option (k.Word ArrayWord) (array q) (option (k.Word RecordWord) (a_record q) (do i ← interval q; pure (t.Subrange Unsaid i))))
+  built_type =
+      option (k.Mark LeftBrace) (enumeration q)
+      (option (k.Word ArrayWord) (array q)
+      (option (k.Word RecordWord) (a_record q)
+      (do i ← interval q; pure (t.Subrange Unsaid i))))
 
   -- a type that begins with no name
   unfoldable pub nameless_type : Parser TypeExp
-  nameless_type = option (k.Word w.IntegerWord) (λ p. ex.after_base q (b.OfInteger p) (t.Integer p)) (option (k.Word w.CardinalWord) (λ p. ex.after_base q (b.OfCardinal p) (t.Cardinal p))
-      (option (k.Word w.CharacterWord) (λ p. ex.after_base q (b.OfCharacter p) (t.Character p)) other_type))
+  nameless_type =
+      option (k.Word w.IntegerWord) (λ p. ex.after_base q (b.OfInteger p) (t.Integer p))
+      (option (k.Word w.CardinalWord) (λ p. ex.after_base q (b.OfCardinal p) (t.Cardinal p))
+      (option (k.Word w.CharacterWord) (λ p. ex.after_base q (b.OfCharacter p) (t.Character p))
+      other_type))
 
   -- a primary that is no literal
   unfoldable pub unit : Parser Expr
-  unit = choose a_name (λ n p. reference q (identifier n p)) (option (k.Mark LeftParenthesis) (parens q) (option (k.Mark LeftBracket) (λ p. do x ← list q p; pure (e.Constructor x)) (do x ← raise q; pure (e.Raised x))))
+  unit =
+      choose a_name (λ n p. reference q (identifier n p))
+      (option (k.Mark LeftParenthesis) (parens q)
+      (option (k.Mark LeftBracket) (λ p. do x ← list q p; pure (e.Constructor x))
+      (do x ← raise q; pure (e.Raised x))))
 
   -- a primary that is no number, character or text
   unfoldable pub truth : Parser Expr

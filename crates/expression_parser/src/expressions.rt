@@ -120,7 +120,7 @@ impl<N: NestedParsers> Level<N> {
 
     /// A factor, of which nothing was taken.
     #[tactic(auto, using(token_cursor::proofs::Choosing::choose_none, token_cursor::proofs::Choosing::choose_some), unfolding(module_productions::specs::ReadExpressions::factor, crate::specs::Tails::signed))]
-    pub fn fresh_factor(&self, tokens: &mut Cursor<'_>) -> Result<Expr, Stopped>
+    pub(crate) fn fresh_factor(&self, tokens: &mut Cursor<'_>) -> Result<Expr, Stopped>
         requires { N.parse_at self.now.nested self.now.depth }
         ensures { Reads (spec.factor (nested self.now.depth) None tokens.old.rest.now) result tokens.new.rest.now }
     {
@@ -142,7 +142,7 @@ impl<N: NestedParsers> Level<N> {
     }
 
     #[tactic(auto, unfolding(module_productions::specs::ReadExpressions::product))]
-    pub fn product(
+    pub(crate) fn product(
         &self,
         tokens: &mut Cursor<'_>,
         name: Option<Identifier>,
@@ -263,7 +263,7 @@ impl<N: NestedParsers> Level<N> {
 
     /// NOT with a comparison, or one alone, of which nothing was taken.
     #[tactic(auto, using(token_cursor::proofs::Choosing::choose_none, token_cursor::proofs::Choosing::choose_some), unfolding(module_productions::specs::ReadExpressions::neg))]
-    pub fn fresh_neg(&self, tokens: &mut Cursor<'_>) -> Result<Expr, Stopped>
+    pub(crate) fn fresh_neg(&self, tokens: &mut Cursor<'_>) -> Result<Expr, Stopped>
         requires { N.parse_at self.now.nested self.now.depth }
         ensures { Reads (spec.neg (nested self.now.depth) Begun.Fresh tokens.old.rest.now) result tokens.new.rest.now }
     {
@@ -286,7 +286,7 @@ impl<N: NestedParsers> Level<N> {
     }
 
     #[tactic(auto, unfolding(module_productions::specs::ReadExpressions::conj))]
-    pub fn conj(&self, tokens: &mut Cursor<'_>, begun: Begun) -> Result<Expr, Stopped>
+    pub(crate) fn conj(&self, tokens: &mut Cursor<'_>, begun: Begun) -> Result<Expr, Stopped>
         requires { N.parse_at self.now.nested self.now.depth }
         ensures { Reads (spec.conj (nested self.now.depth) begun tokens.old.rest.now) result tokens.new.rest.now }
     {

@@ -24,7 +24,7 @@ use std::alloc::Global;
 use token_cursor::{Cursor, Stopped};
 
 /// The operators of one rank, and the operands behind them.
-pub trait Rank<N: NestedParsers> {
+pub(crate) trait Rank<N: NestedParsers> {
     ghost operators: { Kind → Option Operator };
 
     /// The operand, where so much may still nest.
@@ -44,7 +44,7 @@ pub trait Rank<N: NestedParsers> {
     ghost eats: { (n : ℕ) → Eats (many_turn operators (operations (operand_at n))) };
 }
 
-pub struct Ors;
+pub(crate) struct Ors;
 
 impl<N: NestedParsers> Rank<N> for Ors {
     ghost operators = { disjoining };
@@ -62,7 +62,7 @@ impl<N: NestedParsers> Rank<N> for Ors {
     ghost eats = { ors_eats };
 }
 
-pub struct Ands;
+pub(crate) struct Ands;
 
 impl<N: NestedParsers> Rank<N> for Ands {
     ghost operators = { conjoining };
@@ -80,7 +80,7 @@ impl<N: NestedParsers> Rank<N> for Ands {
     ghost eats = { ands_eats };
 }
 
-pub struct Sums;
+pub(crate) struct Sums;
 
 impl<N: NestedParsers> Rank<N> for Sums {
     ghost operators = { adding };
@@ -98,7 +98,7 @@ impl<N: NestedParsers> Rank<N> for Sums {
     ghost eats = { sums_eats };
 }
 
-pub struct Products;
+pub(crate) struct Products;
 
 impl<N: NestedParsers> Rank<N> for Products {
     ghost operators = { multiplying };
@@ -153,7 +153,7 @@ impl<N: NestedParsers> Level<N> {
     }
 
     /// A run of the rank behind its first operand, which is alone where no operator follows.
-    pub fn run_behind<R: Rank<N>>(
+    pub(crate) fn run_behind<R: Rank<N>>(
         &self,
         tokens: &mut Cursor<'_>,
         first: Expr,
