@@ -132,5 +132,5 @@ unfolding tree_in
 one_module text m n r s =
     let e : Parsed r.has_tree.tokens (Tree r.tree) ≡ Parsed s.has_tree.tokens (Tree s.tree) =
     one_verdict text (Parsed r.has_tree.tokens (Tree r.tree)) (Parsed s.has_tree.tokens (Tree s.tree))
-        (tree_reached text r.tree r.has_tree) (tree_reached text s.tree s.has_tree) in
+    (tree_reached text r.tree r.has_tree) (tree_reached text s.tree s.has_tree) in
     some_module m n (sym r.is_typed ∙ ap tree_in e ∙ s.is_typed)

@@ -6,9 +6,7 @@ ghost use Rattle.mesa_types.specs.Constants as spec;
 ghost use Rattle.mesa_types.specs.Plain.{expr, exprs, operation};
 ghost use Rattle.mesa_types.specs.Typed.{NoOperation};
 
-use crate::operators::{
-    Bounds, checked, is_true, lies_in, opposite, related, tried, truth,
-};
+use crate::operators::{Bounds, checked, is_true, lies_in, opposite, related, tried, truth};
 use crate::typed_tree::{Operation, TypedExpr};
 
 /// The word of a constant: None where the expression is no literal and no operator over constants, where one of its

@@ -122,7 +122,8 @@ fn fits(range: Range, word: u16) -> bool
     match range {
         Range::Every => true,
         Range::From(base, first, last) => {
-            shifted(base, first) <= shifted(base, word) && shifted(base, word) <= shifted(base, last)
+            shifted(base, first) <= shifted(base, word)
+                && shifted(base, word) <= shifted(base, last)
         }
     }
 }

@@ -36,14 +36,56 @@ fn constants_by_operators(rt: HostRuntime) -> Result<(), Fail> {
     check_run(&rt, alloc, 65535, Operator::Add, 2, Some(1))?;
     check_run(&rt, alloc, 1, Operator::Subtract, 2, Some(65535))?;
     check_run(&rt, alloc, 65535, Operator::Multiply, 3, Some(65533))?;
-    check_run(&rt, alloc, 65529, Operator::Divide(Base::Signed), 2, Some(65533))?;
-    check_run(&rt, alloc, 65529, Operator::Divide(Base::Unsigned), 2, Some(32764))?;
-    check_run(&rt, alloc, 65529, Operator::Modulo(Base::Signed), 2, Some(65535))?;
+    check_run(
+        &rt,
+        alloc,
+        65529,
+        Operator::Divide(Base::Signed),
+        2,
+        Some(65533),
+    )?;
+    check_run(
+        &rt,
+        alloc,
+        65529,
+        Operator::Divide(Base::Unsigned),
+        2,
+        Some(32764),
+    )?;
+    check_run(
+        &rt,
+        alloc,
+        65529,
+        Operator::Modulo(Base::Signed),
+        2,
+        Some(65535),
+    )?;
     check_run(&rt, alloc, 7, Operator::Modulo(Base::Unsigned), 0, None)?;
     check_run(&rt, alloc, 7, Operator::Divide(Base::Signed), 0, None)?;
-    check_run(&rt, alloc, 254, Operator::AddToCharacter(Base::Signed), 1, Some(255))?;
-    check_run(&rt, alloc, 255, Operator::AddToCharacter(Base::Unsigned), 1, None)?;
-    check_run(&rt, alloc, 0, Operator::SubtractFromCharacter(Base::Signed), 1, None)
+    check_run(
+        &rt,
+        alloc,
+        254,
+        Operator::AddToCharacter(Base::Signed),
+        1,
+        Some(255),
+    )?;
+    check_run(
+        &rt,
+        alloc,
+        255,
+        Operator::AddToCharacter(Base::Unsigned),
+        1,
+        None,
+    )?;
+    check_run(
+        &rt,
+        alloc,
+        0,
+        Operator::SubtractFromCharacter(Base::Signed),
+        1,
+        None,
+    )
 }
 
 fn boxed(alloc: Global, word: u16) -> Result<Boxed<TypedExpr>, Fail> {

@@ -8,7 +8,7 @@ returns-in-Ok-clause-ends g c = rw c.ended_with.ensures (ran-ends _ _ c.in-Ok.ou
 pub returns-in-Err-WriteFault-clause-ends : goal.returns-in-Err-WriteFault-clause-ends
 returns-in-Err-WriteFault-clause-ends g c =
     let ran = c.run_module-ended.ensures in
-    cut-ends _ _ _ _ _ _ (rw c.get.ensures at (rw c.in-Err-WriteFault.is at ran.cut_off)) 
+    cut-ends _ _ _ _ _ _ (rw c.get.ensures at (rw c.in-Err-WriteFault.is at ran.cut_off))
     ((rw c.in-Err-WriteFault.is at ran.write_fault) (ap Err (rw c.in-Err-WriteFault.is at c.in-Err-WriteFault.field-0-is)))
 
 pub returns-in-Err-Memory-clause-ends : goal.returns-in-Err-Memory-clause-ends
