@@ -1,40 +1,61 @@
--- One turn of the loops over the declarations of a module and the items of an interface, in the words of the cursor.
-use Rattle.std.proofs.Common.{◌≡◌, ℕ, ◌<◌, length, true, false, List, [], ◌∷◌, ◌++◌, Some, ap, ◌∙◌}
+-- Turns of the loops over the declarations of a module and the items of an interface.
+use Rattle.std.proofs.Common.{◌≡◌, ℕ, true, List, [], ◌∷◌, ◌++◌, Some, ◌∙◌, refl}
 use Rattle.mesa_base.specs.declared.place.Place.{Place}
+use Rattle.mesa_base.specs.declared.identifier.Identifier.{Identifier}
 use Rattle.mesa_lexer.specs.declared.token.Token.{Token}
-use Rattle.token_cursor.specs.Parsing.{Got, and_then, pure, a_name, Go, go_on, repeat, many_turn}
-use Rattle.token_cursor.proofs.Loops.{Eats, unroll}
+use Rattle.mesa_lexer.specs.declared.token.Kind.TheVariants as k
+use Rattle.mesa_lexer.specs.declared.mark.Mark.TheVariants.{Colon}
 use Rattle.mesa_types.specs.declared.syntax.Declaration.{Declaration}
-use Rattle.token_cursor.specs.Running.{next_is, taken, behind}
+use Rattle.mesa_types.specs.declared.syntax.Defined.{Defined}
+use Rattle.mesa_types.specs.declared.syntax.Labeled.{Labeled}
+use Rattle.token_cursor.specs.Parsing.{Out, Got, Stop, Parser, ◌>>=◌, ◌>>◌, and_then, pure, a_name, need, choose, many_turn}
+use Rattle.token_cursor.specs.ReadNames.{names_from}
+use Rattle.module_productions.specs.Grammar.{labeled}
+use Rattle.mesa_grammar.specs.ReadItems.{definition}
+use Rattle.token_cursor.proofs.Loops.{Eats}
+use Rattle.token_cursor.specs.Running.{taken, behind}
+use Rattle.token_cursor.proofs.Choosing.{choose_some, if_true}
 use Rattle.module_productions.specs.ReadNested.{identifier}
-use Rattle.module_productions.specs.ReadStatements as st
-use Rattle.module_productions.specs.ReadStatements.{nested}
+use Rattle.module_productions.specs.ReadStatements.{nested, semicolon}
 use Rattle.module_productions.specs.ReadModules as tx
 use Rattle.module_productions.proofs.Levels.{all_of}
 use Rattle.module_productions.proofs.KeepModules as km
-use Rattle.statement_parser.proofs.Stepping.{Step_at, Next_at, step_at, next_at, next_item, next_stmts}
 
 pub front_eats : (n : ℕ) → Eats (tx.front_turn (nested n))
 front_eats n = km.front_eats n (nested n) (all_of n)
 
-front_is : (n : ℕ) (ds : List Declaration) (ts : List Token) → tx.front_turn (nested n) ds ts ≡ Step_at (st.declares (nested n)) (tx.declaration (nested n)) (λ i. st.stmts (nested n) (Some i)) (st.body (nested n)) ((nested n).can) ds ts
-unfolding tx.front_turn tx.front_from tx.front_end
-front_is n ds ts = step_at (st.declares (nested n)) (tx.declaration (nested n)) (λ i. st.stmts (nested n) (Some i)) (st.body (nested n)) ((nested n).can) ds ts
-
-pub front_by : (n : ℕ) (ds : List Declaration) (ts : List Token) → repeat (tx.front_turn (nested n)) ds ts ≡ Next_at (st.declares (nested n)) (tx.declaration (nested n)) (λ i. st.stmts (nested n) (Some i)) (st.body (nested n)) (repeat (tx.front_turn (nested n))) ((nested n).can) ds ts
-front_by n ds ts = unroll (tx.front_turn (nested n)) (front_eats n) ds ts ∙ (ap (λ out. and_then out (go_on (repeat (tx.front_turn (nested n))))) (front_is n ds ts)
-    ∙ next_at (st.declares (nested n)) (tx.declaration (nested n)) (λ i. st.stmts (nested n) (Some i)) (st.body (nested n)) (repeat (tx.front_turn (nested n))) ((nested n).can) ds ts)
-
-pub front_item : (n : ℕ) (ds : List Declaration) (ts us : List Token) (name : List ℕ) (p : Place) → (nested n).can ≡ true → taken a_name ts ≡ Some (name, p) → us ≡ behind a_name ts → next_is (st.declares (nested n)) us ≡ true
-    → repeat (tx.front_turn (nested n)) ds ts ≡ and_then (tx.declaration (nested n) (identifier name p) us) (λ x. repeat (tx.front_turn (nested n)) (ds ++ x ∷ []))
-front_item n ds ts us name p e h u d = front_by n ds ts ∙ next_item (st.declares (nested n)) (tx.declaration (nested n)) (λ i. st.stmts (nested n) (Some i)) (st.body (nested n)) (repeat (tx.front_turn (nested n))) ((nested n).can) ds ts us name p e h u d
-
-pub front_stmts : (n : ℕ) (ds : List Declaration) (ts us : List Token) (name : List ℕ) (p : Place) → (nested n).can ≡ true → taken a_name ts ≡ Some (name, p) → us ≡ behind a_name ts → next_is (st.declares (nested n)) us ≡ false
-    → repeat (tx.front_turn (nested n)) ds ts ≡ and_then (st.stmts (nested n) (Some (identifier name p)) us) (λ ss. pure (ds, ss))
-front_stmts n ds ts us name p e h u d = front_by n ds ts ∙ next_stmts (st.declares (nested n)) (tx.declaration (nested n)) (λ i. st.stmts (nested n) (Some i)) (st.body (nested n)) (repeat (tx.front_turn (nested n))) ((nested n).can) ds ts us name p e h u d
-
-pub front_falls : (n : ℕ) (a b : List Declaration) (ts rest : List Token) → Step_at (st.declares (nested n)) (tx.declaration (nested n)) (λ i. st.stmts (nested n) (Some i)) (st.body (nested n)) ((nested n).can) a ts ≡ Got (Go b) rest → length rest < length ts
-front_falls n a b ts rest e = (front_eats n).eats a b ts rest (front_is n a ts ∙ e)
-
 pub definitions_eats : (n : ℕ) → Eats (many_turn a_name (tx.definitions_step (nested n)))
 definitions_eats n = km.definitions_eats n (nested n) (all_of n)
+
+pub front_named : (n : ℕ) (ds : List Declaration) (ts us : List Token) (i : Identifier) → (nested n).can ≡ true → taken a_name ts ≡ Some (i.name, i.place) → us ≡ behind a_name ts
+    → tx.front_turn (nested n) ds ts ≡ tx.front_from (nested n) ds i us
+unfolding tx.front_turn
+front_named n ds ts us i can e rest = if_true ((nested n).can) (choose a_name (λ n' p. tx.front_from (nested n) ds (identifier n' p)) (tx.front_end (nested n) ds)) (tx.front_end (nested n) ds) ts can
+    ∙ choose_some a_name (λ n' p. tx.front_from (nested n) ds (identifier n' p)) (tx.front_end (nested n) ds) ts us i.name i.place e rest
+
+-- ---- one more item
+
+module _ (all : List (Labeled (List Identifier) Defined)) where
+  abbrev longer : Labeled (List Identifier) Defined → Parser (List (Labeled (List Identifier) Defined))
+  longer x = pure (all ++ x ∷ [])
+
+  ended : (ns : List Identifier) (x : Defined) (out : Out Place) → and_then out (λ _. longer (labeled ns x)) ≡ and_then (and_then out (λ _. pure (labeled ns x))) longer
+  ended ns x (Got p us) = refl
+  ended ns x (Stop why us) = refl
+
+  said : (ns : List Identifier) (out : Out Defined) → and_then out (λ x. need semicolon >> longer (labeled ns x)) ≡ and_then (and_then out (λ x. need semicolon >> pure (labeled ns x))) longer
+  said ns (Got x us) = ended ns x (need semicolon us)
+  said ns (Stop why us) = refl
+
+  module _ (d : Parser Defined) where
+    behind_names : (ns : List Identifier) (out : Out Place) → and_then out (λ _. d >>= (λ x. need semicolon >> longer (labeled ns x))) ≡ and_then (and_then out (λ _. d >>= (λ x. need semicolon >> pure (labeled ns x)))) longer
+    behind_names ns (Got p us) = said ns (d us)
+    behind_names ns (Stop why us) = refl
+
+    named_so : (out : Out (List Identifier)) → and_then out (λ ns. need (k.Mark Colon) >> (d >>= (λ x. need semicolon >> longer (labeled ns x)))) ≡ and_then (and_then out (λ ns. need (k.Mark Colon) >> (d >>= (λ x. need semicolon >> pure (labeled ns x))))) longer
+    named_so (Got ns us) = behind_names ns (need (k.Mark Colon) us)
+    named_so (Stop why us) = refl
+
+pub step_by : (n : ℕ) (all : List (Labeled (List Identifier) Defined)) (i : Identifier) (ts : List Token) → tx.definitions_step (nested n) all i.name i.place ts ≡ and_then (definition (nested n) i ts) (λ x. pure (all ++ x ∷ []))
+unfolding tx.definitions_step definition
+step_by n all i ts = named_so all (tx.defined (nested n)) (names_from i ts)

@@ -2,18 +2,20 @@
 
 ghost use Rattle.std.specs.Prelude.{◌≡◌};
 ghost use Rattle.token_cursor.specs.Running.{Reads};
-ghost use Rattle.token_cursor.specs.Parsing.{repeat, and_then, pure};
+ghost use Rattle.token_cursor.specs.Parsing.{repeat};
 ghost use Rattle.module_productions.specs.ReadStatements.{nested};
 ghost use Rattle.module_productions.specs.ReadModules as spec;
-ghost use Rattle.module_productions.specs.ReadStatements as st;
+ghost use Rattle.statement_parser.specs.ReadTurns.{ReadsTurn};
 
 use crate::nesting::Grammar;
 use expression_parser::NestedParsers;
+use held_trees::{LetGo, both, pushed};
 use mesa_base::{Identifier, List};
 use mesa_lexer::Mark;
 use mesa_types::syntax::{Access, Declaration, Declarations, Inner, Statements};
 use module_tokens::begins::declares;
 use module_tokens::signs::takes_accessing;
+use statement_parser::Turn;
 use token_cursor::naming::names_from;
 use token_cursor::{Cursor, Stopped};
 
@@ -39,10 +41,11 @@ impl<N: NestedParsers> Grammar<N> {
         ensures { Reads (spec.declaration (nested self.now.statements.level.depth) first tokens.old.rest.now) result tokens.new.rest.now }
     {
         let names = names_from(self.statements.level.alloc, tokens, first)?;
-        tokens.need_mark(Mark::Colon)?;
-        let access = access(tokens)?;
-        let declared = self.declared(tokens)?;
-        tokens.need_mark(Mark::Semicolon)?;
+        let (names, _) = both(names, tokens.need_mark(Mark::Colon))?;
+        let (names, access) = both(names, access(tokens))?;
+        let (names, declared) = both(names, self.declared(tokens))?;
+        let (held, _) = both((names, declared), tokens.need_mark(Mark::Semicolon))?;
+        let (names, declared) = held;
         Ok(Declaration {
             names,
             access,
@@ -51,21 +54,59 @@ impl<N: NestedParsers> Grammar<N> {
     }
 
     /// The statements behind these declarations.
-    #[tactic(auto)]
+    #[tactic(auto, unfolding(module_productions::specs::ReadModules::front_end))]
     fn behind_front(
         &self,
         tokens: &mut Cursor<'_>,
         all: Declarations,
-    ) -> Result<(Declarations, Statements), Stopped>
+    ) -> Result<Turn<Declaration>, Stopped>
         requires { N.parse_at self.now.statements.level.nested self.now.statements.level.depth }
-        ensures { Reads (and_then (st.body (nested self.now.statements.level.depth) tokens.old.rest.now) (λ ss. pure (all, ss))) result tokens.new.rest.now }
+        ensures { ReadsTurn (spec.front_end (nested self.now.statements.level.depth) all tokens.old.rest.now) result tokens.new.rest.now }
     {
-        let statements = self.statements.body(tokens)?;
-        Ok((all, statements))
+        let (all, statements) = both(all, self.statements.body(tokens))?;
+        Ok(Turn::All(all, statements))
+    }
+
+    /// A declaration or the statements behind these, whose first name was taken.
+    #[tactic(auto, using(token_cursor::proofs::Choosing::when_true, token_cursor::proofs::Choosing::when_false), unfolding(module_productions::specs::ReadModules::front_from))]
+    fn named_turn(
+        &self,
+        tokens: &mut Cursor<'_>,
+        all: Declarations,
+        first: Identifier,
+    ) -> Result<Turn<Declaration>, Stopped>
+        requires { N.parse_at self.now.statements.level.nested self.now.statements.level.depth }
+        ensures { ReadsTurn (spec.front_from (nested self.now.statements.level.depth) all first tokens.old.rest.now) result tokens.new.rest.now }
+    {
+        if !declares(tokens) {
+            let (all, statements) = both(all, self.statements.stmts(tokens, Some(first)))?;
+            return Ok(Turn::All(all, statements));
+        }
+        let (all, declaration) = both(all, self.declaration(tokens, first))?;
+        Ok(Turn::More(pushed(all, declaration)?))
+    }
+
+    /// One more declaration behind these, or the statements.
+    #[tactic(auto, using(token_cursor::proofs::Choosing::choose_none, token_cursor::proofs::Choosing::choose_some, token_cursor::proofs::Choosing::if_true, token_cursor::proofs::Choosing::if_false), unfolding(module_productions::specs::ReadModules::front_turn))]
+    fn turn(&self, tokens: &mut Cursor<'_>, all: Declarations) -> Result<Turn<Declaration>, Stopped>
+        requires { N.parse_at self.now.statements.level.nested self.now.statements.level.depth }
+        ensures { ReadsTurn (spec.front_turn (nested self.now.statements.level.depth) all tokens.old.rest.now) result tokens.new.rest.now }
+    {
+        if !self.statements.level.can() {
+            return self.behind_front(tokens, all);
+        }
+        match tokens.takes_name(self.statements.level.alloc) {
+            Ok(Some(first)) => self.named_turn(tokens, all, first),
+            Ok(None) => self.behind_front(tokens, all),
+            Err(_) => {
+                all.let_go();
+                Err(Stopped::Memory)
+            }
+        }
     }
 
     /// Further declarations behind these, and the statements behind them.
-    #[tactic(auto, using(crate::proofs::FrontSteps::front_by))]
+    #[tactic(auto, using(token_cursor::proofs::Loops::unroll, crate::proofs::FrontSteps::front_eats))]
     fn front(
         &self,
         tokens: &mut Cursor<'_>,
@@ -75,17 +116,10 @@ impl<N: NestedParsers> Grammar<N> {
         ensures { Reads (repeat (spec.front_turn (nested self.now.statements.level.depth)) all tokens.old.rest.now) result tokens.new.rest.now }
     {
         'declarations: loop {
-            if !self.statements.level.can() {
-                return self.behind_front(tokens, all);
+            match self.turn(tokens, all)? {
+                Turn::More(longer) => all = longer,
+                Turn::All(all, statements) => return Ok((all, statements)),
             }
-            let Some(first) = tokens.takes_name(self.statements.level.alloc)? else {
-                return self.behind_front(tokens, all);
-            };
-            if !declares(tokens) {
-                let statements = self.statements.stmts(tokens, Some(first))?;
-                return Ok((all, statements));
-            }
-            all.push(self.declaration(tokens, first)?)?;
         }
     }
 
@@ -95,11 +129,10 @@ impl<N: NestedParsers> Grammar<N> {
         ensures { Reads (spec.inner (nested self.now.statements.level.depth) tokens.old.rest.now) result tokens.new.rest.now }
     {
         let enable = self.statements.enabling(tokens)?;
-        let (declarations, statements) = self.front(
-            tokens,
-            List::new(self.statements.level.alloc),
-        )?;
-        let exits = self.statements.exit_part(tokens)?;
+        let front = self.front(tokens, List::new(self.statements.level.alloc));
+        let (enable, front) = both(enable, front)?;
+        let (held, exits) = both((enable, front), self.statements.exit_part(tokens))?;
+        let (enable, (declarations, statements)) = held;
         Ok(Inner {
             enable,
             declarations,

@@ -6,6 +6,7 @@ ghost use Rattle.token_cursor.specs.Parsing.{many};
 ghost use Rattle.module_productions.specs.ReadNested.{comma};
 ghost use Rattle.module_productions.specs.ReadModules as spec;
 
+use held_trees::{both, pushed};
 use mesa_base::{Identifiers, List, Placed};
 use mesa_lexer::{Mark, Word};
 use mesa_types::syntax::{Directory, DirectoryItem};
@@ -20,7 +21,7 @@ pub fn opened(alloc: Global, tokens: &mut Cursor<'_>) -> Result<Identifiers, Sto
     match tokens.takes_word(Word::OpenWord) {
         Some(_) => {
             let all = names(alloc, tokens)?;
-            tokens.need_mark(Mark::Semicolon)?;
+            let (all, _) = both(all, tokens.need_mark(Mark::Semicolon))?;
             Ok(all)
         }
         None => Ok(List::new(alloc)),
@@ -46,7 +47,7 @@ fn using_names(alloc: Global, tokens: &mut Cursor<'_>) -> Result<Option<Identifi
         Some(_) => Ok(Some(List::new(alloc))),
         None => {
             let all = names(alloc, tokens)?;
-            tokens.need_mark(Mark::RightBracket)?;
+            let (all, _) = both(all, tokens.need_mark(Mark::RightBracket))?;
             Ok(Some(all))
         }
     }
@@ -99,7 +100,8 @@ fn more_items(
     ensures { Reads (many comma spec.items_step all tokens.old.rest.now) result tokens.new.rest.now }
 {
     'items: while tokens.takes_mark(Mark::Comma).is_some() {
-        all.push(item(alloc, tokens)?)?;
+        let (held, item) = both(all, item(alloc, tokens))?;
+        all = pushed(held, item)?;
     }
     Ok(all)
 }
@@ -108,10 +110,10 @@ fn more_items(
 fn items(alloc: Global, tokens: &mut Cursor<'_>) -> Result<Directory, Stopped>
     ensures { Reads (spec.items tokens.old.rest.now) result tokens.new.rest.now }
 {
-    let mut all = List::new(alloc);
-    all.push(item(alloc, tokens)?)?;
+    let first = item(alloc, tokens)?;
+    let all = pushed(List::new(alloc), first)?;
     let all = more_items(alloc, tokens, all)?;
-    tokens.need_mark(Mark::Semicolon)?;
+    let (all, _) = both(all, tokens.need_mark(Mark::Semicolon))?;
     Ok(all)
 }
 

@@ -7,6 +7,7 @@ ghost use Rattle.module_productions.specs.ReadModules as spec;
 
 use crate::nesting::Grammar;
 use expression_parser::NestedParsers;
+use held_trees::both;
 use mesa_lexer::{Mark, Word};
 use mesa_types::syntax::{Block, Declared, FieldList, Head};
 use module_tokens::signs::takes_procedure_word;
@@ -24,7 +25,7 @@ impl<N: NestedParsers> Grammar<N> {
             Some(_) => Ok(None),
             None => {
                 let fields = self.statements.level.field_list(tokens)?;
-                tokens.need_mark(Mark::RightBracket)?;
+                let (fields, _) = both(fields, tokens.need_mark(Mark::RightBracket))?;
                 Ok(Some(fields))
             }
         }
@@ -61,7 +62,7 @@ impl<N: NestedParsers> Grammar<N> {
         ensures { Reads (spec.head (nested self.now.statements.level.depth) tokens.old.rest.now) result tokens.new.rest.now }
     {
         let takes = self.params(tokens)?;
-        let gives = self.results(tokens)?;
+        let (takes, gives) = both(takes, self.results(tokens))?;
         Ok(Head { takes, gives })
     }
 
@@ -85,8 +86,8 @@ impl<N: NestedParsers> Grammar<N> {
         ensures { Reads (spec.procedure (nested self.now.statements.level.depth) tokens.old.rest.now) result tokens.new.rest.now }
     {
         let head = self.head(tokens)?;
-        tokens.need_mark(Mark::Equal)?;
-        let body = self.any_block(tokens)?;
+        let (head, _) = both(head, tokens.need_mark(Mark::Equal))?;
+        let (head, body) = both(head, self.any_block(tokens))?;
         Ok(Declared::Procedure(head, body))
     }
 
@@ -96,8 +97,8 @@ impl<N: NestedParsers> Grammar<N> {
         ensures { Reads (spec.signal (nested self.now.statements.level.depth) tokens.old.rest.now) result tokens.new.rest.now }
     {
         let head = self.head(tokens)?;
-        tokens.need_mark(Mark::Equal)?;
-        tokens.need_word(Word::CodeWord)?;
+        let (head, _) = both(head, tokens.need_mark(Mark::Equal))?;
+        let (head, _) = both(head, tokens.need_word(Word::CodeWord))?;
         Ok(Declared::Signal(head))
     }
 
@@ -107,8 +108,8 @@ impl<N: NestedParsers> Grammar<N> {
         ensures { Reads (spec.error (nested self.now.statements.level.depth) tokens.old.rest.now) result tokens.new.rest.now }
     {
         let takes = self.params(tokens)?;
-        tokens.need_mark(Mark::Equal)?;
-        tokens.need_word(Word::CodeWord)?;
+        let (takes, _) = both(takes, tokens.need_mark(Mark::Equal))?;
+        let (takes, _) = both(takes, tokens.need_word(Word::CodeWord))?;
         Ok(Declared::Error(takes))
     }
 

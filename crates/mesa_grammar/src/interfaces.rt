@@ -4,11 +4,12 @@ ghost use Rattle.std.specs.Prelude.{◌≡◌};
 ghost use Rattle.token_cursor.specs.Running.{Reads};
 ghost use Rattle.module_productions.specs.ReadStatements.{nested};
 ghost use Rattle.module_productions.specs.ReadModules as spec;
-ghost use Rattle.statement_parser.specs.StatementTails as tails;
+ghost use Rattle.mesa_grammar.specs.ReadItems as items;
 
 use crate::nesting::Grammar;
 use expression_parser::NestedParsers;
-use mesa_base::{Identifier, List};
+use held_trees::{LetGo, both, pushed};
+use mesa_base::{Identifier, Identifiers, List};
 use mesa_lexer::{Mark, Word};
 use mesa_types::syntax::{Defined, Definitions, Labeled};
 use module_productions::Begun;
@@ -23,8 +24,8 @@ impl<N: NestedParsers> Grammar<N> {
         ensures { Reads (spec.constant (nested self.now.statements.level.depth) tokens.old.rest.now) result tokens.new.rest.now }
     {
         let of = self.statements.level.type_exp(tokens, None)?;
-        tokens.need_mark(Mark::Equal)?;
-        let value = self.statements.level.expr(tokens, Begun::Fresh)?;
+        let (of, _) = both(of, tokens.need_mark(Mark::Equal))?;
+        let (of, value) = both(of, self.statements.level.expr(tokens, Begun::Fresh))?;
         Ok(Defined::ConstantItem(of, value))
     }
 
@@ -38,15 +39,19 @@ impl<N: NestedParsers> Grammar<N> {
         Ok(Defined::TypeItem(is))
     }
 
-    /// An item that is an error, a type or a constant.
-    #[tactic(auto, using(token_cursor::proofs::Choosing::choose_none, token_cursor::proofs::Choosing::choose_some), unfolding(statement_parser::specs::StatementTails::other_item))]
-    fn other_item(&self, tokens: &mut Cursor<'_>) -> Result<Defined, Stopped>
+    #[tactic(auto, using(token_cursor::proofs::Choosing::choose_none, token_cursor::proofs::Choosing::choose_some), unfolding(module_productions::specs::ReadModules::defined))]
+    fn defined(&self, tokens: &mut Cursor<'_>) -> Result<Defined, Stopped>
         requires { N.parse_at self.now.statements.level.nested self.now.statements.level.depth }
-        ensures { Reads (tails.other_item (nested self.now.statements.level.depth) tokens.old.rest.now) result tokens.new.rest.now }
+        ensures { Reads (spec.defined (nested self.now.statements.level.depth) tokens.old.rest.now) result tokens.new.rest.now }
     {
+        if let Some(_) = takes_procedure_word(tokens) {
+            return Ok(Defined::ProcedureItem(self.head(tokens)?));
+        }
+        if let Some(_) = tokens.takes_word(Word::SignalWord) {
+            return Ok(Defined::SignalItem(self.head(tokens)?));
+        }
         if let Some(_) = tokens.takes_word(Word::ErrorWord) {
-            let takes = self.params(tokens)?;
-            return Ok(Defined::ErrorItem(takes));
+            return Ok(Defined::ErrorItem(self.params(tokens)?));
         }
         match tokens.takes_word(Word::TypeWord) {
             Some(_) => self.type_item(tokens),
@@ -54,41 +59,36 @@ impl<N: NestedParsers> Grammar<N> {
         }
     }
 
-    #[tactic(auto, using(token_cursor::proofs::Choosing::choose_none, token_cursor::proofs::Choosing::choose_some), unfolding(module_productions::specs::ReadModules::defined, statement_parser::specs::StatementTails::other_item))]
-    fn defined(&self, tokens: &mut Cursor<'_>) -> Result<Defined, Stopped>
-        requires { N.parse_at self.now.statements.level.nested self.now.statements.level.depth }
-        ensures { Reads (spec.defined (nested self.now.statements.level.depth) tokens.old.rest.now) result tokens.new.rest.now }
-    {
-        if let Some(_) = takes_procedure_word(tokens) {
-            let head = self.head(tokens)?;
-            return Ok(Defined::ProcedureItem(head));
-        }
-        match tokens.takes_word(Word::SignalWord) {
-            Some(_) => {
-                let head = self.head(tokens)?;
-                Ok(Defined::SignalItem(head))
-            }
-            None => self.other_item(tokens),
-        }
-    }
-
-    /// One more item behind these, whose first name was taken.
-    #[tactic(auto, unfolding(module_productions::specs::ReadModules::definitions_step))]
+    /// An item with its names, of which the first was taken.
+    #[tactic(auto, unfolding(crate::specs::ReadItems::definition))]
     fn definition(
         &self,
         tokens: &mut Cursor<'_>,
-        mut all: Definitions,
+        first: Identifier,
+    ) -> Result<Labeled<Identifiers, Defined>, Stopped>
+        requires { N.parse_at self.now.statements.level.nested self.now.statements.level.depth }
+        ensures { Reads (items.definition (nested self.now.statements.level.depth) first tokens.old.rest.now) result tokens.new.rest.now }
+    {
+        let labels = names_from(self.statements.level.alloc, tokens, first)?;
+        let (labels, _) = both(labels, tokens.need_mark(Mark::Colon))?;
+        let (labels, item) = both(labels, self.defined(tokens))?;
+        let ((labels, item), _) = both((labels, item), tokens.need_mark(Mark::Semicolon))?;
+        Ok(Labeled { labels, item })
+    }
+
+    /// These items with one more, whose first name was taken.
+    #[tactic(auto, using(crate::proofs::FrontSteps::step_by))]
+    fn one_more(
+        &self,
+        tokens: &mut Cursor<'_>,
+        all: Definitions,
         first: Identifier,
     ) -> Result<Definitions, Stopped>
         requires { N.parse_at self.now.statements.level.nested self.now.statements.level.depth }
         ensures { Reads (spec.definitions_step (nested self.now.statements.level.depth) all first.name first.place tokens.old.rest.now) result tokens.new.rest.now }
     {
-        let labels = names_from(self.statements.level.alloc, tokens, first)?;
-        tokens.need_mark(Mark::Colon)?;
-        let item = self.defined(tokens)?;
-        all.push(Labeled { labels, item })?;
-        tokens.need_mark(Mark::Semicolon)?;
-        Ok(all)
+        let (all, item) = both(all, self.definition(tokens, first))?;
+        Ok(pushed(all, item)?)
     }
 
     #[tactic(auto, using(token_cursor::proofs::Taking::many_by, crate::proofs::FrontSteps::definitions_eats), unfolding(module_productions::specs::ReadModules::definitions))]
@@ -97,9 +97,15 @@ impl<N: NestedParsers> Grammar<N> {
         ensures { Reads (spec.definitions (nested self.now.statements.level.depth) tokens.old.rest.now) result tokens.new.rest.now }
     {
         let mut all = List::new(self.statements.level.alloc);
-        'definitions: while let Some(first) = tokens.takes_name(self.statements.level.alloc)? {
-            all = self.definition(tokens, all, first)?;
+        'definitions: loop {
+            match tokens.takes_name(self.statements.level.alloc) {
+                Ok(Some(first)) => all = self.one_more(tokens, all, first)?,
+                Ok(None) => return Ok(all),
+                Err(_) => {
+                    all.let_go();
+                    return Err(Stopped::Memory);
+                }
+            }
         }
-        Ok(all)
     }
 }

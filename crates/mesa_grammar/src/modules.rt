@@ -8,6 +8,7 @@ ghost use Rattle.module_productions.specs.ReadModules as spec;
 use crate::directory::{interfaces, listed, opened};
 use crate::nesting::Grammar;
 use expression_parser::NestedParsers;
+use held_trees::both;
 use mesa_base::Place;
 use mesa_lexer::{Mark, Word};
 use mesa_types::syntax::{Module, ModuleKind};
@@ -22,12 +23,14 @@ impl<N: NestedParsers> Grammar<N> {
         ensures { Reads (spec.program (nested self.now.statements.level.depth) place tokens.old.rest.now) result tokens.new.rest.now }
     {
         let imports = listed(self.statements.level.alloc, tokens, Word::ImportsWord)?;
-        let exports = listed(self.statements.level.alloc, tokens, Word::ExportsWord)?;
-        tokens.need_mark(Mark::Equal)?;
-        tokens.need_word(Word::BeginWord)?;
-        let opens = opened(self.statements.level.alloc, tokens)?;
-        let inner = self.inner(tokens)?;
-        tokens.need_word(Word::EndWord)?;
+        let exports = listed(self.statements.level.alloc, tokens, Word::ExportsWord);
+        let (imports, exports) = both(imports, exports)?;
+        let (lists, _) = both((imports, exports), tokens.need_mark(Mark::Equal))?;
+        let (lists, _) = both(lists, tokens.need_word(Word::BeginWord))?;
+        let (lists, opens) = both(lists, opened(self.statements.level.alloc, tokens))?;
+        let (lists, inner) = both((lists, opens), self.inner(tokens))?;
+        let ((lists, inner), _) = both((lists, inner), tokens.need_word(Word::EndWord))?;
+        let ((imports, exports), opens) = lists;
         Ok(ModuleKind::Program {
             place,
             imports,
@@ -46,8 +49,9 @@ impl<N: NestedParsers> Grammar<N> {
         tokens.need_mark(Mark::Equal)?;
         tokens.need_word(Word::BeginWord)?;
         let opens = opened(self.statements.level.alloc, tokens)?;
-        let definitions = self.definitions(tokens)?;
-        tokens.need_word(Word::EndWord)?;
+        let (opens, definitions) = both(opens, self.definitions(tokens))?;
+        let held = both((opens, definitions), tokens.need_word(Word::EndWord))?;
+        let ((opens, definitions), _) = held;
         Ok(ModuleKind::Interface {
             place,
             opens,
@@ -75,10 +79,12 @@ impl<N: NestedParsers> Grammar<N> {
         ensures { Reads (spec.module_text (nested self.now.statements.level.depth) tokens.old.rest.now) result tokens.new.rest.now }
     {
         let directory = interfaces(self.statements.level.alloc, tokens)?;
-        let name = named(self.statements.level.alloc, tokens)?;
-        tokens.need_mark(Mark::Colon)?;
-        let kind = self.module_kind(tokens)?;
-        tokens.need_mark(Mark::Dot)?;
+        let name = named(self.statements.level.alloc, tokens);
+        let (directory, name) = both(directory, name)?;
+        let (head, _) = both((directory, name), tokens.need_mark(Mark::Colon))?;
+        let (head, kind) = both(head, self.module_kind(tokens))?;
+        let ((head, kind), _) = both((head, kind), tokens.need_mark(Mark::Dot))?;
+        let (directory, name) = head;
         Ok(Module {
             directory,
             name,

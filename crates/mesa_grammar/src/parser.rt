@@ -9,6 +9,7 @@ ghost use Rattle.module_productions.specs.ReadModules as texts;
 
 use crate::nesting::Grammar;
 use expression_parser::{Level, ParserFunctions};
+use held_trees::LetGo;
 use mesa_base::{Identifier, Place};
 use mesa_lexer::{SyntaxFault, Tokens};
 use mesa_types::Module;
@@ -43,6 +44,7 @@ fn stmt(
     ensures { Reads ((nested depth).stmt begun tokens.old.rest.now) result tokens.new.rest.now }
 {
     if depth == 0 {
+        begun.let_go();
         return Err(too_deep(begins_stmt(tokens)));
     }
     StatementParser {
@@ -88,6 +90,7 @@ fn type_exp(
     ensures { Reads ((nested depth).type begun tokens.old.rest.now) result tokens.new.rest.now }
 {
     if depth == 0 {
+        begun.let_go();
         return Err(too_deep(begins_type(tokens)));
     }
     Level {
@@ -120,7 +123,10 @@ fn text(alloc: Global, tokens: &mut Cursor<'_>) -> Result<Module, Stopped>
     let module = Grammar { statements }.module_text(tokens)?;
     match tokens.peek() {
         None => Ok(module),
-        Some(_) => Err(Stopped::Unexpected),
+        Some(_) => {
+            module.let_go();
+            Err(Stopped::Unexpected)
+        }
     }
 }
 
@@ -146,8 +152,7 @@ fn fault(why: Stopped, place: Place) -> SyntaxFault
 }
 
 /// The tree of a module's tokens (Language Manual, appendix on syntax; docs/LANGUAGE.md has each production), or the
-/// first fault, whichever of the two comes at the earlier token. It is one pass over the tokens, with one token of
-/// lookahead, and linear in time and memory.
+/// first fault, whichever of the two comes at the earlier token. One token of lookahead decides.
 ///
 /// Unexpected: the tokens before this place begin a text, and those through it begin none; at the text's end they are no
 /// text. TooDeep: some text starts with the tokens through this place, and there the 201st statement, expression or type

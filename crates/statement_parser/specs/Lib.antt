@@ -1,1 +1,3 @@
-pub mod StatementTails
+pub mod FirstTokens
+pub mod ReadTails
+pub mod ReadTurns

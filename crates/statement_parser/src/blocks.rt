@@ -1,17 +1,19 @@
 //! Blocks and the declarations in them.
 
 ghost use Rattle.std.specs.Prelude.{◌≡◌};
-ghost use Rattle.token_cursor.specs.Running.{Reads};
-ghost use Rattle.token_cursor.specs.Parsing.{repeat, and_then, pure};
+ghost use Rattle.token_cursor.specs.Running.{Reads, skip};
+ghost use Rattle.token_cursor.specs.Parsing.{and_then, need, pure, repeat};
 ghost use Rattle.module_productions.specs.ReadStatements.{nested};
 ghost use Rattle.module_productions.specs.ReadStatements as spec;
 ghost use Rattle.mesa_types.specs.declared.syntax.Statement.TheVariants as s;
-ghost use Rattle.statement_parser.specs.StatementTails.{last_of};
-ghost use Rattle.statement_parser.specs.StatementTails as tails;
-ghost use Rattle.token_cursor.specs.Parsing.{need};
+ghost use Rattle.statement_parser.specs.ReadTails.{last_of};
+ghost use Rattle.statement_parser.specs.ReadTails as tails;
+ghost use Rattle.statement_parser.specs.ReadTurns.{ReadsTurn};
 
 use crate::nesting::StatementParser;
+use crate::turns::Turn;
 use expression_parser::NestedParsers;
+use held_trees::{LetGo, both, pushed};
 use mesa_base::{Identifier, List, Place};
 use mesa_lexer::{Mark, Word};
 use mesa_types::syntax::{
@@ -42,27 +44,27 @@ fn need_end(tokens: &mut Cursor<'_>, end: BlockEnd) -> Result<Place, Stopped>
 
 impl<N: NestedParsers> StatementParser<N> {
     /// The value of a variable of this type.
-    #[tactic(auto, unfolding(crate::specs::StatementTails::initial))]
+    #[tactic(auto, unfolding(crate::specs::ReadTails::initial))]
     fn initial(&self, tokens: &mut Cursor<'_>, of: TypeExp) -> Result<PlainItem, Stopped>
         requires { N.parse_at self.now.level.nested self.now.level.depth }
         ensures { Reads (tails.initial (nested self.now.level.depth) of tokens.old.rest.now) result tokens.new.rest.now }
     {
-        let value = self.level.expr(tokens, Begun::Fresh)?;
+        let (of, value) = both(of, self.level.expr(tokens, Begun::Fresh))?;
         Ok(PlainItem::Initial(of, value))
     }
 
     /// The value of a constant of this type.
-    #[tactic(auto, unfolding(crate::specs::StatementTails::fixed))]
+    #[tactic(auto, unfolding(crate::specs::ReadTails::fixed))]
     fn fixed(&self, tokens: &mut Cursor<'_>, of: TypeExp) -> Result<PlainItem, Stopped>
         requires { N.parse_at self.now.level.nested self.now.level.depth }
         ensures { Reads (tails.fixed (nested self.now.level.depth) of tokens.old.rest.now) result tokens.new.rest.now }
     {
-        let value = self.level.expr(tokens, Begun::Fresh)?;
+        let (of, value) = both(of, self.level.expr(tokens, Begun::Fresh))?;
         Ok(PlainItem::Constant(of, value))
     }
 
     /// What stands behind the type of a variable or constant.
-    #[tactic(auto, using(token_cursor::proofs::Choosing::choose_none, token_cursor::proofs::Choosing::choose_some), unfolding(module_productions::specs::ReadStatements::valued, crate::specs::StatementTails::initial, crate::specs::StatementTails::fixed))]
+    #[tactic(auto, using(token_cursor::proofs::Choosing::choose_none, token_cursor::proofs::Choosing::choose_some), unfolding(module_productions::specs::ReadStatements::valued, crate::specs::ReadTails::initial, crate::specs::ReadTails::fixed))]
     fn valued(&self, tokens: &mut Cursor<'_>, of: TypeExp) -> Result<PlainItem, Stopped>
         requires { N.parse_at self.now.level.nested self.now.level.depth }
         ensures { Reads (spec.valued (nested self.now.level.depth) of tokens.old.rest.now) result tokens.new.rest.now }
@@ -114,28 +116,62 @@ impl<N: NestedParsers> StatementParser<N> {
         ensures { Reads (spec.local (nested self.now.level.depth) first tokens.old.rest.now) result tokens.new.rest.now }
     {
         let labels = names_from(self.level.alloc, tokens, first)?;
-        tokens.need_mark(Mark::Colon)?;
-        let item = self.plain(tokens)?;
-        tokens.need_mark(Mark::Semicolon)?;
+        let (labels, _) = both(labels, tokens.need_mark(Mark::Colon))?;
+        let (labels, item) = both(labels, self.plain(tokens))?;
+        let ((labels, item), _) = both((labels, item), tokens.need_mark(Mark::Semicolon))?;
         Ok(Labeled { labels, item })
     }
 
     /// The statements behind these declarations.
-    #[tactic(auto)]
-    fn behind_locals(
+    #[tactic(auto, unfolding(module_productions::specs::ReadStatements::head_end))]
+    fn behind_locals(&self, tokens: &mut Cursor<'_>, all: Locals) -> Result<Turn<Local>, Stopped>
+        requires { N.parse_at self.now.level.nested self.now.level.depth }
+        ensures { ReadsTurn (spec.head_end (nested self.now.level.depth) all tokens.old.rest.now) result tokens.new.rest.now }
+    {
+        let (all, statements) = both(all, self.body(tokens))?;
+        Ok(Turn::All(all, statements))
+    }
+
+    /// A declaration or the statements behind these, whose first name was taken.
+    #[tactic(auto, using(token_cursor::proofs::Choosing::when_true, token_cursor::proofs::Choosing::when_false), unfolding(module_productions::specs::ReadStatements::head_from))]
+    fn named_turn(
         &self,
         tokens: &mut Cursor<'_>,
         all: Locals,
-    ) -> Result<(Locals, Statements), Stopped>
+        first: Identifier,
+    ) -> Result<Turn<Local>, Stopped>
         requires { N.parse_at self.now.level.nested self.now.level.depth }
-        ensures { Reads (and_then (spec.body (nested self.now.level.depth) tokens.old.rest.now) (λ ss. pure (all, ss))) result tokens.new.rest.now }
+        ensures { ReadsTurn (spec.head_from (nested self.now.level.depth) all first tokens.old.rest.now) result tokens.new.rest.now }
     {
-        let statements = self.body(tokens)?;
-        Ok((all, statements))
+        if !declares(tokens) {
+            let (all, statements) = both(all, self.stmts(tokens, Some(first)))?;
+            return Ok(Turn::All(all, statements));
+        }
+        let (all, local) = both(all, self.local(tokens, first))?;
+        Ok(Turn::More(pushed(all, local)?))
+    }
+
+    /// One more declaration behind these, or the statements.
+    #[tactic(auto, using(token_cursor::proofs::Choosing::choose_none, token_cursor::proofs::Choosing::choose_some, token_cursor::proofs::Choosing::if_true, token_cursor::proofs::Choosing::if_false), unfolding(module_productions::specs::ReadStatements::head_turn))]
+    fn turn(&self, tokens: &mut Cursor<'_>, all: Locals) -> Result<Turn<Local>, Stopped>
+        requires { N.parse_at self.now.level.nested self.now.level.depth }
+        ensures { ReadsTurn (spec.head_turn (nested self.now.level.depth) all tokens.old.rest.now) result tokens.new.rest.now }
+    {
+        if !self.level.can() {
+            return self.behind_locals(tokens, all);
+        }
+        match tokens.takes_name(self.level.alloc) {
+            Ok(Some(first)) => self.named_turn(tokens, all, first),
+            Ok(None) => self.behind_locals(tokens, all),
+            Err(_) => {
+                all.let_go();
+                Err(Stopped::Memory)
+            }
+        }
     }
 
     /// Further declarations behind these, and the statements behind them.
-    #[tactic(auto, using(crate::proofs::Stepping::head_by))]
+    #[tactic(auto, using(token_cursor::proofs::Loops::unroll, module_productions::proofs::Parts::head_eats))]
     fn locals(
         &self,
         tokens: &mut Cursor<'_>,
@@ -145,17 +181,10 @@ impl<N: NestedParsers> StatementParser<N> {
         ensures { Reads (repeat (spec.head_turn (nested self.now.level.depth)) all tokens.old.rest.now) result tokens.new.rest.now }
     {
         'locals: loop {
-            if !self.level.can() {
-                return self.behind_locals(tokens, all);
+            match self.turn(tokens, all)? {
+                Turn::More(longer) => all = longer,
+                Turn::All(all, statements) => return Ok((all, statements)),
             }
-            let Some(first) = tokens.takes_name(self.level.alloc)? else {
-                return self.behind_locals(tokens, all);
-            };
-            if !declares(tokens) {
-                let statements = self.stmts(tokens, Some(first))?;
-                return Ok((all, statements));
-            }
-            all.push(self.local(tokens, first)?)?;
         }
     }
 
@@ -171,9 +200,12 @@ impl<N: NestedParsers> StatementParser<N> {
         ensures { Reads (spec.block (nested self.now.level.depth) (last_of end) place tokens.old.rest.now) result tokens.new.rest.now }
     {
         let enable = self.enabling(tokens)?;
-        let (locals, statements) = self.locals(tokens, List::new(self.level.alloc))?;
-        let exits = self.exit_part(tokens)?;
-        need_end(tokens, end)?;
+        let first = self.locals(tokens, List::new(self.level.alloc));
+        let (enable, (locals, statements)) = both(enable, first)?;
+        let held = (enable, (locals, statements));
+        let (held, exits) = both(held, self.exit_part(tokens))?;
+        let ((held, exits), _) = both((held, exits), need_end(tokens, end))?;
+        let (enable, (locals, statements)) = held;
         Ok(Block {
             place,
             enable,
@@ -183,7 +215,7 @@ impl<N: NestedParsers> StatementParser<N> {
         })
     }
 
-    /// A block as a statement, behind its first word or brace.
+    /// A block as a statement, whose first word or brace comes next and stands at the place.
     #[tactic(auto)]
     pub fn nested_block(
         &self,
@@ -192,8 +224,9 @@ impl<N: NestedParsers> StatementParser<N> {
         place: Place,
     ) -> Result<Statement, Stopped>
         requires { N.parse_at self.now.level.nested self.now.level.depth }
-        ensures { Reads (and_then (spec.block (nested self.now.level.depth) (last_of end) place tokens.old.rest.now) (λ b. pure (s.Nested b))) result tokens.new.rest.now }
+        ensures { Reads (and_then (spec.block (nested self.now.level.depth) (last_of end) place (skip tokens.old.rest.now)) (λ b. pure (s.Nested b))) result tokens.new.rest.now }
     {
+        tokens.skip();
         let block = self.block(tokens, end, place)?;
         Ok(Statement::Nested(block))
     }

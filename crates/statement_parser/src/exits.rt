@@ -2,32 +2,21 @@
 
 ghost use Rattle.std.specs.Prelude.{◌≡◌};
 ghost use Rattle.token_cursor.specs.Running.{Reads};
-ghost use Rattle.token_cursor.specs.Parsing.{ended, many, repeat};
+ghost use Rattle.token_cursor.specs.Parsing.{ended};
 ghost use Rattle.module_productions.specs.ReadNested.{begins_repeat};
 ghost use Rattle.module_productions.specs.ReadStatements.{nested, semicolon, begins_label};
 ghost use Rattle.module_productions.specs.ReadStatements as spec;
-ghost use Rattle.std.specs.Prelude.{[], ◌∷◌, MatchResult};
-ghost use Rattle.token_cursor.specs.declared.fault.Stopped.TheVariants.{Memory};
 
 use crate::nesting::StatementParser;
 use expression_parser::NestedParsers;
+use held_trees::{both, pushed};
 use mesa_base::{List, Place, Placed};
 use mesa_lexer::{Mark, Word};
-use mesa_types::syntax::{Arm, Arms, Exit, Exits, Labeled, Phrase, Repeat, Repeats};
+use mesa_types::syntax::{Exit, Exits, Labeled, Phrase, Repeat, Repeats};
 use module_tokens::begins::begins_repeat;
 use module_tokens::naming::repeat_labels;
-use std::alloc::Global;
 use token_cursor::naming::names;
 use token_cursor::{Cursor, Stopped};
-
-/// A list of this arm alone.
-fn one_arm(alloc: Global, arm: Arm) -> Result<Arms, Stopped>
-    ensures { MatchResult result (λ all. all ≡ arm ∷ []) (λ e. e ≡ Memory) }
-{
-    let mut all = List::new(alloc);
-    all.push(arm)?;
-    Ok(all)
-}
 
 impl<N: NestedParsers> StatementParser<N> {
     #[tactic(auto, unfolding(module_productions::specs::ReadStatements::exit))]
@@ -36,8 +25,8 @@ impl<N: NestedParsers> StatementParser<N> {
         ensures { Reads (spec.exit (nested self.now.level.depth) tokens.old.rest.now) result tokens.new.rest.now }
     {
         let labels = names(self.level.alloc, tokens)?;
-        tokens.need_mark(Mark::DoubleArrow)?;
-        let item = self.level.stmt(tokens, None)?;
+        let (labels, _) = both(labels, tokens.need_mark(Mark::DoubleArrow))?;
+        let (labels, item) = both(labels, self.level.stmt(tokens, None))?;
         Ok(Labeled { labels, item })
     }
 
@@ -51,7 +40,8 @@ impl<N: NestedParsers> StatementParser<N> {
             if !tokens.begins_name() {
                 break;
             }
-            all.push(self.exit(tokens)?)?;
+            let (held, exit) = both(all, self.exit(tokens))?;
+            all = pushed(held, exit)?;
         }
         Ok(all)
     }
@@ -61,8 +51,8 @@ impl<N: NestedParsers> StatementParser<N> {
         requires { N.parse_at self.now.level.nested self.now.level.depth }
         ensures { Reads (spec.exits (nested self.now.level.depth) tokens.old.rest.now) result tokens.new.rest.now }
     {
-        let mut all = List::new(self.level.alloc);
-        all.push(self.exit(tokens)?)?;
+        let first = self.exit(tokens)?;
+        let all = pushed(List::new(self.level.alloc), first)?;
         self.more_exits(tokens, all)
     }
 
@@ -85,8 +75,8 @@ impl<N: NestedParsers> StatementParser<N> {
         ensures { Reads (spec.an_end (nested self.now.level.depth) tokens.old.rest.now) result tokens.new.rest.now }
     {
         let labels = repeat_labels(self.level.alloc, tokens)?;
-        tokens.need_mark(Mark::DoubleArrow)?;
-        let item = self.level.stmt(tokens, None)?;
+        let (labels, _) = both(labels, tokens.need_mark(Mark::DoubleArrow))?;
+        let (labels, item) = both(labels, self.level.stmt(tokens, None))?;
         Ok(Labeled { labels, item })
     }
 
@@ -100,7 +90,8 @@ impl<N: NestedParsers> StatementParser<N> {
             if !begins_repeat(tokens) {
                 break;
             }
-            all.push(self.an_end(tokens)?)?;
+            let (held, end) = both(all, self.an_end(tokens))?;
+            all = pushed(held, end)?;
         }
         Ok(all)
     }
@@ -110,8 +101,8 @@ impl<N: NestedParsers> StatementParser<N> {
         requires { N.parse_at self.now.level.nested self.now.level.depth }
         ensures { Reads (spec.repeats (nested self.now.level.depth) tokens.old.rest.now) result tokens.new.rest.now }
     {
-        let mut all = List::new(self.level.alloc);
-        all.push(self.an_end(tokens)?)?;
+        let first = self.an_end(tokens)?;
+        let all = pushed(List::new(self.level.alloc), first)?;
         self.more_ends(tokens, all)
     }
 
@@ -133,8 +124,8 @@ impl<N: NestedParsers> StatementParser<N> {
         ensures { Reads (spec.enable_many (nested self.now.level.depth) place tokens.old.rest.now) result tokens.new.rest.now }
     {
         let item = self.level.arm_list(tokens)?;
-        tokens.need_word(Word::EndWord)?;
-        tokens.need_mark(Mark::Semicolon)?;
+        let (item, _) = both(item, tokens.need_word(Word::EndWord))?;
+        let (item, _) = both(item, tokens.need_mark(Mark::Semicolon))?;
         Ok(Some(Placed { place, item }))
     }
 
@@ -143,8 +134,9 @@ impl<N: NestedParsers> StatementParser<N> {
         requires { N.parse_at self.now.level.nested self.now.level.depth }
         ensures { Reads (spec.enable_one (nested self.now.level.depth) place tokens.old.rest.now) result tokens.new.rest.now }
     {
-        let item = one_arm(self.level.alloc, self.level.arm(tokens)?)?;
-        tokens.need_mark(Mark::Semicolon)?;
+        let arm = self.level.arm(tokens)?;
+        let item = pushed(List::new(self.level.alloc), arm)?;
+        let (item, _) = both(item, tokens.need_mark(Mark::Semicolon))?;
         Ok(Some(Placed { place, item }))
     }
 

@@ -5,8 +5,11 @@ mod blocks;
 mod exits;
 mod loops;
 mod nesting;
+mod productions;
 mod selections;
 mod statements;
+mod turns;
 
 pub use blocks::BlockEnd;
 pub use nesting::StatementParser;
+pub use turns::Turn;

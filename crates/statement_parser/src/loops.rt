@@ -7,7 +7,8 @@ ghost use Rattle.module_productions.specs.ReadStatements as spec;
 
 use crate::nesting::StatementParser;
 use expression_parser::NestedParsers;
-use mesa_base::{Boxed, Place};
+use held_trees::{both, boxed};
+use mesa_base::Place;
 use mesa_lexer::Word;
 use mesa_types::syntax::{Condition, Control, Count, Statement};
 use module_productions::Begun;
@@ -31,9 +32,9 @@ impl<N: NestedParsers> StatementParser<N> {
         ensures { Reads (spec.for (nested self.now.level.depth) place tokens.old.rest.now) result tokens.new.rest.now }
     {
         let variable = named(self.level.alloc, tokens)?;
-        let is_decreasing = decreasing(tokens)?;
-        tokens.need_word(Word::InWord)?;
-        let interval = self.level.interval(tokens)?;
+        let (variable, is_decreasing) = both(variable, decreasing(tokens))?;
+        let (variable, _) = both(variable, tokens.need_word(Word::InWord))?;
+        let (variable, interval) = both(variable, self.level.interval(tokens))?;
         Ok(Some(Count::For {
             place,
             variable,
@@ -89,7 +90,7 @@ impl<N: NestedParsers> StatementParser<N> {
         ensures { Reads (spec.control (nested self.now.level.depth) tokens.old.rest.now) result tokens.new.rest.now }
     {
         let count = self.count(tokens)?;
-        let condition = self.condition(tokens)?;
+        let (count, condition) = both(count, self.condition(tokens))?;
         Ok(Control { count, condition })
     }
 
@@ -99,12 +100,14 @@ impl<N: NestedParsers> StatementParser<N> {
         requires { N.parse_at self.now.level.nested self.now.level.depth }
         ensures { Reads (spec.loop (nested self.now.level.depth) tokens.old.rest.now) result tokens.new.rest.now }
     {
-        let control = Boxed::new(self.level.alloc, self.control(tokens)?)?;
-        let place = tokens.need_word(Word::DoWord)?;
-        let enable = self.enabling(tokens)?;
-        let body = self.body(tokens)?;
-        let ends = self.repeat_part(tokens)?;
-        tokens.need_word(Word::EndloopWord)?;
+        let control = self.control(tokens)?;
+        let control = boxed(self.level.alloc, control)?;
+        let (control, place) = both(control, tokens.need_word(Word::DoWord))?;
+        let (control, enable) = both(control, self.enabling(tokens))?;
+        let (held, body) = both((control, enable), self.body(tokens))?;
+        let (held, ends) = both((held, body), self.repeat_part(tokens))?;
+        let ((held, ends), _) = both((held, ends), tokens.need_word(Word::EndloopWord))?;
+        let ((control, enable), body) = held;
         Ok(Statement::Loop(control, place, enable, body, ends))
     }
 }

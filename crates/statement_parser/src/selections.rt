@@ -1,7 +1,7 @@
 //! SELECT.
 
 ghost use Rattle.std.specs.Prelude.{◌≡◌};
-ghost use Rattle.token_cursor.specs.Running.{Reads};
+ghost use Rattle.token_cursor.specs.Running.{Reads, skip};
 ghost use Rattle.token_cursor.specs.Parsing.{ended, many};
 ghost use Rattle.module_productions.specs.ReadNested.{begins_test, comma};
 ghost use Rattle.module_productions.specs.ReadStatements.{nested, semicolon};
@@ -9,6 +9,7 @@ ghost use Rattle.module_productions.specs.ReadStatements as spec;
 
 use crate::nesting::StatementParser;
 use expression_parser::NestedParsers;
+use held_trees::{both, boxed, pushed};
 use mesa_base::{Boxed, List, Place};
 use mesa_lexer::{Mark, Word};
 use mesa_types::syntax::{Case, Cases, Statement, Test, Tests};
@@ -101,7 +102,8 @@ impl<N: NestedParsers> StatementParser<N> {
         ensures { Reads (many comma (spec.tests_step (nested self.now.level.depth)) all tokens.old.rest.now) result tokens.new.rest.now }
     {
         'tests: while tokens.takes_mark(Mark::Comma).is_some() {
-            all.push(self.test(tokens)?)?;
+            let (held, test) = both(all, self.test(tokens))?;
+            all = pushed(held, test)?;
         }
         Ok(all)
     }
@@ -111,11 +113,11 @@ impl<N: NestedParsers> StatementParser<N> {
         requires { N.parse_at self.now.level.nested self.now.level.depth }
         ensures { Reads (spec.case (nested self.now.level.depth) tokens.old.rest.now) result tokens.new.rest.now }
     {
-        let mut tests = List::new(self.level.alloc);
-        tests.push(self.test(tokens)?)?;
+        let first = self.test(tokens)?;
+        let tests = pushed(List::new(self.level.alloc), first)?;
         let tests = self.more_tests(tokens, tests)?;
-        tokens.need_mark(Mark::DoubleArrow)?;
-        let body = self.level.stmt(tokens, None)?;
+        let (tests, _) = both(tests, tokens.need_mark(Mark::DoubleArrow))?;
+        let (tests, body) = both(tests, self.level.stmt(tokens, None))?;
         Ok(Case { tests, body })
     }
 
@@ -129,7 +131,8 @@ impl<N: NestedParsers> StatementParser<N> {
             if !begins_test(tokens) {
                 break;
             }
-            all.push(self.case(tokens)?)?;
+            let (held, case) = both(all, self.case(tokens))?;
+            all = pushed(held, case)?;
         }
         Ok(all)
     }
@@ -139,8 +142,8 @@ impl<N: NestedParsers> StatementParser<N> {
         requires { N.parse_at self.now.level.nested self.now.level.depth }
         ensures { Reads (spec.cases (nested self.now.level.depth) tokens.old.rest.now) result tokens.new.rest.now }
     {
-        let mut all = List::new(self.level.alloc);
-        all.push(self.case(tokens)?)?;
+        let first = self.case(tokens)?;
+        let all = pushed(List::new(self.level.alloc), first)?;
         self.more_cases(tokens, all)
     }
 
@@ -164,23 +167,24 @@ impl<N: NestedParsers> StatementParser<N> {
         match tokens.takes_mark(Mark::DoubleArrow) {
             Some(_) => {
                 let body = self.level.stmt(tokens, None)?;
-                Ok(Some(Boxed::new(self.level.alloc, body)?))
+                Ok(Some(boxed(self.level.alloc, body)?))
             }
             None => Ok(None),
         }
     }
 
-    /// A selection behind its SELECT, which stands at the place.
+    /// SELECT, whose word comes next and stands at the place.
     #[tactic(auto, unfolding(module_productions::specs::ReadStatements::select))]
     pub fn select(&self, tokens: &mut Cursor<'_>, place: Place) -> Result<Statement, Stopped>
         requires { N.parse_at self.now.level.nested self.now.level.depth }
-        ensures { Reads (spec.select (nested self.now.level.depth) place tokens.old.rest.now) result tokens.new.rest.now }
+        ensures { Reads (spec.select (nested self.now.level.depth) place (skip tokens.old.rest.now)) result tokens.new.rest.now }
     {
+        tokens.skip();
         let selector = self.level.expr(tokens, Begun::Fresh)?;
-        tokens.need_word(Word::FromWord)?;
-        let cases = self.case_list(tokens)?;
-        tokens.need_word(Word::EndcaseWord)?;
-        let otherwise = self.otherwise(tokens)?;
+        let (selector, _) = both(selector, tokens.need_word(Word::FromWord))?;
+        let (selector, cases) = both(selector, self.case_list(tokens))?;
+        let (held, _) = both((selector, cases), tokens.need_word(Word::EndcaseWord))?;
+        let ((selector, cases), otherwise) = both(held, self.otherwise(tokens))?;
         Ok(Statement::Select(place, selector, cases, otherwise))
     }
 }

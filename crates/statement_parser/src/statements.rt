@@ -1,23 +1,37 @@
 //! Statements, and lists of them.
 
 ghost use Rattle.std.specs.Prelude.{◌≡◌};
-ghost use Rattle.token_cursor.specs.Running.{Reads};
-ghost use Rattle.token_cursor.specs.Parsing.{ended};
+ghost use Rattle.token_cursor.specs.Running.{Reads, skip};
+ghost use Rattle.token_cursor.specs.Parsing.{and_then, ended, pure};
+ghost use Rattle.mesa_types.specs.declared.syntax.Statement.TheVariants as s;
 ghost use Rattle.module_productions.specs.ReadNested.{begins_stmt};
+ghost use Rattle.module_productions.specs.ReadNested as names;
+ghost use Rattle.module_productions.specs.ReadExpressions as x;
 ghost use Rattle.module_productions.specs.ReadStatements.{nested, semicolon};
 ghost use Rattle.module_productions.specs.ReadStatements as spec;
-ghost use Rattle.statement_parser.specs.StatementTails as tails;
+ghost use Rattle.statement_parser.specs.ReadTails as tails;
 
 use crate::blocks::BlockEnd;
 use crate::nesting::StatementParser;
+use crate::productions::{Production, begun_by};
 use expression_parser::NestedParsers;
+use held_trees::{both, boxed, pushed};
 use mesa_base::{Boxed, Identifier, List, Place};
 use mesa_lexer::{Mark, Word};
 use mesa_types::syntax::{Expr, Statement, Statements};
 use module_productions::Begun;
-use module_tokens::begins::{begins_raise, begins_stmt};
+use module_tokens::begins::begins_stmt;
 use token_cursor::naming::named;
 use token_cursor::{Cursor, Stopped};
+
+/// A statement of one word, which comes next.
+fn of_one_word(tokens: &mut Cursor<'_>, statement: Statement) -> Statement
+    ensures same { result ≡ statement }
+    ensures rest { tokens.new.rest.now ≡ skip tokens.old.rest.now }
+{
+    tokens.skip();
+    statement
+}
 
 impl<N: NestedParsers> StatementParser<N> {
     /// Statements; of the first a name was taken or nothing.
@@ -30,8 +44,8 @@ impl<N: NestedParsers> StatementParser<N> {
         requires { N.parse_at self.now.level.nested self.now.level.depth }
         ensures { Reads (spec.stmts (nested self.now.level.depth) begun tokens.old.rest.now) result tokens.new.rest.now }
     {
-        let mut all = List::new(self.level.alloc);
-        all.push(self.level.stmt(tokens, begun)?)?;
+        let first = self.level.stmt(tokens, begun)?;
+        let all = pushed(List::new(self.level.alloc), first)?;
         self.more_stmts(tokens, all)
     }
 
@@ -49,7 +63,8 @@ impl<N: NestedParsers> StatementParser<N> {
             if !begins_stmt(tokens) {
                 break;
             }
-            all.push(self.level.stmt(tokens, None)?)?;
+            let (held, next) = both(all, self.level.stmt(tokens, None))?;
+            all = pushed(held, next)?;
         }
         Ok(all)
     }
@@ -67,7 +82,7 @@ impl<N: NestedParsers> StatementParser<N> {
     }
 
     /// The statement behind ELSE.
-    #[tactic(auto, unfolding(crate::specs::StatementTails::alternative))]
+    #[tactic(auto, unfolding(crate::specs::ReadTails::alternative))]
     fn alternative(
         &self,
         tokens: &mut Cursor<'_>,
@@ -78,12 +93,15 @@ impl<N: NestedParsers> StatementParser<N> {
         requires { N.parse_at self.now.level.nested self.now.level.depth }
         ensures { Reads (tails.alternative (nested self.now.level.depth) place condition first tokens.old.rest.now) result tokens.new.rest.now }
     {
-        let second = Boxed::new(self.level.alloc, self.level.stmt(tokens, None)?)?;
+        let second = self.level.stmt(tokens, None);
+        let ((condition, first), second) = both((condition, first), second)?;
+        let second = boxed(self.level.alloc, second);
+        let ((condition, first), second) = both((condition, first), second)?;
         Ok(Statement::If(place, condition, first, Some(second)))
     }
 
     /// What stands behind the first statement of an IF.
-    #[tactic(auto, using(token_cursor::proofs::Choosing::choose_none, token_cursor::proofs::Choosing::choose_some), unfolding(module_productions::specs::ReadStatements::else_part, crate::specs::StatementTails::alternative))]
+    #[tactic(auto, using(token_cursor::proofs::Choosing::choose_none, token_cursor::proofs::Choosing::choose_some), unfolding(module_productions::specs::ReadStatements::else_part, crate::specs::ReadTails::alternative))]
     fn else_part(
         &self,
         tokens: &mut Cursor<'_>,
@@ -100,152 +118,117 @@ impl<N: NestedParsers> StatementParser<N> {
         }
     }
 
+    /// IF, whose word comes next and stands at the place.
     #[tactic(auto, unfolding(module_productions::specs::ReadStatements::conditional))]
     fn conditional(&self, tokens: &mut Cursor<'_>, place: Place) -> Result<Statement, Stopped>
         requires { N.parse_at self.now.level.nested self.now.level.depth }
-        ensures { Reads (spec.conditional (nested self.now.level.depth) place tokens.old.rest.now) result tokens.new.rest.now }
+        ensures { Reads (spec.conditional (nested self.now.level.depth) place (skip tokens.old.rest.now)) result tokens.new.rest.now }
     {
+        tokens.skip();
         let condition = self.level.expr(tokens, Begun::Fresh)?;
-        tokens.need_word(Word::ThenWord)?;
-        let first = Boxed::new(self.level.alloc, self.level.stmt(tokens, None)?)?;
+        let (condition, _) = both(condition, tokens.need_word(Word::ThenWord))?;
+        let (condition, first) = both(condition, self.level.stmt(tokens, None))?;
+        let (condition, first) = both(condition, boxed(self.level.alloc, first))?;
         self.else_part(tokens, place, condition, first)
     }
 
-    /// The label behind GO.
+    /// GOTO, whose word comes next and stands at the place.
+    fn goto(&self, tokens: &mut Cursor<'_>, place: Place) -> Result<Statement, Stopped>
+        ensures { Reads (and_then (names.named (skip tokens.old.rest.now)) (λ i. pure (s.Goto place i))) result tokens.new.rest.now }
+    {
+        tokens.skip();
+        let label = named(self.level.alloc, tokens)?;
+        Ok(Statement::Goto(place, label))
+    }
+
+    /// GO TO, whose first word comes next and stands at the place.
     #[tactic(auto, unfolding(module_productions::specs::ReadStatements::go_to))]
     fn go_to(&self, tokens: &mut Cursor<'_>, place: Place) -> Result<Statement, Stopped>
-        requires { N.parse_at self.now.level.nested self.now.level.depth }
-        ensures { Reads (spec.go_to (nested self.now.level.depth) place tokens.old.rest.now) result tokens.new.rest.now }
+        ensures { Reads (spec.go_to (nested self.now.level.depth) place (skip tokens.old.rest.now)) result tokens.new.rest.now }
     {
+        tokens.skip();
         tokens.need_word(Word::ToWord)?;
         let label = named(self.level.alloc, tokens)?;
         Ok(Statement::Goto(place, label))
     }
 
-    #[tactic(auto, using(token_cursor::proofs::Choosing::when_true, token_cursor::proofs::Choosing::when_false), unfolding(crate::specs::StatementTails::raise_or_loop))]
-    fn raise_or_loop(&self, tokens: &mut Cursor<'_>) -> Result<Statement, Stopped>
+    /// RETURN, whose word comes next and stands at the place.
+    fn returning(&self, tokens: &mut Cursor<'_>, place: Place) -> Result<Statement, Stopped>
         requires { N.parse_at self.now.level.nested self.now.level.depth }
-        ensures { Reads (tails.raise_or_loop (nested self.now.level.depth) tokens.old.rest.now) result tokens.new.rest.now }
+        ensures { Reads (and_then (x.list_option (nested self.now.level.depth) (skip tokens.old.rest.now)) (λ l. pure (s.Return place l))) result tokens.new.rest.now }
     {
-        if !begins_raise(tokens) {
-            return self.loop_statement(tokens);
-        }
+        tokens.skip();
+        let values = self.level.list_option(tokens)?;
+        Ok(Statement::Return(place, values))
+    }
+
+    /// RESUME, whose word comes next and stands at the place.
+    fn resuming(&self, tokens: &mut Cursor<'_>, place: Place) -> Result<Statement, Stopped>
+        requires { N.parse_at self.now.level.nested self.now.level.depth }
+        ensures { Reads (and_then (x.list_option (nested self.now.level.depth) (skip tokens.old.rest.now)) (λ l. pure (s.Resume place l))) result tokens.new.rest.now }
+    {
+        tokens.skip();
+        let values = self.level.list_option(tokens)?;
+        Ok(Statement::Resume(place, values))
+    }
+
+    /// A raise as a statement.
+    fn raising(&self, tokens: &mut Cursor<'_>) -> Result<Statement, Stopped>
+        requires { N.parse_at self.now.level.nested self.now.level.depth }
+        ensures { Reads (and_then (x.raise (nested self.now.level.depth) tokens.old.rest.now) (λ r. pure (s.RaiseStatement r))) result tokens.new.rest.now }
+    {
         let raise = self.level.raise(tokens)?;
-        Ok(Statement::RaiseStatement(Boxed::new(self.level.alloc, raise)?))
+        Ok(Statement::RaiseStatement(boxed(self.level.alloc, raise)?))
     }
 
-    /// REJECT, RETRY and CONTINUE, or a raise or loop.
-    #[tactic(auto, using(token_cursor::proofs::Choosing::choose_none, token_cursor::proofs::Choosing::choose_some), unfolding(crate::specs::StatementTails::arm_jump))]
-    fn arm_jump(&self, tokens: &mut Cursor<'_>) -> Result<Statement, Stopped>
+    /// An extractor, whose bracket comes next and stands at the place.
+    fn extracting(&self, tokens: &mut Cursor<'_>, place: Place) -> Result<Statement, Stopped>
         requires { N.parse_at self.now.level.nested self.now.level.depth }
-        ensures { Reads (tails.arm_jump (nested self.now.level.depth) (tails.raise_or_loop (nested self.now.level.depth)) tokens.old.rest.now) result tokens.new.rest.now }
+        ensures { Reads (spec.extract (nested self.now.level.depth) place (skip tokens.old.rest.now)) result tokens.new.rest.now }
     {
-        if let Some(place) = tokens.takes_word(Word::RejectWord) {
-            return Ok(Statement::Reject(place));
-        }
-        if let Some(place) = tokens.takes_word(Word::RetryWord) {
-            return Ok(Statement::Retry(place));
-        }
-        match tokens.takes_word(Word::ContinueWord) {
-            Some(place) => Ok(Statement::Continue(place)),
-            None => self.raise_or_loop(tokens),
-        }
+        tokens.skip();
+        self.level.extract(tokens, place)
     }
 
-    /// RETURN and RESUME with their values.
-    #[tactic(auto, using(token_cursor::proofs::Choosing::choose_none, token_cursor::proofs::Choosing::choose_some), unfolding(crate::specs::StatementTails::value_jump))]
-    fn value_jump(&self, tokens: &mut Cursor<'_>) -> Result<Statement, Stopped>
+    /// An assignment or a call.
+    fn assigning(&self, tokens: &mut Cursor<'_>) -> Result<Statement, Stopped>
         requires { N.parse_at self.now.level.nested self.now.level.depth }
-        ensures { Reads (tails.value_jump (nested self.now.level.depth) (tails.raise_or_loop (nested self.now.level.depth)) tokens.old.rest.now) result tokens.new.rest.now }
+        ensures { Reads (and_then (names.named tokens.old.rest.now) (λ i. spec.assigned (nested self.now.level.depth) i)) result tokens.new.rest.now }
     {
-        if let Some(place) = tokens.takes_word(Word::ReturnWord) {
-            let list = self.level.list_option(tokens)?;
-            return Ok(Statement::Return(place, list));
-        }
-        match tokens.takes_word(Word::ResumeWord) {
-            Some(place) => {
-                let list = self.level.list_option(tokens)?;
-                Ok(Statement::Resume(place, list))
-            }
-            None => self.arm_jump(tokens),
-        }
+        let name = named(self.level.alloc, tokens)?;
+        self.level.assigned(tokens, name)
     }
 
-    /// A jump to a label.
-    #[tactic(auto, using(token_cursor::proofs::Choosing::choose_none, token_cursor::proofs::Choosing::choose_some), unfolding(crate::specs::StatementTails::label_jump))]
-    fn label_jump(&self, tokens: &mut Cursor<'_>) -> Result<Statement, Stopped>
-        requires { N.parse_at self.now.level.nested self.now.level.depth }
-        ensures { Reads (tails.label_jump (nested self.now.level.depth) (tails.raise_or_loop (nested self.now.level.depth)) tokens.old.rest.now) result tokens.new.rest.now }
-    {
-        if let Some(place) = tokens.takes_word(Word::GotoWord) {
-            let label = named(self.level.alloc, tokens)?;
-            return Ok(Statement::Goto(place, label));
-        }
-        match tokens.takes_word(Word::GoWord) {
-            Some(place) => self.go_to(tokens, place),
-            None => self.value_jump(tokens),
-        }
-    }
-
-    /// A jump out of a loop or its turn, or one of the others.
-    #[tactic(auto, using(token_cursor::proofs::Choosing::choose_none, token_cursor::proofs::Choosing::choose_some), unfolding(module_productions::specs::ReadStatements::jump, crate::specs::StatementTails::label_jump, crate::specs::StatementTails::value_jump, crate::specs::StatementTails::arm_jump))]
-    fn jump(&self, tokens: &mut Cursor<'_>) -> Result<Statement, Stopped>
-        requires { N.parse_at self.now.level.nested self.now.level.depth }
-        ensures { Reads (spec.jump (nested self.now.level.depth) (tails.raise_or_loop (nested self.now.level.depth)) tokens.old.rest.now) result tokens.new.rest.now }
-    {
-        if let Some(place) = tokens.takes_word(Word::ExitWord) {
-            return Ok(Statement::ExitLoop(place));
-        }
-        match tokens.takes_word(Word::LoopWord) {
-            Some(place) => Ok(Statement::NextTurn(place)),
-            None => self.label_jump(tokens),
-        }
-    }
-
-    /// An extractor, IF and SELECT, or a jump.
-    #[tactic(auto, using(token_cursor::proofs::Choosing::choose_none, token_cursor::proofs::Choosing::choose_some), unfolding(crate::specs::StatementTails::branching, crate::specs::StatementTails::raise_or_loop))]
-    fn branching(&self, tokens: &mut Cursor<'_>) -> Result<Statement, Stopped>
-        requires { N.parse_at self.now.level.nested self.now.level.depth }
-        ensures { Reads (tails.branching (nested self.now.level.depth) tokens.old.rest.now) result tokens.new.rest.now }
-    {
-        if let Some(place) = tokens.takes_mark(Mark::LeftBracket) {
-            return self.level.extract(tokens, place);
-        }
-        if let Some(place) = tokens.takes_word(Word::IfWord) {
-            return self.conditional(tokens, place);
-        }
-        match tokens.takes_word(Word::SelectWord) {
-            Some(place) => self.select(tokens, place),
-            None => self.jump(tokens),
-        }
-    }
-
-    /// A block.
-    #[tactic(auto, using(token_cursor::proofs::Choosing::choose_none, token_cursor::proofs::Choosing::choose_some), unfolding(crate::specs::StatementTails::enclosed))]
-    fn enclosed(&self, tokens: &mut Cursor<'_>) -> Result<Statement, Stopped>
-        requires { N.parse_at self.now.level.nested self.now.level.depth }
-        ensures { Reads (tails.enclosed (nested self.now.level.depth) tokens.old.rest.now) result tokens.new.rest.now }
-    {
-        if let Some(place) = tokens.takes_word(Word::BeginWord) {
-            return self.nested_block(tokens, BlockEnd::ByWord, place);
-        }
-        match tokens.takes_mark(Mark::LeftBrace) {
-            Some(place) => self.nested_block(tokens, BlockEnd::ByBrace, place),
-            None => self.branching(tokens),
-        }
-    }
-
-    #[tactic(auto, using(token_cursor::proofs::Choosing::choose_none, token_cursor::proofs::Choosing::choose_some), unfolding(module_productions::specs::ReadStatements::statement, crate::specs::StatementTails::enclosed, crate::specs::StatementTails::branching))]
-    fn unnamed_statement(&self, tokens: &mut Cursor<'_>) -> Result<Statement, Stopped>
+    /// A statement, of which nothing was taken.
+    #[tactic(auto, using(crate::proofs::Rows::at_end))]
+    fn fresh_statement(&self, tokens: &mut Cursor<'_>) -> Result<Statement, Stopped>
         requires { N.parse_at self.now.level.nested self.now.level.depth }
         ensures { Reads (spec.statement (nested self.now.level.depth) None tokens.old.rest.now) result tokens.new.rest.now }
     {
-        if let Some(name) = tokens.takes_name(self.level.alloc)? {
-            return self.level.assigned(tokens, name);
-        }
-        match tokens.takes_word(Word::NullWord) {
-            Some(place) => Ok(Statement::Null(place)),
-            None => self.enclosed(tokens),
+        let Some(token) = tokens.peek() else {
+            return Err(Stopped::Unexpected);
+        };
+        let place = token.place;
+        match begun_by(&token.kind) {
+            Production::AssignOrCall => self.assigning(tokens),
+            Production::Extract => self.extracting(tokens, place),
+            Production::BlockByBrace => self.nested_block(tokens, BlockEnd::ByBrace, place),
+            Production::BlockByWord => self.nested_block(tokens, BlockEnd::ByWord, place),
+            Production::If => self.conditional(tokens, place),
+            Production::Select => self.select(tokens, place),
+            Production::GotoInOneWord => self.goto(tokens, place),
+            Production::GotoInTwoWords => self.go_to(tokens, place),
+            Production::Return => self.returning(tokens, place),
+            Production::Resume => self.resuming(tokens, place),
+            Production::Raise => self.raising(tokens),
+            Production::Null => Ok(of_one_word(tokens, Statement::Null(place))),
+            Production::ExitLoop => Ok(of_one_word(tokens, Statement::ExitLoop(place))),
+            Production::NextTurn => Ok(of_one_word(tokens, Statement::NextTurn(place))),
+            Production::Reject => Ok(of_one_word(tokens, Statement::Reject(place))),
+            Production::Retry => Ok(of_one_word(tokens, Statement::Retry(place))),
+            Production::Continue => Ok(of_one_word(tokens, Statement::Continue(place))),
+            Production::Loop => self.loop_statement(tokens),
+            Production::Nothing => Err(Stopped::Unexpected),
         }
     }
 
@@ -261,7 +244,7 @@ impl<N: NestedParsers> StatementParser<N> {
     {
         match begun {
             Some(name) => self.level.assigned(tokens, name),
-            None => self.unnamed_statement(tokens),
+            None => self.fresh_statement(tokens),
         }
     }
 }

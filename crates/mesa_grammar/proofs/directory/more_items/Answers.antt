@@ -7,4 +7,4 @@ use Rattle.token_cursor.proofs.Taking.{many_falls}
 use Rattle.mesa_grammar.proofs.directory.more_items.Goals as goal
 
 pub items-smaller : goal.items-smaller
-items-smaller c = many_falls comma items_step items_eats c.items.all c.push.new.self _ _ (first_of (search rules, grind (arith, common_steps)))
+items-smaller c = many_falls comma items_step items_eats c.items.all c.in_ok-all.all _ _ (first_of (search rules, grind (arith, common_steps)))

@@ -7,4 +7,4 @@ use Rattle.token_cursor.proofs.Taking.{ended_falls}
 use Rattle.statement_parser.proofs.nesting.StatementParser.more_cases.Goals as goal
 
 pub cases-smaller : goal.cases-smaller
-cases-smaller g c = ended_falls semicolon begins_test (cases_step (nested c.args.self.now.level.depth)) (cases_eats c.args.self.now.level.depth) c.cases.all c.push.new.self _ _ (first_of (search rules, grind (arith, common_steps)))
+cases-smaller g c = ended_falls semicolon begins_test (cases_step (nested c.args.self.now.level.depth)) (cases_eats c.args.self.now.level.depth) c.cases.all c.in_ok-all.all _ _ (first_of (search rules, grind (arith, common_steps)))

@@ -7,4 +7,4 @@ use Rattle.token_cursor.proofs.Taking.{ended_falls}
 use Rattle.statement_parser.proofs.nesting.StatementParser.more_ends.Goals as goal
 
 pub ends-smaller : goal.ends-smaller
-ends-smaller g c = ended_falls semicolon begins_repeat (repeats_step (nested c.args.self.now.level.depth)) (repeats_eats c.args.self.now.level.depth) c.ends.all c.push.new.self _ _ (first_of (search rules, grind (arith, common_steps)))
+ends-smaller g c = ended_falls semicolon begins_repeat (repeats_step (nested c.args.self.now.level.depth)) (repeats_eats c.args.self.now.level.depth) c.ends.all c.in_ok-all.all _ _ (first_of (search rules, grind (arith, common_steps)))

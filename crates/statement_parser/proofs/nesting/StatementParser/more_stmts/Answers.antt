@@ -7,4 +7,4 @@ use Rattle.token_cursor.proofs.Taking.{ended_falls}
 use Rattle.statement_parser.proofs.nesting.StatementParser.more_stmts.Goals as goal
 
 pub statements-smaller : goal.statements-smaller
-statements-smaller g c = ended_falls semicolon begins_stmt (stmts_step (nested c.args.self.now.level.depth)) (stmts_eats c.args.self.now.level.depth) c.statements.all c.push.new.self _ _ (first_of (search rules, grind (arith, common_steps)))
+statements-smaller g c = ended_falls semicolon begins_stmt (stmts_step (nested c.args.self.now.level.depth)) (stmts_eats c.args.self.now.level.depth) c.statements.all c.in_ok-all.all _ _ (first_of (search rules, grind (arith, common_steps)))

@@ -7,4 +7,4 @@ use Rattle.token_cursor.proofs.Taking.{many_falls}
 use Rattle.statement_parser.proofs.nesting.StatementParser.more_tests.Goals as goal
 
 pub tests-smaller : goal.tests-smaller
-tests-smaller g c = many_falls comma (tests_step (nested c.args.self.now.level.depth)) (tests_eats c.args.self.now.level.depth) c.tests.all c.push.new.self _ _ (first_of (search rules, grind (arith, common_steps)))
+tests-smaller g c = many_falls comma (tests_step (nested c.args.self.now.level.depth)) (tests_eats c.args.self.now.level.depth) c.tests.all c.in_ok-all.all _ _ (first_of (search rules, grind (arith, common_steps)))
