@@ -7,4 +7,5 @@ pub mod Outward
 pub mod Passing
 pub mod PhraseOrder
 pub mod Points
+pub mod RunsRight
 pub mod Whole

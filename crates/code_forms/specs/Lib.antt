@@ -11,5 +11,6 @@ pub mod Ranges
 pub mod Regions
 pub mod Rising
 pub mod Routine
+pub mod Running
 pub mod Same
 pub mod Valid
