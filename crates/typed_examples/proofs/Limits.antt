@@ -1,7 +1,7 @@
 -- Each limit at its edge, and one past it.
 use Rattle.std.proofs.Common.{◌≡◌, ℕ, zero, suc, ◌+◌, ◌*◌, ◌<◌, ◌≤◌, List, [], ◌∷◌, length, Some, None, refl, sym, ap, ◌∙◌, subst, inl, inr, arith}
 use Rattle.std.specs.Prelude.{All, Contains, replicate}
-use Rattle.std.proofs.Math.Seq.{length-replicate}
+use Rattle.std.proofs.lemmas.List.{length-replicate}
 use Rattle.mesa_types.specs.Typed.{Kind, Ordinal, Texts, Array, Record, Kinds, NoKinds, AndKind, Expr, Variable, Exprs, NoExprs, AndExpr, NoSuffix, Stmt, Null, Perform, Module, Body}
 use Rattle.mesa_types.specs.declared.typed_parts.Home.TheVariants.{Local}
 use Rattle.mesa_types.specs.Plain.{kinds_of}
@@ -80,7 +80,7 @@ operands_too_many h = omega (arith, h)
 
 ascending : IsAscending (0 ∷ 2 ∷ 5 ∷ [])
 unfolding IsAscending
-ascending = (omega arith, omega arith, tt)
+ascending = (omega arith, (omega arith, tt))
 
 repeated : IsAscending (0 ∷ 2 ∷ 2 ∷ []) → ⊥
 unfolding IsAscending
@@ -113,7 +113,7 @@ record_of t = roll-TypeTree (TypeTree-F.Record origin (field t ∷ []))
 
 -- what stands in the record is looked at too
 longest : (n : ℕ) → longest_of (record_of (enumeration n)) ≡ n
-longest n = simp (fold-roll-TypeTree, fold-roll-FieldType) (omega (arith, length-replicate n (97 ∷ [])))
+longest n = simp (fold-roll-TypeTree, fold-roll-FieldType) (omega (arith, length-replicate {A = List ℕ} n (97 ∷ [])))
 
 too_many_names : IsWithinLimits (record_of (enumeration 65537)) → ⊥
 too_many_names h = omega (arith, longest 65537, h.2)
