@@ -8,7 +8,7 @@ use Rattle.mesa_types.specs.Sound.{FieldsWithin, HeadIn, FaceIn}
 use Rattle.mesa_types.specs.declared.faces.Item.{Item}
 use Rattle.mesa_types.specs.declared.types.FieldType.{FieldType, roll-FieldType, out-roll-FieldType}
 use Rattle.mesa_types.specs.declared.types.TypeTree.{TypeTree, roll-TypeTree}
-use Rattle.mesa_types.specs.declared.types.TypeTree.TheOpen.{TypeTree-F}
+use Rattle.mesa_types.specs.declared.types.TypeTree.TheOpen.{TypeTree-F, FieldType-F}
 use Rattle.mesa_types.specs.declared.types.TypeTree.TheVariants as v
 use Rattle.mesa_types.specs.declared.types.TypeTree.TheFolds.{fold-roll-TypeTree, fold-roll-FieldType}
 use Rattle.interface_records.specs.Faces.{iodefs, io_items}
@@ -42,7 +42,7 @@ abbrev field : Option (List ℕ) → TypeTree → FieldType
 field name t = roll-FieldType (record { name = name; kind = t })
 
 kinds : (name : Option (List ℕ)) (t : TypeTree) → types_in (field name t ∷ []) ≡ t ∷ []
-kinds name t = ap (λ f. f.kind ∷ []) (out-roll-FieldType (record { name = name; kind = t }))
+kinds name t = ap (λ (f : FieldType-F TypeTree FieldType). f.kind ∷ []) (out-roll-FieldType (record { name = name; kind = t }))
 
 words : (name : Option (List ℕ)) (t : TypeTree) → IsGoodType t → AllHaveWords (kinds_of (field name t ∷ []))
 unfolding AllHaveWords
