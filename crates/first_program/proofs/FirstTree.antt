@@ -21,24 +21,24 @@ use Rattle.first_program.proofs.HostFace.{host_face}
 use Rattle.first_program.proofs.FirstKinds.{IsWriter, word_at, words_of_copies, copies_are_ordinal}
 
 -- the first n variables of the module are words
-pub record HasWords (n : ℕ) (Γ : Scope) : Type 0 where
+pub record HasVariables (n : ℕ) (Γ : Scope) : Type 0 where
   pub word : (k : ℕ) → k < n → KindAt Γ.globals k Ordinal
 
 -- and its one import is IODefs, where it has that
 pub record Stands (n : ℕ) (host : Bool) (Γ : Scope) : Type 0 where
-  pub words : HasWords n Γ
+  pub words : HasVariables n Γ
   pub imports : Γ.imports ≡ f.imports host
 
 -- a word, of at most so many operands
 pub record IsGoodExpr (n k : ℕ) (e : t.Expr) : Type 0 where
-  pub is_in : (Γ : Scope) → HasWords n Γ → ExprIn Γ e a_word
+  pub is_in : (Γ : Scope) → HasVariables n Γ → ExprIn Γ e a_word
   pub is_quiet : IsQuiet e
   pub few : operands e ≤ k
   pub one_word : words_of e ≡ 1
   pub none_hidden : hidden_expr e ≡ 0
 
 pub record AreGoodOperations (n k : ℕ) (os : List f.Operation) : Type 0 where
-  pub are_in : (Γ : Scope) → HasWords n Γ → OperationsIn Γ (chain os t.NoOperation)
+  pub are_in : (Γ : Scope) → HasVariables n Γ → OperationsIn Γ (chain os t.NoOperation)
   pub are_quiet : AreQuiet (chain os t.NoOperation)
   pub few : operands_of_run (chain os t.NoOperation) ≤ k
   pub none_hidden : hidden_operations (chain os t.NoOperation) ≡ 0
