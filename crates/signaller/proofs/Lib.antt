@@ -1,0 +1,4 @@
+pub mod Asking
+pub mod Halving
+pub mod Sweeping
+pub mod Telling

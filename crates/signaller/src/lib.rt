@@ -1,0 +1,12 @@
+//! The search of the phrases of a procedure for an arm, and the index of their ranges.
+#![tactic(auto)]
+
+mod catch_index;
+mod outward;
+mod search;
+mod signal_id;
+mod sweep;
+
+pub use catch_index::{CatchIndex, Segment, index, innermost};
+pub use search::{Found, LinkSignals, Links, Search, next_arm, unwind_next};
+pub use signal_id::SignalId;
