@@ -112,17 +112,21 @@ fn numbers(alloc: Global, words: &[u16]) -> Result<Exprs, Fail> {
     Ok(all)
 }
 
+fn check_constant(rt: &impl Abort, whole: TypedExpr, value: Option<u16>) {
+    assert_eq!(rt; constant(&whole), value);
+}
+
 #[test]
 fn constants_by_relations(rt: HostRuntime) -> Result<(), Fail> {
     let alloc = rt.alloc();
     let signed = related(alloc, Base::Signed, Relation::Less, 65535, 1)?;
-    assert_eq!(rt; constant(&signed), Some(1));
+    check_constant(&rt, signed, Some(1));
     let unsigned = related(alloc, Base::Unsigned, Relation::Less, 65535, 1)?;
-    assert_eq!(rt; constant(&unsigned), Some(0));
-    let both = TypedExpr::AllOf(numbers(alloc, &[1, 0])?);
-    assert_eq!(rt; constant(&both), Some(0));
-    let either = TypedExpr::SomeOf(numbers(alloc, &[1, 0])?);
-    assert_eq!(rt; constant(&either), Some(1));
+    check_constant(&rt, unsigned, Some(0));
+    let both = numbers(alloc, &[1, 0])?;
+    check_constant(&rt, TypedExpr::AllOf(both), Some(0));
+    let either = numbers(alloc, &[1, 0])?;
+    check_constant(&rt, TypedExpr::SomeOf(either), Some(1));
     Ok(())
 }
 
