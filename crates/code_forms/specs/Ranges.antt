@@ -77,7 +77,8 @@ abbrev pub IsBody : Option CodeProcedure → Type 0
 IsBody None = ⊥
 IsBody (Some p) = (p.args ≡ 0) × (p.results ≡ 0)
 
-pub record KeepsRanges (globals : ℕ) (signals : List CodeSignal) (strings : List (List ℕ)) (links : List CodeLink) (procedures : List CodeProcedure) : Type 0 where
+pub record KeepsRanges (globals : ℕ) (signals : List CodeSignal) (strings : List (List ℕ)) (links : List CodeLink)
+    (procedures : List CodeProcedure) : Type 0 where
   pub few_globals : globals ≤ 16384
   pub each_signal : All SignalInRange signals
   pub few_strings : length strings ≤ 65535

@@ -62,7 +62,8 @@ abbrev pub Valid : ModuleCode → Type 0
 Valid m = AreValid m.global_words (length m.strings) m.signals m.links m.procedures (length m.procedures)
 
 -- the first fault of a module: in the first procedure with one
-pub record IsFirstFaultOf (globals strings : ℕ) (signals : List CodeSignal) (links : List CodeLink) (procedures : List CodeProcedure) (bad : BadCode) : Type 0 where
+pub record IsFirstFaultOf (globals strings : ℕ) (signals : List CodeSignal) (links : List CodeLink)
+    (procedures : List CodeProcedure) (bad : BadCode) : Type 0 where
   pub procedure : CodeProcedure
   pub is : slice_get procedures bad.procedure ≡ Some procedure
   pub before : AreValid globals strings signals links procedures bad.procedure
@@ -74,7 +75,8 @@ IsFirstFault m = IsFirstFaultOf m.global_words (length m.strings) m.signals m.li
 -- the first so many procedures have the depths of their instructions beside them
 abbrev pub HaveDepths : ℕ → ℕ → List CodeSignal → List CodeLink → List CodeProcedure → ℕ → Type 0
 HaveDepths globals strings signals links procedures count =
-    (n : ℕ) (p : CodeProcedure) → n < count → slice_get procedures n ≡ Some p → DepthsAreSettled (routine_with globals strings signals links procedures p) p.code
+    (n : ℕ) (p : CodeProcedure) → n < count → slice_get procedures n ≡ Some p
+    → DepthsAreSettled (routine_with globals strings signals links procedures p) p.code
 
 abbrev pub HasDepths : ModuleCode → Type 0
 HasDepths m = HaveDepths m.global_words (length m.strings) m.signals m.links m.procedures (length m.procedures)

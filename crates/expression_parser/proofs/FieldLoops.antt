@@ -5,7 +5,7 @@ use Rattle.mesa_lexer.specs.declared.token.Token.{Token}
 use Rattle.mesa_lexer.specs.declared.token.Kind.{Kind}
 use Rattle.mesa_lexer.specs.declared.token.Kind.TheVariants as k
 use Rattle.mesa_lexer.specs.declared.mark.Mark.TheVariants.{Colon, Comma}
-use Rattle.token_cursor.specs.Parsing.{Out, Got, Stop, Parser, ◌>>=◌, and_then, pure, exactly, found, a_name, picked, choose, option, Step, Go, Done, go_on, repeat, many_turn}
+use Rattle.token_cursor.specs.Parsing.{Out, Got, Stop, Parser, ◌>>=◌, and_then, pure, exactly, found, a_name, picked, choose, option, Turned, Again, Done, go_on, repeat, many_turn}
 use Rattle.token_cursor.proofs.Loops.{Eats, unroll}
 use Rattle.mesa_base.specs.declared.identifier.Identifier.{Identifier}
 use Rattle.mesa_types.specs.declared.syntax.FieldList.{FieldList}
@@ -34,7 +34,7 @@ choose_through {O = O} f p q p' q' g (t ∷ ts) h i = go (f t.kind)
     go (Some o) = h o t.place ts
     go None = i (t ∷ ts)
 
-done_then : {A B : Type 0} (out : Out B) (f : A → Parser B) → and_then (and_then out (λ b. pure {A = Step A B} (Done b))) (go_on f) ≡ out
+done_then : {A B : Type 0} (out : Out B) (f : A → Parser B) → and_then (and_then out (λ b. pure {A = Turned A B} (Done b))) (go_on f) ≡ out
 done_then (Got b rest) f = refl
 done_then (Stop why rest) f = refl
 
@@ -48,7 +48,7 @@ module _ (q : Nested) where
 
   comma_then : (all : List Identifier) (us : List Token) → and_then (x.after_comma q all us) (go_on loop) ≡ behind_comma all us
   unfolding x.after_comma
-  comma_then all us = choose_through a_name (λ n p. pure (Go (record { before = all; last = identifier n p }))) (x.unnamed q (x.called all) >>= (λ y. pure (Done y)))
+  comma_then all us = choose_through a_name (λ n p. pure (Again (record { before = all; last = identifier n p }))) (x.unnamed q (x.called all) >>= (λ y. pure (Done y)))
       (λ n p. loop (record { before = all; last = identifier n p })) (x.unnamed q (x.called all)) (go_on loop) us (λ n p vs. refl) (λ vs. done_then (x.unnamed q (x.called all) vs) loop)
 
   decided_then : (u : Undecided) (us : List Token) → and_then (option (k.Mark Colon) (λ _. x.with_names q (all_names u) >>= (λ y. pure (Done y))) (x.types_from q u >>= (λ y. pure (Done y))) us) (go_on loop) ≡ decided q u us

@@ -14,7 +14,7 @@ use mesa_base::{Identifier, Place};
 use mesa_lexer::{Mark, Word};
 use mesa_types::syntax::{Expr, Left, Relation, Sign};
 use module_productions::Begun;
-use module_tokens::signs::{takes_negating, takes_relating, takes_signing};
+use module_tokens::words_and_marks::{takes_negating, takes_relating, takes_signing};
 use token_cursor::{Cursor, Stopped};
 
 impl<N: NestedParsers> Level<N> {

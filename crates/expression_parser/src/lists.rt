@@ -20,7 +20,7 @@ use mesa_types::syntax::{
 use module_productions::Begun;
 use module_tokens::begins::{begins_arm, begins_expr};
 use module_tokens::naming::{labels, qname, qname_from};
-use module_tokens::signs::{takes_closing, takes_opening, takes_suffixing};
+use module_tokens::words_and_marks::{takes_closing, takes_opening, takes_suffixing};
 use std::alloc::Global;
 use token_cursor::naming::named;
 use token_cursor::{Cursor, Stopped};

@@ -10,7 +10,7 @@ ghost use Rattle.module_productions.proofs.Parts.{ands_eats, ors_eats, products_
 ghost use Rattle.module_productions.specs.ReadExpressions as spec;
 ghost use Rattle.module_productions.specs.Grammar as g;
 ghost use Rattle.module_productions.specs.declared.begun.Begun.TheVariants.{Fresh};
-ghost use Rattle.module_productions.specs.Signs.{adding, conjoining, disjoining, multiplying};
+ghost use Rattle.module_productions.specs.WordsAndMarks.{adding, conjoining, disjoining, multiplying};
 ghost use Rattle.module_productions.specs.ReadStatements.{nested};
 ghost use Rattle.token_cursor.specs.Running.{Reads, behind, taken};
 
@@ -19,7 +19,9 @@ use held_trees::{LetGo, both, boxed, pushed};
 use mesa_base::{List, OutOfMemory, Place};
 use mesa_types::syntax::{Expr, Operation, Operations, Operator};
 use module_productions::Begun;
-use module_tokens::signs::{takes_adding, takes_conjoining, takes_disjoining, takes_multiplying};
+use module_tokens::words_and_marks::{
+    takes_adding, takes_conjoining, takes_disjoining, takes_multiplying,
+};
 use std::alloc::Global;
 use token_cursor::{Cursor, Stopped};
 

@@ -14,7 +14,7 @@ use mesa_base::{Identifier, List};
 use mesa_lexer::Mark;
 use mesa_types::syntax::{Access, Declaration, Declarations, Inner, Statements};
 use module_tokens::begins::declares;
-use module_tokens::signs::takes_accessing;
+use module_tokens::words_and_marks::takes_accessing;
 use statement_parser::Turn;
 use token_cursor::naming::names_from;
 use token_cursor::{Cursor, Stopped};

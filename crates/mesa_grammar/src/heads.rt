@@ -10,7 +10,7 @@ use expression_parser::NestedParsers;
 use held_trees::both;
 use mesa_lexer::{Mark, Word};
 use mesa_types::syntax::{Block, Declared, FieldList, Head};
-use module_tokens::signs::takes_procedure_word;
+use module_tokens::words_and_marks::takes_procedure_word;
 use statement_parser::BlockEnd;
 use token_cursor::{Cursor, Stopped};
 

@@ -13,7 +13,7 @@ use mesa_base::{Identifier, Identifiers, List};
 use mesa_lexer::{Mark, Word};
 use mesa_types::syntax::{Defined, Definitions, Labeled};
 use module_productions::Begun;
-use module_tokens::signs::takes_procedure_word;
+use module_tokens::words_and_marks::takes_procedure_word;
 use token_cursor::naming::names_from;
 use token_cursor::{Cursor, Stopped};
 

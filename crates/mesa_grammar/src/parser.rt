@@ -10,6 +10,7 @@ ghost use Rattle.module_productions.specs.ReadModules as texts;
 use crate::nesting::Grammar;
 use expression_parser::{Level, ParserFunctions};
 use held_trees::LetGo;
+use mesa_base::limits::NESTING;
 use mesa_base::{Identifier, Place};
 use mesa_lexer::{SyntaxFault, Tokens};
 use mesa_types::Module;
@@ -19,9 +20,6 @@ use module_tokens::begins::{begins_expr, begins_stmt, begins_type};
 use statement_parser::StatementParser;
 use std::alloc::Global;
 use token_cursor::{Cursor, Stopped};
-
-/// So many statements, expressions and types may stand inside one another.
-const LIMIT: usize = 200;
 
 /// Why a parser stops at the level where nothing more may nest.
 pub fn too_deep(begins: bool) -> Stopped
@@ -112,7 +110,7 @@ fn text(alloc: Global, tokens: &mut Cursor<'_>) -> Result<Module, Stopped>
     let statements = StatementParser {
         level: Level {
             alloc,
-            depth: LIMIT,
+            depth: NESTING,
             nested: ParserFunctions {
                 stmt,
                 expr,

@@ -14,7 +14,8 @@ use Rattle.mesa_lexer.specs.declared.lexed.Lexed.TheVariants as p
 -- the first n bytes are a gap, or a token that is put behind the others
 pub data Advances (rest : List ℕ) (position : Position) (before : List Token) : ℕ → List Token → Type 0 where
   gap : {n : ℕ} → IsGap rest n → Advances rest position before n before
-  token : {n : ℕ} {kind : Kind} → IsToken rest n kind → Advances rest position before n (before ++ record { kind = kind; place = place_of position (length before) } ∷ [])
+  token : {n : ℕ} {kind : Kind} → IsToken rest n kind
+      → Advances rest position before n (before ++ record { kind = kind; place = place_of position (length before) } ∷ [])
 
 -- what stands first is this fault
 pub data Refuses (rest : List ℕ) (position : Position) (tokens : ℕ) : LexFault → Type 0 where

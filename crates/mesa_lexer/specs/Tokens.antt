@@ -30,7 +30,8 @@ place_in text at tokens = place_after (take at text) (length tokens)
 pub data Reaches (text : List ℕ) : ℕ → List Token → Type 0 where
   start : Reaches text 0 []
   gap : {at n : ℕ} {tokens : List Token} → Reaches text at tokens → IsGap (drop at text) n → Reaches text (at + n) tokens
-  token : {at n : ℕ} {tokens : List Token} {kind : Kind} → Reaches text at tokens → IsToken (drop at text) n kind → Reaches text (at + n) (tokens ++ record { kind = kind; place = place_in text at tokens } ∷ [])
+  token : {at n : ℕ} {tokens : List Token} {kind : Kind} → Reaches text at tokens → IsToken (drop at text) n kind
+      → Reaches text (at + n) (tokens ++ record { kind = kind; place = place_in text at tokens } ∷ [])
 
 -- the text is a list of blanks, comments and these tokens, and its end is the place past the last byte
 pub record HasTokens (text : List ℕ) (tokens : Tokens) : Type 0 where
@@ -48,8 +49,13 @@ pub record Stops (text : List ℕ) (at : ℕ) (tokens : List Token) : Type 0 whe
 -- the first fault of a text. A string that is begun and goes no further ends at the text's end, or at a byte that may not stand in it
 pub data HasLexFault (text : List ℕ) : LexFault → Type 0 where
   text_too_long : TEXT_BYTES < length text → HasLexFault text f.TextTooLong
-  no_token : {at : ℕ} {tokens : List Token} → Stops text at tokens → NothingBegins (drop at text) → HasLexFault text (f.BadByte (place_in text at tokens))
-  not_in_text : {at n : ℕ} {tokens : List Token} → Stops text at tokens → Longest (drop at text) n Unended → at + n < length text → HasLexFault text (f.BadByte (place_in text (at + n) tokens))
-  open_text : {at n : ℕ} {tokens : List Token} → Stops text at tokens → Longest (drop at text) n Unended → at + n ≡ length text → HasLexFault text (f.OpenString (place_in text at tokens))
-  too_large : {at n : ℕ} {tokens : List Token} {kind : Kind} → Stops text at tokens → Longest (drop at text) n (Whole kind) → IsTooLarge kind → HasLexFault text (f.NumberTooLarge (place_in text at tokens))
-  too_long : {at n : ℕ} {tokens : List Token} {kind : Kind} → Stops text at tokens → Longest (drop at text) n (Whole kind) → IsTooLong kind → HasLexFault text (f.TokenTooLong (place_in text at tokens))
+  no_token : {at : ℕ} {tokens : List Token} → Stops text at tokens → NothingBegins (drop at text)
+      → HasLexFault text (f.BadByte (place_in text at tokens))
+  not_in_text : {at n : ℕ} {tokens : List Token} → Stops text at tokens → Longest (drop at text) n Unended → at + n < length text
+      → HasLexFault text (f.BadByte (place_in text (at + n) tokens))
+  open_text : {at n : ℕ} {tokens : List Token} → Stops text at tokens → Longest (drop at text) n Unended → at + n ≡ length text
+      → HasLexFault text (f.OpenString (place_in text at tokens))
+  too_large : {at n : ℕ} {tokens : List Token} {kind : Kind} → Stops text at tokens → Longest (drop at text) n (Whole kind) → IsTooLarge kind
+      → HasLexFault text (f.NumberTooLarge (place_in text at tokens))
+  too_long : {at n : ℕ} {tokens : List Token} {kind : Kind} → Stops text at tokens → Longest (drop at text) n (Whole kind) → IsTooLong kind
+      → HasLexFault text (f.TokenTooLong (place_in text at tokens))

@@ -6,8 +6,8 @@ use Rattle.mesa_lexer.specs.declared.token.Kind.{Kind}
 use Rattle.mesa_lexer.specs.declared.token.Kind.TheVariants as k
 use Rattle.mesa_lexer.specs.declared.word.Word.TheVariants.{ArrayWord, BeginWord, BooleanWord, CardinalWord, CharacterWord, ContinueWord, DoWord, ElseWord, EnableWord, EndWord, EndcaseWord, EndloopWord, ErrorWord, ExitWord, ExitsWord, FalseWord, ForWord, FromWord, GoWord, GotoWord, IfWord, InWord, IntegerWord, LoopWord, NullWord, OfWord, RecordWord, RejectWord, RepeatWord, ResumeWord, RetryWord, ReturnWord, SelectWord, SignalWord, StringWord, ThenWord, ThroughWord, ToWord, TrueWord, TypeWord, UntilWord, WhileWord}
 use Rattle.mesa_lexer.specs.declared.mark.Mark.TheVariants.{Arrow, Semicolon, Colon, Comma, Dot, DotDot, LeftBracket, RightBracket, LeftParenthesis, RightParenthesis, LeftBrace, RightBrace, Equal, Bang, DoubleArrow}
-use Rattle.token_cursor.specs.Parsing.{token, word, mark, Out, and_then, ◌>>=◌, ◌>>◌, pure, refuse, first, only, exactly, finds, among, a_name, choose, need, Go, repeat}
-use Rattle.token_cursor.specs.Parsing.{Step as Turned}
+use Rattle.token_cursor.specs.Parsing.{token, word, mark, Out, and_then, ◌>>=◌, ◌>>◌, pure, refuse, first, only, exactly, finds, among, a_name, choose, need, Again, repeat}
+use Rattle.token_cursor.specs.Parsing.{Turned}
 use Rattle.token_cursor.specs.Parsing as w
 use Rattle.mesa_base.specs.declared.identifier.Identifier.{Identifier}
 use Rattle.mesa_types.specs.declared.syntax.QualifiedName.{QualifiedName}
@@ -49,7 +49,7 @@ use Rattle.mesa_types.specs.declared.syntax.Test.{Test}
 use Rattle.mesa_types.specs.declared.syntax.Test.TheVariants.{Value, Compared, Inside}
 use Rattle.mesa_types.specs.declared.syntax.PlainItem.{PlainItem}
 use Rattle.mesa_types.specs.declared.syntax.PlainItem.TheVariants.{TypeIs, Variable, Initial, Constant}
-use Rattle.module_productions.specs.Signs.{spelled, disjoining, conjoining, adding, multiplying, signing, relating, negating, opening, closing}
+use Rattle.module_productions.specs.WordsAndMarks.{spelled, disjoining, conjoining, adding, multiplying, signing, relating, negating, opening, closing}
 use Rattle.module_productions.specs.Grammar as g
 use Rattle.module_productions.specs.Grammar.{run, step, interval, left, brackets, keyed, labeled, arm, case, control, block, NoElse, IsNames, IsQName, IsLabels, IsRepeatLabels, IsBase, IsNot, IsDecreasing, IsType, IsFields, IsTypes, IsGroups, IsInterval, IsExpr, IsOrs, IsConj, IsAnds, IsNeg, IsRel, IsSum, IsSums, IsProduct, IsProducts, IsFactor, IsPrimary, IsListOption, IsLeft, IsBracketsOption, IsExprs, IsKeys, IsArmList, IsArms, IsArm, IsRaise, IsStmt, IsTargets, IsLefts, IsKeyLefts, IsOtherwise, IsCaseList, IsCases, IsCase, IsTests, IsTest, IsControl, IsCount, IsCondition, IsBody, IsStmts, IsRepeatPart, IsRepeats, IsRepeat, IsExits, IsExit, IsEnabling}
 use Rattle.module_productions.specs.Grammar.{placed as placing}
@@ -626,7 +626,7 @@ pub c_brace : (n : ℕ) (p : Place) {ts us vs ws rest : List Token} {e : Option 
     → Leads (mark LeftBrace p ∷ ts) (s.Nested (block p e ls ss xs)) rest (first (first o1 (first o2 (first o3 (first o4 None)))) None) (λ y. pure y) (st.statement (nested n) None (mark LeftBrace p ∷ ts))
 c_brace n p a b x y z = via (stmt_brace (nested n) _ _) (ahead _ (last _ (inside n (k.Mark RightBrace) p refl a b x y z)))
 
-pub c_local : (n : ℕ) (all : List Local) {ts us rest : List Token} {ns : List Identifier} {x : PlainItem} {p r : Place} {o : Option (List Token)} → IsNames ts ns (mark Colon p ∷ us) → Leads us x (mark Semicolon r ∷ rest) o (λ y. pure y) (st.plain (nested n) us) → Leads {X = Turned (List Local) (Head Local)} ts (Go (all ++ labeled ns x ∷ [])) rest (first o None) (λ y. pure y) (st.head_turn (nested n) all ts)
+pub c_local : (n : ℕ) (all : List Local) {ts us rest : List Token} {ns : List Identifier} {x : PlainItem} {p r : Place} {o : Option (List Token)} → IsNames ts ns (mark Colon p ∷ us) → Leads us x (mark Semicolon r ∷ rest) o (λ y. pure y) (st.plain (nested n) us) → Leads {X = Turned (List Local) (Head Local)} ts (Again (all ++ labeled ns x ∷ [])) rest (first o None) (λ y. pure y) (st.head_turn (nested n) all ts)
 unfolding need choose
 c_local n all d h = go.local_step n all _ _ _ _ (fo.names_named d) (names_second d (record { token = _; back = _; is = refl; begins = refl })) (comp (onto (go.declared n) (names_all d refl)) (ahead _ (comp (onto _ h) (ahead _ (stand _ _ (λ y. pure y))))))
 

@@ -36,7 +36,7 @@ use Rattle.mesa_types.specs.declared.syntax.Case.{Case}
 use Rattle.mesa_types.specs.declared.syntax.Test.{Test}
 use Rattle.mesa_types.specs.declared.syntax.Block.{Block}
 use Rattle.mesa_types.specs.declared.syntax.PlainItem.{PlainItem}
-use Rattle.module_productions.specs.Signs.{spelled, disjoining, conjoining, adding, multiplying, signing, relating, negating, opening, closing}
+use Rattle.module_productions.specs.WordsAndMarks.{spelled, disjoining, conjoining, adding, multiplying, signing, relating, negating, opening, closing}
 use Rattle.module_productions.specs.Grammar as g
 use Rattle.module_productions.specs.Grammar.{NoElse, IsNames, IsQName, IsLabels, IsRepeatLabels, IsBase, IsNot, IsDecreasing, IsType, IsFields, IsTypes, IsGroups, IsInterval, IsExpr, IsOrs, IsConj, IsAnds, IsNeg, IsRel, IsSum, IsSums, IsProduct, IsProducts, IsFactor, IsPrimary, IsList, IsListOption, IsLeft, IsBrackets, IsBracketsOption, IsArgs, IsExprs, IsKeys, IsCatch, IsArmList, IsArms, IsArm, IsRaise, IsStmt, IsTargets, IsLefts, IsKeyLefts, IsOtherwise, IsCaseList, IsCases, IsCase, IsTests, IsTest, IsControl, IsCount, IsCondition, IsBody, IsStmts, IsRepeatPart, IsRepeats, IsRepeat, IsExitPart, IsExits, IsExit, IsEnabling, IsBlock, IsLocals, IsLocal, IsPlain}
 use Rattle.module_productions.proofs.Sealed.{at_type, at_fields, at_types, at_groups, at_interval, at_expr, at_ors, at_conj, at_ands, at_neg, at_rel, at_sum, at_sums, at_product, at_products, at_factor, at_primary, at_list, at_list_option, at_left, at_brackets, at_brackets_option, at_args, at_exprs, at_keys, at_catch, at_arm_list, at_arms, at_arm, at_raise, at_stmt, at_targets, at_lefts, at_key_lefts, at_otherwise, at_case_list, at_cases, at_case, at_tests, at_test, at_control, at_count, at_condition, at_body, at_stmts, at_repeat_part, at_repeats, at_repeat, at_exit_part, at_exits, at_exit, at_enabling, at_block, at_locals, at_local, at_plain}

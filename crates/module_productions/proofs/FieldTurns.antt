@@ -4,7 +4,7 @@ use Rattle.mesa_base.specs.declared.place.Place.{Place}
 use Rattle.mesa_lexer.specs.declared.token.Token.{Token}
 use Rattle.mesa_lexer.specs.declared.token.Kind.TheVariants as k
 use Rattle.mesa_lexer.specs.declared.mark.Mark.TheVariants.{Colon, Comma, Dot}
-use Rattle.token_cursor.specs.Parsing.{mark, Got, Parser, and_then, ◌>>=◌, pure, exactly, finds, a_name, choose, Go, Done, go_on, repeat}
+use Rattle.token_cursor.specs.Parsing.{mark, Got, Parser, and_then, ◌>>=◌, pure, exactly, finds, a_name, choose, Again, Done, go_on, repeat}
 use Rattle.token_cursor.specs.Parsing as w
 use Rattle.token_cursor.proofs.Exact.{Free}
 use Rattle.token_cursor.proofs.Branches.{passed}
@@ -16,7 +16,7 @@ use Rattle.mesa_types.specs.declared.syntax.FieldList.TheVariants.{Unnamed}
 use Rattle.mesa_types.specs.declared.syntax.TypeExp.{TypeExp}
 use Rattle.mesa_types.specs.declared.syntax.TypeExp.TheVariants as t
 use Rattle.mesa_types.specs.declared.syntax.TypeBase.TheVariants.{OfName}
-use Rattle.module_productions.specs.Signs.{spelled, opening}
+use Rattle.module_productions.specs.WordsAndMarks.{spelled, opening}
 use Rattle.module_productions.specs.Grammar as g
 use Rattle.module_productions.specs.Grammar.{qualified}
 use Rattle.module_productions.specs.Depth.{deep_type}
@@ -53,7 +53,7 @@ unfolding ex.undecided_turn ex.after_comma choose
 longer m ts rest all i p h = record {
   state = record { before = all_names h.state; last = i };
   same = ap (λ z. z ++ i ∷ []) h.same;
-  leads = comp h.leads (turn_leads (ex.undecided_turn (nested (suc m))) (undecided_eats m) h.state (record { before = all_names h.state; last = i }) (mark Comma p ∷ spelled i ∷ rest) rest None (ahead (mark Comma p) (ahead (spelled i) (stand rest (Go (record { before = all_names h.state; last = i })) (λ y. pure y)))));
+  leads = comp h.leads (turn_leads (ex.undecided_turn (nested (suc m))) (undecided_eats m) h.state (record { before = all_names h.state; last = i }) (mark Comma p ∷ spelled i ∷ rest) rest None (ahead (mark Comma p) (ahead (spelled i) (stand rest (Again (record { before = all_names h.state; last = i })) (λ y. pure y)))));
 }
 
 pub prefix_names : (m : ℕ) {ts rest : List Token} {all : List Identifier} → g.IsNames ts all rest → Prefix m ts all rest
@@ -149,7 +149,7 @@ start_phase m {ts} {rest} {x} {o} (no_name f) h = inr (record { leads = via (sta
 comma_unnamed : (m : ℕ) (u : Undecided) (p : Place) (us : List Token) → Free (finds a_name) us → Turning m u (mark Comma p ∷ us) ≡ ex.unnamed (nested (suc m)) (called (all_names u)) us
 unfolding ex.undecided_turn ex.after_comma choose
 comma_unnamed m u p us f = unroll (ex.undecided_turn (nested (suc m))) (undecided_eats m) u (mark Comma p ∷ us)
-    ∙ (ap (λ out. and_then out (go_on (Turning m))) (passed a_name (λ n q. pure (Go (record { before = all_names u; last = identifier n q }))) (ex.unnamed (nested (suc m)) (called (all_names u)) >>= (λ x. pure (Done x))) us f) ∙ done_on (ex.unnamed (nested (suc m)) (called (all_names u)) us) (Turning m))
+    ∙ (ap (λ out. and_then out (go_on (Turning m))) (passed a_name (λ n q. pure (Again (record { before = all_names u; last = identifier n q }))) (ex.unnamed (nested (suc m)) (called (all_names u)) >>= (λ x. pure (Done x))) us f) ∙ done_on (ex.unnamed (nested (suc m)) (called (all_names u)) us) (Turning m))
 
 comma_named : (m : ℕ) (u : Undecided) (p : Place) (i : Identifier) (us : List Token) → Free declares us → Turning m u (mark Comma p ∷ spelled i ∷ us) ≡ ex.unnamed (nested (suc m)) (called (all_names u)) (spelled i ∷ us)
 unfolding ex.undecided_turn ex.after_comma choose

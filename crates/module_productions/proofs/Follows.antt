@@ -32,7 +32,7 @@ use Rattle.mesa_types.specs.declared.syntax.Case.{Case}
 use Rattle.mesa_types.specs.declared.syntax.Test.{Test as TestTree}
 use Rattle.mesa_types.specs.declared.syntax.Block.{Block}
 use Rattle.mesa_types.specs.declared.syntax.PlainItem.{PlainItem}
-use Rattle.module_productions.specs.Signs.{spelled, disjoining, conjoining, adding, multiplying, signing, relating, negating, opening, closing}
+use Rattle.module_productions.specs.WordsAndMarks.{spelled, disjoining, conjoining, adding, multiplying, signing, relating, negating, opening, closing}
 use Rattle.module_productions.specs.Grammar as g
 use Rattle.module_productions.specs.ReadNested.{loop_starts, raise_starts, begins_type, begins_expr, stmt_starts, begins_stmt, begins_arm, begins_test, begins_repeat}
 use Rattle.module_productions.specs.ReadExpressions.{suffixing}

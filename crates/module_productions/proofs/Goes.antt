@@ -6,7 +6,7 @@ use Rattle.mesa_lexer.specs.declared.token.Kind.{Kind}
 use Rattle.mesa_lexer.specs.declared.token.Kind.TheVariants as k
 use Rattle.mesa_lexer.specs.declared.word.Word.TheVariants.{InWord}
 use Rattle.mesa_lexer.specs.declared.mark.Mark.TheVariants.{Colon, Dot, LeftBracket, LeftParenthesis}
-use Rattle.token_cursor.specs.Parsing.{token, word, mark, Out, Got, Stop, Parser, and_then, ◌>>=◌, ◌>>◌, pure, refuse, only, exactly, found, finds, among, a_name, choose, option, need, when, too_deep, Step, Go, Done, go_on, repeat}
+use Rattle.token_cursor.specs.Parsing.{token, word, mark, Out, Got, Stop, Parser, and_then, ◌>>=◌, ◌>>◌, pure, refuse, only, exactly, found, finds, among, a_name, choose, option, need, when, too_deep, Turned, Again, Done, go_on, repeat}
 use Rattle.token_cursor.proofs.Exact.{Free}
 use Rattle.token_cursor.proofs.Branches.{among_every, chosen, passed, when_false}
 use Rattle.token_cursor.proofs.Loops.{unroll}
@@ -29,7 +29,7 @@ use Rattle.mesa_types.specs.declared.syntax.Statement.{Statement}
 use Rattle.mesa_types.specs.declared.syntax.Statement.TheVariants as s
 use Rattle.mesa_types.specs.declared.syntax.Test.{Test as TestTree}
 use Rattle.mesa_types.specs.declared.syntax.Test.TheVariants.{Value, Compared, Inside}
-use Rattle.module_productions.specs.Signs.{spelled, relating, negating, opening, closing}
+use Rattle.module_productions.specs.WordsAndMarks.{spelled, relating, negating, opening, closing}
 use Rattle.module_productions.specs.Grammar as g
 use Rattle.module_productions.specs.ReadNested.{Fresh, AtNot, Nested, loop_starts, raise_starts, begins_expr, begins_stmt, identifier}
 use Rattle.module_productions.specs.ReadNested as nr
@@ -238,8 +238,8 @@ after_not_compared q p2 kind r p ts h = chosen relating (λ r s. ex.sum q None >
 
 -- ---- heads of blocks
 
-abbrev goes_local : ℕ → List Local → Identifier → Parser (Step (List Local) (Head Local))
-goes_local m ls i = st.local (nested (suc m)) i >>= (λ l. pure (Go (ls ++ l ∷ [])))
+abbrev goes_local : ℕ → List Local → Identifier → Parser (Turned (List Local) (Head Local))
+goes_local m ls i = st.local (nested (suc m)) i >>= (λ l. pure (Again (ls ++ l ∷ [])))
 
 head_named : (m : ℕ) (ls : List Local) (i : Identifier) (us : List Token) → Free declares us → st.head_turn (nested (suc m)) ls (spelled i ∷ us) ≡ st.head_end (nested (suc m)) ls (spelled i ∷ us)
 unfolding st.head_turn st.head_from st.head_end st.body st.stmts nested st.statement choose
@@ -258,15 +258,15 @@ head_rest (suc m) ls (t ∷ us) h = go (named_or_not t)
     go (inr e) = passed a_name (λ n p. st.head_from (nested (suc m)) ls (identifier n p)) (st.head_end (nested (suc m)) ls) (t ∷ us) e
 
 -- a declaration; at the last level its first name is too deep, since it may begin a statement
-pub local_turn : {Y : Type 0} (n : ℕ) (ls : List Local) (i : Identifier) (us rest : List Token) (x : Y) (o : Option (List Token)) (K : Y → Parser (Step (List Local) (Head Local))) → Begins declares us
-    → Leads (spelled i ∷ us) x rest o K (and_then (st.local (nested n) i us) (λ l. pure (Go (ls ++ l ∷ []))))
+pub local_turn : {Y : Type 0} (n : ℕ) (ls : List Local) (i : Identifier) (us rest : List Token) (x : Y) (o : Option (List Token)) (K : Y → Parser (Turned (List Local) (Head Local))) → Begins declares us
+    → Leads (spelled i ∷ us) x rest o K (and_then (st.local (nested n) i us) (λ l. pure (Again (ls ++ l ∷ []))))
     → Leads (spelled i ∷ us) x rest o K (st.head_turn (nested n) ls (spelled i ∷ us))
 unfolding st.head_turn st.head_from st.head_end st.body st.stmts nested choose when too_deep
 local_turn zero ls i us rest x o K b h = at_once refl h.size h.within
 local_turn (suc m) ls i us rest x o K b h = via (when_begins declares (goes_local m ls i) (st.stmts (nested (suc m)) (Some i) >>= (λ ss. pure (Done (ls, ss)))) us b) h
 
 -- the statements behind the declarations, and the head as a whole
-head_pair : {A : Type 0} (out : Out (List Statement)) (ls : List Local) (g : A → Parser (Head Local)) → and_then (and_then out (λ ss. pure {A = Step A (Head Local)} (Done (ls, ss)))) (go_on g) ≡ and_then out (λ ss. pure (ls, ss))
+head_pair : {A : Type 0} (out : Out (List Statement)) (ls : List Local) (g : A → Parser (Head Local)) → and_then (and_then out (λ ss. pure {A = Turned A (Head Local)} (Done (ls, ss)))) (go_on g) ≡ and_then out (λ ss. pure (ls, ss))
 head_pair (Got ss rest) ls g = refl
 head_pair (Stop why rest) ls g = refl
 
@@ -282,11 +282,11 @@ local_goes : (n : ℕ) (i : Identifier) (us : List Token) → st.local (nested n
 unfolding st.local nr.names nr.named choose
 local_goes n i us = refl
 
-pub local_step : (n : ℕ) (ls : List Local) (us rest : List Token) (x : Local) (o : Option (List Token)) → (i : Named us) → Begins declares (behind_first us) → Leads us x rest o (λ y. pure y) (and_then (nr.names us) (declared n)) → Leads us (Go (ls ++ x ∷ [])) rest o (λ y. pure y) (st.head_turn (nested n) ls us)
-local_step n ls us rest x o i b h = subst (λ z. Leads z (Go (ls ++ x ∷ [])) rest o (λ y. pure y) (st.head_turn (nested n) ls z)) (sym i.is)
-    (local_turn n ls i.name i.back rest (Go (ls ++ x ∷ [])) o (λ y. pure y) (subst (Begins declares) (ap behind_first i.is) b)
-    (via (ap (λ out. and_then out (λ l. pure (Go (ls ++ l ∷ [])))) (local_goes n i.name i.back))
-    (finish (Go (ls ++ x ∷ [])) rest (λ y. pure y) (onto (λ l. pure (Go (ls ++ l ∷ []))) (subst (λ z. Leads z x rest o (λ y. pure y) (and_then (nr.names z) (declared n))) i.is h)) refl (omega arith))))
+pub local_step : (n : ℕ) (ls : List Local) (us rest : List Token) (x : Local) (o : Option (List Token)) → (i : Named us) → Begins declares (behind_first us) → Leads us x rest o (λ y. pure y) (and_then (nr.names us) (declared n)) → Leads us (Again (ls ++ x ∷ [])) rest o (λ y. pure y) (st.head_turn (nested n) ls us)
+local_step n ls us rest x o i b h = subst (λ z. Leads z (Again (ls ++ x ∷ [])) rest o (λ y. pure y) (st.head_turn (nested n) ls z)) (sym i.is)
+    (local_turn n ls i.name i.back rest (Again (ls ++ x ∷ [])) o (λ y. pure y) (subst (Begins declares) (ap behind_first i.is) b)
+    (via (ap (λ out. and_then out (λ l. pure (Again (ls ++ l ∷ [])))) (local_goes n i.name i.back))
+    (finish (Again (ls ++ x ∷ [])) rest (λ y. pure y) (onto (λ l. pure (Again (ls ++ l ∷ []))) (subst (λ z. Leads z x rest o (λ y. pure y) (and_then (nr.names z) (declared n))) i.is h)) refl (omega arith))))
 
 pub related_within : (q : Nested) (x : Expr) (p : Place) (ts : List Token) → ex.related q x (word InWord p ∷ ts) ≡ and_then (ex.interval q ts) (λ i. pure (e.Within x false p i))
 unfolding ex.related ex.relation choose

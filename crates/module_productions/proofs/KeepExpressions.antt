@@ -22,7 +22,7 @@ use Rattle.mesa_types.specs.declared.syntax.Suffix.{Suffix}
 use Rattle.mesa_types.specs.declared.syntax.Suffix.TheVariants.{Field, Applied}
 use Rattle.mesa_types.specs.declared.syntax.Raise.TheVariants.{SignalRaise, ErrorRaise, UnnamedError}
 use Rattle.mesa_types.specs.declared.syntax.Arm.{Arm}
-use Rattle.module_productions.specs.Signs.{spelled, disjoining, conjoining, adding, multiplying, relating, negating, opening, closing}
+use Rattle.module_productions.specs.WordsAndMarks.{spelled, disjoining, conjoining, adding, multiplying, relating, negating, opening, closing}
 use Rattle.module_productions.specs.Grammar as g
 use Rattle.module_productions.specs.Grammar.{run, placed, keyed}
 use Rattle.module_productions.specs.ReadNested.{Begun, Fresh, AtName, AtNot, Nested, a_number, a_char, a_text, begins_expr, begins_arm, identifier, comma}

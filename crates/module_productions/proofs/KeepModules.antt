@@ -7,7 +7,7 @@ use Rattle.mesa_lexer.specs.declared.token.Kind.TheVariants as k
 use Rattle.mesa_lexer.specs.declared.word.Word.{Word}
 use Rattle.mesa_lexer.specs.declared.word.Word.TheVariants.{BeginWord, CodeWord, DefinitionsWord, DirectoryWord, EndWord, ErrorWord, ExportsWord, FromWord, ImportsWord, OpenWord, ProgramWord, ReturnsWord, SignalWord, TypeWord, UsingWord}
 use Rattle.mesa_lexer.specs.declared.mark.Mark.TheVariants.{Semicolon, Colon, Comma, Dot, LeftBracket, RightBracket, LeftBrace, Equal}
-use Rattle.token_cursor.specs.Parsing.{token, mark, first, a_name, Go, Done, repeat, many_turn}
+use Rattle.token_cursor.specs.Parsing.{token, mark, first, a_name, Again, Done, repeat, many_turn}
 use Rattle.token_cursor.specs.Parsing as w
 use Rattle.token_cursor.proofs.Exact.{Rel, first_none, first_assoc, Sample, Keeps, Took, Then, bind, done, imply, Plainly, bind_plain, alone, both, four, either}
 use Rattle.token_cursor.proofs.Branches.{name_is, choose_or, choose_must, option_or, option_must, word, when_keeps, of_kind}
@@ -26,7 +26,7 @@ use Rattle.mesa_types.specs.declared.syntax.ModuleKind.{ModuleKind}
 use Rattle.mesa_types.specs.declared.syntax.ModuleKind.TheVariants.{Program, Interface}
 use Rattle.mesa_types.specs.declared.syntax.DirectoryItem.{DirectoryItem}
 use Rattle.mesa_types.specs.declared.syntax.Module.{Module}
-use Rattle.module_productions.specs.Signs.{spelled, procedure_word}
+use Rattle.module_productions.specs.WordsAndMarks.{spelled, procedure_word}
 use Rattle.module_productions.specs.Grammar as g
 use Rattle.module_productions.specs.Grammar.{labeled}
 use Rattle.module_productions.specs.Modules as m
@@ -185,7 +185,7 @@ module _ (n : ℕ) (q : Nested) (below : Below n q) where
 
   front_from : q.can ≡ true → (ds : List Declaration) (i : Identifier) → Keeps cut cut (Took (spelled i) (Steps (Declarations_at n) FrontIs ds)) (r.front_from q ds i)
   unfolding r.front_from
-  front_from may ds i = when_keeps (st.declares q) (bind (declaration i) (λ x. done (Go (ds ++ x ∷ [])) (λ ws us o d us0 o0 d0. (m.declarations d0.0 d.1.0, both d0.1 d.1.1))))
+  front_from may ds i = when_keeps (st.declares q) (bind (declaration i) (λ x. done (Again (ds ++ x ∷ [])) (λ ws us o d us0 o0 d0. (m.declarations d0.0 d.1.0, both d0.1 d.1.1))))
       (bind (ks.stmts n q below (λ z. spelled i ∷ z) (Some i) (below.stmt_from may i)) (λ ss. done (Done (ds, ss)) (λ ws us o d us0 o0 d0. record { mid = spelled i ∷ us; o1 = o0; o2 = o; declarations = d0; body = d; is = ap (λ z. first o0 z) (first_none o) })))
 
   front_turn : (ds : List Declaration) → Keeps cut cut (Steps (Declarations_at n) FrontIs ds) (r.front_turn q ds)

@@ -6,7 +6,7 @@ use Rattle.mesa_lexer.specs.declared.token.Kind.{Kind}
 use Rattle.mesa_lexer.specs.declared.token.Kind.TheVariants as k
 use Rattle.mesa_lexer.specs.declared.word.Word.TheVariants.{BeginWord, ContinueWord, DecreasingWord, DoWord, ElseWord, EnableWord, EndWord, EndcaseWord, EndloopWord, ExitWord, ExitsWord, ForWord, FromWord, GoWord, GotoWord, IfWord, InWord, LoopWord, NullWord, RejectWord, RepeatWord, ResumeWord, RetryWord, ReturnWord, SelectWord, ThenWord, ThroughWord, ToWord, TypeWord, UntilWord, WhileWord}
 use Rattle.mesa_lexer.specs.declared.mark.Mark.TheVariants.{Arrow, Semicolon, Colon, Comma, LeftBracket, RightBracket, LeftBrace, RightBrace, Equal, DoubleArrow}
-use Rattle.token_cursor.specs.Parsing.{token, mark, Parser, first, exactly, found, among, finds, Go, Done, repeat, many_turn, ended_turn}
+use Rattle.token_cursor.specs.Parsing.{token, mark, Parser, first, exactly, found, among, finds, Again, Done, repeat, many_turn, ended_turn}
 use Rattle.token_cursor.specs.Parsing as w
 use Rattle.token_cursor.proofs.Exact.{Rel, first_none, first_assoc, Free, After, Sample, Keeps, Took, Then, Pre, bind, done, ready, imply, Plainly, bind_plain, alone, single, both, three, four, either}
 use Rattle.token_cursor.proofs.Branches.{somewhere, choose_or, option_or, option_at, word, when_keeps, of_kind}
@@ -28,7 +28,7 @@ use Rattle.mesa_types.specs.declared.syntax.Test.{Test as TestTree}
 use Rattle.mesa_types.specs.declared.syntax.Test.TheVariants.{Value, Compared, Inside}
 use Rattle.mesa_types.specs.declared.syntax.Block.{Block}
 use Rattle.mesa_types.specs.declared.syntax.PlainItem.TheVariants.{TypeIs, Variable, Initial, Constant}
-use Rattle.module_productions.specs.Signs.{spelled, negating}
+use Rattle.module_productions.specs.WordsAndMarks.{spelled, negating}
 use Rattle.module_productions.specs.Grammar as g
 use Rattle.module_productions.specs.Grammar.{NoElse, placed, keyed, labeled}
 use Rattle.module_productions.specs.ReadNested.{Nested, raise_starts, begins_stmt, begins_test, begins_repeat, identifier, comma}
@@ -190,7 +190,7 @@ module _ (n : ℕ) (q : Nested) (inner : Inner n q) where
 
   head_from : q.can ≡ true → (ls : List Local) (i : Identifier) → Keeps cut cut (Took (spelled i) (Steps (Locals_at n) HeadIs ls)) (r.head_from q ls i)
   unfolding r.head_from
-  head_from may ls i = when_keeps (r.declares q) (bind (local i) (λ l. done (Go (ls ++ l ∷ [])) (λ ws us o d us0 o0 d0. (g.locals d0.0 d.1.0, both d0.1 d.1.1))))
+  head_from may ls i = when_keeps (r.declares q) (bind (local i) (λ l. done (Again (ls ++ l ∷ [])) (λ ws us o d us0 o0 d0. (g.locals d0.0 d.1.0, both d0.1 d.1.1))))
       (bind (stmts (λ z. spelled i ∷ z) (Some i) (inner.stmt_from may i)) (λ ss. done (Done (ls, ss)) (λ ws us o d us0 o0 d0. record { mid = spelled i ∷ us; o1 = o0; o2 = o; locals = d0; body = d; is = ap (λ z. first o0 z) (first_none o) })))
 
   head_turn : (ls : List Local) → Keeps cut cut (Steps (Locals_at n) HeadIs ls) (r.head_turn q ls)

@@ -6,7 +6,7 @@ use Rattle.mesa_lexer.specs.declared.token.Kind.{Kind}
 use Rattle.mesa_lexer.specs.declared.token.Kind.TheVariants as k
 use Rattle.mesa_lexer.specs.declared.word.Word.TheVariants.{ArrayWord, BooleanWord, CardinalWord, CharacterWord, IntegerWord, OfWord, RecordWord, StringWord}
 use Rattle.mesa_lexer.specs.declared.mark.Mark.TheVariants.{Colon, Comma, LeftBracket, RightBracket, LeftBrace, RightBrace}
-use Rattle.token_cursor.specs.Parsing.{token, mark, first, finds, Go, repeat, many_turn}
+use Rattle.token_cursor.specs.Parsing.{token, mark, first, finds, Again, repeat, many_turn}
 use Rattle.token_cursor.specs.Parsing as w
 use Rattle.token_cursor.proofs.Exact.{Rel, first_none, first_assoc, Sample, Keeps, Took, Then, bind, done, imply, Past, bind_plain, alone, single, both, either}
 use Rattle.token_cursor.proofs.Branches.{option_or, word, when_keeps, of_kind}
@@ -20,7 +20,7 @@ use Rattle.mesa_types.specs.declared.syntax.TypeExp.{TypeExp}
 use Rattle.mesa_types.specs.declared.syntax.TypeExp.TheVariants as t
 use Rattle.mesa_types.specs.declared.syntax.FieldList.{FieldList}
 use Rattle.mesa_types.specs.declared.syntax.FieldList.TheVariants.{WithNames, Unnamed}
-use Rattle.module_productions.specs.Signs.{spelled, opening}
+use Rattle.module_productions.specs.WordsAndMarks.{spelled, opening}
 use Rattle.module_productions.specs.Grammar as g
 use Rattle.module_productions.specs.Grammar.{labeled, qualified}
 use Rattle.module_productions.specs.ReadNested.{Nested, comma}
@@ -130,7 +130,7 @@ module _ (n : ℕ) (q : Nested) (inner : Inner n q) where
 
     after_comma : (u : Undecided) (p : Place) → Keeps cut cut (Took (mark Comma p) (Steps Either (Fields_at n) u)) (r.after_comma q (all_names u))
     unfolding r.after_comma
-    after_comma u p = nm.name_or (λ i. done (Go (record { before = all_names u; last = i })) (λ ws us o b. grown m top us u i p ws o b)) (stopping Either (Fields_at n) u (λ z. mark Comma p ∷ z) (last_types u p))
+    after_comma u p = nm.name_or (λ i. done (Again (record { before = all_names u; last = i })) (λ ws us o b. grown m top us u i p ws o b)) (stopping Either (Fields_at n) u (λ z. mark Comma p ∷ z) (last_types u p))
 
     turn : (u : Undecided) → Keeps cut cut (Steps Either (Fields_at n) u) (r.undecided_turn q u)
     unfolding r.undecided_turn

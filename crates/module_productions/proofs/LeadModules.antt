@@ -7,7 +7,7 @@ use Rattle.mesa_lexer.specs.declared.token.Kind.TheVariants as k
 use Rattle.mesa_lexer.specs.declared.word.Word.{Word}
 use Rattle.mesa_lexer.specs.declared.word.Word.TheVariants.{DirectoryWord, EnableWord, EndWord, ErrorWord, ExportsWord, ImportsWord, OpenWord, ProcWord, ProcedureWord, ReturnsWord, SignalWord, TypeWord, UsingWord}
 use Rattle.mesa_lexer.specs.declared.mark.Mark.TheVariants.{Semicolon, Colon, Comma, LeftBracket, RightBracket, RightBrace, Equal}
-use Rattle.token_cursor.specs.Parsing.{token, mark, Out, Got, Stop, Parser, and_then, ◌>>=◌, ◌>>◌, pure, first, exactly, found, finds, among, a_name, choose, option, need, when, Step, Go, Done, go_on, repeat, many_turn, many}
+use Rattle.token_cursor.specs.Parsing.{token, mark, Out, Got, Stop, Parser, and_then, ◌>>=◌, ◌>>◌, pure, first, exactly, found, finds, among, a_name, choose, option, need, when, Turned, Again, Done, go_on, repeat, many_turn, many}
 use Rattle.token_cursor.specs.Parsing as w
 use Rattle.token_cursor.proofs.Exact.{Free, first_none}
 use Rattle.token_cursor.proofs.Branches.{or_true, among_every, passed, when_false, chosen}
@@ -32,7 +32,7 @@ use Rattle.mesa_types.specs.declared.syntax.Defined.TheVariants.{ProcedureItem, 
 use Rattle.mesa_types.specs.declared.syntax.ModuleKind.{ModuleKind}
 use Rattle.mesa_types.specs.declared.syntax.DirectoryItem.{DirectoryItem}
 use Rattle.mesa_types.specs.declared.syntax.Module.{Module}
-use Rattle.module_productions.specs.Signs.{spelled, procedure_word, accessing}
+use Rattle.module_productions.specs.WordsAndMarks.{spelled, procedure_word, accessing}
 use Rattle.module_productions.specs.Grammar as g
 use Rattle.module_productions.specs.Grammar.{labeled}
 use Rattle.module_productions.specs.Depth as dp
@@ -192,14 +192,14 @@ access_c {rest = rest} (m.access {a = a} {p = p} e) f = via (chosen accessing (�
 
 -- ---- declarations and the statements behind them
 
-abbrev Turned : Type 0
-Turned = Step (List Declaration) Front
+abbrev OfFront : Type 0
+OfFront = Turned (List Declaration) Front
 
 front_eats : (n : ℕ) → Eats (r.front_turn (nested n))
 front_eats n = km.front_eats n (nested n) (all_of n)
 
-abbrev goes_on : ℕ → List Declaration → Identifier → Parser Turned
-goes_on m ds i = r.declaration (nested (suc m)) i >>= (λ x. pure (Go (ds ++ x ∷ [])))
+abbrev goes_on : ℕ → List Declaration → Identifier → Parser OfFront
+goes_on m ds i = r.declaration (nested (suc m)) i >>= (λ x. pure (Again (ds ++ x ∷ [])))
 
 front_named : (m : ℕ) (ds : List Declaration) (i : Identifier) (us : List Token) → Free declares us → r.front_turn (nested (suc m)) ds (spelled i ∷ us) ≡ r.front_end (nested (suc m)) ds (spelled i ∷ us)
 unfolding r.front_turn r.front_from r.front_end st.body st.stmts nested st.statement choose
@@ -216,13 +216,13 @@ front_rest (suc m) ds (t ∷ us) h = go (named_or_not t)
     go (inl p) = subst (λ z. r.front_turn (nested (suc m)) ds (z ∷ us) ≡ r.front_end (nested (suc m)) ds (z ∷ us)) (sym p.1) (front_named m ds p.0 us (h p.0 us (ap (λ z. z ∷ us) p.1)))
     go (inr e) = passed a_name (λ n p. r.front_from (nested (suc m)) ds (identifier n p)) (r.front_end (nested (suc m)) ds) (t ∷ us) e
 
-front_local : {Y : Type 0} (n : ℕ) (ds : List Declaration) (i : Identifier) (us rest : List Token) (x : Y) (o : Option (List Token)) (K : Y → Parser Turned) → Begins declares us
-    → Leads (spelled i ∷ us) x rest o K (and_then (r.declaration (nested n) i us) (λ x. pure (Go (ds ++ x ∷ [])))) → Leads (spelled i ∷ us) x rest o K (r.front_turn (nested n) ds (spelled i ∷ us))
+front_local : {Y : Type 0} (n : ℕ) (ds : List Declaration) (i : Identifier) (us rest : List Token) (x : Y) (o : Option (List Token)) (K : Y → Parser OfFront) → Begins declares us
+    → Leads (spelled i ∷ us) x rest o K (and_then (r.declaration (nested n) i us) (λ x. pure (Again (ds ++ x ∷ [])))) → Leads (spelled i ∷ us) x rest o K (r.front_turn (nested n) ds (spelled i ∷ us))
 unfolding r.front_turn r.front_from r.front_end st.body st.stmts nested choose when w.too_deep
 front_local zero ds i us rest x o K b h = at_once refl h.size h.within
 front_local (suc m) ds i us rest x o K b h = via (when_begins declares (goes_on m ds i) (st.stmts (nested (suc m)) (Some i) >>= (λ ss. pure (Done (ds, ss)))) us b) h
 
-front_pair : {A : Type 0} (out : Out (List Statement)) (ds : List Declaration) (g : A → Parser Front) → and_then (and_then out (λ ss. pure {A = Step A Front} (Done (ds, ss)))) (go_on g) ≡ and_then out (λ ss. pure (ds, ss))
+front_pair : {A : Type 0} (out : Out (List Statement)) (ds : List Declaration) (g : A → Parser Front) → and_then (and_then out (λ ss. pure {A = Turned A Front} (Done (ds, ss)))) (go_on g) ≡ and_then out (λ ss. pure (ds, ss))
 front_pair (Got ss rest) ds g = refl
 front_pair (Stop why rest) ds g = refl
 
@@ -237,13 +237,13 @@ declaration_goes : (n : ℕ) (i : Identifier) (us : List Token) → r.declaratio
 unfolding r.declaration nr.names nr.named choose
 declaration_goes n i us = refl
 
-front_step : (n : ℕ) (ds : List Declaration) (us rest : List Token) (x : Declaration) (o : Option (List Token)) → (i : Named us) → Begins declares (behind_first us) → Leads us x rest o (λ y. pure y) (and_then (nr.names us) (after_names n)) → Leads us (Go (ds ++ x ∷ [])) rest o (λ y. pure y) (r.front_turn (nested n) ds us)
-front_step n ds us rest x o i b h = subst (λ z. Leads z (Go (ds ++ x ∷ [])) rest o (λ y. pure y) (r.front_turn (nested n) ds z)) (sym i.is)
-    (front_local n ds i.name i.back rest (Go (ds ++ x ∷ [])) o (λ y. pure y) (subst (Begins declares) (ap behind_first i.is) b)
-    (via (ap (λ out. and_then out (λ x. pure (Go (ds ++ x ∷ [])))) (declaration_goes n i.name i.back))
-    (finish (Go (ds ++ x ∷ [])) rest (λ y. pure y) (onto (λ x. pure (Go (ds ++ x ∷ []))) (subst (λ z. Leads z x rest o (λ y. pure y) (and_then (nr.names z) (after_names n))) i.is h)) refl (omega arith))))
+front_step : (n : ℕ) (ds : List Declaration) (us rest : List Token) (x : Declaration) (o : Option (List Token)) → (i : Named us) → Begins declares (behind_first us) → Leads us x rest o (λ y. pure y) (and_then (nr.names us) (after_names n)) → Leads us (Again (ds ++ x ∷ [])) rest o (λ y. pure y) (r.front_turn (nested n) ds us)
+front_step n ds us rest x o i b h = subst (λ z. Leads z (Again (ds ++ x ∷ [])) rest o (λ y. pure y) (r.front_turn (nested n) ds z)) (sym i.is)
+    (front_local n ds i.name i.back rest (Again (ds ++ x ∷ [])) o (λ y. pure y) (subst (Begins declares) (ap behind_first i.is) b)
+    (via (ap (λ out. and_then out (λ x. pure (Again (ds ++ x ∷ [])))) (declaration_goes n i.name i.back))
+    (finish (Again (ds ++ x ∷ [])) rest (λ y. pure y) (onto (λ x. pure (Again (ds ++ x ∷ []))) (subst (λ z. Leads z x rest o (λ y. pure y) (and_then (nr.names z) (after_names n))) i.is h)) refl (omega arith))))
 
-declaration_c : (n : ℕ) (ds : List Declaration) {ts rest : List Token} {x : Declaration} {p : Place} (d : m.IsDeclaration ts x (mark Semicolon p ∷ rest)) → Leads {X = Turned} ts (Go (ds ++ x ∷ [])) rest (m.deep_declaration n d) (λ y. pure y) (r.front_turn (nested n) ds ts)
+declaration_c : (n : ℕ) (ds : List Declaration) {ts rest : List Token} {x : Declaration} {p : Place} (d : m.IsDeclaration ts x (mark Semicolon p ∷ rest)) → Leads {X = OfFront} ts (Again (ds ++ x ∷ [])) rest (m.deep_declaration n d) (λ y. pure y) (r.front_turn (nested n) ds ts)
 unfolding need choose
 declaration_c n ds (m.declared a b c) = front_step n ds _ _ _ _ (fo.names_named a) (names_second a (record { token = _; back = _; is = refl; begins = refl }))
     (comp (onto (after_names n) (names_all a refl)) (ahead _ (comp (onto _ (access_c b (declared_access c))) (comp (onto _ (declared_c n c refl)) (ahead _ (stand _ _ (λ y. pure y)))))))
@@ -325,15 +325,15 @@ definitions_eats n = km.definitions_eats n (nested n) (all_of n)
 abbrev defined_rest : ℕ → List (Labeled (List Identifier) Defined) → List Identifier → Parser (List (Labeled (List Identifier) Defined))
 defined_rest n all ns = need (k.Mark Colon) >> (r.defined (nested n) >>= (λ x. need semicolon >> pure (all ++ labeled ns x ∷ [])))
 
-definition_goes : (n : ℕ) (all : List (Labeled (List Identifier) Defined)) (us : List Token) → Named us → many_turn a_name (r.definitions_step (nested n)) all us ≡ and_then (and_then (nr.names us) (defined_rest n all)) (λ x. pure (Go x))
+definition_goes : (n : ℕ) (all : List (Labeled (List Identifier) Defined)) (us : List Token) → Named us → many_turn a_name (r.definitions_step (nested n)) all us ≡ and_then (and_then (nr.names us) (defined_rest n all)) (λ x. pure (Again x))
 unfolding many_turn r.definitions_step nr.names nr.named choose
-definition_goes n all us i = subst (λ z. many_turn a_name (r.definitions_step (nested n)) all z ≡ and_then (and_then (nr.names z) (defined_rest n all)) (λ x. pure (Go x))) (sym i.is) refl
+definition_goes n all us i = subst (λ z. many_turn a_name (r.definitions_step (nested n)) all z ≡ and_then (and_then (nr.names z) (defined_rest n all)) (λ x. pure (Again x))) (sym i.is) refl
 
 definitions_c : (n : ℕ) {ts rest : List Token} {x : List (Labeled (List Identifier) Defined)} (d : m.IsDefinitions ts x rest) → Leads ts x rest (m.deep_definitions n d) (Definitions n) (Definitions n [] ts)
 unfolding need choose
 definitions_c n m.no_definitions = stand _ [] (Definitions n)
 definitions_c n (m.definitions {all = all} d a b) = comp (definitions_c n d) (turn_leads (many_turn a_name (r.definitions_step (nested n))) (definitions_eats n) all _ _ _ _ (via (definition_goes n all _ (fo.names_named a))
-    (finish _ _ (λ y. pure y) (onto (λ x. pure (Go x)) (comp (onto (defined_rest n all) (names_all a refl)) (ahead _ (comp (onto _ (defined_c n b)) (ahead _ (stand _ _ (λ y. pure y))))))) refl (omega arith))))
+    (finish _ _ (λ y. pure y) (onto (λ x. pure (Again x)) (comp (onto (defined_rest n all) (names_all a refl)) (ahead _ (comp (onto _ (defined_c n b)) (ahead _ (stand _ _ (λ y. pure y))))))) refl (omega arith))))
 
 definitions_open : {ts rest : List Token} {x : List (Labeled (List Identifier) Defined)} {p : Place} → m.IsDefinitions ts x (w.word EndWord p ∷ rest) → Free (finds (exactly (k.Word OpenWord))) ts
 definitions_open d = by (first d)

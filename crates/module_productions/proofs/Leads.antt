@@ -6,7 +6,7 @@ use Rattle.mesa_lexer.specs.declared.token.Kind.{Kind}
 use Rattle.mesa_lexer.specs.declared.token.Kind.TheVariants as k
 use Rattle.mesa_lexer.specs.declared.word.Word.TheVariants.{DoWord, EnableWord, EndWord, EndcaseWord, EndloopWord}
 use Rattle.mesa_lexer.specs.declared.mark.Mark.TheVariants.{Semicolon, LeftBracket, RightBracket, RightBrace}
-use Rattle.token_cursor.specs.Parsing.{token, mark, pure, first, exactly, finds, among, Step, Go, repeat}
+use Rattle.token_cursor.specs.Parsing.{token, mark, pure, first, exactly, finds, among, Turned, Again, repeat}
 use Rattle.token_cursor.specs.Parsing as w
 use Rattle.token_cursor.proofs.Exact.{Free, first_none}
 use Rattle.token_cursor.proofs.Leading.{Leads, stand, comp, via, placed, turn_leads, Begins}
@@ -32,7 +32,7 @@ use Rattle.mesa_types.specs.declared.syntax.Condition.{Condition}
 use Rattle.mesa_types.specs.declared.syntax.Case.{Case}
 use Rattle.mesa_types.specs.declared.syntax.Test.{Test as TestTree}
 use Rattle.mesa_types.specs.declared.syntax.PlainItem.{PlainItem}
-use Rattle.module_productions.specs.Signs.{disjoining, conjoining, adding, multiplying}
+use Rattle.module_productions.specs.WordsAndMarks.{disjoining, conjoining, adding, multiplying}
 use Rattle.module_productions.specs.Grammar as g
 use Rattle.module_productions.specs.ReadNested.{Fresh, begins_stmt, begins_arm}
 use Rattle.module_productions.specs.ReadExpressions as ex
@@ -200,7 +200,7 @@ mutual
   locals_c n g.no_locals = placed (sym (eq.is_no_locals _ _)) (stand _ [] (repeat (st.head_turn (nested n))))
   locals_c n (g.locals {all = all} d h) = placed (sym (eq.is_locals _ _ _ _ _ _ _ _ _)) (comp (locals_c n d) (placed (sym (first_none _)) (turn_leads (st.head_turn (nested n)) (head_eats n) all _ _ _ _ (local_c n all h))))
 
-  local_c : (n : ℕ) (all : List Local) {ts rest : List Token} {x : Local} {p : Place} (d : g.IsLocal ts x (mark Semicolon p ∷ rest)) → Leads {X = Step (List Local) (Head Local)} ts (Go (all ++ x ∷ [])) rest (sd.at_local n d) (λ y. pure y) (st.head_turn (nested n) all ts)
+  local_c : (n : ℕ) (all : List Local) {ts rest : List Token} {x : Local} {p : Place} (d : g.IsLocal ts x (mark Semicolon p ∷ rest)) → Leads {X = Turned (List Local) (Head Local)} ts (Again (all ++ x ∷ [])) rest (sd.at_local n d) (λ y. pure y) (st.head_turn (nested n) all ts)
   local_c n all (g.local_of d h) = placed (sym (eq.is_local_of _ _ _ _ _ _ _ _ _)) (c.c_local n all d (plain_c n h refl))
 
   pub plain_c : (n : ℕ) {ts rest : List Token} {x : PlainItem} (d : g.IsPlain ts x rest) → Free more_plain rest → Leads ts x rest (sd.at_plain n d) (λ y. pure y) (st.plain (nested n) ts)

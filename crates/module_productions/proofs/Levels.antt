@@ -24,7 +24,7 @@ use Rattle.mesa_types.specs.declared.syntax.Raise.TheVariants.{SignalRaise, Unna
 use Rattle.mesa_types.specs.declared.syntax.Statement.TheVariants as s
 use Rattle.mesa_types.specs.declared.syntax.Count.TheVariants.{For, Through}
 use Rattle.mesa_types.specs.declared.syntax.Condition.TheVariants.{While, Until}
-use Rattle.module_productions.specs.Signs.{spelled, opening}
+use Rattle.module_productions.specs.WordsAndMarks.{spelled, opening}
 use Rattle.module_productions.specs.Grammar as g
 use Rattle.module_productions.specs.Grammar.{placed, qualified}
 use Rattle.module_productions.specs.ReadNested.{a_number, a_char, a_text, type_starts, begins_type, expr_starts, begins_expr, stmt_starts, begins_stmt, identifier}

@@ -19,6 +19,9 @@ pub mod Runs
 pub mod Sealed
 pub mod Seconds
 pub mod Turns
-pub mod Trees
+pub mod SmallTexts
+pub mod TreesOfExpressions
+pub mod TreesOfModules
+pub mod TreesOfStatements
 pub mod TwoNodes
 pub mod Whole

@@ -14,7 +14,7 @@ use Rattle.mesa_base.specs.declared.identifier.Identifier.{Identifier}
 use Rattle.mesa_types.specs.declared.syntax.QualifiedName.{QualifiedName}
 use Rattle.mesa_types.specs.declared.syntax.Labels.TheVariants.{Any, Unwind, Signals}
 use Rattle.mesa_types.specs.declared.syntax.RepeatLabels.TheVariants.{Named, Finished}
-use Rattle.module_productions.specs.Signs.{spelled}
+use Rattle.module_productions.specs.WordsAndMarks.{spelled}
 pub use Rattle.token_cursor.proofs.Names.{name_or, name_must, NameIs, names_eats}
 use Rattle.token_cursor.proofs.Names as n
 use Rattle.module_productions.specs.Grammar as g

@@ -30,7 +30,7 @@ use Rattle.mesa_types.specs.declared.syntax.Test.{Test as TestTree}
 use Rattle.mesa_types.specs.declared.syntax.Block.{Block}
 use Rattle.mesa_types.specs.declared.syntax.PlainItem.{PlainItem}
 use Rattle.mesa_types.specs.declared.syntax.RepeatLabels.{RepeatLabels}
-use Rattle.module_productions.specs.Signs.{spelled, negating}
+use Rattle.module_productions.specs.WordsAndMarks.{spelled, negating}
 use Rattle.module_productions.specs.Grammar as g
 use Rattle.module_productions.specs.Depth as d
 use Rattle.module_productions.specs.ReadNested.{Nested, Fresh, AtName, AtNot}

@@ -17,7 +17,7 @@ use Rattle.mesa_types.specs.declared.syntax.Expr.{Expr}
 use Rattle.mesa_types.specs.declared.syntax.Operation.{Operation}
 use Rattle.mesa_types.specs.declared.syntax.Suffix.{Suffix}
 use Rattle.mesa_types.specs.declared.syntax.Statement.{Statement}
-use Rattle.module_productions.specs.Signs.{spelled, disjoining, conjoining, adding, multiplying, signing, relating, negating}
+use Rattle.module_productions.specs.WordsAndMarks.{spelled, disjoining, conjoining, adding, multiplying, signing, relating, negating}
 use Rattle.module_productions.specs.Grammar as g
 use Rattle.module_productions.proofs.Follows.{declares, tails, free_only, apart_kinds, negating_ends}
 use Rattle.module_productions.proofs.Turns.{NotKeyed}

@@ -16,7 +16,7 @@ use Rattle.mesa_types.specs.declared.syntax.Labels.{Labels}
 use Rattle.mesa_types.specs.declared.syntax.Labels.TheVariants.{Signals}
 use Rattle.mesa_types.specs.declared.syntax.RepeatLabels.{RepeatLabels}
 use Rattle.mesa_types.specs.declared.syntax.RepeatLabels.TheVariants.{Named as WithLabels}
-use Rattle.module_productions.specs.Signs.{spelled, disjoining, conjoining, negating}
+use Rattle.module_productions.specs.WordsAndMarks.{spelled, disjoining, conjoining, negating}
 use Rattle.module_productions.specs.Grammar as g
 use Rattle.module_productions.specs.Grammar.{qualified}
 use Rattle.module_productions.specs.ReadNested.{Fresh, AtName, AtNot, Nested, begins_expr, identifier, comma}

@@ -60,7 +60,7 @@ use Rattle.mesa_types.specs.declared.syntax.Test.TheVariants.{Value, Compared, I
 use Rattle.mesa_types.specs.declared.syntax.Block.{Block, roll-Block}
 use Rattle.mesa_types.specs.declared.syntax.PlainItem.{PlainItem}
 use Rattle.mesa_types.specs.declared.syntax.PlainItem.TheVariants.{TypeIs, Variable, Initial, Constant}
-use Rattle.module_productions.specs.Signs.{spelled, disjoining, conjoining, adding, multiplying, signing, relating, negating, opening, closing}
+use Rattle.module_productions.specs.WordsAndMarks.{spelled, disjoining, conjoining, adding, multiplying, signing, relating, negating, opening, closing}
 
 -- ---- trees by their parts
 

@@ -4,6 +4,6 @@ pub mod ReadExpressions
 pub mod Grammar
 pub mod Modules
 pub mod ReadNested
-pub mod Signs
+pub mod WordsAndMarks
 pub mod ReadStatements
 pub mod ReadModules

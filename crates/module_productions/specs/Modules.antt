@@ -31,7 +31,7 @@ use Rattle.mesa_types.specs.declared.syntax.ModuleKind.{ModuleKind}
 use Rattle.mesa_types.specs.declared.syntax.ModuleKind.TheVariants.{Program, Interface}
 use Rattle.mesa_types.specs.declared.syntax.DirectoryItem.{DirectoryItem}
 use Rattle.mesa_types.specs.declared.syntax.Module.{Module}
-use Rattle.module_productions.specs.Signs.{spelled, procedure_word, accessing}
+use Rattle.module_productions.specs.WordsAndMarks.{spelled, procedure_word, accessing}
 use Rattle.module_productions.specs.Grammar.{labeled, IsNames, IsType, IsFields, IsExpr, IsPlain, IsBlock, IsEnabling, IsBody, IsExitPart}
 use Rattle.module_productions.specs.Depth.{deep_type, deep_fields, deep_expr, deep_plain, deep_block, deep_enabling, deep_body, deep_exit_part}
 
@@ -119,7 +119,8 @@ pub data IsDefined : List Token → Defined → List Token → Type 0 where
 pub data IsDefinitions : List Token → List (Labeled (List Identifier) Defined) → List Token → Type 0 where
   no_definitions : {rest : List Token} → IsDefinitions rest [] rest
   definitions : {ts us vs rest : List Token} {all : List (Labeled (List Identifier) Defined)} {ns : List Identifier} {x : Defined} {p q : Place}
-      → IsDefinitions ts all us → IsNames us ns (mark Colon p ∷ vs) → IsDefined vs x (mark Semicolon q ∷ rest) → IsDefinitions ts (all ++ labeled ns x ∷ []) rest
+      → IsDefinitions ts all us → IsNames us ns (mark Colon p ∷ vs) → IsDefined vs x (mark Semicolon q ∷ rest)
+      → IsDefinitions ts (all ++ labeled ns x ∷ []) rest
 
 -- ---- lists of names
 

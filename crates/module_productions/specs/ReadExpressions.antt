@@ -7,7 +7,7 @@ use Rattle.mesa_lexer.specs.declared.word.Word.TheVariants.{ArrayWord, BooleanWo
 use Rattle.mesa_lexer.specs.declared.word.Word.TheVariants.{OfWord, RecordWord, SignalWord, StringWord, TrueWord}
 use Rattle.mesa_lexer.specs.declared.mark.Mark.TheVariants.{Semicolon, Colon, Comma, Dot, DotDot, LeftBracket, RightBracket, LeftParenthesis}
 use Rattle.mesa_lexer.specs.declared.mark.Mark.TheVariants.{RightParenthesis, LeftBrace, RightBrace, Bang, DoubleArrow}
-use Rattle.token_cursor.specs.Parsing.{Parser, ◌>>=◌, ◌>>◌, pure, refuse, finds, a_name, choose, option, need, when, Step, Go, Done, repeat, many, ended}
+use Rattle.token_cursor.specs.Parsing.{Parser, ◌>>=◌, ◌>>◌, pure, refuse, finds, a_name, choose, option, need, when, Turned, Again, Done, repeat, many, ended}
 use Rattle.mesa_base.specs.declared.identifier.Identifier.{Identifier}
 use Rattle.mesa_base.specs.declared.placed.Placed.{Placed}
 use Rattle.mesa_types.specs.declared.syntax.Keyed.{Keyed}
@@ -31,7 +31,7 @@ use Rattle.mesa_types.specs.declared.syntax.Brackets.{Brackets}
 use Rattle.mesa_types.specs.declared.syntax.Raise.{Raise}
 use Rattle.mesa_types.specs.declared.syntax.Raise.TheVariants.{SignalRaise, ErrorRaise, UnnamedError}
 use Rattle.mesa_types.specs.declared.syntax.Arm.{Arm}
-use Rattle.module_productions.specs.Signs.{disjoining, conjoining, adding, multiplying, signing, relating, negating, opening, closing}
+use Rattle.module_productions.specs.WordsAndMarks.{disjoining, conjoining, adding, multiplying, signing, relating, negating, opening, closing}
 use Rattle.module_productions.specs.Grammar as g
 use Rattle.module_productions.specs.Grammar.{run, placed, keyed, labeled, qualified}
 use Rattle.module_productions.specs.ReadNested.{Begun, Fresh, AtName, AtNot, Nested, a_number, a_char, a_text, begins_expr, begins_arm, identifier, comma}
@@ -332,10 +332,10 @@ module _ (q : Nested) where
     x ← q.type (Some u.last)
     more_types (called u.before ++ x ∷ [])
 
-  unfoldable pub after_comma : List Identifier → Parser (Step Undecided FieldList)
-  after_comma all = choose a_name (λ n p. pure (Go (record { before = all; last = identifier n p }))) (do x ← unnamed (called all); pure (Done x))
+  unfoldable pub after_comma : List Identifier → Parser (Turned Undecided FieldList)
+  after_comma all = choose a_name (λ n p. pure (Again (record { before = all; last = identifier n p }))) (do x ← unnamed (called all); pure (Done x))
 
-  unfoldable pub undecided_turn : Undecided → Parser (Step Undecided FieldList)
+  unfoldable pub undecided_turn : Undecided → Parser (Turned Undecided FieldList)
   undecided_turn u = option (k.Mark Comma) (λ _. after_comma (all_names u))
       (option (k.Mark Colon) (λ _. do x ← with_names (all_names u); pure (Done x)) (do x ← types_from u; pure (Done x)))
 

@@ -6,7 +6,7 @@ use Rattle.mesa_lexer.specs.declared.word.Word.{Word}
 use Rattle.mesa_lexer.specs.declared.word.Word.TheVariants.{BeginWord, CodeWord, DefinitionsWord, DirectoryWord, EndWord, ErrorWord, ExportsWord, FromWord}
 use Rattle.mesa_lexer.specs.declared.word.Word.TheVariants.{ImportsWord, OpenWord, ProgramWord, ReturnsWord, SignalWord, TypeWord, UsingWord}
 use Rattle.mesa_lexer.specs.declared.mark.Mark.TheVariants.{Colon, Dot, LeftBracket, RightBracket, LeftBrace, RightBrace, Equal}
-use Rattle.token_cursor.specs.Parsing.{Parser, Got, Stop, Unexpected, ◌>>=◌, ◌>>◌, pure, refuse, a_name, choose, option, need, when, Step, Go, Done, repeat}
+use Rattle.token_cursor.specs.Parsing.{Parser, Got, Stop, Unexpected, ◌>>=◌, ◌>>◌, pure, refuse, a_name, choose, option, need, when, Turned, Again, Done, repeat}
 use Rattle.token_cursor.specs.Parsing.{many}
 use Rattle.mesa_base.specs.declared.identifier.Identifier.{Identifier}
 use Rattle.mesa_types.specs.declared.syntax.Labeled.{Labeled}
@@ -25,7 +25,7 @@ use Rattle.mesa_types.specs.declared.syntax.ModuleKind.{ModuleKind}
 use Rattle.mesa_types.specs.declared.syntax.ModuleKind.TheVariants.{Program, Interface}
 use Rattle.mesa_types.specs.declared.syntax.DirectoryItem.{DirectoryItem}
 use Rattle.mesa_types.specs.declared.syntax.Module.{Module}
-use Rattle.module_productions.specs.Signs.{procedure_word, accessing}
+use Rattle.module_productions.specs.WordsAndMarks.{procedure_word, accessing}
 unfoldable pub use Rattle.module_productions.specs.Depth.{limit}
 use Rattle.module_productions.specs.Grammar.{labeled}
 use Rattle.module_productions.specs.Modules as m
@@ -139,15 +139,15 @@ module _ (q : Nested) where
     need semicolon
     pure (m.declaration ns a x)
 
-  unfoldable pub front_end : List Declaration → Parser (Step (List Declaration) Front)
+  unfoldable pub front_end : List Declaration → Parser (Turned (List Declaration) Front)
   front_end ds = do
     ss ← s.body q
     pure (Done (ds, ss))
 
-  unfoldable pub front_from : List Declaration → Identifier → Parser (Step (List Declaration) Front)
-  front_from ds i = when (s.declares q) (do x ← declaration i; pure (Go (ds ++ x ∷ []))) (do ss ← s.stmts q (Some i); pure (Done (ds, ss)))
+  unfoldable pub front_from : List Declaration → Identifier → Parser (Turned (List Declaration) Front)
+  front_from ds i = when (s.declares q) (do x ← declaration i; pure (Again (ds ++ x ∷ []))) (do ss ← s.stmts q (Some i); pure (Done (ds, ss)))
 
-  unfoldable pub front_turn : List Declaration → Parser (Step (List Declaration) Front)
+  unfoldable pub front_turn : List Declaration → Parser (Turned (List Declaration) Front)
   front_turn ds = if q.can then choose a_name (λ n p. front_from ds (identifier n p)) (front_end ds) else front_end ds
 
   unfoldable pub inner : Parser Inner

@@ -24,7 +24,7 @@ use Rattle.mesa_types.specs.declared.syntax.Expr.{Expr}
 use Rattle.mesa_types.specs.declared.syntax.Statement.{Statement}
 pub use Rattle.module_productions.specs.declared.begun.Begun.{Begun}
 pub use Rattle.module_productions.specs.declared.begun.Begun.TheVariants.{Fresh, AtName, AtNot}
-use Rattle.module_productions.specs.Signs.{relating}
+use Rattle.module_productions.specs.WordsAndMarks.{relating}
 use Rattle.module_productions.specs.Grammar.{qualified}
 
 -- the parsers one level below; `can` tells whether something may begin there, before anything of it is taken

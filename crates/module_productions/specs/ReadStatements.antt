@@ -9,7 +9,7 @@ use Rattle.mesa_lexer.specs.declared.word.Word.TheVariants.{NullWord, RejectWord
 use Rattle.mesa_lexer.specs.declared.word.Word.TheVariants.{ThroughWord, ToWord, TypeWord, UntilWord, WhileWord}
 use Rattle.mesa_lexer.specs.declared.mark.Mark.TheVariants.{Arrow, Semicolon, Colon, Comma, LeftBracket, RightBracket, LeftBrace, RightBrace, Equal}
 use Rattle.mesa_lexer.specs.declared.mark.Mark.TheVariants.{DoubleArrow}
-use Rattle.token_cursor.specs.Parsing.{Parser, ◌>>=◌, ◌>>◌, pure, among, finds, a_name, choose, option, need, when, Step, Go, Done, repeat, many, ended}
+use Rattle.token_cursor.specs.Parsing.{Parser, ◌>>=◌, ◌>>◌, pure, among, finds, a_name, choose, option, need, when, Turned, Again, Done, repeat, many, ended}
 use Rattle.token_cursor.specs.Parsing.{too_deep}
 use Rattle.mesa_base.specs.declared.identifier.Identifier.{Identifier}
 use Rattle.mesa_base.specs.declared.placed.Placed.{Placed}
@@ -35,7 +35,7 @@ use Rattle.mesa_types.specs.declared.syntax.Test.TheVariants.{Value, Compared, I
 use Rattle.mesa_types.specs.declared.syntax.Block.{Block}
 use Rattle.mesa_types.specs.declared.syntax.PlainItem.{PlainItem}
 use Rattle.mesa_types.specs.declared.syntax.PlainItem.TheVariants.{TypeIs, Variable, Initial, Constant}
-use Rattle.module_productions.specs.Signs.{relating, negating}
+use Rattle.module_productions.specs.WordsAndMarks.{relating, negating}
 use Rattle.module_productions.specs.Grammar as g
 use Rattle.module_productions.specs.Grammar.{placed, keyed, labeled}
 use Rattle.module_productions.specs.ReadNested.{Fresh, AtNot, Nested, raise_starts, begins_type, begins_expr, begins_stmt, begins_test, begins_repeat}
@@ -198,15 +198,15 @@ module _ (q : Nested) where
     pure (labeled ns x)
 
   -- the statements behind these declarations
-  unfoldable pub head_end : List Local → Parser (Step (List Local) (Head Local))
+  unfoldable pub head_end : List Local → Parser (Turned (List Local) (Head Local))
   head_end ls = do
     ss ← body
     pure (Done (ls, ss))
 
-  unfoldable pub head_from : List Local → Identifier → Parser (Step (List Local) (Head Local))
-  head_from ls i = when declares (do l ← local i; pure (Go (ls ++ l ∷ []))) (do ss ← stmts (Some i); pure (Done (ls, ss)))
+  unfoldable pub head_from : List Local → Identifier → Parser (Turned (List Local) (Head Local))
+  head_from ls i = when declares (do l ← local i; pure (Again (ls ++ l ∷ []))) (do ss ← stmts (Some i); pure (Done (ls, ss)))
 
-  unfoldable pub head_turn : List Local → Parser (Step (List Local) (Head Local))
+  unfoldable pub head_turn : List Local → Parser (Turned (List Local) (Head Local))
   head_turn ls = if q.can then choose a_name (λ n p. head_from ls (identifier n p)) (head_end ls) else head_end ls
 
   -- a block, whose first word or brace was taken, up to its last

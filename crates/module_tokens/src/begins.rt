@@ -5,7 +5,7 @@ ghost use Rattle.mesa_lexer.specs.declared.token.Kind.TheVariants as k;
 ghost use Rattle.mesa_lexer.specs.declared.mark.Mark.TheVariants as m;
 ghost use Rattle.module_productions.specs.ReadNested as spec;
 ghost use Rattle.token_cursor.specs.Running.{next_is};
-ghost use Rattle.module_productions.specs.Signs.{opening, relating};
+ghost use Rattle.module_productions.specs.WordsAndMarks.{opening, relating};
 
 use mesa_lexer::{Kind, Mark, Word};
 use token_cursor::{Cursor, is_word};
@@ -165,17 +165,6 @@ pub fn begins_repeat(tokens: &Cursor<'_>) -> bool
 {
     match tokens.peek() {
         Some(token) => matches!(token.kind, Kind::Name(_) | Kind::Word(Word::FinishedWord)),
-        None => false,
-    }
-}
-
-/// Whether SIGNAL or ERROR comes next.
-#[tactic(auto, unfolding(token_cursor::specs::Running::next_is))]
-pub fn begins_raise(tokens: &Cursor<'_>) -> bool
-    ensures { result ≡ next_is (among spec.raise_starts) tokens.now.rest.now }
-{
-    match tokens.peek() {
-        Some(token) => matches!(token.kind, Kind::Word(Word::SignalWord | Word::ErrorWord)),
         None => false,
     }
 }

@@ -3,4 +3,4 @@
 
 pub mod begins;
 pub mod naming;
-pub mod signs;
+pub mod words_and_marks;

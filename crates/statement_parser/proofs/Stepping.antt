@@ -8,7 +8,7 @@ use Rattle.token_cursor.specs.Parsing.{◌>>=◌, ◌>>◌, pure, a_name, need, 
 use Rattle.mesa_base.specs.declared.identifier.Identifier.{Identifier}
 use Rattle.mesa_types.specs.declared.syntax.Statement.TheVariants as s
 use Rattle.mesa_types.specs.declared.syntax.Count.TheVariants.{For}
-use Rattle.module_productions.specs.Signs.{negating}
+use Rattle.module_productions.specs.WordsAndMarks.{negating}
 use Rattle.module_productions.specs.ReadNested.{identifier, named}
 use Rattle.module_productions.specs.ReadExpressions as x
 use Rattle.module_productions.specs.ReadStatements as st

@@ -15,7 +15,7 @@ use mesa_lexer::{Mark, Word};
 use mesa_types::syntax::{Case, Cases, Statement, Test, Tests};
 use module_productions::Begun;
 use module_tokens::begins::begins_test;
-use module_tokens::signs::{takes_negating, takes_relating};
+use module_tokens::words_and_marks::{takes_negating, takes_relating};
 use token_cursor::{Cursor, Stopped};
 
 impl<N: NestedParsers> StatementParser<N> {

@@ -3,7 +3,7 @@ use Rattle.std.proofs.Common.{◌≡◌, ◌≤◌, length, arith, cond, true, L
 use Rattle.mesa_base.specs.declared.place.Place.{Place}
 use Rattle.mesa_lexer.specs.declared.token.Token.{Token}
 use Rattle.mesa_lexer.specs.declared.token.Kind.{Kind}
-use Rattle.token_cursor.specs.Parsing.{token, first, TooDeep, Out, Got, Stop, Parser, and_then, pure, refuse, exactly, finds, choose, when, Step, Go, Done, go_on, repeat, goes, many_turn, many, ended_turn, ended, too_deep}
+use Rattle.token_cursor.specs.Parsing.{token, first, TooDeep, Out, Got, Stop, Parser, and_then, pure, refuse, exactly, finds, choose, when, Turned, Again, Done, go_on, repeat, and_again, many_turn, many, ended_turn, ended, too_deep}
 use Rattle.token_cursor.proofs.Exact.{Test, Free}
 use Rattle.token_cursor.proofs.Branches.{chosen, passed, when_false}
 use Rattle.token_cursor.proofs.Loops.{Eats, unroll}
@@ -134,23 +134,23 @@ passing f p q {ts = ts} e h = via (passed f p q ts e) h
 -- ---- loops
 
 -- one turn
-pub turn_leads : {A B : Type 0} (body : A → Parser (Step A B)) → Eats body → (x y : A) (ts rest : List Token) (o : Option (List Token)) → Leads {X = Step A B} ts (Go y) rest o (λ z. pure z) (body x ts) → Leads ts y rest o (repeat body) (repeat body x ts)
+pub turn_leads : {A B : Type 0} (body : A → Parser (Turned A B)) → Eats body → (x y : A) (ts rest : List Token) (o : Option (List Token)) → Leads {X = Turned A B} ts (Again y) rest o (λ z. pure z) (body x ts) → Leads ts y rest o (repeat body) (repeat body x ts)
 turn_leads body eating x y ts rest o h = via (unroll body eating x ts) (finish y rest (repeat body) (onto (go_on (repeat body)) h) refl (omega arith))
 
-pub loop_ends : {A B : Type 0} (body : A → Parser (Step A B)) → Eats body → (x : A) (y : B) (ts rest : List Token) → body x ts ≡ Got (Done y) rest → repeat body x ts ≡ Got y rest
+pub loop_ends : {A B : Type 0} (body : A → Parser (Turned A B)) → Eats body → (x : A) (y : B) (ts rest : List Token) → body x ts ≡ Got (Done y) rest → repeat body x ts ≡ Got y rest
 loop_ends body eating x y ts rest e = unroll body eating x ts ∙ ap (λ z. and_then z (go_on (repeat body))) e
 
-went : {A B : Type 0} {ts rest : List Token} {x : A} {o : Option (List Token)} {out : Out A} → Leads ts x rest o (λ y. pure y) out → Leads {X = Step A B} ts (Go x) rest o (λ y. pure y) (and_then out (λ a. pure (Go a)))
-went {rest = rest} {x = x} h = finish (Go x) rest (λ y. pure y) (onto (λ a. pure (Go a)) h) refl (omega arith)
+went : {A B : Type 0} {ts rest : List Token} {x : A} {o : Option (List Token)} {out : Out A} → Leads ts x rest o (λ y. pure y) out → Leads {X = Turned A B} ts (Again x) rest o (λ y. pure y) (and_then out (λ a. pure (Again a)))
+went {rest = rest} {x = x} h = finish (Again x) rest (λ y. pure y) (onto (λ a. pure (Again a)) h) refl (omega arith)
 
 pub many_more : {O A : Type 0} (f : Kind → Option O) (step : A → O → Place → Parser A) → Eats (many_turn f step) → {x y : A} {ts rest : List Token} {o : Option (List Token)} (v : O) (t : Token) → f t.kind ≡ Some v
     → Leads ts y rest o (λ z. pure z) (step x v t.place ts) → Leads (t ∷ ts) y rest o (many f step) (many f step x (t ∷ ts))
 unfolding many_turn
-many_more f step eats {x = x} {y = y} {ts = ts} {rest = rest} {o = o} v t e h = turn_leads (many_turn f step) eats x y (t ∷ ts) rest o (taking f (λ o place. goes (step x o place)) (pure (Done x)) v t e (went h))
+many_more f step eats {x = x} {y = y} {ts = ts} {rest = rest} {o = o} v t e h = turn_leads (many_turn f step) eats x y (t ∷ ts) rest o (taking f (λ o place. and_again (step x o place)) (pure (Done x)) v t e (went h))
 
 pub many_end : {O A : Type 0} (f : Kind → Option O) (step : A → O → Place → Parser A) → Eats (many_turn f step) → (x : A) (ts : List Token) → Free (finds f) ts → many f step x ts ≡ Got x ts
 unfolding many_turn
-many_end f step eats x ts e = loop_ends (many_turn f step) eats x x ts ts (passed f (λ o place. goes (step x o place)) (pure (Done x)) ts e)
+many_end f step eats x ts e = loop_ends (many_turn f step) eats x x ts ts (passed f (λ o place. and_again (step x o place)) (pure (Done x)) ts e)
 
 -- how a text begins
 pub record Begins (test : Test) (ts : List Token) : Type 0 where
@@ -167,17 +167,17 @@ pub ended_more : {A : Type 0} (separator : Kind) (begins : Test) (step : A → P
     → Leads ts y rest o (λ z. pure z) (step x ts) → Leads (token separator place ∷ ts) y rest o (ended separator begins step) (ended separator begins step x (token separator place ∷ ts))
 unfolding ended_turn
 ended_more separator begins step eats {x = x} {y = y} {ts = ts} {rest = rest} {o = o} place e b h =
-    turn_leads (ended_turn separator begins step) eats x y (token separator place ∷ ts) rest o (taking (exactly separator) (λ _ _. when begins (goes (step x)) (pure (Done x))) (pure (Done x)) tt (token separator place) e (via (when_begins begins (goes (step x)) (pure (Done x)) ts b) (went h)))
+    turn_leads (ended_turn separator begins step) eats x y (token separator place ∷ ts) rest o (taking (exactly separator) (λ _ _. when begins (and_again (step x)) (pure (Done x))) (pure (Done x)) tt (token separator place) e (via (when_begins begins (and_again (step x)) (pure (Done x)) ts b) (went h)))
 
 pub ended_bare : {A : Type 0} (separator : Kind) (begins : Test) (step : A → Parser A) → Eats (ended_turn separator begins step) → (x : A) (ts : List Token) → Free (finds (exactly separator)) ts → ended separator begins step x ts ≡ Got x ts
 unfolding ended_turn
-ended_bare separator begins step eats x ts e = loop_ends (ended_turn separator begins step) eats x x ts ts (passed (exactly separator) (λ _ _. when begins (goes (step x)) (pure (Done x))) (pure (Done x)) ts e)
+ended_bare separator begins step eats x ts e = loop_ends (ended_turn separator begins step) eats x x ts ts (passed (exactly separator) (λ _ _. when begins (and_again (step x)) (pure (Done x))) (pure (Done x)) ts e)
 
 pub ended_closed : {A : Type 0} (separator : Kind) (begins : Test) (step : A → Parser A) → Eats (ended_turn separator begins step) → (x : A) (place : Place) (ts : List Token) → exactly separator separator ≡ Some tt → Free begins ts
     → ended separator begins step x (token separator place ∷ ts) ≡ Got x ts
 unfolding ended_turn
 ended_closed separator begins step eats x place ts e f = loop_ends (ended_turn separator begins step) eats x x (token separator place ∷ ts) ts
-    (chosen (exactly separator) (λ _ _. when begins (goes (step x)) (pure (Done x))) (pure (Done x)) tt (token separator place) ts e ∙ when_false begins (goes (step x)) (pure (Done x)) ts f)
+    (chosen (exactly separator) (λ _ _. when begins (and_again (step x)) (pure (Done x))) (pure (Done x)) tt (token separator place) ts e ∙ when_false begins (and_again (step x)) (pure (Done x)) ts f)
 
 -- ---- where nothing more may nest
 

@@ -3,22 +3,22 @@ use Rattle.std.proofs.Common.{◌≡◌, ℕ, zero, suc, ◌<◌, ◌≤◌, len
 use Rattle.mesa_base.specs.declared.place.Place.{Place}
 use Rattle.mesa_lexer.specs.declared.token.Token.{Token}
 use Rattle.mesa_lexer.specs.declared.token.Kind.{Kind}
-use Rattle.token_cursor.specs.Parsing.{token, first, Out, Got, Stop, Parser, and_then, ◌>>=◌, pure, refuse, exactly, picked, choose, when, Step, Go, Done, go_on, turns, repeat, goes, many_turn, many, ended_turn, ended}
+use Rattle.token_cursor.specs.Parsing.{token, first, Out, Got, Stop, Parser, and_then, ◌>>=◌, pure, refuse, exactly, picked, choose, when, Turned, Again, Done, go_on, turns, repeat, and_again, many_turn, many, ended_turn, ended}
 use Rattle.token_cursor.proofs.Exact.{Test, Rel, first_none, first_assoc, Holds, Sample, Keeps, bound, change, done, Then, Took, implied, imply, bind, shrinks, Pre}
 use Rattle.token_cursor.proofs.Branches.{somewhere, choose_or, option_or, when_keeps}
 
 -- what a step tells of the state before it, where R says what the loop reads from a state
-abbrev pub Turn : {A B : Type 0} → (A → Rel B) → A → Rel (Step A B)
-Turn {B = B} R a ts (Go a') mid o = (x : B) (rest : List Token) (o' : Option (List Token)) → R a' mid x rest o' → R a ts x rest (first o o')
+abbrev pub Turn : {A B : Type 0} → (A → Rel B) → A → Rel (Turned A B)
+Turn {B = B} R a ts (Again a') mid o = (x : B) (rest : List Token) (o' : Option (List Token)) → R a' mid x rest o' → R a ts x rest (first o o')
 Turn R a ts (Done b) rest o = R a ts b rest o
 
 -- a step that goes on takes a token
-pub record Eats {A B : Type 0} (body : A → Parser (Step A B)) : Type 0 where
-  pub eats : (a b : A) (ts rest : List Token) → body a ts ≡ Got (Go b) rest → length rest < length ts
+pub record Eats {A B : Type 0} (body : A → Parser (Turned A B)) : Type 0 where
+  pub eats : (a b : A) (ts rest : List Token) → body a ts ≡ Got (Again b) rest → length rest < length ts
 
-module _ {A B : Type 0} (body : A → Parser (Step A B)) (eating : Eats body) where
-  alike : (f g : A → Parser B) (a : A) (ts : List Token) (out : Out (Step A B)) → body a ts ≡ out → ((b : A) (rest : List Token) → length rest < length ts → f b rest ≡ g b rest) → and_then out (go_on f) ≡ and_then out (go_on g)
-  alike f g a ts (Got (Go b) rest) e h = h b rest (eating.eats a b ts rest e)
+module _ {A B : Type 0} (body : A → Parser (Turned A B)) (eating : Eats body) where
+  alike : (f g : A → Parser B) (a : A) (ts : List Token) (out : Out (Turned A B)) → body a ts ≡ out → ((b : A) (rest : List Token) → length rest < length ts → f b rest ≡ g b rest) → and_then out (go_on f) ≡ and_then out (go_on g)
+  alike f g a ts (Got (Again b) rest) e h = h b rest (eating.eats a b ts rest e)
   alike f g a ts (Got (Done b) rest) e h = refl
   alike f g a ts (Stop why rest) e h = refl
 
@@ -38,13 +38,13 @@ module _ {A B : Type 0} (body : A → Parser (Step A B)) (eating : Eats body) wh
   unroll a ts = enough (length ts) (suc (length ts)) a ts (omega arith) (omega arith) ∙ one_turn (length ts) a ts (omega arith)
 
   module _ (c : Test) (R : A → Rel B) (turn : (a : A) → Keeps c c (Turn R a) (body a)) (stops : (a : A) → Sample c c (R a)) where
-    sampled : (a : A) (s : Step A B) → Sample c c (Then (Turn R a) (R a) s)
-    sampled a (Go b) = record { text = (stops b).text; made = (stops b).made; viable = λ ws e. let v = (stops b).viable ws e in (v.0, (λ us o' d. d _ _ _ v.1), v.2) }
+    sampled : (a : A) (s : Turned A B) → Sample c c (Then (Turn R a) (R a) s)
+    sampled a (Again b) = record { text = (stops b).text; made = (stops b).made; viable = λ ws e. let v = (stops b).viable ws e in (v.0, (λ us o' d. d _ _ _ v.1), v.2) }
     sampled a (Done x) = record { text = []; made = x; viable = λ ws e. (None, (λ us o' d. subst (λ z. R a us x ws z) (sym (first_none o')) d), e) }
 
     next_turn : (a : A) (ts : List Token) → ((b : A) (rest : List Token) → length rest < length ts → Holds c c (R b) (repeat body b) rest (repeat body b rest))
-        → (s : Step A B) (mid : List Token) → body a ts ≡ Got s mid → Holds c c (Then (Turn R a) (R a) s) (go_on (repeat body) s) mid (go_on (repeat body) s mid)
-    next_turn a ts hyp (Go b) mid e = implied c c (R b) (Then (Turn R a) (R a) (Go b)) (repeat body b) (λ ts x rest o r us o' d. d x rest o r) mid (repeat body b mid) (hyp b mid (eating.eats a b ts mid e))
+        → (s : Turned A B) (mid : List Token) → body a ts ≡ Got s mid → Holds c c (Then (Turn R a) (R a) s) (go_on (repeat body) s) mid (go_on (repeat body) s mid)
+    next_turn a ts hyp (Again b) mid e = implied c c (R b) (Then (Turn R a) (R a) (Again b)) (repeat body b) (λ ts x rest o r us o' d. d x rest o r) mid (repeat body b mid) (hyp b mid (eating.eats a b ts mid e))
     next_turn a ts hyp (Done x) mid e = (done {c = c} {R = Then (Turn R a) (R a) (Done x)} x (λ ws us o' d. subst (λ z. R a us x ws z) (sym (first_none o')) d)).holds mid
 
     one_more : (a : A) (ts : List Token) → ((b : A) (rest : List Token) → length rest < length ts → Holds c c (R b) (repeat body b) rest (repeat body b rest)) → Holds c c (R a) (repeat body a) ts (repeat body a ts)
@@ -64,15 +64,15 @@ module _ {A B : Type 0} (body : A → Parser (Step A B)) (eating : Eats body) wh
 -- ---- loops that make longer what they read, as in S = I | S "," I, and in the end T = S [";"]
 
 -- what stands before is written down in S; in the end it is in T
-abbrev pub Steps : {X Z : Type 0} → Rel X → Rel Z → X → Rel (Step X Z)
-Steps S T x ts (Go y) rest o = Then S S x ts y rest o
+abbrev pub Steps : {X Z : Type 0} → Rel X → Rel Z → X → Rel (Turned X Z)
+Steps S T x ts (Again y) rest o = Then S S x ts y rest o
 Steps S T x ts (Done y) rest o = Then S T x ts y rest o
 
-turned : {X Z : Type 0} (S : Rel X) (T : Rel Z) (x : X) (ts : List Token) (s : Step X Z) (rest : List Token) (o : Option (List Token)) → Steps S T x ts s rest o → Turn (Then S T) x ts s rest o
-turned S T x ts (Go y) mid o g = λ z rest o2 h us o' d. subst (λ v. T us z rest v) (first_assoc o' o o2) (h us (first o' o) (g us o' d))
+turned : {X Z : Type 0} (S : Rel X) (T : Rel Z) (x : X) (ts : List Token) (s : Turned X Z) (rest : List Token) (o : Option (List Token)) → Steps S T x ts s rest o → Turn (Then S T) x ts s rest o
+turned S T x ts (Again y) mid o g = λ z rest o2 h us o' d. subst (λ v. T us z rest v) (first_assoc o' o o2) (h us (first o' o) (g us o' d))
 turned S T x ts (Done y) rest o g = g
 
-pub growing : {X Z : Type 0} {c : Test} (S : Rel X) (T : Rel Z) (body : X → Parser (Step X Z)) → Eats body → ((x : X) → Keeps c c (Steps S T x) (body x)) → ((x : X) → Sample c c (Then S T x)) → (x : X) → Keeps c c (Then S T x) (repeat body x)
+pub growing : {X Z : Type 0} {c : Test} (S : Rel X) (T : Rel Z) (body : X → Parser (Turned X Z)) → Eats body → ((x : X) → Keeps c c (Steps S T x) (body x)) → ((x : X) → Sample c c (Then S T x)) → (x : X) → Keeps c c (Then S T x) (repeat body x)
 growing {c = c} S T body eats turn stops x = loop body eats c (Then S T) (λ x. imply (turned S T x) (turn x)) stops x
 
 pub stays : {X : Type 0} (S : Rel X) (x : X) (ws : List Token) → Then S S x ws x ws None
@@ -82,10 +82,10 @@ pub stay : {X : Type 0} {c : Test} (S : Rel X) (x : X) → Sample c c (Then S S 
 stay S x = record { text = []; made = x; viable = λ ws e. (None, stays S x ws, e) }
 
 -- what a step came to goes on
-pub going : {X Z : Type 0} {k c : Test} (S : Rel X) (T : Rel Z) (x : X) (t : Token) {p : Parser X} → Keeps k c (Took t (Then S S x)) p → Keeps k c (Took t (Steps S T x)) (goes p)
-going S T x t h = bind h (λ y. done (Go y) (λ ws us o d us0 o0 d0. subst (λ z. S us0 y ws (first o0 z)) (sym (first_none o)) (d us0 o0 d0)))
+pub going : {X Z : Type 0} {k c : Test} (S : Rel X) (T : Rel Z) (x : X) (t : Token) {p : Parser X} → Keeps k c (Took t (Then S S x)) p → Keeps k c (Took t (Steps S T x)) (and_again p)
+going S T x t h = bind h (λ y. done (Again y) (λ ws us o d us0 o0 d0. subst (λ z. S us0 y ws (first o0 z)) (sym (first_none o)) (d us0 o0 d0)))
 
-goes_on : {A B : Type 0} (out : Out A) (b : A) (rest : List Token) → and_then out (λ a. pure {A = Step A B} (Go a)) ≡ Got (Go b) rest → out ≡ Got b rest
+goes_on : {A B : Type 0} (out : Out A) (b : A) (rest : List Token) → and_then out (λ a. pure {A = Turned A B} (Again a)) ≡ Got (Again b) rest → out ≡ Got b rest
 goes_on (Got a mid) b rest e = let same : a ≡ b = cc in let there : mid ≡ rest = cc in ap (λ z. Got z mid) same ∙ ap (λ z. Got b z) there
 goes_on (Stop why mid) b rest e = absurd (cc)
 
@@ -93,7 +93,7 @@ goes_on (Stop why mid) b rest e = absurd (cc)
 
 module _ {O X : Type 0} {k c : Test} (R : X → Token → Rel X) (f : Kind → Option O) (step : X → O → Place → Parser X)
     (keeps : (x : X) (o : O) (place : Place) (kind : Kind) → f kind ≡ Some o → Keeps k c (R x (token kind place)) (step x o place)) where
-  many_eat : (x y : X) (t : Token) (ts rest : List Token) (r : Option O) → f t.kind ≡ r → picked r (λ o place. goes {B = X} (step x o place)) (pure (Done x)) t ts ≡ Got (Go y) rest → length rest < length (t ∷ ts)
+  many_eat : (x y : X) (t : Token) (ts rest : List Token) (r : Option O) → f t.kind ≡ r → picked r (λ o place. and_again {B = X} (step x o place)) (pure (Done x)) t ts ≡ Got (Again y) rest → length rest < length (t ∷ ts)
   many_eat x y t ts rest (Some o) e h = let s : length rest ≤ length ts = shrinks (step x o t.place) (keeps x o t.place t.kind e) ts y rest (goes_on (step x o t.place ts) y rest h) in omega arith
   many_eat x y t ts rest None e h = absurd (cc)
 
@@ -101,7 +101,7 @@ module _ {O X : Type 0} {k c : Test} (R : X → Token → Rel X) (f : Kind → O
   unfolding many_turn choose
   many_eats = record { eats = go }
     where
-      go : (x y : X) (ts rest : List Token) → many_turn f step x ts ≡ Got (Go y) rest → length rest < length ts
+      go : (x y : X) (ts rest : List Token) → many_turn f step x ts ≡ Got (Again y) rest → length rest < length ts
       go x y [] rest e = absurd (cc)
       go x y (t ∷ ts) rest e = many_eat x y t ts rest (f t.kind) refl e
 
@@ -117,16 +117,16 @@ many_keeps {X = X} {k = k} {c = c} S f step keeps x = growing S S (many_turn f s
 -- ---- further items, each after a separator, with one more at the end or not
 
 module _ {X : Type 0} {k c : Test} (R : X → Rel X) (separator : Kind) (begins : Test) (step : X → Parser X) (keeps : (x : X) → Keeps k c (R x) (step x)) where
-  item_eat : (x y : X) (ts rest : List Token) → when begins (goes {B = X} (step x)) (pure (Done x)) ts ≡ Got (Go y) rest → length rest ≤ length ts
+  item_eat : (x y : X) (ts rest : List Token) → when begins (and_again {B = X} (step x)) (pure (Done x)) ts ≡ Got (Again y) rest → length rest ≤ length ts
   unfolding when
   item_eat x y [] rest e = absurd (cc)
   item_eat x y (t ∷ ts) rest e = go (begins t.kind) e
     where
-      go : (b : Bool) → cond b (goes {B = X} (step x)) (pure (Done x)) (t ∷ ts) ≡ Got (Go y) rest → length rest ≤ length (t ∷ ts)
+      go : (b : Bool) → cond b (and_again {B = X} (step x)) (pure (Done x)) (t ∷ ts) ≡ Got (Again y) rest → length rest ≤ length (t ∷ ts)
       go true e = shrinks (step x) (keeps x) (t ∷ ts) y rest (goes_on (step x (t ∷ ts)) y rest e)
       go false e = absurd (cc)
 
-  ended_eat : (x y : X) (t : Token) (ts rest : List Token) (r : Option (Unit {0})) → exactly separator t.kind ≡ r → picked r (λ _ _. when begins (goes {B = X} (step x)) (pure (Done x))) (pure (Done x)) t ts ≡ Got (Go y) rest → length rest < length (t ∷ ts)
+  ended_eat : (x y : X) (t : Token) (ts rest : List Token) (r : Option (Unit {0})) → exactly separator t.kind ≡ r → picked r (λ _ _. when begins (and_again {B = X} (step x)) (pure (Done x))) (pure (Done x)) t ts ≡ Got (Again y) rest → length rest < length (t ∷ ts)
   ended_eat x y t ts rest (Some o) e h = let s : length rest ≤ length ts = item_eat x y ts rest h in omega arith
   ended_eat x y t ts rest None e h = absurd (cc)
 
@@ -134,7 +134,7 @@ module _ {X : Type 0} {k c : Test} (R : X → Rel X) (separator : Kind) (begins 
   unfolding ended_turn choose
   ended_eats = record { eats = go }
     where
-      go : (x y : X) (ts rest : List Token) → ended_turn separator begins step x ts ≡ Got (Go y) rest → length rest < length ts
+      go : (x y : X) (ts rest : List Token) → ended_turn separator begins step x ts ≡ Got (Again y) rest → length rest < length ts
       go x y [] rest e = absurd (cc)
       go x y (t ∷ ts) rest e = ended_eat x y t ts rest (exactly separator t.kind) refl e
 
@@ -168,16 +168,16 @@ series S T pre f F one whole item more = bind item (λ a. bind (more a) (λ x. d
 
 -- ---- steps that take a token where they go on
 
-pub record Less {A B : Type 0} (p : Parser (Step A B)) : Type 0 where
-  pub less : (b : A) (ts rest : List Token) → p ts ≡ Got (Go b) rest → length rest < length ts
+pub record Less {A B : Type 0} (p : Parser (Turned A B)) : Type 0 where
+  pub less : (b : A) (ts rest : List Token) → p ts ≡ Got (Again b) rest → length rest < length ts
 
-pub record NoMore {A B : Type 0} (p : Parser (Step A B)) : Type 0 where
-  pub no_more : (b : A) (ts rest : List Token) → p ts ≡ Got (Go b) rest → length rest ≤ length ts
+pub record NoMore {A B : Type 0} (p : Parser (Turned A B)) : Type 0 where
+  pub no_more : (b : A) (ts rest : List Token) → p ts ≡ Got (Again b) rest → length rest ≤ length ts
 
-pub eats_by : {A B : Type 0} {body : A → Parser (Step A B)} → ((a : A) → Less (body a)) → Eats body
+pub eats_by : {A B : Type 0} {body : A → Parser (Turned A B)} → ((a : A) → Less (body a)) → Eats body
 eats_by h = record { eats = λ a b ts rest e. (h a).less b ts rest e }
 
-never : {A B C : Type 0} (out : Out C) (f : C → B) (b : A) (rest : List Token) → and_then out (λ x. pure (Done (f x))) ≡ Got (Go b) rest → ⊥
+never : {A B C : Type 0} (out : Out C) (f : C → B) (b : A) (rest : List Token) → and_then out (λ x. pure (Done (f x))) ≡ Got (Again b) rest → ⊥
 never (Got x mid) f b rest e = cc
 never (Stop why mid) f b rest e = cc
 
@@ -187,53 +187,53 @@ less_done p f = record { less = λ b ts rest e. absurd (never (p ts) f b rest e)
 pub no_more_done : {A B C : Type 0} (p : Parser C) (f : C → B) → NoMore {A = A} (p >>= (λ x. pure (Done (f x))))
 no_more_done p f = record { no_more = λ b ts rest e. absurd (never (p ts) f b rest e) }
 
-pub no_more_pure : {A B : Type 0} (s : Step A B) → NoMore (pure s)
+pub no_more_pure : {A B : Type 0} (s : Turned A B) → NoMore (pure s)
 no_more_pure s = record { no_more = λ b ts rest e. let same : ts ≡ rest = cc in omega (arith, ap length same) }
 
-more_goes : {A B C : Type 0} (out : Out C) (f : C → A) (b : A) (rest : List Token) → and_then out (λ a. pure {A = Step A B} (Go (f a))) ≡ Got (Go b) rest → (a : C) × (out ≡ Got a rest)
+more_goes : {A B C : Type 0} (out : Out C) (f : C → A) (b : A) (rest : List Token) → and_then out (λ a. pure {A = Turned A B} (Again (f a))) ≡ Got (Again b) rest → (a : C) × (out ≡ Got a rest)
 more_goes (Got a mid) f b rest e = let there : mid ≡ rest = cc in (a, ap (λ z. Got a z) there)
 more_goes (Stop why mid) f b rest e = absurd (cc)
 
-pub no_more_goes : {A B C : Type 0} {k c : Test} {R : Rel C} {p : Parser C} (f : C → A) → Keeps k c R p → NoMore {A = A} {B = B} (p >>= (λ x. pure (Go (f x))))
+pub no_more_goes : {A B C : Type 0} {k c : Test} {R : Rel C} {p : Parser C} (f : C → A) → Keeps k c R p → NoMore {A = A} {B = B} (p >>= (λ x. pure (Again (f x))))
 no_more_goes {p = p} f h = record { no_more = λ b ts rest e. let m = more_goes (p ts) f b rest e in shrinks p h ts m.0 rest m.1 }
 
-picked_less : {O A B : Type 0} (p : O → Place → Parser (Step A B)) (q : Parser (Step A B)) → ((o : O) (place : Place) → NoMore (p o place)) → Less q → (b : A) (t : Token) (ts rest : List Token) (r : Option O) → picked r p q t ts ≡ Got (Go b) rest → length rest < length (t ∷ ts)
+picked_less : {O A B : Type 0} (p : O → Place → Parser (Turned A B)) (q : Parser (Turned A B)) → ((o : O) (place : Place) → NoMore (p o place)) → Less q → (b : A) (t : Token) (ts rest : List Token) (r : Option O) → picked r p q t ts ≡ Got (Again b) rest → length rest < length (t ∷ ts)
 picked_less p q h g b t ts rest (Some o) e = let s : length rest ≤ length ts = (h o t.place).no_more b ts rest e in omega arith
 picked_less p q h g b t ts rest None e = g.less b (t ∷ ts) rest e
 
-pub less_choose : {O A B : Type 0} (f : Kind → Option O) (p : O → Place → Parser (Step A B)) (q : Parser (Step A B)) → ((o : O) (place : Place) → NoMore (p o place)) → Less q → Less (choose f p q)
+pub less_choose : {O A B : Type 0} (f : Kind → Option O) (p : O → Place → Parser (Turned A B)) (q : Parser (Turned A B)) → ((o : O) (place : Place) → NoMore (p o place)) → Less q → Less (choose f p q)
 unfolding choose
 less_choose {A = A} f p q h g = record { less = go }
   where
-    go : (b : A) (ts rest : List Token) → choose f p q ts ≡ Got (Go b) rest → length rest < length ts
+    go : (b : A) (ts rest : List Token) → choose f p q ts ≡ Got (Again b) rest → length rest < length ts
     go b [] rest e = g.less b [] rest e
     go b (t ∷ ts) rest e = picked_less p q h g b t ts rest (f t.kind) e
 
-picked_no_more : {O A B : Type 0} (p : O → Place → Parser (Step A B)) (q : Parser (Step A B)) → ((o : O) (place : Place) → NoMore (p o place)) → NoMore q → (b : A) (t : Token) (ts rest : List Token) (r : Option O) → picked r p q t ts ≡ Got (Go b) rest → length rest ≤ length (t ∷ ts)
+picked_no_more : {O A B : Type 0} (p : O → Place → Parser (Turned A B)) (q : Parser (Turned A B)) → ((o : O) (place : Place) → NoMore (p o place)) → NoMore q → (b : A) (t : Token) (ts rest : List Token) (r : Option O) → picked r p q t ts ≡ Got (Again b) rest → length rest ≤ length (t ∷ ts)
 picked_no_more p q h g b t ts rest (Some o) e = let s : length rest ≤ length ts = (h o t.place).no_more b ts rest e in omega arith
 picked_no_more p q h g b t ts rest None e = g.no_more b (t ∷ ts) rest e
 
-pub no_more_choose : {O A B : Type 0} (f : Kind → Option O) (p : O → Place → Parser (Step A B)) (q : Parser (Step A B)) → ((o : O) (place : Place) → NoMore (p o place)) → NoMore q → NoMore (choose f p q)
+pub no_more_choose : {O A B : Type 0} (f : Kind → Option O) (p : O → Place → Parser (Turned A B)) (q : Parser (Turned A B)) → ((o : O) (place : Place) → NoMore (p o place)) → NoMore q → NoMore (choose f p q)
 unfolding choose
 no_more_choose {A = A} f p q h g = record { no_more = go }
   where
-    go : (b : A) (ts rest : List Token) → choose f p q ts ≡ Got (Go b) rest → length rest ≤ length ts
+    go : (b : A) (ts rest : List Token) → choose f p q ts ≡ Got (Again b) rest → length rest ≤ length ts
     go b [] rest e = g.no_more b [] rest e
     go b (t ∷ ts) rest e = picked_no_more p q h g b t ts rest (f t.kind) e
 
-pub no_more_when : {A B : Type 0} (f : Test) (p q : Parser (Step A B)) → NoMore p → NoMore q → NoMore (when f p q)
+pub no_more_when : {A B : Type 0} (f : Test) (p q : Parser (Turned A B)) → NoMore p → NoMore q → NoMore (when f p q)
 unfolding when
 no_more_when {A = A} f p q h g = record { no_more = go }
   where
-    by : (v : Bool) (b : A) (ts rest : List Token) → cond v p q ts ≡ Got (Go b) rest → length rest ≤ length ts
+    by : (v : Bool) (b : A) (ts rest : List Token) → cond v p q ts ≡ Got (Again b) rest → length rest ≤ length ts
     by true b ts rest e = h.no_more b ts rest e
     by false b ts rest e = g.no_more b ts rest e
 
-    go : (b : A) (ts rest : List Token) → when f p q ts ≡ Got (Go b) rest → length rest ≤ length ts
+    go : (b : A) (ts rest : List Token) → when f p q ts ≡ Got (Again b) rest → length rest ≤ length ts
     go b [] rest e = g.no_more b [] rest e
     go b (t ∷ ts) rest e = by (f t.kind) b (t ∷ ts) rest e
 
-pub less_either : {A B : Type 0} (v : Bool) {p q : Parser (Step A B)} → Less p → Less q → Less (cond v p q)
+pub less_either : {A B : Type 0} (v : Bool) {p q : Parser (Turned A B)} → Less p → Less q → Less (cond v p q)
 less_either true h g = h
 less_either false h g = g
 

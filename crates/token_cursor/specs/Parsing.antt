@@ -100,35 +100,35 @@ when f p q [] = q []
 when f p q (t ∷ ts) = cond (f t.kind) p q (t ∷ ts)
 
 -- a loop's step gives the state to go on with, or what was read
-pub data Step (A B : Type 0) : Type 0 where
-  Go : A → Step A B
-  Done : B → Step A B
+pub data Turned (A B : Type 0) : Type 0 where
+  Again : A → Turned A B
+  Done : B → Turned A B
 
-abbrev pub go_on : {A B : Type 0} → (A → Parser B) → Step A B → Parser B
-go_on f (Go a) = f a
+abbrev pub go_on : {A B : Type 0} → (A → Parser B) → Turned A B → Parser B
+go_on f (Again a) = f a
 go_on f (Done b) = pure b
 
-unfoldable pub turns : {A B : Type 0} → (A → Parser (Step A B)) → ℕ → A → Parser B
+unfoldable pub turns : {A B : Type 0} → (A → Parser (Turned A B)) → ℕ → A → Parser B
 turns body zero a = body a >>= go_on (λ _. refuse)
 turns body (suc n) a = body a >>= go_on (turns body n)
 
 -- each step that goes on takes a token, so that the tokens bound the steps
-unfoldable pub repeat : {A B : Type 0} → (A → Parser (Step A B)) → A → Parser B
+unfoldable pub repeat : {A B : Type 0} → (A → Parser (Turned A B)) → A → Parser B
 repeat body a = λ ts. turns body (length ts) a ts
 
-abbrev pub goes : {A B : Type 0} → Parser A → Parser (Step A B)
-goes p = p >>= (λ a. pure (Go a))
+abbrev pub and_again : {A B : Type 0} → Parser A → Parser (Turned A B)
+and_again p = p >>= (λ a. pure (Again a))
 
 -- as long as the test finds something
-unfoldable pub many_turn : {O A : Type 0} → (Kind → Option O) → (A → O → Place → Parser A) → A → Parser (Step A A)
-many_turn f step a = choose f (λ o place. goes (step a o place)) (pure (Done a))
+unfoldable pub many_turn : {O A : Type 0} → (Kind → Option O) → (A → O → Place → Parser A) → A → Parser (Turned A A)
+many_turn f step a = choose f (λ o place. and_again (step a o place)) (pure (Done a))
 
 abbrev pub many : {O A : Type 0} → (Kind → Option O) → (A → O → Place → Parser A) → A → Parser A
 many f step a = repeat (many_turn f step) a
 
 -- further items, each after a separator; one more separator may stand at the end
-unfoldable pub ended_turn : {A : Type 0} → Kind → (Kind → Bool) → (A → Parser A) → A → Parser (Step A A)
-ended_turn separator begins step a = option separator (λ _. when begins (goes (step a)) (pure (Done a))) (pure (Done a))
+unfoldable pub ended_turn : {A : Type 0} → Kind → (Kind → Bool) → (A → Parser A) → A → Parser (Turned A A)
+ended_turn separator begins step a = option separator (λ _. when begins (and_again (step a)) (pure (Done a))) (pure (Done a))
 
 abbrev pub ended : {A : Type 0} → Kind → (Kind → Bool) → (A → Parser A) → A → Parser A
 ended separator begins step a = repeat (ended_turn separator begins step) a

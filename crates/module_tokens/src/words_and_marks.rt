@@ -2,7 +2,7 @@
 ghost use Rattle.std.specs.Prelude.{◌≡◌};
 ghost use Rattle.module_productions.specs.ReadExpressions.{suffixing};
 ghost use Rattle.token_cursor.specs.Running.{alone, behind, taken};
-ghost use Rattle.module_productions.specs.Signs as spec;
+ghost use Rattle.module_productions.specs.WordsAndMarks as spec;
 
 use mesa_base::Place;
 use mesa_lexer::{Kind, Mark, Word};
