@@ -1,54 +1,27 @@
 -- Small texts with their whole trees: one or more for each row of statements.
-use Rattle.std.proofs.Common.{◌≡◌, ℕ, suc, Bool, true, false, List, [], ◌∷◌, ◌++◌, Some, None, refl}
-use Rattle.std.specs.Prelude.{codes}
-use Prim.Native.String.{String}
-use Rattle.mesa_base.specs.declared.place.Place.{Place}
-use Rattle.mesa_base.specs.declared.identifier.Identifier.{Identifier}
-use Rattle.mesa_lexer.specs.declared.token.Token.{Token}
-use Rattle.mesa_lexer.specs.declared.token.Kind.{Kind}
+use Rattle.std.proofs.Common.{ℕ, true, false, List, [], ◌∷◌, Some, None, refl}
 use Rattle.mesa_lexer.specs.declared.token.Kind.TheVariants as k
-use Rattle.mesa_lexer.specs.declared.word.Word.{Word}
-use Rattle.mesa_lexer.specs.declared.mark.Mark.{Mark}
-use Rattle.mesa_lexer.specs.declared.word.Word.TheVariants.{AndWord, AnyWord, ArrayWord, BeginWord, BooleanWord, CardinalWord, CharacterWord, CodeWord, ContinueWord, DecreasingWord, DefinitionsWord, DirectoryWord, DoWord, ElseWord, EnableWord, EndWord, EndcaseWord, EndloopWord, ErrorWord, ExitWord, ExitsWord, ExportsWord, FalseWord, FinishedWord, ForWord, FromWord, GoWord, GotoWord, IfWord, ImportsWord, InWord, IntegerWord, LoopWord, ModWord, NotWord, NullWord, OfWord, OpenWord, OrWord, PrivateWord, ProcWord, ProcedureWord, ProgramWord, PublicWord, RecordWord, RejectWord, RepeatWord, ResumeWord, RetryWord, ReturnWord, ReturnsWord, SelectWord, SignalWord, StringWord, ThenWord, ThroughWord, ToWord, TrueWord, TypeWord, UntilWord, UnwindWord, UsingWord, WhileWord}
-use Rattle.mesa_lexer.specs.declared.mark.Mark.TheVariants.{Arrow, AtLeast, AtMost, Bang, Colon, Comma, Dot, DotDot, DoubleArrow, Equal, Greater, LeftBrace, LeftBracket, LeftParenthesis, Less, Minus, Plus, RightBrace, RightBracket, RightParenthesis, Semicolon, Sharp, Slash, Star, Tilde}
-use Rattle.token_cursor.specs.Grammars.{token}
-use Rattle.token_cursor.specs.Parsing.{Got}
+use Rattle.mesa_lexer.specs.declared.word.Word.TheVariants.{AnyWord, ContinueWord, DecreasingWord, DoWord, ElseWord, EnableWord, EndcaseWord, EndloopWord, ErrorWord, ExitWord, FinishedWord, ForWord, FromWord, GoWord, GotoWord, IfWord, InWord, LoopWord, NotWord, NullWord, RejectWord, RepeatWord, ResumeWord, RetryWord, ReturnWord, SelectWord, ThenWord, ThroughWord, ToWord, UntilWord, WhileWord}
+use Rattle.mesa_lexer.specs.declared.mark.Mark.TheVariants.{Arrow, Colon, Comma, Dot, DotDot, DoubleArrow, LeftBracket, LeftParenthesis, Less, Plus, RightBracket, RightParenthesis, Semicolon, Sharp, Tilde}
 use Rattle.token_cursor.specs.Parsing as w
 use Rattle.mesa_types.specs.declared.syntax.Entries.TheVariants.{Nothing, InOrder, ByKey}
 use Rattle.mesa_types.specs.declared.syntax.Labels.TheVariants as l
 use Rattle.mesa_types.specs.declared.syntax.RepeatLabels.TheVariants as rl
-use Rattle.mesa_types.specs.declared.syntax.TypeBase.TheVariants as b
 use Rattle.mesa_types.specs.declared.syntax.Operator.TheVariants as o
 use Rattle.mesa_types.specs.declared.relation.Relation.TheVariants as v
-use Rattle.mesa_types.specs.declared.syntax.Sign.TheVariants.{Positive, Negative}
-use Rattle.mesa_types.specs.declared.syntax.Access.TheVariants.{Public, Private}
-use Rattle.mesa_types.specs.declared.syntax.TypeExp.{TypeExp}
-use Rattle.mesa_types.specs.declared.syntax.TypeExp.TheVariants as t
-use Rattle.mesa_types.specs.declared.syntax.FieldList.TheVariants.{WithNames, Unnamed}
-use Rattle.mesa_types.specs.declared.syntax.Expr.{Expr}
 use Rattle.mesa_types.specs.declared.syntax.Expr.TheVariants as e
 use Rattle.mesa_types.specs.declared.syntax.Suffix.TheVariants.{Field, Applied}
-use Rattle.mesa_types.specs.declared.syntax.Raise.TheVariants.{SignalRaise, ErrorRaise, UnnamedError}
-use Rattle.mesa_types.specs.declared.syntax.Statement.{Statement}
+use Rattle.mesa_types.specs.declared.syntax.Raise.TheVariants.{ErrorRaise}
 use Rattle.mesa_types.specs.declared.syntax.Statement.TheVariants as s
 use Rattle.mesa_types.specs.declared.syntax.Count.TheVariants.{For, Through}
 use Rattle.mesa_types.specs.declared.syntax.Condition.TheVariants.{While, Until}
 use Rattle.mesa_types.specs.declared.syntax.Test.TheVariants.{Value, Compared, Inside}
-use Rattle.mesa_types.specs.declared.syntax.PlainItem.TheVariants.{TypeIs, Variable, Initial, Constant}
-use Rattle.mesa_types.specs.declared.syntax.Declared.TheVariants as d
-use Rattle.mesa_types.specs.declared.syntax.Declaration.{Declaration}
-use Rattle.mesa_types.specs.declared.syntax.Defined.TheVariants.{ProcedureItem, SignalItem, ErrorItem, TypeItem, ConstantItem}
-use Rattle.mesa_types.specs.declared.syntax.ModuleKind.TheVariants.{Program, Interface}
-use Rattle.mesa_types.specs.declared.syntax.Module.{Module}
 use Rattle.module_productions.specs.Grammar as g
-use Rattle.module_productions.specs.Modules as m
-use Rattle.module_productions.specs.Answer.{Parses}
 use Rattle.module_productions.specs.ReadNested as nr
 use Rattle.module_productions.specs.ReadExpressions as ex
 use Rattle.module_productions.specs.ReadStatements as st
 use Rattle.module_productions.specs.ReadModules as r
-use Rattle.module_productions.proofs.Whole.{found}
-use Rattle.module_productions.proofs.SmallTexts.{at, id, name, text, named, variable, numbered, in_body, framed, a_type, a_value, statements, whole, Example, Each, Read, Has, hence}
+use Rattle.module_productions.proofs.SmallTexts.{at, id, name, variable, statements, Example, Each, Read, Has, hence}
 
 -- NULL
 abbrev null : Example
