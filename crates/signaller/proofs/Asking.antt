@@ -1,0 +1,95 @@
+-- The loops of the search.
+use Rattle.std.proofs.Common.{◌≡◌, ℕ, zero, suc, ◌+◌, ◌<◌, ◌≤◌, List, [], ◌∷◌, Bool, true, false, not, ◌||◌, ◌&&◌, length, drop, get_or, Option, Some, None, refl, sym, ap, subst, ◌∙◌, arith}
+use Rattle.std.specs.Prelude.{slice_get, position, nat_lt, IfSome, if◌then◌else◌}
+use Rattle.std.specs.List.{list_any, prefix_len, position_or_len}
+use Rattle.std.proofs.lemmas.List.{drop_more, drop_all}
+use Rattle.std.proofs.lemmas.List.Sums.{prefix_len-drop_no, prefix_len-drop_yes, prefix_len-drop_all}
+use Rattle.std.proofs.lemmas.Bool.{lt-ltb, le-ltb}
+use Rattle.std.proofs.lemmas.Option.{slice_get-get_or, slice_get_within, same_Some, none-some}
+use Rattle.code_forms.specs.declared.module_code.Arm.{Arm}
+use Rattle.code_forms.specs.declared.module_code.Phrase.{Phrase}
+use Rattle.signaller.specs.declared.outward.Asked.{Asked}
+use Rattle.signaller.specs.declared.outward.Asked.TheVariants.{Fits, Before}
+use Rattle.signaller.specs.declared.place.Place.{Place}
+use Rattle.signaller.specs.Search.{covers, has, arms_of, around_at, around, place_at, first_place}
+use Rattle.signaller.specs.Sought.{passed, fitting, answer, IsPlace}
+
+pub any_more : {X : Type 0} (f : X → Bool) (xs : List X) (i : ℕ) (d : X) → i < length xs → f (get_or xs i d) ≡ false → list_any f (drop (i + 1) xs) ≡ list_any f (drop i xs)
+any_more f xs i d h e = sym (ap (λ ys. list_any f ys) (drop_more xs i d h) ∙ ap (λ b. b || list_any f (drop (i + 1) xs)) e)
+
+pub any_here : {X : Type 0} (f : X → Bool) (xs : List X) (i : ℕ) (d : X) → i < length xs → f (get_or xs i d) ≡ true → list_any f (drop i xs) ≡ true
+any_here f xs i d h e = ap (λ ys. list_any f ys) (drop_more xs i d h) ∙ ap (λ b. b || list_any f (drop (i + 1) xs)) e
+
+pub any_end : {X : Type 0} (f : X → Bool) (xs : List X) (i : ℕ) → length xs ≤ i → list_any f (drop i xs) ≡ false
+any_end f xs i h = ap (λ ys. list_any f ys) (drop_all i xs h)
+
+pub first_more : {X : Type 0} (f : X → Bool) (xs : List X) (i : ℕ) (d : X) → i < length xs → f (get_or xs i d) ≡ false
+  → i + 1 + position_or_len f (drop (i + 1) xs) ≡ i + position_or_len f (drop i xs)
+first_more f xs i d h e = let s = prefix_len-drop_yes (λ x. not (f x)) xs i d h (ap not e) in omega (arith, s)
+
+pub first_here : {X : Type 0} (f : X → Bool) (xs : List X) (i : ℕ) (d : X) → i < length xs → f (get_or xs i d) ≡ true
+  → i + position_or_len f (drop i xs) ≡ position_or_len f xs → position f xs ≡ Some i
+first_here f xs i d h e s =
+    let z = prefix_len-drop_no (λ x. not (f x)) xs i d h (ap not e) in
+    let n : position_or_len f xs ≡ i = omega (arith, z, s) in
+    subst (λ k. if nat_lt k (length xs) then Some k else None ≡ Some i) (sym n) (ap (λ b. if b then Some i else None) (lt-ltb i (length xs) h))
+
+pub first_end : {X : Type 0} (f : X → Bool) (xs : List X) (i : ℕ) → length xs ≤ i
+  → i + position_or_len f (drop i xs) ≡ position_or_len f xs → position f xs ≡ None
+first_end f xs i h s =
+    let z = prefix_len-drop_all (λ x. not (f x)) xs i h in
+    ap (λ b. if b then Some (position_or_len f xs) else None) (le-ltb (position_or_len f xs) (length xs) (omega (arith, z, s)))
+
+-- what one phrase answers, as what is found of it and of those before it
+abbrev pub answered : ℕ → (ℕ → Option Place) → Asked → Option Place
+answered number before (Fits arm) = Some (record { phrase = number; arm = arm })
+answered number before (Before offset) = before offset
+
+fitting_is : (fits : Arm → Bool) (m : ℕ) (before : ℕ → Option Place) (p : Phrase) (o : Option ℕ) → place_at m o (before p.from) ≡ answered m before (fitting p o)
+fitting_is fits m before p None = refl
+fitting_is fits m before p (Some arm) = refl
+
+answer_is : (outward : Bool) (fits : Arm → Bool) (table : List Phrase) (m offset : ℕ) (before : ℕ → List ℕ) (p : Phrase) → slice_get table m ≡ Some p
+  → first_place fits table (around_at outward m offset before (Some p)) ≡ answered m (λ o. first_place fits table (before o)) (answer outward fits p offset)
+unfolding around_at, first_place
+answer_is outward fits table m offset before p is =
+    elim (covers p offset) as (λ b. first_place fits table (if b then m ∷ before p.from else before (passed outward p offset))
+        ≡ answered m (λ o. first_place fits table (before o)) (if b then fitting p (position fits p.arms) else Before (passed outward p offset))) [
+      true ↦ ap (λ o. place_at m (position fits (arms_of o)) (first_place fits table (before p.from))) is ∙ fitting_is fits m (λ o. first_place fits table (before o)) p (position fits p.arms)
+    | false ↦ refl ]
+
+around_read : (outward : Bool) (table : List Phrase) (k m : ℕ) (d : Phrase) → k ≡ m + 1 → m < length table → (offset : ℕ)
+  → around outward table k offset ≡ around_at outward m offset (around outward table m) (Some (get_or table m d))
+unfolding around
+around_read outward table k m d e h offset =
+    let s : k ≡ suc m = omega arith in
+    ap (λ n. around outward table n offset) s ∙ ap (λ o. around_at outward m offset (around outward table m) o) (slice_get-get_or table m d h)
+
+-- one phrase of the search
+pub place_answered : (outward : Bool) (fits : Arm → Bool) (table : List Phrase) (k m : ℕ) (d : Phrase) → k ≡ m + 1 → m < length table → (offset : ℕ)
+  → first_place fits table (around outward table k offset) ≡ answered m (λ o. first_place fits table (around outward table m o)) (answer outward fits (get_or table m d) offset)
+place_answered outward fits table k m d e h offset =
+    ap (λ numbers. first_place fits table numbers) (around_read outward table k m d e h offset)
+    ∙ answer_is outward fits table m offset (around outward table m) (get_or table m d) (slice_get-get_or table m d h)
+
+pub place_none : (outward : Bool) (fits : Arm → Bool) (table : List Phrase) (k offset : ℕ) → k ≡ 0 → first_place fits table (around outward table k offset) ≡ None
+unfolding around, first_place
+place_none outward fits table k offset e = ap (λ n. first_place fits table (around outward table n offset)) e
+
+pub around_here : (outward : Bool) (table : List Phrase) (k m : ℕ) (d : Phrase) → k ≡ m + 1 → m < length table → (offset : ℕ) → covers (get_or table m d) offset ≡ true
+  → around outward table k offset ≡ m ∷ around outward table m (get_or table m d).from
+unfolding around_at
+around_here outward table k m d e h offset c =
+    around_read outward table k m d e h offset
+    ∙ ap (λ b. if b then m ∷ around outward table m (get_or table m d).from else around outward table m (passed outward (get_or table m d) offset)) c
+
+pub around_more : (outward : Bool) (table : List Phrase) (k m : ℕ) (d : Phrase) → k ≡ m + 1 → m < length table → (offset : ℕ) → covers (get_or table m d) offset ≡ false
+  → around outward table k offset ≡ around outward table m (passed outward (get_or table m d) offset)
+unfolding around_at
+around_more outward table k m d e h offset c =
+    around_read outward table k m d e h offset
+    ∙ ap (λ b. if b then m ∷ around outward table m (get_or table m d).from else around outward table m (passed outward (get_or table m d) offset)) c
+
+pub around_none : (outward : Bool) (table : List Phrase) (k offset : ℕ) → k ≡ 0 → around outward table k offset ≡ []
+unfolding around
+around_none outward table k offset e = ap (λ n. around outward table n offset) e

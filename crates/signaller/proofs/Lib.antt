@@ -1,0 +1,5 @@
+pub mod Asking
+pub mod Halving
+pub mod Enabled
+pub mod Sweeping
+pub mod Telling

@@ -1,0 +1,15 @@
+//! The search of the phrases of a procedure for an arm, and the index of their ranges.
+#![tactic(auto)]
+
+mod catch_index;
+mod outward;
+mod place;
+mod search;
+mod signal_id;
+mod sweep;
+
+pub use catch_index::{CatchIndex, Segment, index, innermost};
+pub use outward::{Sought, beyond, place_for};
+pub use place::Place;
+pub use search::{Found, LinkSignals, Links, Search, next_arm, unwind_next};
+pub use signal_id::SignalId;
