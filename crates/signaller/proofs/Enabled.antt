@@ -20,7 +20,7 @@ range_more a (suc n) = ap (λ xs. a ∷ xs) (range_more (a + 1) n ∙ ap (λ k. 
 
 
 pub down_more : (n : ℕ) → reverse (range_with_len 0 (suc n)) ≡ n ∷ reverse (range_with_len 0 n)
-down_more n = ap reverse (range_more 0 n) ∙ reverse-append (range_with_len 0 n) (n ∷ [])
+down_more n = ap reverse (range_more 0 n ∙ ap (λ k. range_with_len 0 n ++ k ∷ []) (omega arith)) ∙ reverse-append (range_with_len 0 n) (n ∷ [])
 
 -- the phrases among the first so many that are enabled
 abbrev pub enabled_before : List Phrase → ℕ → ℕ → List ℕ

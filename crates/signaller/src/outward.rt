@@ -1,6 +1,6 @@
 ghost use Rattle.std.specs.Prelude.{◌≡◌, ℕ, ◌+◌, ◌<◌, ◌≤◌, ◌^◌, length, Option, IfSome, position, slice_get};
 ghost use Rattle.std.specs.List.{list_any};
-ghost use Rattle.signaller.specs.Search.{covers, has, same_signal, linked, meant, is_meant, is_any, is_unwind, label_fits, around, first_place, asked, beyond, search_from};
+ghost use Rattle.signaller.specs.Search.{covers, has, same_signal, linked, meant, is_meant, is_any, is_unwind, label_fits, first_of, around, first_place, asked, beyond, search_from};
 ghost use Rattle.signaller.specs.Sought.{fits, goes_outward, passed, answer, IsPlace};
 
 use crate::place::Place;
@@ -107,7 +107,7 @@ fn any_unwind(labels: &[Label]) -> bool
 }
 
 fn fits(sought: Sought, arm: &Arm) -> bool
-    ensures { result ≡ fits sought arm.now }
+    ensures { result ≡ fits sought.entry arm.now }
 {
     match sought {
         Sought::Signal(links, signal) => any_for_signal(links, signal, arm.labels.as_slice()),
@@ -116,7 +116,7 @@ fn fits(sought: Sought, arm: &Arm) -> bool
 }
 
 fn goes_outward(sought: Sought) -> bool
-    ensures { result ≡ goes_outward sought }
+    ensures { result ≡ goes_outward sought.entry }
 {
     match sought {
         Sought::Signal(_, _) => true,
@@ -127,7 +127,7 @@ fn goes_outward(sought: Sought) -> bool
 // The number of the first arm that fits.
 #[tactic(auto, using(crate::proofs::Asking::first_more, crate::proofs::Asking::first_here, crate::proofs::Asking::first_end))]
 fn first_fitting(sought: Sought, arms: &[Arm]) -> Option<usize>
-    ensures { result ≡ position (fits sought) arms.now }
+    ensures { result ≡ position (fits sought.entry) arms.now }
 {
     for i in 0..arms.len() {
         if fits(sought, &arms[i]) {
@@ -180,7 +180,7 @@ pub enum Asked {
 }
 
 fn answer(sought: Sought, phrase: &Phrase, offset: u32) -> Asked
-    ensures { result ≡ answer (goes_outward sought) (fits sought) phrase.now offset }
+    ensures { result ≡ answer (goes_outward sought.entry) (fits sought.entry) phrase.now offset }
 {
     if !covers(phrase, offset) {
         return Asked::Before(passed(goes_outward(sought), phrase, offset));
@@ -194,7 +194,7 @@ fn answer(sought: Sought, phrase: &Phrase, offset: u32) -> Asked
 // The first place of an arm that fits in the phrases around the offset, innermost first, among so many.
 fn place_around(sought: Sought, table: &[Phrase], count: usize, offset: u32) -> Option<Place>
     requires { count ≤ length table.now }
-    ensures { result ≡ first_place (fits sought) table.now (around (goes_outward sought) table.now count offset) }
+    ensures { result ≡ first_place (fits sought.entry) table.now (around (goes_outward sought.entry) table.now count offset) }
 {
     let mut about = offset;
     for back in 0..count {
@@ -212,25 +212,50 @@ fn place_around(sought: Sought, table: &[Phrase], count: usize, offset: u32) -> 
     None
 }
 
-/// The first phrase from the search on with an arm that fits, and its first such arm; None exactly where there is none.
-/// It looks at each phrase of the table up to the search's once at most, and takes no memory.
-pub fn place_for(table: &CatchTable, search: Search, sought: Sought) -> Option<Place>
-    requires there { IfSome search.phrase (λ n. n < length table.now) }
-    ensures place { result ≡ first_place (fits sought) table.now (asked (goes_outward sought) table.now search.phrase) }
-    ensures there { IfSome result (IsPlace table.now) }
+// The first place of an arm that fits in the phrases from one on.
+fn place_from(sought: Sought, table: &[Phrase], number: usize) -> Option<Place>
+    requires { number < length table.now }
+    ensures { result ≡ first_place (fits sought.entry) table.now (asked (goes_outward sought.entry) table.now (Option.Some number)) }
 {
-    let number = match search.phrase {
-        Some(number) => number as usize,
-        None => return None,
-    };
-    let phrases = table.as_slice();
-    match first_fitting(sought, phrases[number].arms.as_slice()) {
+    let phrase = &table[number];
+    match first_fitting(sought, phrase.arms.as_slice()) {
         Some(arm) => Some(Place {
             phrase: number,
             arm,
         }),
-        None => place_around(sought, phrases, number, phrases[number].from),
+        None => place_around(sought, table, number, phrase.from),
     }
+}
+
+/// The first phrase from the search on with an arm that fits, and its first such arm; None exactly where there is none.
+/// It looks at each phrase of the table up to the search's once at most, and takes no memory.
+pub fn place_for(table: &CatchTable, search: Search, sought: Sought) -> Option<Place>
+    requires there { IfSome search.phrase (λ n. n < length table.now) }
+    ensures place { result ≡ first_place (fits sought.entry) table.now (asked (goes_outward sought.entry) table.now search.phrase) }
+    ensures there { IfSome result (IsPlace table.now) }
+{
+    match search.phrase {
+        Some(number) => place_from(sought, table.as_slice(), number as usize),
+        None => None,
+    }
+}
+
+// The first of the phrases beyond one.
+fn outward_of(outward: bool, table: &[Phrase], phrase: usize) -> Option<u32>
+    requires few { length table.now < 2 ^ 32 }
+    requires there { phrase < length table.now }
+    ensures { result ≡ first_of (beyond outward table.now phrase) }
+{
+    let mut about = table[phrase].from;
+    for back in 0..phrase {
+        let number = phrase - 1 - back;
+        let earlier = &table[number];
+        if covers(earlier, about) {
+            return Some(number as u32);
+        }
+        about = passed(outward, earlier, about);
+    }
+    None
 }
 
 /// The search beyond a phrase, outward of arms or in its region. It looks at each phrase before it once at most, and
@@ -240,16 +265,7 @@ pub fn beyond(table: &CatchTable, outward: bool, phrase: usize) -> Search
     requires there { phrase < length table.now }
     ensures { result ≡ search_from (beyond outward table.now phrase) }
 {
-    let phrases = table.as_slice();
-    let mut about = phrases[phrase].from;
-    for back in 0..phrase {
-        let number = phrase - 1 - back;
-        if covers(&phrases[number], about) {
-            return Search {
-                phrase: Some(number as u32),
-            };
-        }
-        about = passed(outward, &phrases[number], about);
+    Search {
+        phrase: outward_of(outward, table.as_slice(), phrase),
     }
-    Search { phrase: None }
 }
