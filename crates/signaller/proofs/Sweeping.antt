@@ -12,6 +12,10 @@ use Rattle.signaller.specs.Search.{covers, innermost_of}
 use Rattle.signaller.specs.Sweep.{Sweeps}
 use Rattle.signaller.proofs.Enabled.{innermost_at, innermost_before, innermost_is}
 
+-- a phrase, where any will do
+abbrev pub no_phrase : Phrase
+no_phrase = record { from = 0; to = 0; arms = [] }
+
 pub same_default : {X : Type 0} (xs : List X) (i : ℕ) (d e : X) → i < length xs → get_or xs i d ≡ get_or xs i e
 same_default xs i d e l = get_or_from_slice_get xs i (get_or xs i e) d (slice_get-get_or xs i e l)
 

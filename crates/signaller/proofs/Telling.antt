@@ -12,7 +12,7 @@ use Rattle.signaller.specs.declared.catch_index.Segment.{Segment}
 use Rattle.signaller.specs.Index.{Indexes}
 use Rattle.signaller.specs.Search.{innermost_of}
 use Rattle.signaller.specs.Sweep.{AreEdges, AreTold, HasStart}
-use Rattle.signaller.proofs.Sweeping.{same_default, steady}
+use Rattle.signaller.proofs.Sweeping.{no_phrase, same_default, steady}
 
 abbrev pub segment : ℕ → Option ℕ → Segment
 segment start phrase = record { start = start; phrase = phrase }
@@ -96,9 +96,6 @@ edge_apart table segments at i o edge s t is next h =
         let f = far (i + 1) h.number s (omega arith) th in omega (arith, lt, f, st)))
       (λ (a : h.number ≤ i). inl (let f = far h.number i s a li in let e = ap (λ x. x.start) here in omega (arith, f, e, st)))
       (cases_lt i h.number)
-
-abbrev no_phrase : Phrase
-no_phrase = record { from = 0; to = 0; arms = [] }
 
 has_edge : (segments : List Segment) (edges : List ℕ) (edge : ℕ) → ((j : ℕ) → j < length edges → HasStart segments (get_or edges j 0)) → Contains edges edge → HasStart segments edge
 has_edge segments edges edge h c = subst (λ e. HasStart segments e) (same_default edges c.0 0 edge c.1 ∙ c.2) (h c.0 c.1)
