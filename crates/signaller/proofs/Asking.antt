@@ -1,17 +1,18 @@
 -- The loops of the search.
 use Rattle.std.proofs.Common.{◌≡◌, ℕ, zero, suc, ◌+◌, ◌<◌, ◌≤◌, List, [], ◌∷◌, Bool, true, false, not, ◌||◌, ◌&&◌, length, drop, get_or, Option, Some, None, refl, sym, ap, subst, ◌∙◌, ◌⊎◌, ⊎_elim, arith}
-use Rattle.std.specs.Prelude.{slice_get, position, nat_lt, IfSome, if◌then◌else◌}
+use Rattle.std.specs.Prelude.{slice_get, position, nat_lt, sum_by, IfSome, if◌then◌else◌}
 use Rattle.std.specs.List.{list_any, prefix_len, position_or_len}
 use Rattle.std.proofs.lemmas.List.{drop_more, drop_all}
-use Rattle.std.proofs.lemmas.List.Sums.{prefix_len-drop_no, prefix_len-drop_yes, prefix_len-drop_all}
+use Rattle.std.proofs.Math.Seq.{take-length}
+use Rattle.std.proofs.lemmas.List.Sums.{prefix_len-drop_no, prefix_len-drop_yes, prefix_len-drop_all, sum_by_more_le}
 use Rattle.std.proofs.lemmas.Bool.{cases_lt, lt-ltb, le-ltb}
-use Rattle.std.proofs.lemmas.Option.{slice_get-get_or, slice_get_within, same_Some, none-some}
+use Rattle.std.proofs.lemmas.Option.{slice_get-get_or, slice_get_within, get_or_from_slice_get, same_Some, none-some}
 use Rattle.code_forms.specs.declared.module_code.Arm.{Arm}
 use Rattle.code_forms.specs.declared.module_code.Phrase.{Phrase}
 use Rattle.signaller.specs.declared.outward.Asked.{Asked}
 use Rattle.signaller.specs.declared.outward.Asked.TheVariants.{Fits, Before}
 use Rattle.signaller.specs.declared.place.Place.{Place}
-use Rattle.signaller.specs.Search.{covers, has, first_of, from_of, arms_of, around_at, around, beyond, asked, place_at, first_place}
+use Rattle.signaller.specs.Search.{covers, has, first_of, from_of, arms_of, around_at, around, beyond, asked, place_at, first_place, arms_before}
 use Rattle.signaller.specs.Sought.{passed, fitting, answer, IsPlace}
 
 pub any_more : {X : Type 0} (f : X → Bool) (xs : List X) (i : ℕ) (d : X) → i < length xs → f (get_or xs i d) ≡ false → list_any f (drop (i + 1) xs) ≡ list_any f (drop i xs)
@@ -151,3 +152,16 @@ found_place fits table (n ∷ numbers) place e =
 pub if_place : (fits : Arm → Bool) (table : List Phrase) (numbers : List ℕ) (o : Option Place) → o ≡ first_place fits table numbers → IfSome o (IsPlace table)
 if_place fits table numbers None e = tt
 if_place fits table numbers (Some place) e = found_place fits table numbers place (sym e)
+
+pub place_within : (table : List Phrase) (place : Place) → IsPlace table place → place.phrase < length table
+place_within table place p = slice_get_within table place.phrase p.phrase p.is
+
+-- its number is one of the table's
+pub place_few : (table : List Phrase) (place : Place) → IsPlace table place → arms_before table place.phrase + place.arm < arms_before table (length table)
+place_few table place p =
+    let l = place_within table place p in
+    let more = sum_by_more_le (λ q. length q.arms) table place.phrase p.phrase l in
+    let here = ap (λ q. length q.arms) (get_or_from_slice_get table place.phrase p.phrase p.phrase p.is) in
+    let all = ap (λ t. sum_by (λ (q : Phrase). length q.arms) t) (take-length table) in
+    let a = p.arm in
+    omega (arith, more, here, all, a)
