@@ -1,5 +1,6 @@
 pub mod Asking
 pub mod Halving
+pub mod Lying
 pub mod Edges
 pub mod Enabled
 pub mod Sweeping

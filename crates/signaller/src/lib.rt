@@ -2,6 +2,7 @@
 #![tactic(auto)]
 
 mod catch_index;
+mod law;
 mod outward;
 mod place;
 mod search;
@@ -9,6 +10,7 @@ mod signal_id;
 mod sweep;
 
 pub use catch_index::{CatchIndex, Segment, index, innermost};
+pub use law::tables_of_valid;
 pub use outward::{Sought, beyond, place_for};
 pub use place::Place;
 pub use search::{Found, LinkSignals, Links, Search, next_arm, unwind_next};
