@@ -4,7 +4,7 @@ use Rattle.std.specs.Prelude.{slice_get, filter, reverse, if◌then◌else◌}
 use Rattle.std.specs.List.{range_with_len}
 use Rattle.std.proofs.lemmas.List.{reverse-append}
 use Rattle.code_forms.specs.declared.module_code.Phrase.{Phrase}
-use Rattle.signaller.specs.Search.{covers, covers_in, first_of, enabled, innermost_of}
+use Rattle.signaller.specs.Search.{covers, covers_in, first_of, enabled_before, innermost_of}
 
 unfoldable pub innermost_at : ℕ → Option ℕ → ℕ → Option Phrase → Option ℕ
 innermost_at number before offset None = before
@@ -21,10 +21,6 @@ range_more a (suc n) = ap (λ xs. a ∷ xs) (range_more (a + 1) n ∙ ap (λ k. 
 
 pub down_more : (n : ℕ) → reverse (range_with_len 0 (suc n)) ≡ n ∷ reverse (range_with_len 0 n)
 down_more n = ap reverse (range_more 0 n ∙ ap (λ k. range_with_len 0 n ++ k ∷ []) (omega arith)) ∙ reverse-append (range_with_len 0 n) (n ∷ [])
-
--- the phrases among the first so many that are enabled
-abbrev pub enabled_before : List Phrase → ℕ → ℕ → List ℕ
-enabled_before table n offset = filter (λ k. covers_in (slice_get table k) offset) (reverse (range_with_len 0 n))
 
 pub enabled_more : (table : List Phrase) (n offset : ℕ) → enabled_before table (suc n) offset
     ≡ (if covers_in (slice_get table n) offset then n ∷ enabled_before table n offset else enabled_before table n offset)

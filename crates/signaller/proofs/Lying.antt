@@ -25,7 +25,7 @@ use Rattle.signaller.specs.Search.{arms_before}
 use Rattle.signaller.specs.Tables.{IsCatchTable}
 use Rattle.signaller.specs.Laws.{TablesOfValid}
 
-stand : (code : List Spot) (table : List Phrase) → PhrasesFill code table → (k : ℕ) → k < length table → Stands code (take k table) (get_or table k no_phrase)
+pub stand : (code : List Spot) (table : List Phrase) → PhrasesFill code table → (k : ℕ) → k < length table → Stands code (take k table) (get_or table k no_phrase)
 stand code table f k l = fill_stand code table f k no_phrase l
 
 no_arms : (arms : List Arm) → length arms ≡ 0 → first_start arms ≡ 0
@@ -64,7 +64,7 @@ arms_wide code arms f some =
 arms_more : (table : List Phrase) (n : ℕ) → n < length table → arms_before table (n + 1) ≡ arms_before table n + length (get_or table n no_phrase).arms
 arms_more table n l = sum_by_more (λ (p : Phrase). length p.arms) table n no_phrase l
 
-taken_some : (table : List Phrase) (n : ℕ) → 0 < n → n ≤ length table → 0 < length (take n table)
+pub taken_some : (table : List Phrase) (n : ℕ) → 0 < n → n ≤ length table → 0 < length (take n table)
 taken_some [] n l m = absurd (omega arith)
 taken_some (p ∷ table) zero l m = absurd (omega arith)
 taken_some (p ∷ table) (suc n) l m = omega arith

@@ -37,9 +37,12 @@ abbrev pub first_of : List ℕ → Option ℕ
 first_of [] = None
 first_of (n ∷ numbers) = Some n
 
--- the phrases that are enabled at an offset, innermost first: an inner one stands behind an outer one
+-- the phrases that are enabled at an offset, among the first so many, innermost first: an inner one stands behind an outer one
+abbrev pub enabled_before : List Phrase → ℕ → ℕ → List ℕ
+enabled_before table count offset = filter (λ n. covers_in (slice_get table n) offset) (reverse (range_with_len 0 count))
+
 abbrev pub enabled : List Phrase → ℕ → List ℕ
-enabled table offset = filter (λ n. covers_in (slice_get table n) offset) (reverse (range_with_len 0 (length table)))
+enabled table offset = enabled_before table (length table) offset
 
 abbrev pub innermost_of : List Phrase → ℕ → Option ℕ
 innermost_of table offset = first_of (enabled table offset)
