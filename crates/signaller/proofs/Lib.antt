@@ -3,6 +3,7 @@ pub mod Halving
 pub mod Lying
 pub mod Edges
 pub mod Enabled
+pub mod Inside
 pub mod Regions
 pub mod Sweeping
 pub mod Telling

@@ -44,7 +44,7 @@ armed code table f k l =
       (cases_lt 0 (length p.arms))
 
 -- arms that follow each other take room
-arm_behind : (code : List Spot) (arms : List Arm) → ArmsFollow code arms → 0 < length arms → (k : ℕ) → k < length arms → first_start arms + k ≤ (get_or arms k no_arm).start
+pub arm_behind : (code : List Spot) (arms : List Arm) → ArmsFollow code arms → 0 < length arms → (k : ℕ) → k < length arms → first_start arms + k ≤ (get_or arms k no_arm).start
 arm_behind code arms f some zero l = let e = first_start_is arms no_arm some in omega (arith, e)
 arm_behind code arms f some (suc k) l =
     let before = arm_behind code arms f some k (omega arith) in
@@ -118,7 +118,7 @@ code_short code o =
     let s = o.short (length code - 1) d (omega arith) in
     omega (arith, is, s)
 
-ends_with : (code : List Spot) (table : List Phrase) → 0 < length table → EndsWithCode code table → regions_end table ≡ code_end code
+pub ends_with : (code : List Spot) (table : List Phrase) → 0 < length table → EndsWithCode code table → regions_end table ≡ code_end code
 ends_with code [] l e = absurd (omega arith)
 ends_with code (p ∷ table) l e = e
 

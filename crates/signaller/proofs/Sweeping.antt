@@ -84,12 +84,12 @@ sweeps_pop table opened rest top next at e s over =
     }
 
 -- what covers an offset and what does not
-covers_not : (p : Phrase) (o : ℕ) → (o < p.from) ⊎ (p.to ≤ o) → covers p o ≡ false
+pub covers_not : (p : Phrase) (o : ℕ) → (o < p.from) ⊎ (p.to ≤ o) → covers p o ≡ false
 covers_not p o h = ⊎_elim
     (λ (a : o < p.from). ap (λ b. b && nat_lt o p.to) (lt-leb p.from o a))
     (λ (a : p.to ≤ o). elim (nat_le p.from o) as (λ b. (b && nat_lt o p.to) ≡ false) [ true ↦ le-ltb o p.to a | false ↦ refl ]) h
 
-covers_it : (p : Phrase) (o : ℕ) → p.from ≤ o → o < p.to → covers p o ≡ true
+pub covers_it : (p : Phrase) (o : ℕ) → p.from ≤ o → o < p.to → covers p o ≡ true
 covers_it p o a b = ap (λ c. c && nat_lt o p.to) (le-leb p.from o a) ∙ lt-ltb o p.to b
 
 at_covered : (n : ℕ) (before : Option ℕ) (o : ℕ) (p : Phrase) → covers p o ≡ true → innermost_at n before o (Some p) ≡ Some n
