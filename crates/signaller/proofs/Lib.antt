@@ -6,4 +6,5 @@ pub mod Enabled
 pub mod Inside
 pub mod Regions
 pub mod Sweeping
+pub mod Surrounding
 pub mod Telling

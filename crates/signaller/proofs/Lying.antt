@@ -28,6 +28,9 @@ use Rattle.signaller.specs.Laws.{TablesOfValid}
 pub stand : (code : List Spot) (table : List Phrase) → PhrasesFill code table → (k : ℕ) → k < length table → Stands code (take k table) (get_or table k no_phrase)
 stand code table f k l = fill_stand code table f k no_phrase l
 
+pub in_order : (code : List Spot) (table : List Phrase) → PhrasesFill code table → IsNonDecreasingBy (λ p. p.from) table
+in_order code table f = subst (λ (t : List Phrase). IsNonDecreasingBy (λ p. p.from) t) (take-length table) (stand_sorted code table (length table) (omega arith) (fill_stand code table f))
+
 no_arms : (arms : List Arm) → length arms ≡ 0 → first_start arms ≡ 0
 no_arms [] e = refl
 no_arms (a ∷ arms) e = absurd (omega arith)
@@ -139,7 +142,7 @@ table_of code table o f =
     record {
       few = (let m = as_many (spots code) table f (length table) (omega arith) in omega (arith, m, few_arms));
       few_arms = few_arms;
-      sorted = subst (λ (t : List Phrase). IsNonDecreasingBy (λ p. p.from) t) (take-length table) (stand_sorted (spots code) table (length table) (omega arith) (fill_stand (spots code) table f));
+      sorted = in_order (spots code) table f;
     }
 
 one_table : (table : List Phrase) → IsProp (IsCatchTable table)

@@ -1,10 +1,56 @@
 -- Laws of the search and the index for valid code (rule of this project).
-use Rattle.std.specs.Prelude.{◌≡◌, ℕ, Some, slice_get}
+use Rattle.std.specs.Prelude.{◌≡◌, ◌↔◌, ◌++◌, ℕ, ◌<◌, ◌≤◌, List, [], length, All, Bool, true, false, Option, Some, None, slice_get}
 use Rattle.code_forms.specs.declared.module_code.CodeProcedure.{CodeProcedure}
 use Rattle.code_forms.specs.declared.module_code.ModuleCode.{ModuleCode}
+use Rattle.code_forms.specs.declared.module_code.Phrase.{Phrase}
+use Rattle.code_forms.specs.declared.region.Region.{Region}
+use Rattle.code_forms.specs.declared.region.Region.TheVariants.{Body, ArmOf}
+use Rattle.code_forms.specs.Phrases.{PhrasesFill}
+use Rattle.code_forms.specs.Regions.{region_at}
+use Rattle.code_forms.specs.Routine.{Spot, code_end}
 use Rattle.code_forms.specs.Valid.{Valid}
+use Rattle.signaller.specs.Search.{covers, enabled_before, enabled, innermost_of, around, beyond, asked, search_from}
 use Rattle.signaller.specs.Tables.{IsCatchTable}
 
 -- the phrases of each procedure of valid code are a table as the calls ask for it
 abbrev pub TablesOfValid : Type 0
 TablesOfValid = (m : ModuleCode) → Valid m → (n : ℕ) (p : CodeProcedure) → slice_get m.procedures n ≡ Some p → IsCatchTable p.phrases
+
+-- the phrases around the region of an arm: outward of arms those beyond the phrase that holds the arm, and else none
+abbrev pub outer : Bool → List Phrase → Region → List ℕ
+outer false table region = []
+outer true table Body = []
+outer true table (ArmOf phrase arm) = beyond true table phrase
+
+-- the phrases to ask about an offset are those that are enabled there, and then those around its region
+abbrev pub AsksEnabled : Type 0
+AsksEnabled = (code : List Spot) (table : List Phrase) → PhrasesFill code table → (outward : Bool) (offset : ℕ) → offset < code_end code
+    → around outward table (length table) offset ≡ enabled table offset ++ outer outward table (region_at table offset)
+
+-- beyond a phrase are those before it that are enabled where it begins, and then those around its region
+abbrev pub GoesOutward : Type 0
+GoesOutward = (code : List Spot) (table : List Phrase) → PhrasesFill code table → (outward : Bool) (n : ℕ) (p : Phrase) → slice_get table n ≡ Some p
+    → beyond outward table n ≡ enabled_before table n p.from ++ outer outward table (region_at table p.from)
+
+-- a phrase is enabled in one region alone
+abbrev pub StaysInside : Type 0
+StaysInside = (code : List Spot) (table : List Phrase) → PhrasesFill code table → (n : ℕ) (p : Phrase) (offset : ℕ) → slice_get table n ≡ Some p
+    → covers p offset ≡ true → region_at table p.from ≡ region_at table offset
+
+-- the innermost phrase is enabled, and its range lies in that of each phrase that is
+pub record IsInnermost (table : List Phrase) (offset : ℕ) (p : Phrase) : Type 0 where
+  pub enabled : covers p offset ≡ true
+  pub within : (m : ℕ) (q : Phrase) → slice_get table m ≡ Some q → covers q offset ≡ true → (q.from ≤ p.from) × (p.to ≤ q.to)
+
+abbrev pub FindsInnermost : Type 0
+FindsInnermost = (code : List Spot) (table : List Phrase) → PhrasesFill code table → (offset n : ℕ) → innermost_of table offset ≡ Some n
+    → (p : Phrase) × (slice_get table n ≡ Some p) × IsInnermost table offset p
+
+-- there is none exactly where no phrase is enabled
+abbrev pub FindsNone : Type 0
+FindsNone = (table : List Phrase) (offset : ℕ) → (innermost_of table offset ≡ None) ↔ All (λ p. covers p offset ≡ false) table
+
+-- a search that begins with the first of the phrases around an offset asks all of them
+abbrev pub AsksAll : Type 0
+AsksAll = (outward : Bool) (table : List Phrase) (count offset : ℕ)
+    → asked outward table (search_from (around outward table count offset)).phrase ≡ around outward table count offset

@@ -1,6 +1,38 @@
-ghost use Rattle.signaller.specs.Laws.{TablesOfValid};
+ghost use Rattle.signaller.specs.Laws.{TablesOfValid, AsksEnabled, GoesOutward, StaysInside, FindsInnermost, FindsNone, AsksAll};
 
 /// The phrases of each procedure of valid code are a table as the calls ask for it.
 pub fn tables_of_valid()
     ensures { TablesOfValid }
+{}
+
+/// The phrases to ask about an offset of valid code are those that are enabled there, innermost first; then, for a
+/// search that goes outward of arms, those beyond the phrase that holds the arm in whose region the offset is.
+pub fn asks_enabled()
+    ensures { AsksEnabled }
+{}
+
+/// Beyond a phrase of valid code are those before it that are enabled where it begins, innermost first; then, for a
+/// search that goes outward of arms, those beyond the phrase that holds the arm in whose region it is.
+pub fn goes_outward()
+    ensures { GoesOutward }
+{}
+
+/// A phrase of valid code is enabled in one region alone, so a search in a region never leaves it.
+pub fn stays_inside()
+    ensures { StaysInside }
+{}
+
+/// The innermost phrase at an offset of valid code is enabled there, and lies in each that is.
+pub fn finds_innermost()
+    ensures { FindsInnermost }
+{}
+
+/// There is no innermost phrase exactly where none is enabled.
+pub fn finds_none()
+    ensures { FindsNone }
+{}
+
+/// A search that begins with the first of the phrases around an offset asks all of them in their order.
+pub fn asks_all()
+    ensures { AsksAll }
 {}

@@ -10,7 +10,9 @@ mod signal_id;
 mod sweep;
 
 pub use catch_index::{CatchIndex, Segment, index, innermost};
-pub use law::tables_of_valid;
+pub use law::{
+    asks_all, asks_enabled, finds_innermost, finds_none, goes_outward, stays_inside, tables_of_valid,
+};
 pub use outward::{Sought, beyond, place_for};
 pub use place::Place;
 pub use search::{Found, LinkSignals, Links, Search, next_arm, unwind_next};

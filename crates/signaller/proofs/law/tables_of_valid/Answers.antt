@@ -1,5 +1,4 @@
 use Rattle.signaller.proofs.Lying.{tables_of_valid}
-use Rattle.signaller.proofs.Inside.{has_arm}
 use Rattle.signaller.proofs.law.tables_of_valid.Goals as goal
 
 pub returns : goal.returns
