@@ -4,6 +4,7 @@ pub mod Lying
 pub mod Edges
 pub mod Enabled
 pub mod Inside
+pub mod Numbering
 pub mod Regions
 pub mod Sweeping
 pub mod Surrounding

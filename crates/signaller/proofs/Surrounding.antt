@@ -4,7 +4,7 @@ use Rattle.std.specs.Prelude.{All, slice_get, if◌then◌else◌}
 use Rattle.std.specs.List.{list_any}
 use Rattle.std.specs.List.Sorted.{IsNonDecreasingBy}
 use Rattle.std.proofs.lemmas.Bool.{cases_lt, cases_eq, true≢false, false≢true}
-use Rattle.std.proofs.lemmas.List.{get_or-take, length-take-le}
+use Rattle.std.proofs.lemmas.List.{append-nil, get_or-take, length-take-le}
 use Rattle.std.proofs.lemmas.Option.{slice_get-get_or, slice_get_within, get_or_from_slice_get, same_Some, none-some}
 use Rattle.code_forms.specs.declared.module_code.Phrase.{Phrase}
 use Rattle.code_forms.specs.declared.region.Region.{Region}
@@ -169,14 +169,10 @@ outside code table f (suc n) o l within h =
                 (cases_lt q n))) in
             rest ∙ ap (λ xs. xs ++ outer true table (region_at table o)) (sym (enabled_no table n o there c))) ] refl) ] refl
 
-append_none : (xs : List ℕ) → xs ≡ xs ++ []
-append_none [] = refl
-append_none (x ∷ xs) = ap (λ ys. x ∷ ys) (append_none xs)
-
 surrounding : (code : List Spot) (table : List Phrase) → PhrasesFill code table → (outward : Bool) (n o : ℕ) → n ≤ length table → o < code_end code → ((q k : ℕ) → region_at table o ≡ ArmOf q k → q < n)
   → around outward table n o ≡ enabled_before table n o ++ outer outward table (region_at table o)
 surrounding code table f true n o l within h = outside code table f n o l within h
-surrounding code table f false n o l within h = inside code table f n o l ∙ append_none (enabled_before table n o)
+surrounding code table f false n o l within h = inside code table f n o l ∙ sym (append-nil (enabled_before table n o))
 
 pub asks_enabled : AsksEnabled
 asks_enabled code table f outward o within =

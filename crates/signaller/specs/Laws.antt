@@ -1,5 +1,5 @@
 -- Laws of the search and the index for valid code (rule of this project).
-use Rattle.std.specs.Prelude.{◌≡◌, ◌↔◌, ◌++◌, ℕ, ◌<◌, ◌≤◌, List, [], length, All, Bool, true, false, Option, Some, None, slice_get}
+use Rattle.std.specs.Prelude.{◌≡◌, ◌↔◌, ◌++◌, ℕ, ◌+◌, ◌<◌, ◌≤◌, List, [], length, All, Bool, true, false, Option, Some, None, slice_get, flat_map}
 use Rattle.code_forms.specs.declared.module_code.CodeProcedure.{CodeProcedure}
 use Rattle.code_forms.specs.declared.module_code.ModuleCode.{ModuleCode}
 use Rattle.code_forms.specs.declared.module_code.Phrase.{Phrase}
@@ -9,7 +9,9 @@ use Rattle.code_forms.specs.Phrases.{PhrasesFill}
 use Rattle.code_forms.specs.Regions.{region_at}
 use Rattle.code_forms.specs.Routine.{Spot, code_end}
 use Rattle.code_forms.specs.Valid.{Valid}
-use Rattle.signaller.specs.Search.{covers, enabled_before, enabled, innermost_of, around, beyond, asked, search_from}
+use Rattle.signaller.specs.declared.place.Place.{Place}
+use Rattle.signaller.specs.Search.{covers, arms_of, enabled_before, enabled, innermost_of, around, beyond, asked, search_from, arms_before}
+use Rattle.signaller.specs.Sought.{IsPlace}
 use Rattle.signaller.specs.Tables.{IsCatchTable}
 
 -- the phrases of each procedure of valid code are a table as the calls ask for it
@@ -54,3 +56,8 @@ FindsNone = (table : List Phrase) (offset : ℕ) → (innermost_of table offset 
 abbrev pub AsksAll : Type 0
 AsksAll = (outward : Bool) (table : List Phrase) (count offset : ℕ)
     → asked outward table (search_from (around outward table count offset)).phrase ≡ around outward table count offset
+
+-- the number of an arm over the table is its place among all the arms of the table
+abbrev pub NumbersArms : Type 0
+NumbersArms = (table : List Phrase) (place : Place) → IsPlace table place
+    → slice_get (flat_map (λ p. p.arms) table) (arms_before table place.phrase + place.arm) ≡ slice_get (arms_of (slice_get table place.phrase)) place.arm

@@ -83,6 +83,10 @@ unfoldable pub first_place : (Arm → Bool) → List Phrase → List ℕ → Opt
 first_place fits table [] = None
 first_place fits table (n ∷ numbers) = place_at n (position fits (arms_of (slice_get table n))) (first_place fits table numbers)
 
+-- from a search on
+abbrev pub next_place : Bool → (Arm → Bool) → List Phrase → Search → Option Place
+next_place outward fits table search = first_place fits table (asked outward table search.phrase)
+
 -- the arms of the phrases before one, as arms are numbered over the table
 abbrev pub arms_before : List Phrase → ℕ → ℕ
 arms_before table n = sum_by (λ p. length p.arms) (take n table)
@@ -94,7 +98,7 @@ numbered outward table (Some place) = FoundArm (arms_before table place.phrase +
 
 -- the first arm that fits, from a search on
 abbrev pub next : Bool → (Arm → Bool) → List Phrase → Search → Found
-next outward fits table search = numbered outward table (first_place fits table (asked outward table search.phrase))
+next outward fits table search = numbered outward table (next_place outward fits table search)
 
 -- the signal that a label means, where an instance with these links reads it
 abbrev pub linked : Option (Option SignalId) → Option SignalId

@@ -1,4 +1,4 @@
-ghost use Rattle.signaller.specs.Laws.{TablesOfValid, AsksEnabled, GoesOutward, StaysInside, FindsInnermost, FindsNone, AsksAll};
+ghost use Rattle.signaller.specs.Laws.{TablesOfValid, AsksEnabled, GoesOutward, StaysInside, FindsInnermost, FindsNone, AsksAll, NumbersArms};
 
 /// The phrases of each procedure of valid code are a table as the calls ask for it.
 pub fn tables_of_valid()
@@ -35,4 +35,9 @@ pub fn finds_none()
 /// A search that begins with the first of the phrases around an offset asks all of them in their order.
 pub fn asks_all()
     ensures { AsksAll }
+{}
+
+/// The number of an arm over a table is its place among all the arms of the table in order.
+pub fn numbers_arms()
+    ensures { NumbersArms }
 {}

@@ -1,6 +1,6 @@
 ghost use Rattle.std.specs.Prelude.{◌≡◌, ℕ, ◌+◌, ◌<◌, ◌≤◌, ◌^◌, length, Option, IfSome, position, slice_get};
 ghost use Rattle.std.specs.List.{list_any};
-ghost use Rattle.signaller.specs.Search.{covers, has, same_signal, linked, meant, is_meant, is_any, is_unwind, label_fits, first_of, around, first_place, asked, beyond, search_from};
+ghost use Rattle.signaller.specs.Search.{covers, has, same_signal, linked, meant, is_meant, is_any, is_unwind, label_fits, first_of, around, first_place, next_place, asked, beyond, search_from};
 ghost use Rattle.signaller.specs.Sought.{fits, goes_outward, passed, answer, IsPlace};
 
 use crate::place::Place;
@@ -231,7 +231,7 @@ fn place_from(sought: Sought, table: &[Phrase], number: usize) -> Option<Place>
 /// It looks at each phrase of the table up to the search's once at most, and takes no memory.
 pub fn place_for(table: &CatchTable, search: Search, sought: Sought) -> Option<Place>
     requires there { IfSome search.phrase (λ n. n < length table.now) }
-    ensures place { result ≡ first_place (fits sought.entry) table.now (asked (goes_outward sought.entry) table.now search.phrase) }
+    ensures place { result ≡ next_place (goes_outward sought.entry) (fits sought.entry) table.now search }
     ensures there { IfSome result (IsPlace table.now) }
 {
     match search.phrase {
