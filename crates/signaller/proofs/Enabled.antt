@@ -1,5 +1,5 @@
 -- The innermost phrase at an offset, found by going over the table from its beginning.
-use Rattle.std.proofs.Common.{◌≡◌, ℕ, zero, suc, ◌+◌, List, [], ◌∷◌, ◌++◌, length, Bool, true, false, cond, Option, Some, None, refl, sym, ap, ◌∙◌, arith}
+use Rattle.std.proofs.Common.{◌≡◌, ℕ, zero, suc, ◌+◌, List, [], ◌∷◌, ◌++◌, length, true, false, Option, Some, None, refl, ap, ◌∙◌, arith}
 use Rattle.std.specs.Prelude.{slice_get, filter, reverse, if◌then◌else◌}
 use Rattle.std.specs.List.{range_with_len}
 use Rattle.std.proofs.lemmas.List.{reverse-append}
@@ -18,7 +18,6 @@ range_more : (a n : ℕ) → range_with_len a (suc n) ≡ range_with_len a n ++ 
 range_more a zero = ap (λ k. k ∷ []) (omega arith)
 range_more a (suc n) = ap (λ xs. a ∷ xs) (range_more (a + 1) n ∙ ap (λ k. range_with_len (a + 1) n ++ k ∷ []) (omega arith))
 
-
 pub down_more : (n : ℕ) → reverse (range_with_len 0 (suc n)) ≡ n ∷ reverse (range_with_len 0 n)
 down_more n = ap reverse (range_more 0 n ∙ ap (λ k. range_with_len 0 n ++ k ∷ []) (omega arith)) ∙ reverse-append (range_with_len 0 n) (n ∷ [])
 
@@ -27,7 +26,7 @@ pub enabled_more : (table : List Phrase) (n offset : ℕ) → enabled_before tab
 enabled_more table n offset = ap (λ xs. filter (λ k. covers_in (slice_get table k) offset) xs) (down_more n)
 
 at_first : (n : ℕ) (numbers : List ℕ) (offset : ℕ) (o : Option Phrase)
-  → first_of (if covers_in o offset then n ∷ numbers else numbers) ≡ innermost_at n (first_of numbers) offset o
+    → first_of (if covers_in o offset then n ∷ numbers else numbers) ≡ innermost_at n (first_of numbers) offset o
 unfolding innermost_at
 at_first n numbers offset None = refl
 at_first n numbers offset (Some p) = elim (covers p offset) as (λ b. first_of (if b then n ∷ numbers else numbers) ≡ (if b then Some n else first_of numbers)) [ true ↦ refl | false ↦ refl ]

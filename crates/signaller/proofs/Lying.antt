@@ -1,24 +1,21 @@
 -- How the phrases of valid code lie.
-use Rattle.std.proofs.Common.{◌≡◌, ℕ, zero, suc, ◌+◌, ◌-◌, ◌*◌, ◌^◌, ◌<◌, ◌≤◌, ◌⊎◌, ⊎_elim, List, [], ◌∷◌, length, get_or, take, Option, Some, None, refl, sym, ap, subst, ◌∙◌, arith}
-use Rattle.std.specs.Prelude.{All, slice_get, sum_by}
+use Rattle.std.proofs.Common.{◌≡◌, ℕ, zero, suc, ◌+◌, ◌-◌, ◌^◌, ◌<◌, ◌≤◌, ⊎_elim, List, [], ◌∷◌, length, get_or, take, refl, ap, subst, ◌∙◌, arith}
+use Rattle.std.specs.Prelude.{slice_get}
 use Rattle.std.specs.List.Sorted.{IsNonDecreasingBy}
 use Rattle.std.proofs.Math.Logic.{∥∥₁_elim}
 use Rattle.std.proofs.Math.Seq.{take-length}
 use Rattle.std.proofs.Props.{props}
 use Rattle.std.proofs.lemmas.Bool.{cases_lt}
 use Rattle.std.proofs.lemmas.List.Sums.{sum_by_more}
-use Rattle.std.proofs.lemmas.Option.{slice_get-get_or, slice_get_within, get_or_from_slice_get}
+use Rattle.std.proofs.lemmas.Option.{slice_get_within, get_or_from_slice_get}
 use Rattle.code_forms.specs.declared.module_code.Arm.{Arm}
 use Rattle.code_forms.specs.declared.module_code.CodeEntry.{CodeEntry}
 use Rattle.code_forms.specs.declared.module_code.CodeProcedure.{CodeProcedure}
-use Rattle.code_forms.specs.declared.module_code.ModuleCode.{ModuleCode}
 use Rattle.code_forms.specs.declared.module_code.Phrase.{Phrase}
 use Rattle.code_forms.specs.declared.instruction.Instruction.TheVariants.{Return}
-use Rattle.code_forms.specs.Instructions.{bytes_of}
 use Rattle.code_forms.specs.Phrases.{first_start, last_end, regions_end, ArmsFollow, RegionsFollow, Stands, EndsWithCode, PhrasesFill}
 use Rattle.code_forms.specs.Ranges.{InOrder, ProcedureInRange}
 use Rattle.code_forms.specs.Routine.{Spot, spots, end_of, code_end}
-use Rattle.code_forms.specs.Valid.{Valid}
 use Rattle.code_forms.proofs.Ordered.{spot_at, spots_length}
 use Rattle.code_forms.proofs.PhraseOrder.{no_arm, no_phrase, last_end_is, first_start_is, follows_end, end_of_taken, end_of_last, stand_sorted, fill_stand}
 use Rattle.signaller.specs.Search.{arms_before}
@@ -42,9 +39,9 @@ armed code table f k l =
     let s = stand code table f k l in
     let filled = s.filled in let earlier = s.earlier in
     ⊎_elim
-      (λ (h : 0 < length p.arms). h)
-      (λ (h : length p.arms ≤ 0). absurd (let e = no_arms p.arms (omega arith) in omega (arith, e, filled, earlier)))
-      (cases_lt 0 (length p.arms))
+    (λ (h : 0 < length p.arms). h)
+    (λ (h : length p.arms ≤ 0). absurd (let e = no_arms p.arms (omega arith) in omega (arith, e, filled, earlier)))
+    (cases_lt 0 (length p.arms))
 
 -- arms that follow each other take room
 pub arm_behind : (code : List Spot) (arms : List Arm) → ArmsFollow code arms → 0 < length arms → (k : ℕ) → k < length arms → first_start arms + k ≤ (get_or arms k no_arm).start
@@ -128,17 +125,17 @@ ends_with code (p ∷ table) l e = e
 pub table_of : (code : List CodeEntry) (table : List Phrase) → InOrder code → PhrasesFill (spots code) table → IsCatchTable table
 table_of code table o f =
     let few_arms : arms_before table (length table) < 2 ^ 32 = ⊎_elim
-      (λ (l : 0 < length table).
-        let n = length table - 1 in
-        let far = ends_far (spots code) table f (length table - 1) (omega arith) in
-        let i : length table - 1 + 1 ≡ length table = omega arith in
-        let a = ap (λ k. arms_before table k) i in
-        let e = end_of_last table no_phrase l in
-        let c = ends_with (spots code) table l f.filled in
-        let s = code_short code o in
-        omega (arith, far, a, e, c, s))
-      (λ (l : length table ≤ 0). let i : length table ≡ 0 = omega arith in let a = ap (λ k. arms_before table k) i in omega (arith, a))
-      (cases_lt 0 (length table)) in
+    (λ (l : 0 < length table).
+    let n = length table - 1 in
+    let far = ends_far (spots code) table f (length table - 1) (omega arith) in
+    let i : length table - 1 + 1 ≡ length table = omega arith in
+    let a = ap (λ k. arms_before table k) i in
+    let e = end_of_last table no_phrase l in
+    let c = ends_with (spots code) table l f.filled in
+    let s = code_short code o in
+    omega (arith, far, a, e, c, s))
+    (λ (l : length table ≤ 0). let i : length table ≡ 0 = omega arith in let a = ap (λ k. arms_before table k) i in omega (arith, a))
+    (cases_lt 0 (length table)) in
     record {
       few = (let m = as_many (spots code) table f (length table) (omega arith) in omega (arith, m, few_arms));
       few_arms = few_arms;
@@ -151,7 +148,7 @@ one_table table = hlevel props
 pub tables_of_valid : TablesOfValid
 tables_of_valid m v n p is =
     ∥∥₁_elim m.ranges (one_table p.phrases) (λ r.
-      let l = slice_get_within m.procedures n p is in
-      let q : get_or m.procedures n p ≡ p = get_or_from_slice_get m.procedures n p p is in
-      let range : ProcedureInRange m.signals m.links p = subst (λ (x : CodeProcedure). ProcedureInRange m.signals m.links x) q (r.each_procedure n p l) in
-      table_of p.code p.phrases range.code (v n p l is).phrases)
+    let l = slice_get_within m.procedures n p is in
+    let q : get_or m.procedures n p ≡ p = get_or_from_slice_get m.procedures n p p is in
+    let range : ProcedureInRange m.signals m.links p = subst (λ (x : CodeProcedure). ProcedureInRange m.signals m.links x) q (r.each_procedure n p l) in
+    table_of p.code p.phrases range.code (v n p l is).phrases)

@@ -1,13 +1,11 @@
 -- The arms of a table in order.
-use Rattle.std.proofs.Common.{◌≡◌, ℕ, zero, suc, ◌+◌, ◌-◌, ◌<◌, ◌≤◌, List, [], ◌∷◌, ◌++◌, length, Option, Some, None, refl, sym, ap, ◌∙◌, arith}
-use Rattle.std.specs.Prelude.{slice_get, flat_map, take, sum_by}
+use Rattle.std.proofs.Common.{◌≡◌, ℕ, zero, suc, ◌+◌, ◌<◌, List, [], ◌∷◌, ◌++◌, length, Some, refl, ap, ◌∙◌, arith}
+use Rattle.std.specs.Prelude.{slice_get, flat_map, take}
 use Rattle.std.proofs.lemmas.List.Sums.{sum_by-cons}
 use Rattle.std.proofs.lemmas.Option.{none-some}
 use Rattle.code_forms.specs.declared.module_code.Arm.{Arm}
 use Rattle.code_forms.specs.declared.module_code.Phrase.{Phrase}
-use Rattle.signaller.specs.declared.place.Place.{Place}
 use Rattle.signaller.specs.Search.{arms_of, arms_before}
-use Rattle.signaller.specs.Sought.{IsPlace}
 use Rattle.signaller.specs.Laws.{NumbersArms}
 
 get_left : (xs ys : List Arm) (k : ℕ) → k < length xs → slice_get (xs ++ ys) k ≡ slice_get xs k
@@ -26,7 +24,7 @@ before_more : (p : Phrase) (table : List Phrase) (n : ℕ) → arms_before (p �
 before_more p table n = sum_by-cons arm_count p (take n table)
 
 number_at : (table : List Phrase) (n k : ℕ) (p : Phrase) → slice_get table n ≡ Some p → k < length p.arms
-  → slice_get (flat_map (λ q. q.arms) table) (arms_before table n + k) ≡ slice_get (arms_of (slice_get table n)) k
+    → slice_get (flat_map (λ q. q.arms) table) (arms_before table n + k) ≡ slice_get (arms_of (slice_get table n)) k
 number_at [] n k p is l = absurd (none-some p is)
 number_at (q ∷ table) zero k p is l =
     let e : arms_before (q ∷ table) zero + k ≡ k = omega arith in

@@ -11,4 +11,4 @@ pub record Indexes (table : List Phrase) (segments : List Segment) : Type 0 wher
   pub first : (s : Segment) → slice_get segments 0 ≡ Some s → s.start ≡ 0
   pub ordered : (i : ℕ) (s t : Segment) → slice_get segments i ≡ Some s → slice_get segments (i + 1) ≡ Some t → s.start < t.start
   pub tells : (i : ℕ) (s : Segment) → slice_get segments i ≡ Some s → (offset : ℕ) → s.start ≤ offset
-    → ((t : Segment) → slice_get segments (i + 1) ≡ Some t → offset < t.start) → innermost_of table offset ≡ s.phrase
+      → ((t : Segment) → slice_get segments (i + 1) ≡ Some t → offset < t.start) → innermost_of table offset ≡ s.phrase

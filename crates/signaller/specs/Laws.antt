@@ -1,5 +1,5 @@
 -- Laws of the search and the index for valid code (rule of this project).
-use Rattle.std.specs.Prelude.{◌≡◌, ◌↔◌, ◌++◌, ℕ, ◌+◌, ◌<◌, ◌≤◌, List, [], length, All, Bool, true, false, Option, Some, None, slice_get, flat_map}
+use Rattle.std.specs.Prelude.{◌≡◌, ◌↔◌, ◌++◌, ℕ, ◌+◌, ◌<◌, ◌≤◌, List, [], length, All, Bool, true, false, Some, None, slice_get, flat_map}
 use Rattle.code_forms.specs.declared.module_code.CodeProcedure.{CodeProcedure}
 use Rattle.code_forms.specs.declared.module_code.ModuleCode.{ModuleCode}
 use Rattle.code_forms.specs.declared.module_code.Phrase.{Phrase}

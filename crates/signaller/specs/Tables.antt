@@ -1,5 +1,5 @@
 -- What the calls stand on: facts of the phrases of each procedure of valid code (rule of this project).
-use Rattle.std.specs.Prelude.{ℕ, ◌<◌, ◌^◌, List, length}
+use Rattle.std.specs.Prelude.{◌<◌, ◌^◌, List, length}
 use Rattle.std.specs.List.Sorted.{IsNonDecreasingBy}
 use Rattle.code_forms.specs.declared.module_code.Phrase.{Phrase}
 use Rattle.signaller.specs.Search.{arms_before}

@@ -67,7 +67,11 @@ pub fn next_arm(table: &CatchTable, search: Search, links: &Links, signal: &Sign
     requires there { IfSome search.phrase (λ n. n < length table.now) }
     ensures { result ≡ next_arm table.now search links.now signal.now }
 {
-    numbered(true, table, place_for(table, search, Sought::Signal(links, *signal)))
+    numbered(
+        true,
+        table,
+        place_for(table, search, Sought::Signal(links, *signal)),
+    )
 }
 
 /// The first UNWIND arm in the phrases from the search outward in the region of the search's phrase, with the search

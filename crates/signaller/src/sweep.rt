@@ -33,7 +33,12 @@ fn edges_of(alloc: Global, table: &[Phrase]) -> Result<Vec<u32>, OutOfMemory>
 }
 
 // Opens the phrases that begin at the offset or before it, from one on; it gives the number of the next one after them.
-fn open_upto(table: &[Phrase], opened: &mut Vec<u32>, first: usize, at: u32) -> Result<usize, OutOfMemory>
+fn open_upto(
+    table: &[Phrase],
+    opened: &mut Vec<u32>,
+    first: usize,
+    at: u32,
+) -> Result<usize, OutOfMemory>
     requires few { length table.now < 2 ^ 32 }
     requires sweeps { Sweeps table.now opened.old.items first at }
     ensures sweeps { IfOk result (λ next. Sweeps table.now opened.new.items next at) }

@@ -18,7 +18,7 @@ loop-back-preserved c =
     let e : c.args.phrase - (c.loop-back.back + 1) ≡ c.args.phrase - 1 - c.loop-back.back = omega arith in
     ap (λ k. first_of (around c.args.outward c.args.table.now k c.passed-about.result)) e
     ∙ (sym (ap first_of (around_more c.args.outward c.args.table.now (c.args.phrase - c.loop-back.back) (c.args.phrase - 1 - c.loop-back.back) c.index-table-number.result c.index-table-number.is (omega arith) (omega arith) c.loop-back.about c.passed-about.result
-      (sym c.if-covers.false ∙ c.covers.ensures) c.passed-about.ensures)) ∙ c.loop-back.invariant)
+    (sym c.if-covers.false ∙ c.covers.ensures) c.passed-about.ensures)) ∙ c.loop-back.invariant)
 
 pub returns : goal.returns
 returns c = sym (ap first_of (around_none c.args.outward c.args.table.now (c.args.phrase - c.loop-back.back) c.loop-back.about (let t = c.loop-back-test.false in omega arith))) ∙ c.loop-back.invariant

@@ -9,7 +9,7 @@ pub returns-in-Fits : goal.returns-in-Fits
 returns-in-Fits c =
     let t = c.loop-back-test.true in let r = c.requires in
     sym (place_answered (goes_outward c.args.sought) (fits c.args.sought) c.args.table.now (c.args.count - c.loop-back.back) (c.args.count - 1 - c.loop-back.back) c.index-table-number.result c.index-table-number.is (omega arith) (omega arith)
-      c.loop-back.about (Fits c.in-Fits.arm) c.in-Fits.ensures) ∙ c.loop-back.invariant
+    c.loop-back.about (Fits c.in-Fits.arm) c.in-Fits.ensures) ∙ c.loop-back.invariant
 
 pub loop-back-preserved : goal.loop-back-preserved
 loop-back-preserved c =
@@ -17,7 +17,7 @@ loop-back-preserved c =
     let e : c.args.count - (c.loop-back.back + 1) ≡ c.args.count - 1 - c.loop-back.back = omega arith in
     ap (λ k. first_place (fits c.args.sought) c.args.table.now (around (goes_outward c.args.sought) c.args.table.now k c.in-Before.offset)) e
     ∙ (sym (place_answered (goes_outward c.args.sought) (fits c.args.sought) c.args.table.now (c.args.count - c.loop-back.back) (c.args.count - 1 - c.loop-back.back) c.index-table-number.result c.index-table-number.is (omega arith) (omega arith)
-      c.loop-back.about (Before c.in-Before.offset) c.in-Before.ensures) ∙ c.loop-back.invariant)
+    c.loop-back.about (Before c.in-Before.offset) c.in-Before.ensures) ∙ c.loop-back.invariant)
 
 pub returns : goal.returns
 returns c =

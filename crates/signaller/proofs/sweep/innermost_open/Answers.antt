@@ -1,4 +1,4 @@
-use Rattle.std.proofs.Common.{◌≡◌, ◌<◌, ◌-◌, length, get_or, refl, sym, arith}
+use Rattle.std.proofs.Common.{◌<◌, ◌-◌, length, get_or, refl, sym, arith}
 use Rattle.std.proofs.lemmas.Bool.{eqb-true, eqb-false}
 use Rattle.signaller.proofs.Sweeping.{no_phrase, none_open, last_open}
 use Rattle.signaller.proofs.sweep.innermost_open.Goals as goal
@@ -6,7 +6,7 @@ use Rattle.signaller.proofs.sweep.innermost_open.Goals as goal
 pub returns-then-is_empty : goal.returns-then-is_empty
 returns-then-is_empty c =
     none_open c.args.table.now c.args.opened.now c.args.next c.args.at no_phrase c.requires.sorted c.requires.sweeps c.requires.later
-      (eqb-true (length c.args.opened.now) 0 (sym c.if-is_empty.ensures))
+    (eqb-true (length c.args.opened.now) 0 (sym c.if-is_empty.ensures))
 
 pub returns : goal.returns
 returns c =

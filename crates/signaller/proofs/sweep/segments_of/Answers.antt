@@ -1,4 +1,4 @@
-use Rattle.std.proofs.Common.{◌≡◌, arith}
+use Rattle.std.proofs.Common.{arith}
 use Rattle.signaller.proofs.Telling.{indexes}
 use Rattle.signaller.proofs.sweep.segments_of.Goals as goal
 

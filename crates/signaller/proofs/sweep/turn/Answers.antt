@@ -1,4 +1,4 @@
-use Rattle.std.proofs.Common.{◌≡◌, ◌<◌, ℕ, sym, subst, arith}
+use Rattle.std.proofs.Common.{ℕ, sym, subst, arith}
 use Rattle.signaller.specs.Search.{innermost_of}
 use Rattle.signaller.specs.Sweep.{Sweeps, BeginLater, AreTold}
 use Rattle.signaller.proofs.Sweeping.{sweeps_on}
@@ -17,7 +17,7 @@ returns-in-Ok-clause-swept c =
       opened = subst (λ (o : ℕ). Sweeps c.args.table.now s.opened.items s.next o) a c.in-Ok.ensures.opened;
       later = subst (λ (o : ℕ). BeginLater c.args.table.now s.next o) a c.in-Ok.ensures.later;
       told = subst (λ (o : ℕ). AreTold c.args.table.now s.segments.items o) a
-        (more_told c.args.table.now c.args.sweep.now.segments.items s.segments.items c.args.sweep.now.at c.args.at c.requires.swept.told
+          (more_told c.args.table.now c.args.sweep.now.segments.items s.segments.items c.args.sweep.now.at c.args.at c.requires.swept.told
           (let l = c.requires.later in let n = c.if-sweep-at.false in omega arith) c.in-Ok.ensures.segment);
     }
 
