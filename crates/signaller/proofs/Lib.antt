@@ -3,6 +3,7 @@ pub mod Halving
 pub mod Lying
 pub mod Edges
 pub mod Enabled
+pub mod Firsts
 pub mod Inside
 pub mod Numbering
 pub mod Regions

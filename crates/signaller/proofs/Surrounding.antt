@@ -1,5 +1,5 @@
 -- The phrases to ask, for valid code.
-use Rattle.std.proofs.Common.{◌≡◌, ℕ, zero, suc, ◌-◌, ◌<◌, ◌≤◌, ◌⊎◌, inr, ⊎_elim, List, [], ◌∷◌, ◌++◌, length, get_or, Bool, true, false, Option, Some, None, refl, sym, ap, subst, ◌∙◌, arith}
+use Rattle.std.proofs.Common.{◌≡◌, ℕ, zero, suc, ◌-◌, ◌<◌, ◌≤◌, ◌⊎◌, inr, ⊎_elim, List, [], ◌∷◌, ◌++◌, length, drop, get_or, Bool, true, false, Option, Some, None, refl, sym, ap, subst, ◌∙◌, arith}
 use Rattle.std.specs.Prelude.{slice_get, if◌then◌else◌}
 use Rattle.std.specs.List.{list_any}
 use Rattle.std.proofs.lemmas.Bool.{cases_lt, cases_eq, true≢false}
@@ -12,9 +12,9 @@ use Rattle.code_forms.specs.Phrases.{Nests, PhrasesFill}
 use Rattle.code_forms.specs.Regions.{region_at}
 use Rattle.code_forms.specs.Routine.{Spot, code_end}
 use Rattle.code_forms.proofs.PhraseOrder.{no_phrase, same_default, end_of_last}
-use Rattle.signaller.specs.Search.{covers, covers_in, has, from_of, first_of, enabled_before, around_at, around, asked}
+use Rattle.signaller.specs.Search.{covers, covers_in, has, from_of, first_of, enabled_before, around_at, around, beyond, asked}
 use Rattle.signaller.specs.Sought.{passed}
-use Rattle.signaller.specs.Laws.{outer, AsksEnabled, GoesOutward, StaysInside, FindsInnermost, FindsNone, AsksAll}
+use Rattle.signaller.specs.Laws.{outer, AsksEnabled, GoesOutward, StaysInside, FindsInnermost, FindsNone, AsksAll, LeavesTheRest}
 use Rattle.signaller.proofs.Asking.{around_here, around_more}
 use Rattle.signaller.proofs.Enabled.{enabled_more}
 use Rattle.signaller.proofs.Inside.{covers_is, range_inside, arm_at, has_arm, starts_rise}
@@ -284,3 +284,40 @@ pub asks_all : AsksAll
 unfolding around
 asks_all outward table zero o = refl
 asks_all outward table (suc n) o = asks_at outward table n o (slice_get table n) refl (asks_all outward table n)
+
+same_head : (m n : ℕ) (xs ys : List ℕ) → m ∷ xs ≡ n ∷ ys → m ≡ n
+same_head m n xs ys e = ap (λ l. get_or l 0 0) e
+
+same_tail : (m n : ℕ) (xs ys : List ℕ) → m ∷ xs ≡ n ∷ ys → xs ≡ ys
+same_tail m n xs ys e = ap (λ l. drop 1 l) e
+
+no_head : (n : ℕ) (xs : List ℕ) → [] ≡ n ∷ xs → ⊥
+no_head n xs e = let l = ap length e in omega (arith, l)
+
+-- what is asked after a phrase
+tail_here : (outward : Bool) (table : List Phrase) (m n : ℕ) (p : Phrase) (before after : List ℕ) → slice_get table m ≡ Some p
+    → ((o : ℕ) (before after : List ℕ) → around outward table m o ≡ before ++ n ∷ after → after ≡ beyond outward table n)
+    → m ∷ around outward table m p.from ≡ before ++ n ∷ after → after ≡ beyond outward table n
+tail_here outward table m n p [] after is h e =
+    let i : m ≡ n = same_head m n (around outward table m p.from) after e in
+    sym (same_tail m n (around outward table m p.from) after e)
+    ∙ (ap (λ x. around outward table m (from_of x)) (sym is) ∙ ap (λ k. beyond outward table k) i)
+tail_here outward table m n p (k ∷ before) after is h e = h p.from before after (same_tail m k (around outward table m p.from) (before ++ n ∷ after) e)
+
+tail_at : (outward : Bool) (table : List Phrase) (m o n : ℕ) (before after : List ℕ) (x : Option Phrase) → slice_get table m ≡ x
+    → ((o : ℕ) (before after : List ℕ) → around outward table m o ≡ before ++ n ∷ after → after ≡ beyond outward table n)
+    → around_at outward m o (around outward table m) x ≡ before ++ n ∷ after → after ≡ beyond outward table n
+unfolding around_at
+tail_at outward table m o n before after None is h e = h o before after e
+tail_at outward table m o n before after (Some p) is h e =
+    elim (covers p o) as (λ b. (if b then m ∷ around outward table m p.from else around outward table m (passed outward p o)) ≡ before ++ n ∷ after → after ≡ beyond outward table n) [
+      | true ↦ tail_here outward table m n p before after is h
+      | false ↦ h (passed outward p o) before after
+    ] e
+
+pub leaves_the_rest : LeavesTheRest
+unfolding around
+leaves_the_rest outward table zero o n [] after e = absurd (no_head n after e)
+leaves_the_rest outward table zero o n (k ∷ before) after e = absurd (no_head k (before ++ n ∷ after) e)
+leaves_the_rest outward table (suc m) o n before after e =
+    tail_at outward table m o n before after (slice_get table m) refl (λ o before after. leaves_the_rest outward table m o n before after) e

@@ -1,5 +1,6 @@
 -- Laws of the search and the index for valid code (rule of this project).
-use Rattle.std.specs.Prelude.{◌≡◌, ◌↔◌, ◌++◌, ℕ, ◌+◌, ◌<◌, ◌≤◌, List, [], length, All, Bool, true, false, Some, None, slice_get, flat_map}
+use Rattle.std.specs.Prelude.{◌≡◌, ◌↔◌, ◌++◌, ℕ, ◌+◌, ◌<◌, ◌≤◌, List, [], ◌∷◌, length, All, Bool, true, false, Some, None, MatchOption, slice_get, position, flat_map}
+use Rattle.code_forms.specs.declared.module_code.Arm.{Arm}
 use Rattle.code_forms.specs.declared.module_code.CodeProcedure.{CodeProcedure}
 use Rattle.code_forms.specs.declared.module_code.ModuleCode.{ModuleCode}
 use Rattle.code_forms.specs.declared.module_code.Phrase.{Phrase}
@@ -10,7 +11,7 @@ use Rattle.code_forms.specs.Regions.{region_at}
 use Rattle.code_forms.specs.Routine.{Spot, code_end}
 use Rattle.code_forms.specs.Valid.{Valid}
 use Rattle.signaller.specs.declared.place.Place.{Place}
-use Rattle.signaller.specs.Search.{covers, arms_of, enabled_before, enabled, innermost_of, around, beyond, asked, search_from, arms_before}
+use Rattle.signaller.specs.Search.{covers, arms_of, enabled_before, enabled, innermost_of, around, beyond, asked, search_from, first_place, arms_before}
 use Rattle.signaller.specs.Sought.{IsPlace}
 use Rattle.signaller.specs.Tables.{IsCatchTable}
 
@@ -61,3 +62,20 @@ AsksAll = (outward : Bool) (table : List Phrase) (count offset : ℕ)
 abbrev pub NumbersArms : Type 0
 NumbersArms = (table : List Phrase) (place : Place) → IsPlace table place
     → slice_get (flat_map (λ p. p.arms) table) (arms_before table place.phrase + place.arm) ≡ slice_get (arms_of (slice_get table place.phrase)) place.arm
+
+-- beyond a phrase that is asked are exactly those that are asked after it
+abbrev pub LeavesTheRest : Type 0
+LeavesTheRest = (outward : Bool) (table : List Phrase) (count offset n : ℕ) (before after : List ℕ)
+    → around outward table count offset ≡ before ++ n ∷ after → after ≡ beyond outward table n
+
+-- of the phrases before this one no arm fits, and of this one this is the first that does
+pub record IsFirstPlace (fits : Arm → Bool) (table : List Phrase) (numbers : List ℕ) (place : Place) : Type 0 where
+  pub before : List ℕ
+  pub after : List ℕ
+  pub parts : numbers ≡ before ++ place.phrase ∷ after
+  pub none : All (λ n. position fits (arms_of (slice_get table n)) ≡ None) before
+  pub arm : position fits (arms_of (slice_get table place.phrase)) ≡ Some place.arm
+
+abbrev pub FindsFirst : Type 0
+FindsFirst = (fits : Arm → Bool) (table : List Phrase) (numbers : List ℕ) → MatchOption (first_place fits table numbers)
+    (All (λ n. position fits (arms_of (slice_get table n)) ≡ None) numbers) (IsFirstPlace fits table numbers)

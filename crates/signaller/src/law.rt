@@ -1,4 +1,4 @@
-ghost use Rattle.signaller.specs.Laws.{TablesOfValid, AsksEnabled, GoesOutward, StaysInside, FindsInnermost, FindsNone, AsksAll, NumbersArms};
+ghost use Rattle.signaller.specs.Laws.{TablesOfValid, AsksEnabled, GoesOutward, StaysInside, FindsInnermost, FindsNone, AsksAll, LeavesTheRest, FindsFirst, NumbersArms};
 
 /// The phrases of each procedure of valid code are a table as the calls ask for it.
 pub fn tables_of_valid()
@@ -40,4 +40,14 @@ pub fn asks_all()
 /// The number of an arm over a table is its place among all the arms of the table in order.
 pub fn numbers_arms()
     ensures { NumbersArms }
+{}
+
+/// Beyond a phrase that is asked are exactly those that are asked after it.
+pub fn leaves_the_rest()
+    ensures { LeavesTheRest }
+{}
+
+/// What is found is the first fitting arm of the first of the phrases that has one; nothing exactly where none has.
+pub fn finds_first()
+    ensures { FindsFirst }
 {}
