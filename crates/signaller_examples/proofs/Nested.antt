@@ -9,7 +9,7 @@ use Rattle.signaller.specs.declared.search.Found.TheVariants.{Arm as FoundArm, B
 use Rattle.signaller.specs.declared.search.Links.{Links}
 use Rattle.signaller.specs.declared.search.Search.{Search}
 use Rattle.signaller.specs.declared.signal_id.SignalId.{SignalId}
-use Rattle.signaller.specs.declared.signal_id.SignalId.TheVariants.{Own, BoundsFault, ZeroDivisor, NoInput, Unnamed}
+use Rattle.signaller.specs.declared.signal_id.SignalId.TheVariants.{Own, BoundsFault, NoInput, Unnamed}
 use Rattle.signaller.specs.Search as s
 
 abbrev arm : ℕ → ℕ → List Label → Arm

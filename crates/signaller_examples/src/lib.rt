@@ -1,2 +1,5 @@
-//! Tables of phrases made by hand, and what the search and the index say of them. No call of the program is here.
+//! Tables of phrases made by hand, and what the search and the index say of them.
 #![tactic(auto)]
+
+#[cfg(test)]
+mod tests;
