@@ -12,9 +12,9 @@ use Rattle.code_forms.specs.Phrases.{Nests, PhrasesFill}
 use Rattle.code_forms.specs.Regions.{region_at}
 use Rattle.code_forms.specs.Routine.{Spot, code_end}
 use Rattle.code_forms.proofs.PhraseOrder.{no_phrase, same_default, end_of_last}
-use Rattle.signaller.specs.Search.{covers, covers_in, has, from_of, first_of, enabled_before, around_at, around, beyond, asked}
+use Rattle.signaller.specs.Search.{covers, covers_in, has, from_of, first_of, enabled_before, enabled, around_at, around, beyond, asked}
 use Rattle.signaller.specs.Sought.{passed}
-use Rattle.signaller.specs.Laws.{outer, AsksEnabled, GoesOutward, StaysInside, FindsInnermost, FindsNone, AsksAll, LeavesTheRest}
+use Rattle.signaller.specs.Laws.{outer, AsksEnabled, BeginsInnermost, GoesOutward, StaysInside, FindsInnermost, FindsNone, AsksAll, LeavesTheRest}
 use Rattle.signaller.proofs.Asking.{around_here, around_more}
 use Rattle.signaller.proofs.Enabled.{enabled_more}
 use Rattle.signaller.proofs.Inside.{covers_is, range_inside, arm_at, has_arm, starts_rise}
@@ -179,6 +179,22 @@ surrounding code table f false n o l within h = inside code table f n o l ∙ sy
 pub asks_enabled : AsksEnabled
 asks_enabled code table f outward o within =
     surrounding code table f outward (length table) o (omega arith) within (λ q k r. (has_arm code table q k o f within r).0)
+
+first_of_both : (xs ys : List ℕ) (n : ℕ) → first_of xs ≡ Some n → first_of (xs ++ ys) ≡ Some n
+first_of_both [] ys n e = absurd (none-some n e)
+first_of_both (x ∷ xs) ys n e = e
+
+first_of_rest : (xs ys : List ℕ) → first_of xs ≡ None → first_of (xs ++ ys) ≡ first_of ys
+first_of_rest [] ys e = refl
+first_of_rest (x ∷ xs) ys e = absurd (none-some x (sym e))
+
+pub begins_innermost : BeginsInnermost
+begins_innermost code table f outward o within =
+    let e = ap first_of (asks_enabled code table f outward o within) in
+    record {
+      inside = λ n i. ap (λ k. record { phrase = k }) (e ∙ first_of_both (enabled table o) (outer outward table (region_at table o)) n i);
+      around = λ i. ap (λ k. record { phrase = k }) (e ∙ first_of_rest (enabled table o) (outer outward table (region_at table o)) i);
+    }
 
 pub goes_outward : GoesOutward
 goes_outward code table f outward n p is =

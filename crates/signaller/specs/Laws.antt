@@ -11,7 +11,7 @@ use Rattle.code_forms.specs.Regions.{region_at}
 use Rattle.code_forms.specs.Routine.{Spot, code_end}
 use Rattle.code_forms.specs.Valid.{Valid}
 use Rattle.signaller.specs.declared.place.Place.{Place}
-use Rattle.signaller.specs.Search.{covers, arms_of, enabled_before, enabled, innermost_of, around, beyond, asked, search_from, first_place, arms_before}
+use Rattle.signaller.specs.Search.{covers, arms_of, enabled_before, enabled, innermost_of, around, beyond, asked, search_from, search_at, first_place, arms_before}
 use Rattle.signaller.specs.Sought.{IsPlace}
 use Rattle.signaller.specs.Tables.{IsCatchTable}
 
@@ -29,6 +29,14 @@ outer true table (ArmOf phrase arm) = beyond true table phrase
 abbrev pub AsksEnabled : Type 0
 AsksEnabled = (code : List Spot) (table : List Phrase) → PhrasesFill code table → (outward : Bool) (offset : ℕ) → offset < code_end code
     → around outward table (length table) offset ≡ enabled table offset ++ outer outward table (region_at table offset)
+
+-- so a search that begins at an offset begins with the innermost phrase, or, where there is none, around the region
+pub record IsBegun (table : List Phrase) (outward : Bool) (offset : ℕ) : Type 0 where
+  pub inside : (n : ℕ) → innermost_of table offset ≡ Some n → search_at outward table offset ≡ record { phrase = Some n }
+  pub around : innermost_of table offset ≡ None → search_at outward table offset ≡ search_from (outer outward table (region_at table offset))
+
+abbrev pub BeginsInnermost : Type 0
+BeginsInnermost = (code : List Spot) (table : List Phrase) → PhrasesFill code table → (outward : Bool) (offset : ℕ) → offset < code_end code → IsBegun table outward offset
 
 -- beyond a phrase are those before it that are enabled where it begins, and then those around its region
 abbrev pub GoesOutward : Type 0

@@ -1,4 +1,4 @@
-ghost use Rattle.signaller.specs.Laws.{TablesOfValid, AsksEnabled, GoesOutward, StaysInside, FindsInnermost, FindsNone, AsksAll, LeavesTheRest, FindsFirst, NumbersArms};
+ghost use Rattle.signaller.specs.Laws.{TablesOfValid, AsksEnabled, BeginsInnermost, GoesOutward, StaysInside, FindsInnermost, FindsNone, AsksAll, LeavesTheRest, FindsFirst, NumbersArms};
 
 /// The phrases of each procedure of valid code are a table as the calls ask for it.
 pub fn tables_of_valid()
@@ -9,6 +9,12 @@ pub fn tables_of_valid()
 /// search that goes outward of arms, those beyond the phrase that holds the arm in whose region the offset is.
 pub fn asks_enabled()
     ensures { AsksEnabled }
+{}
+
+/// A search that begins at an offset of valid code begins with the innermost phrase, or, where there is none, with the
+/// phrases beyond the one that holds the arm in whose region the offset is, if it goes outward.
+pub fn begins_innermost()
+    ensures { BeginsInnermost }
 {}
 
 /// Beyond a phrase of valid code are those before it that are enabled where it begins, innermost first; then, for a
