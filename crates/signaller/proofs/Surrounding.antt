@@ -12,9 +12,9 @@ use Rattle.code_forms.specs.Phrases.{Nests, PhrasesFill}
 use Rattle.code_forms.specs.Regions.{region_at}
 use Rattle.code_forms.specs.Routine.{Spot, code_end}
 use Rattle.code_forms.proofs.PhraseOrder.{no_phrase, same_default, end_of_last}
-use Rattle.signaller.specs.Search.{covers, covers_in, has, from_of, first_of, enabled_before, enabled, around_at, around, beyond, asked}
+use Rattle.signaller.specs.Search.{covers, covers_in, has, from_of, first_of, enabled_before, enabled, around_at, around, beyond, asked, first_place, numbered}
 use Rattle.signaller.specs.Sought.{passed}
-use Rattle.signaller.specs.Laws.{outer, AsksEnabled, BeginsInnermost, GoesOutward, StaysInside, FindsInnermost, FindsNone, AsksAll, LeavesTheRest}
+use Rattle.signaller.specs.Laws.{outer, AsksEnabled, BeginsInnermost, FindsEnabled, GoesOutward, StaysInside, FindsInnermost, FindsNone, AsksAll, LeavesTheRest}
 use Rattle.signaller.proofs.Asking.{around_here, around_more}
 use Rattle.signaller.proofs.Enabled.{enabled_more}
 use Rattle.signaller.proofs.Inside.{covers_is, range_inside, arm_at, has_arm, starts_rise}
@@ -180,6 +180,27 @@ pub asks_enabled : AsksEnabled
 asks_enabled code table f outward o within =
     surrounding code table f outward (length table) o (omega arith) within (λ q k r. (has_arm code table q k o f within r).0)
 
+asks_at : (outward : Bool) (table : List Phrase) (n o : ℕ) (x : Option Phrase) → slice_get table n ≡ x
+    → ((o : ℕ) → asked outward table (first_of (around outward table n o)) ≡ around outward table n o)
+    → asked outward table (first_of (around_at outward n o (around outward table n) x)) ≡ around_at outward n o (around outward table n) x
+unfolding around_at
+asks_at outward table n o None is h = h o
+asks_at outward table n o (Some p) is h =
+    elim (covers p o) as (λ b. asked outward table (first_of (if b then n ∷ around outward table n p.from else around outward table n (passed outward p o)))
+    ≡ (if b then n ∷ around outward table n p.from else around outward table n (passed outward p o))) [
+      | true ↦ ap (λ x. n ∷ around outward table n (from_of x)) is
+      | false ↦ h (passed outward p o)
+    ]
+
+pub asks_all : AsksAll
+unfolding around
+asks_all outward table zero o = refl
+asks_all outward table (suc n) o = asks_at outward table n o (slice_get table n) refl (asks_all outward table n)
+
+pub finds_enabled : FindsEnabled
+finds_enabled code table f outward fits o within =
+    ap (λ xs. numbered outward table (first_place fits table xs)) (asks_all outward table (length table) o ∙ asks_enabled code table f outward o within)
+
 first_of_both : (xs ys : List ℕ) (n : ℕ) → first_of xs ≡ Some n → first_of (xs ++ ys) ≡ Some n
 first_of_both [] ys n e = absurd (none-some n e)
 first_of_both (x ∷ xs) ys n e = e
@@ -283,23 +304,6 @@ finds_none table o = (
   (λ e k d l. ap (λ (p : Phrase). covers p o) (same_default table k d no_phrase l) ∙ none_of table o (length table) (omega arith) e k l),
   (λ h. ap first_of (enabled_nothing table (length table) o (omega arith) (λ k l. h k no_phrase l))),
 )
-
-asks_at : (outward : Bool) (table : List Phrase) (n o : ℕ) (x : Option Phrase) → slice_get table n ≡ x
-    → ((o : ℕ) → asked outward table (first_of (around outward table n o)) ≡ around outward table n o)
-    → asked outward table (first_of (around_at outward n o (around outward table n) x)) ≡ around_at outward n o (around outward table n) x
-unfolding around_at
-asks_at outward table n o None is h = h o
-asks_at outward table n o (Some p) is h =
-    elim (covers p o) as (λ b. asked outward table (first_of (if b then n ∷ around outward table n p.from else around outward table n (passed outward p o)))
-    ≡ (if b then n ∷ around outward table n p.from else around outward table n (passed outward p o))) [
-      | true ↦ ap (λ x. n ∷ around outward table n (from_of x)) is
-      | false ↦ h (passed outward p o)
-    ]
-
-pub asks_all : AsksAll
-unfolding around
-asks_all outward table zero o = refl
-asks_all outward table (suc n) o = asks_at outward table n o (slice_get table n) refl (asks_all outward table n)
 
 same_head : (m n : ℕ) (xs ys : List ℕ) → m ∷ xs ≡ n ∷ ys → m ≡ n
 same_head m n xs ys e = ap (λ l. get_or l 0 0) e

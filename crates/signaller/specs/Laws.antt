@@ -11,7 +11,7 @@ use Rattle.code_forms.specs.Regions.{region_at}
 use Rattle.code_forms.specs.Routine.{Spot, code_end}
 use Rattle.code_forms.specs.Valid.{Valid}
 use Rattle.signaller.specs.declared.place.Place.{Place}
-use Rattle.signaller.specs.Search.{covers, arms_of, enabled_before, enabled, innermost_of, around, beyond, asked, search_from, search_at, first_place, arms_before}
+use Rattle.signaller.specs.Search.{covers, arms_of, enabled_before, enabled, innermost_of, around, beyond, asked, search_from, search_at, first_place, arms_before, numbered, next}
 use Rattle.signaller.specs.Sought.{IsPlace}
 use Rattle.signaller.specs.Tables.{IsCatchTable}
 
@@ -37,6 +37,12 @@ pub record IsBegun (table : List Phrase) (outward : Bool) (offset : ℕ) : Type 
 
 abbrev pub BeginsInnermost : Type 0
 BeginsInnermost = (code : List Spot) (table : List Phrase) → PhrasesFill code table → (outward : Bool) (offset : ℕ) → offset < code_end code → IsBegun table outward offset
+
+-- and finds the first arm that fits of the phrases that are enabled there, and then of those around its region
+abbrev pub FindsEnabled : Type 0
+FindsEnabled = (code : List Spot) (table : List Phrase) → PhrasesFill code table → (outward : Bool) (fits : Arm → Bool) (offset : ℕ) → offset < code_end code
+    → next outward fits table (search_at outward table offset)
+    ≡ numbered outward table (first_place fits table (enabled table offset ++ outer outward table (region_at table offset)))
 
 -- beyond a phrase are those before it that are enabled where it begins, and then those around its region
 abbrev pub GoesOutward : Type 0

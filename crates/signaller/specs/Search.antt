@@ -47,8 +47,9 @@ enabled table offset = enabled_before table (length table) offset
 abbrev pub innermost_of : List Phrase → ℕ → Option ℕ
 innermost_of table offset = first_of (enabled table offset)
 
--- the phrases to ask about an offset, innermost first, among the first so many. One that is enabled there is asked, and then those before
--- it about where it begins; a search that goes outward comes there, too, from the arms of one that is not enabled
+-- the phrases to ask about an offset, among the first so many, innermost first. One that is enabled there is asked, and then those before
+-- it about where it begins. Where the offset is in the region of an arm, a search that goes outward comes from the phrase that holds the
+-- arm to those before it, about where that phrase begins
 unfoldable pub around_at : Bool → ℕ → ℕ → (ℕ → List ℕ) → Option Phrase → List ℕ
 around_at outward n offset before None = before offset
 around_at outward n offset before (Some p) =
@@ -59,7 +60,7 @@ unfoldable pub around : Bool → List Phrase → ℕ → ℕ → List ℕ
 around outward table zero offset = []
 around outward table (suc n) offset = around_at outward n offset (around outward table n) (slice_get table n)
 
--- the phrases beyond one, and those from one on
+-- the phrases beyond one, about where it begins, and those from one on
 abbrev pub beyond : Bool → List Phrase → ℕ → List ℕ
 beyond outward table n = around outward table n (from_of (slice_get table n))
 
@@ -67,7 +68,7 @@ abbrev pub asked : Bool → List Phrase → Option ℕ → List ℕ
 asked outward table None = []
 asked outward table (Some n) = n ∷ beyond outward table n
 
--- a search from the first of some phrases on, and the one that begins at an offset
+-- the search that asks these phrases, and the one that begins at an offset
 abbrev pub search_from : List ℕ → Search
 search_from numbers = record { phrase = first_of numbers }
 

@@ -1,4 +1,4 @@
-ghost use Rattle.signaller.specs.Laws.{TablesOfValid, AsksEnabled, BeginsInnermost, GoesOutward, StaysInside, FindsInnermost, FindsNone, AsksAll, LeavesTheRest, FindsFirst, NumbersArms};
+ghost use Rattle.signaller.specs.Laws.{TablesOfValid, AsksEnabled, BeginsInnermost, FindsEnabled, GoesOutward, StaysInside, FindsInnermost, FindsNone, AsksAll, LeavesTheRest, FindsFirst, NumbersArms};
 
 /// The phrases of each procedure of valid code are a table as the calls ask for it.
 pub fn tables_of_valid()
@@ -15,6 +15,12 @@ pub fn asks_enabled()
 /// phrases beyond the one that holds the arm in whose region the offset is, if it goes outward.
 pub fn begins_innermost()
     ensures { BeginsInnermost }
+{}
+
+/// A search that begins at an offset of valid code finds the first fitting arm of the phrases that are enabled there,
+/// innermost first, and then, if it goes outward, of those beyond the phrase that holds the arm.
+pub fn finds_enabled()
+    ensures { FindsEnabled }
 {}
 
 /// Beyond a phrase of valid code are those before it that are enabled where it begins, innermost first; then, for a

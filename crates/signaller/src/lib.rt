@@ -11,8 +11,8 @@ mod sweep;
 
 pub use catch_index::{CatchIndex, Segment, index, innermost};
 pub use law::{
-    asks_all, asks_enabled, begins_innermost, finds_first, finds_innermost, finds_none, goes_outward,
-    leaves_the_rest, numbers_arms, stays_inside, tables_of_valid,
+    asks_all, asks_enabled, begins_innermost, finds_enabled, finds_first, finds_innermost,
+    finds_none, goes_outward, leaves_the_rest, numbers_arms, stays_inside, tables_of_valid,
 };
 pub use outward::{Sought, beyond, place_for};
 pub use place::Place;
