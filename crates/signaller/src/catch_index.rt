@@ -33,8 +33,9 @@ impl Model for CatchIndex {
     ghost view = { λ index. index.segments.items };
 }
 
-/// The segments of the code of a procedure, each with its innermost phrase; twice the number of phrases and one at
-/// most. The phrases of valid code are in order of where their ranges begin.
+/// The segments of the code of a procedure, each with its innermost phrase: the first begins at 0, and there are twice
+/// the number of phrases and one at most. It sorts where ranges begin and end, and then opens and closes each phrase once
+/// at most. It takes memory, and refuses for want of it alone. The phrases of a procedure of valid code are as it asks.
 pub fn index(alloc: Global, table: &CatchTable) -> Result<CatchIndex, OutOfMemory>
     requires table { IsCatchTable table.now }
     ensures { IfOk result (Indexes table.now) }
