@@ -1,0 +1,12 @@
+pub mod Asking
+pub mod Halving
+pub mod Lying
+pub mod Edges
+pub mod Enabled
+pub mod Firsts
+pub mod Inside
+pub mod Numbering
+pub mod Regions
+pub mod Sweeping
+pub mod Surrounding
+pub mod Telling

@@ -1,0 +1,6 @@
+/// An arm by the number of its phrase and its number in it.
+#[derive(Clone, Copy, Debug, PartialEq, Eq)]
+pub struct Place {
+    pub phrase: usize,
+    pub arm: usize,
+}

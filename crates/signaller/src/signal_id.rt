@@ -1,0 +1,9 @@
+/// A signal: one of an instance, by the instance's number and its own, or a predeclared one.
+#[derive(Clone, Copy, Debug, PartialEq, Eq)]
+pub enum SignalId {
+    Own(u32, u32),
+    BoundsFault,
+    ZeroDivisor,
+    NoInput,
+    Unnamed,
+}
