@@ -8,7 +8,7 @@ use Rattle.module_checker.specs.Typed.{Home, Global, Local, Base, Range, Given, 
 use Rattle.mesa_base.specs.declared.identifier.Identifier.{Identifier}
 use Rattle.mesa_types.specs.declared.syntax.RepeatLabels.{RepeatLabels}
 use Rattle.mesa_types.specs.declared.syntax.RepeatLabels.TheVariants as repeat
-use Rattle.module_checker.specs.Constants.{constant}
+use Rattle.mesa_types.specs.Constants.{constant}
 use Rattle.module_checker.specs.Operators.{Meeting, related, number_type, turned, Sort, Number, sort_of}
 use Rattle.module_checker.specs.Ranges.{Typed, checked, range_for, Arguments}
 use Rattle.module_checker.specs.Scopes.{Scope, with_name, nothing}

@@ -39,10 +39,6 @@ number_in bytes n (x ∷ xs) = if bytes_eq bytes x then (if nat_le (suc n) 65535
 unfoldable pub string : List (List ℕ) → Place → List ℕ → Checked Typed
 string literals p bytes = and_then (or_refuse (number_in bytes 0 literals) GlobalsTooLarge p) (λ n. Ok (typed v.String (t.Literal n)))
 
-abbrev pub bit : Bool → ℕ
-bit true = 1
-bit false = 0
-
 abbrev pub truth : t.Expr → Typed
 truth e = typed v.Boolean e
 
