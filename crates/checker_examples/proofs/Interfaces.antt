@@ -2,7 +2,7 @@
 use Rattle.std.specs.Prelude.{◌≡◌, List, [], ◌∷◌, ◌++◌, codes}
 use Rattle.std.proofs.Common.{refl}
 use Rattle.module_checker.specs.PlainTypes.{PlainInterface}
-use Rattle.module_checker.specs.declared.fault.Cause.TheVariants.{UnknownName, TwiceDeclared, TypeMismatch, NotConstant, ExportDiffers, StampMissing, StampUnwanted}
+use Rattle.module_checker.specs.declared.fault.Cause.TheVariants.{UnknownName, TwiceDeclared, TypeMismatch, NotConstant, WrongCount, ExportDiffers, StampMissing, StampUnwanted}
 use Rattle.module_checker.proofs.Texts.{Row, fine, bad, mistakes, mistakes_under, interface}
 use Rattle.module_checker.proofs.Everything.{everything}
 
@@ -70,6 +70,9 @@ definitions =
     ∷ bad NotConstant (codes "D: DEFINITIONS = BEGIN S: STRING = ^\"ab\"; END.")
     ∷ bad NotConstant (codes "D: DEFINITIONS = BEGIN F: PROCEDURE RETURNS [INTEGER]; N: INTEGER = ^F[]; END.")
     ∷ bad NotConstant (codes "D: DEFINITIONS = BEGIN N: INTEGER = ^F[]; F: PROCEDURE RETURNS [INTEGER]; END.")
+    ∷ bad WrongCount (codes "D: DEFINITIONS = BEGIN N: INTEGER = F^[]; T: TYPE = INTEGER; F: PROCEDURE [n: T] RETURNS [INTEGER]; END.")
+    ∷ bad NotConstant (codes "D: DEFINITIONS = BEGIN N: INTEGER = ^F[q]; F: PROCEDURE [n: T] RETURNS [INTEGER]; T: TYPE = INTEGER; END.")
+    ∷ bad TypeMismatch (codes "D: DEFINITIONS = BEGIN T: TYPE = ^F; F: SIGNAL [n: q]; END.")
     ∷ bad UnknownName (codes "D: DEFINITIONS = BEGIN P: PROCEDURE [c: {on, off}]; N: BOOLEAN = 1 = ^on; END.")
     ∷ fine (codes "D: DEFINITIONS = BEGIN S: SIGNAL [a: ARRAY [0..2048] OF INTEGER]; END.")
     ∷ []

@@ -1,5 +1,6 @@
 -- Types as they are written (Language Manual, chapter 3): subranges, elements, limits, origins by number.
 use Rattle.std.specs.Prelude.{ℕ, ◌+◌, ◌-◌, Bool, true, false, ◌&&◌, List, [], ◌∷◌, length, filter, Option, Some, None, Ok, if◌then◌else◌, nat_le, nat_lt, is_some, not}
+use Rattle.mesa_base.specs.declared.limits.TheConstants.{TYPE_WORDS, TYPE_DEPTH, ENUMERATION_ELEMENTS}
 use Rattle.mesa_base.specs.declared.place.Place.{Place}
 use Rattle.module_checker.specs.Typed as t
 use Rattle.module_checker.specs.Typed.{Base, Signed, Unsigned}
@@ -21,9 +22,9 @@ use Rattle.module_checker.specs.PlainTypes.{PlainType, base_of, bounds, depth_of
 abbrev pub origin : Known → Place → Origin
 origin known p = record { «module» = known.name; stamp = known.stamp; number = length (filter (λ n. nat_lt n p.token) known.origins) }
 
--- 16,384 words, 64 deep (rule of this project)
+-- the words and the depth of a type are limited (rule of this project)
 unfoldable pub limited : Place → PlainType → Checked PlainType
-limited p k = and_then (only (nat_le (words_of k) 16384 && nat_le (depth_of k) 64) TypeTooLarge p) (λ _. Ok k)
+limited p k = and_then (only (nat_le (words_of k) TYPE_WORDS && nat_le (depth_of k) TYPE_DEPTH) TypeTooLarge p) (λ _. Ok k)
 
 -- the elements of an enumeration are constants of the scope in which it stands
 unfoldable pub elements : Around → PlainType → ℕ → List Identifier → Check (Unit {0})
@@ -32,8 +33,9 @@ elements a k n (x ∷ xs) = λ s.
     and_then (only (not (is_declared x.name s)) TwiceDeclared x.place) (λ _.
     elements a k (n + 1) xs (element_in a.is_outermost x.name (Constant k n) s))
 
+-- and so are the elements of an enumeration
 unfoldable pub few : Place → List Identifier → Checked (Unit {0})
-few p xs = only (nat_le (length xs) 65536) TypeTooLarge p
+few p xs = only (nat_le (length xs) ENUMERATION_ELEMENTS) TypeTooLarge p
 
 abbrev pub is_index_by : Sort → Bool → Bool
 is_index_by (Number b) is_subrange = is_subrange
