@@ -39,7 +39,8 @@ of does = record { variables = t.NoKinds; does = does }
 -- an INTEGER and a CARDINAL: the operation is INTEGER, and the CARDINAL is checked; so is a CARDINAL that is given
 mixed : body (codes "x: INTEGER; k: CARDINAL; x _ x + k; x _ k;") ≡ of (block (
     then (t.Declare (t.Global 0 ∷ []) t.Ordinal) (then (t.Declare (t.Global 1 ∷ []) t.Ordinal)
-    (then (t.Assign (t.Global 0) t.NoSuffix (t.Operate (word (t.Global 0)) (t.Then t.Every t.Add (t.Checked (t.From t.Unsigned 0 32767) (word (t.Global 1))) t.NoOperation)))
+    (then (t.Assign (t.Global 0) t.NoSuffix
+    (t.Operate (word (t.Global 0)) (t.Then t.Every t.Add (t.Checked (t.From t.Unsigned 0 32767) (word (t.Global 1))) t.NoOperation)))
     (then (t.Assign (t.Global 0) t.NoSuffix (t.Checked (t.From t.Unsigned 0 32767) (word (t.Global 1)))) t.NoStmts)))))
 unfolding everything
 mixed = refl
@@ -116,6 +117,7 @@ strings_for (Some r) = strings_of (program_by r.0 [] r.0.kind)
 strings_for None = []
 
 -- each string once, by its first mention in the text
-strings : strings_for (read (in_program (codes "s: STRING _ \"b\"; P: PROCEDURE = BEGIN s _ \"a\"; s _ \"b\" END; s _ \"c\";"))) ≡ codes "b" ∷ codes "a" ∷ codes "c" ∷ []
+strings : strings_for (read (in_program (codes "s: STRING _ \"b\"; P: PROCEDURE = BEGIN s _ \"a\"; s _ \"b\" END; s _ \"c\";")))
+    ≡ codes "b" ∷ codes "a" ∷ codes "c" ∷ []
 unfolding everything
 strings = refl

@@ -9,7 +9,8 @@ use Rattle.module_checker.proofs.Everything.{everything}
 
 -- the text of the built-in interface, whose stamp is 1
 abbrev pub io : List PlainInterface
-io = interface 1 (codes "IODefs: DEFINITIONS = BEGIN WriteChar: PROCEDURE [c: CHARACTER]; WriteString: PROCEDURE [s: STRING]; WriteDecimal: PROCEDURE [n: INTEGER]; ReadChar: PROCEDURE RETURNS [CHARACTER]; EndOfInput: PROCEDURE RETURNS [BOOLEAN]; NoInput: ERROR; END.")
+io = interface 1 (codes "IODefs: DEFINITIONS = BEGIN WriteChar: PROCEDURE [c: CHARACTER]; WriteString: PROCEDURE [s: STRING]; "
+    ++ codes "WriteDecimal: PROCEDURE [n: INTEGER]; ReadChar: PROCEDURE RETURNS [CHARACTER]; EndOfInput: PROCEDURE RETURNS [BOOLEAN]; NoInput: ERROR; END.")
 
 abbrev interfaces : List PlainInterface → List Interface
 interfaces [] = []
@@ -35,8 +36,10 @@ loops =
     ∷ runs (codes "i: INTEGER; FOR i IN [3..3) DO WriteDecimal[i] ENDLOOP; FOR i DECREASING IN [1..3] DO WriteDecimal[i] ENDLOOP;")
     ∷ runs (codes "a: ARRAY [0..2] OF INTEGER; i: INTEGER _ 3; WriteDecimal[7]; a[i] _ 1; WriteDecimal[8];")
     ∷ runs (codes "P: PROCEDURE [n: INTEGER] = BEGIN IF n > 1 THEN P[n - 1]; END; P[8191];")
-    ∷ runs (codes "Pair: TYPE = RECORD [x, y: INTEGER]; p: Pair _ [y: 2, x: 1]; a, b, n: INTEGER; [a, b] _ p; WriteDecimal[a]; WriteDecimal[b]; n _ 17B; WriteDecimal[n]; WriteChar[101C]; WriteDecimal[17D];")
-    ∷ runs (codes "F: PROCEDURE RETURNS [a, b: INTEGER] = BEGIN a _ 1; b _ 2; RETURN[b, a]; END; x, y: INTEGER; [x, y] _ F[]; WriteDecimal[x]; WriteDecimal[y];")
+    ∷ runs (codes "Pair: TYPE = RECORD [x, y: INTEGER]; p: Pair _ [y: 2, x: 1]; a, b, n: INTEGER; [a, b] _ p; WriteDecimal[a]; WriteDecimal[b]; n _ 17B; "
+    ++ codes "WriteDecimal[n]; WriteChar[101C]; WriteDecimal[17D];")
+    ∷ runs (codes "F: PROCEDURE RETURNS [a, b: INTEGER] = BEGIN a _ 1; b _ 2; RETURN[b, a]; END; x, y: INTEGER; [x, y] _ F[]; WriteDecimal[x]; "
+    ++ codes "WriteDecimal[y];")
     ∷ []
 
 loops_and_calls : mistakes io 0 loops ≡ []
@@ -45,14 +48,24 @@ loops_and_calls = refl
 
 abbrev arms : List Row
 arms =
-    runs (codes "E: ERROR = CODE; C: PROCEDURE = BEGIN ENABLE UNWIND => WriteChar['c]; ERROR E; END; B: PROCEDURE = BEGIN ENABLE UNWIND => WriteChar['b]; C[]; END; A: PROCEDURE = BEGIN B[! E => BEGIN WriteChar['a]; CONTINUE END]; WriteChar['d]; END; A[];")
-    ∷ runs (codes "E: ERROR = CODE; C: PROCEDURE = BEGIN ERROR E; END; B: PROCEDURE = BEGIN C[]; END; A: PROCEDURE = BEGIN ENABLE E => BEGIN WriteChar['a]; CONTINUE END; BEGIN ENABLE UNWIND => WriteChar['x]; B[] END; END; A[]; WriteChar['d];")
-    ∷ runs (codes "k: INTEGER _ 0; E: ERROR = CODE; P: PROCEDURE = BEGIN WriteChar['p]; ERROR E; END; P[! E => BEGIN k _ k + 1; IF k < 4 THEN RETRY ELSE CONTINUE END]; WriteDecimal[k];")
-    ∷ runs (codes "S: SIGNAL = CODE; R: PROCEDURE = BEGIN SIGNAL S; END; Q: PROCEDURE = BEGIN R[! S => BEGIN WriteChar['i]; SIGNAL S; WriteChar['j]; RESUME END]; END; Q[! S => BEGIN WriteChar['o]; RESUME END]; WriteChar['e];")
-    ∷ runs (codes "E: ERROR = CODE; T: ERROR = CODE; D: PROCEDURE = BEGIN ERROR T; END; C: PROCEDURE = BEGIN ENABLE UNWIND => D[]; ERROR E; END; B: PROCEDURE = BEGIN C[! T => BEGIN WriteChar['t]; CONTINUE END]; WriteChar['b]; END; A: PROCEDURE = BEGIN B[! E => BEGIN WriteChar['a]; CONTINUE END]; WriteChar['d]; END; A[];")
-    ∷ runs (codes "E: ERROR = CODE; Q: PROCEDURE = BEGIN ERROR E END; P: PROCEDURE RETURNS [r: INTEGER] = BEGIN Q[! E => RETURN[3]]; r _ 9 END; WriteDecimal[P[]]; DO Q[! E => EXIT]; WriteChar['n] ENDLOOP; WriteChar['x];")
+    runs (codes "E: ERROR = CODE; C: PROCEDURE = BEGIN ENABLE UNWIND => WriteChar['c]; ERROR E; END; B: PROCEDURE = BEGIN ENABLE UNWIND => WriteChar['b]; "
+    ++ codes "C[]; END; A: PROCEDURE = BEGIN B[! E => BEGIN WriteChar['a]; CONTINUE END]; WriteChar['d]; END; A[];")
+    ∷ runs (codes "E: ERROR = CODE; C: PROCEDURE = BEGIN ERROR E; END; B: PROCEDURE = BEGIN C[]; END; "
+    ++ codes "A: PROCEDURE = BEGIN ENABLE E => BEGIN WriteChar['a]; CONTINUE END; BEGIN ENABLE UNWIND => WriteChar['x]; B[] END; END; A[]; "
+    ++ codes "WriteChar['d];")
+    ∷ runs (codes "k: INTEGER _ 0; E: ERROR = CODE; P: PROCEDURE = BEGIN WriteChar['p]; ERROR E; END; P[! E => BEGIN k _ k + 1; "
+    ++ codes "IF k < 4 THEN RETRY ELSE CONTINUE END]; WriteDecimal[k];")
+    ∷ runs (codes "S: SIGNAL = CODE; R: PROCEDURE = BEGIN SIGNAL S; END; Q: PROCEDURE = BEGIN R[! S => BEGIN WriteChar['i]; SIGNAL S; WriteChar['j]; "
+    ++ codes "RESUME END]; END; Q[! S => BEGIN WriteChar['o]; RESUME END]; WriteChar['e];")
+    ∷ runs (codes "E: ERROR = CODE; T: ERROR = CODE; D: PROCEDURE = BEGIN ERROR T; END; C: PROCEDURE = BEGIN ENABLE UNWIND => D[]; ERROR E; END; "
+    ++ codes "B: PROCEDURE = BEGIN C[! T => BEGIN WriteChar['t]; CONTINUE END]; WriteChar['b]; END; "
+    ++ codes "A: PROCEDURE = BEGIN B[! E => BEGIN WriteChar['a]; CONTINUE END]; WriteChar['d]; END; A[];")
+    ∷ runs (codes "E: ERROR = CODE; Q: PROCEDURE = BEGIN ERROR E END; P: PROCEDURE RETURNS [r: INTEGER] = BEGIN Q[! E => RETURN[3]]; r _ 9 END; "
+    ++ codes "WriteDecimal[P[]]; DO Q[! E => EXIT]; WriteChar['n] ENDLOOP; WriteChar['x];")
     ∷ runs (codes "Q: PROCEDURE = BEGIN ERROR END; Q[! ANY => CONTINUE]; ERROR;")
-    ∷ runs (codes "E: ERROR = CODE; T: ERROR = CODE; D: PROCEDURE = BEGIN ERROR T; END; C: PROCEDURE = BEGIN ENABLE UNWIND => WriteChar['c]; ERROR E; END; B: PROCEDURE = BEGIN ENABLE UNWIND => WriteChar['b]; C[! E => D[]]; END; A: PROCEDURE = BEGIN B[! T => BEGIN WriteChar['t]; CONTINUE END]; WriteChar['d]; END; A[];")
+    ∷ runs (codes "E: ERROR = CODE; T: ERROR = CODE; D: PROCEDURE = BEGIN ERROR T; END; C: PROCEDURE = BEGIN ENABLE UNWIND => WriteChar['c]; ERROR E; "
+    ++ codes "END; B: PROCEDURE = BEGIN ENABLE UNWIND => WriteChar['b]; C[! E => D[]]; END; A: PROCEDURE = BEGIN B[! T => BEGIN WriteChar['t]; "
+    ++ codes "CONTINUE END]; WriteChar['d]; END; A[];")
     ∷ []
 
 signals_and_unwinding : mistakes io 0 arms ≡ []
@@ -65,12 +78,14 @@ ask = interface 10 (codes "AskDefs: DEFINITIONS = BEGIN Ask: PROCEDURE [x: INTEG
 
 abbrev server : List Row
 server =
-    fine (codes "DIRECTORY AskDefs: FROM \"AskDefs\"; Server: PROGRAM EXPORTS AskDefs = BEGIN S: PUBLIC SIGNAL [x: INTEGER] RETURNS [INTEGER] = CODE; Ask: PUBLIC PROCEDURE [x: INTEGER] RETURNS [INTEGER] = BEGIN k: INTEGER _ 9; r: INTEGER; r _ SIGNAL S[x]; RETURN[r * 10 + k]; END; END.")
+    fine (codes "DIRECTORY AskDefs: FROM \"AskDefs\"; Server: PROGRAM EXPORTS AskDefs = BEGIN S: PUBLIC SIGNAL [x: INTEGER] RETURNS [INTEGER] = CODE; "
+    ++ codes "Ask: PUBLIC PROCEDURE [x: INTEGER] RETURNS [INTEGER] = BEGIN k: INTEGER _ 9; r: INTEGER; r _ SIGNAL S[x]; RETURN[r * 10 + k]; END; END.")
     ∷ []
 
 abbrev main : List Row
 main =
-    fine (codes "DIRECTORY AskDefs: FROM \"AskDefs\", IODefs: FROM \"IODefs\"; Main: PROGRAM IMPORTS AskDefs, IODefs = BEGIN IODefs.WriteDecimal[AskDefs.Ask[4 ! AskDefs.S => RESUME[x + 1]]]; END.")
+    fine (codes "DIRECTORY AskDefs: FROM \"AskDefs\", IODefs: FROM \"IODefs\"; "
+    ++ codes "Main: PROGRAM IMPORTS AskDefs, IODefs = BEGIN IODefs.WriteDecimal[AskDefs.Ask[4 ! AskDefs.S => RESUME[x + 1]]]; END.")
     ∷ []
 
 a_server : mistakes ask 0 server ≡ []
@@ -89,9 +104,14 @@ chain =
 
 abbrev links : List Row
 links =
-    fine (codes "DIRECTORY StepDefs: FROM \"StepDefs\"; Link: PROGRAM IMPORTS StepDefs EXPORTS StepDefs = BEGIN Step: PUBLIC PROCEDURE [n: INTEGER] RETURNS [INTEGER] = BEGIN RETURN[StepDefs.Step[n + 1]]; END; END.")
-    ∷ fine (codes "DIRECTORY StepDefs: FROM \"StepDefs\", SigDefs: FROM \"SigDefs\"; Last: PROGRAM EXPORTS StepDefs, SigDefs = BEGIN Odd: PUBLIC SIGNAL [n: INTEGER] RETURNS [INTEGER] = CODE; Step: PUBLIC PROCEDURE [n: INTEGER] RETURNS [INTEGER] = BEGIN IF n MOD 2 = 1 THEN RETURN[SIGNAL Odd[n]]; RETURN[n]; END; END.")
-    ∷ fine (codes "DIRECTORY StepDefs: FROM \"StepDefs\", SigDefs: FROM \"SigDefs\", IODefs: FROM \"IODefs\"; Main: PROGRAM IMPORTS StepDefs, SigDefs, IODefs = BEGIN IODefs.WriteDecimal[StepDefs.Step[0 ! SigDefs.Odd => RESUME[n + n]]]; IODefs.WriteChar[12C]; END.")
+    fine (codes "DIRECTORY StepDefs: FROM \"StepDefs\"; Link: PROGRAM IMPORTS StepDefs EXPORTS StepDefs = BEGIN Step: PUBLIC PROCEDURE [n: INTEGER] "
+    ++ codes "RETURNS [INTEGER] = BEGIN RETURN[StepDefs.Step[n + 1]]; END; END.")
+    ∷ fine (codes "DIRECTORY StepDefs: FROM \"StepDefs\", SigDefs: FROM \"SigDefs\"; "
+    ++ codes "Last: PROGRAM EXPORTS StepDefs, SigDefs = BEGIN Odd: PUBLIC SIGNAL [n: INTEGER] RETURNS [INTEGER] = CODE; "
+    ++ codes "Step: PUBLIC PROCEDURE [n: INTEGER] RETURNS [INTEGER] = BEGIN IF n MOD 2 = 1 THEN RETURN[SIGNAL Odd[n]]; RETURN[n]; END; END.")
+    ∷ fine (codes "DIRECTORY StepDefs: FROM \"StepDefs\", SigDefs: FROM \"SigDefs\", IODefs: FROM \"IODefs\"; "
+    ++ codes "Main: PROGRAM IMPORTS StepDefs, SigDefs, IODefs = BEGIN IODefs.WriteDecimal[StepDefs.Step[0 ! SigDefs.Odd => RESUME[n + n]]]; "
+    ++ codes "IODefs.WriteChar[12C]; END.")
     ∷ []
 
 a_chain : mistakes chain 0 links ≡ []

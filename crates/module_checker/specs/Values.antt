@@ -26,7 +26,9 @@ use Rattle.module_checker.specs.declared.fault.Cause.TheVariants.{TypeMismatch, 
 use Rattle.module_checker.specs.PlainTypes.{PlainField, PlainItem, PlainType, sign_of, words_of, words_of_fields}
 
 unfoldable pub number : ℕ → Typed
-number n = if nat_le n 32767 then record { value = t.Number n; kind = v.Integer; literal = true; gave = None } else typed v.Cardinal (t.Number (min n GREATEST_NUMBER))
+number n =
+    if nat_le n 32767 then record { value = t.Number n; kind = v.Integer; literal = true; gave = None }
+    else typed v.Cardinal (t.Number (min n GREATEST_NUMBER))
 
 -- a character, by its code
 unfoldable pub letter : ℕ → Typed
