@@ -62,6 +62,9 @@ parts =
     ∷ wrong WrongCount (codes "A: TYPE = ARRAY [0..1] OF INTEGER; a: A _ ^[1];")
     ∷ wrong WrongCount (codes "A: TYPE = ARRAY [0..1] OF INTEGER; a: A _ ^[x: 1, y: 2];")
     ∷ wrong TypeMismatch (codes "T: TYPE = INTEGER; i: INTEGER _ ^T[1];")
+    ∷ wrong TypeMismatch (codes "T: TYPE = INTEGER; i: INTEGER _ ^T[1 ! ANY => NULL];")
+    ∷ wrong TypeMismatch (codes "A: TYPE = ARRAY [0..1] OF INTEGER; a: A _ A[1 ^! ANY => NULL];")
+    ∷ wrong TypeMismatch (codes "i: INTEGER; i _ ^i[1 ! ANY => NULL];")
     ∷ wrong TypeMismatch (codes "R: TYPE = RECORD [x: INTEGER]; Q: TYPE = RECORD [x: INTEGER]; r: R; q: Q _ ^r;")
     ∷ []
 

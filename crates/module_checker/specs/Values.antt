@@ -161,6 +161,10 @@ by_keys k p fs xs values = do
 abbrev pub construct_shape : {A : Type 0} → PlainType → Place → Check A → Check A
 construct_shape k q other = by_shape (shape_of k) (λ fs. other) (λ n j. other) (fail TypeMismatch q)
 
+-- a type's name that stands before brackets is that of a record or an array
+abbrev pub has_parts : PlainType → Place → Checked (Unit {0})
+has_parts k q = by_shape (shape_of k) (λ fs. Ok tt) (λ n j. Ok tt) (refuse TypeMismatch q)
+
 -- a bound is one of the type that a word before its interval says
 abbrev pub bound_aim : Option PlainType → Place → Aim
 bound_aim (Some k) p = Into k p
