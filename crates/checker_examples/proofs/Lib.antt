@@ -1,5 +1,7 @@
+mod Causes
 mod Expressions
 mod Interfaces
+mod Limits
 mod Names
 mod Orders
 mod Statements

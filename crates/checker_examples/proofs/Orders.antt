@@ -77,7 +77,8 @@ taking = interface 10 (codes "I: DEFINITIONS = BEGIN A: TYPE = ARRAY [0..16379] 
     ++ codes "E: SIGNAL [a: A, w, x: INTEGER] RETURNS [INTEGER]; F: PROCEDURE RETURNS [STRING]; H: SIGNAL RETURNS [INTEGER]; END.")
 
 abbrev holding : List ℕ → List ℕ
-holding text = codes "DIRECTORY I: FROM \"I\"; M: PROGRAM IMPORTS I = BEGIN OPEN I; s: STRING; k: STRING = \"ab\"; n: INTEGER; r: R; v: ARRAY [0..3] OF INTEGER; "
+holding text = codes "DIRECTORY I: FROM \"I\"; M: PROGRAM IMPORTS I = BEGIN OPEN I; s: STRING; k: STRING = \"ab\"; "
+    ++ codes "n: INTEGER; r: R; v: ARRAY [0..3] OF INTEGER; "
     ++ (text ++ codes " END.")
 
 abbrev fits : List ℕ → Row

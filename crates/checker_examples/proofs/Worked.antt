@@ -1,10 +1,13 @@
 -- Programs that run: each is checked.
-use Rattle.std.specs.Prelude.{◌≡◌, List, [], ◌∷◌, ◌++◌, codes}
+use Rattle.std.specs.Prelude.{◌≡◌, List, [], ◌∷◌, ◌++◌, None, codes}
 use Rattle.std.proofs.Common.{refl}
 use Rattle.interface_records.specs.Faces.{iodefs}
 use Rattle.interface_records.specs.declared.interface.Interface.{Interface}
+use Rattle.mesa_types.specs.declared.faces.ItemKind.TheVariants as item
+use Rattle.module_checker.specs.PlainTypes as v
 use Rattle.module_checker.specs.PlainTypes.{PlainInterface, interface_of}
-use Rattle.module_checker.proofs.Texts.{Row, fine, runs, mistakes, interface}
+use Rattle.module_checker.specs.declared.fault.Cause.TheVariants.{UnknownName, TwiceDeclared, BadLabel, NotResumable, StampMissing, StampUnwanted}
+use Rattle.module_checker.proofs.Texts.{Row, fine, bad, runs, mistakes, mistakes_under, interface}
 use Rattle.module_checker.proofs.Everything.{everything}
 
 -- the text of the built-in interface, whose stamp is 1
@@ -117,3 +120,133 @@ links =
 a_chain : mistakes chain 0 links ≡ []
 unfolding everything
 a_chain = refl
+
+-- A counter behind an interface, and one that goes over it.
+abbrev counting : List PlainInterface
+counting = interface 12 (codes "CounterDefs: DEFINITIONS = BEGIN Next: PROCEDURE RETURNS [INTEGER]; Full: ERROR; END.")
+
+abbrev going : List PlainInterface
+going = interface 13 (codes "OtherDefs: DEFINITIONS = BEGIN Go: PROCEDURE; END.")
+
+abbrev counter : List Row
+counter =
+    fine (codes "DIRECTORY CounterDefs: FROM \"CounterDefs\"; Counter: PROGRAM EXPORTS CounterDefs = BEGIN n: INTEGER _ 0; Full: PUBLIC ERROR = CODE; "
+    ++ codes "Next: PUBLIC PROCEDURE RETURNS [INTEGER] = BEGIN n _ n + 1; IF n > 2 THEN ERROR Full; RETURN[n]; END; END.")
+    ∷ []
+
+abbrev other : List Row
+other =
+    fine (codes "DIRECTORY CounterDefs: FROM \"CounterDefs\", OtherDefs: FROM \"OtherDefs\", IODefs: FROM \"IODefs\"; "
+    ++ codes "Other: PROGRAM IMPORTS CounterDefs, IODefs EXPORTS OtherDefs = BEGIN OPEN IODefs; Go: PUBLIC PROCEDURE = BEGIN "
+    ++ codes "THROUGH [1..3] DO WriteDecimal[CounterDefs.Next[]] ENDLOOP; END; END.")
+    ∷ fine (codes "DIRECTORY CounterDefs: FROM \"CounterDefs\", OtherDefs: FROM \"OtherDefs\", IODefs: FROM \"IODefs\"; "
+    ++ codes "Main: PROGRAM IMPORTS CounterDefs, OtherDefs, IODefs = BEGIN OPEN IODefs; WriteDecimal[CounterDefs.Next[]]; "
+    ++ codes "OtherDefs.Go[! CounterDefs.Full => BEGIN WriteChar['x]; CONTINUE END]; END.")
+    ∷ fine (codes "DIRECTORY CounterDefs: FROM \"CounterDefs\", OtherDefs: FROM \"OtherDefs\", IODefs: FROM \"IODefs\"; "
+    ++ codes "Main: PROGRAM IMPORTS CounterDefs, OtherDefs, IODefs = BEGIN OPEN IODefs; WriteDecimal[CounterDefs.Next[]]; OtherDefs.Go[]; END.")
+    ∷ []
+
+a_counter : mistakes counting 0 counter ≡ []
+unfolding everything
+a_counter = refl
+
+over_a_counter : mistakes (counting ++ (going ++ io)) 0 other ≡ []
+unfolding everything
+over_a_counter = refl
+
+-- two that export one interface to a third
+abbrev allocating : List PlainInterface
+allocating = interface 10 (codes "AllocDefs: DEFINITIONS = BEGIN Get: PROCEDURE RETURNS [INTEGER]; END.")
+
+abbrev allocators : List Row
+allocators =
+    fine (codes "DIRECTORY AllocDefs: FROM \"AllocDefs\"; One: PROGRAM EXPORTS AllocDefs = BEGIN "
+    ++ codes "Get: PUBLIC PROCEDURE RETURNS [INTEGER] = BEGIN RETURN[1]; END; END.")
+    ∷ fine (codes "DIRECTORY AllocDefs: FROM \"AllocDefs\"; Main: PROGRAM IMPORTS AllocDefs = BEGIN n: INTEGER _ AllocDefs.Get[]; END.")
+    -- a module may import what it exports
+    ∷ fine (codes "DIRECTORY AllocDefs: FROM \"AllocDefs\"; Two: PROGRAM IMPORTS AllocDefs EXPORTS AllocDefs = BEGIN "
+    ++ codes "Get: PUBLIC PROCEDURE RETURNS [INTEGER] = BEGIN RETURN[AllocDefs.Get[]]; END; END.")
+    ∷ []
+
+two_allocators : mistakes allocating 0 allocators ≡ []
+unfolding everything
+two_allocators = refl
+
+-- a store over a log
+abbrev logging : List PlainInterface
+logging = interface 10 (codes "LogDefs: DEFINITIONS = BEGIN Put: PROCEDURE [c: CHARACTER]; END.")
+
+abbrev storing : List PlainInterface
+storing = interface 11 (codes "StoreDefs: DEFINITIONS = BEGIN Save: PROCEDURE [c: CHARACTER]; END.")
+
+abbrev logger : List Row
+logger =
+    fine (codes "DIRECTORY LogDefs: FROM \"LogDefs\", IODefs: FROM \"IODefs\"; Logger: PROGRAM IMPORTS IODefs EXPORTS LogDefs = BEGIN "
+    ++ codes "Put: PUBLIC PROCEDURE [c: CHARACTER] = BEGIN IODefs.WriteChar[c]; END; END.")
+    ∷ []
+
+abbrev store : List Row
+store =
+    fine (codes "DIRECTORY LogDefs: FROM \"LogDefs\", StoreDefs: FROM \"StoreDefs\"; Store: PROGRAM IMPORTS LogDefs EXPORTS StoreDefs = BEGIN "
+    ++ codes "Save: PUBLIC PROCEDURE [c: CHARACTER] = BEGIN LogDefs.Put[c]; END; END.")
+    ∷ fine (codes "DIRECTORY LogDefs: FROM \"LogDefs\", StoreDefs: FROM \"StoreDefs\"; Main: PROGRAM IMPORTS StoreDefs = BEGIN StoreDefs.Save['q]; END.")
+    ∷ []
+
+a_logger : mistakes (logging ++ io) 0 logger ≡ []
+unfolding everything
+a_logger = refl
+
+a_store : mistakes (logging ++ storing) 0 store ≡ []
+unfolding everything
+a_store = refl
+
+-- what two interfaces hold
+two : interface 11 (codes "Two: DEFINITIONS = BEGIN Size: CARDINAL = 3; Full: ERROR; END.") ≡ record {
+  name = codes "Two";
+  stamp = 11;
+  items = record { kind = item.Error; name = codes "Full"; takes = []; gives = [] } ∷ [];
+  constants = record { name = codes "Size"; kind = v.Cardinal; value = 3 } ∷ [];
+  types = [];
+} ∷ []
+unfolding everything
+two = refl
+
+one : interface 10 (codes "One: DEFINITIONS = BEGIN Get: PROCEDURE RETURNS [INTEGER]; END.") ≡ record {
+  name = codes "One";
+  stamp = 10;
+  items = record { kind = item.Procedure; name = codes "Get"; takes = []; gives = record { name = None; kind = v.Integer } ∷ [] } ∷ [];
+  constants = [];
+  types = [];
+} ∷ []
+unfolding everything
+one = refl
+
+abbrev refused : List Row
+refused =
+    bad TwiceDeclared (codes "Bad: PROGRAM = BEGIN x, ^x: INTEGER; END.")
+    ∷ bad BadLabel (codes "Bad: PROGRAM = BEGIN ^EXIT; END.")
+    ∷ bad UnknownName (codes "Bad: PROGRAM = BEGIN ^x _ 1 END.")
+    ∷ bad NotResumable (codes "Bad: PROGRAM = BEGIN E: ERROR = CODE; ERROR E[! E => ^RESUME] END.")
+    ∷ bad StampMissing (codes "Two: ^DEFINITIONS = BEGIN Size: CARDINAL = 3; Full: ERROR; END.")
+    ∷ []
+
+abbrev refused_under_a_stamp : List Row
+refused_under_a_stamp = bad StampUnwanted (codes "Nothing: ^PROGRAM = BEGIN END.") ∷ []
+
+refused_texts : mistakes [] 0 refused ≡ []
+unfolding everything
+refused_texts = refl
+
+a_stamp_unwanted : mistakes_under 11 [] 0 refused_under_a_stamp ≡ []
+unfolding everything
+a_stamp_unwanted = refl
+
+abbrev more_calls : List Row
+more_calls =
+    runs (codes "E: ERROR = CODE; P: PROCEDURE = BEGIN WriteChar['p]; ERROR E; END; P[]; WriteChar['q];")
+    ∷ runs (codes "F: PROCEDURE [n: INTEGER] RETURNS [INTEGER] = BEGIN IF n < 2 THEN RETURN[n]; RETURN[F[n - 1] + F[n - 2]]; END; WriteDecimal[F[10]];")
+    ∷ []
+
+calls_in_calls : mistakes io 0 more_calls ≡ []
+unfolding everything
+calls_in_calls = refl

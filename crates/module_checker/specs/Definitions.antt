@@ -15,7 +15,7 @@ use Rattle.module_checker.specs.Parts.{first, first_name}
 use Rattle.module_checker.specs.Ranges.{Into}
 use Rattle.module_checker.specs.Statements.{constant_meaning}
 use Rattle.module_checker.specs.Checking.{check, type_exp}
-use Rattle.module_checker.specs.Programs.{elements_of, also, heads_further, Heading, heading, named_item}
+use Rattle.module_checker.specs.Programs.{elements_of, also, before_others, Heading, heading, named_item}
 -- what the interface's own names mean before their declaration
 use Rattle.module_checker.specs.PlainTypes.{PlainConstant, PlainItem, PlainName, PlainType}
 
@@ -74,14 +74,9 @@ and_defined d e = record { items = d.items ++ e.items; constants = d.constants +
 abbrev pub definition : Around → s.Definition → Check Defined
 definition a d = within_operands 0 (first_name d.names) (announce d.names >>= (λ _. defined a d.names d.defined))
 
--- a definition, before these others
-abbrev pub definition_before : Around → s.Definition → List s.Definition → Check Defined
-definition_before a d ds = λ now.
-    definition (record a { further = heads_further (λ (e : s.Definition). e.names) (definition a) d.names ds now }) d now
-
 unfoldable pub all_defined : Around → List s.Definition → Check Defined
 all_defined a [] = pure nothing_defined
 all_defined a (d ∷ ds) = do
-  x ← definition_before a d ds
+  x ← before_others (λ (e : s.Definition). e.names) definition a d ds
   more ← all_defined a ds
   pure (and_defined x more)

@@ -17,7 +17,7 @@ use Rattle.mesa_types.specs.declared.syntax.Access.{Access}
 use Rattle.mesa_types.specs.declared.syntax.Access.TheVariants.{Public, Private}
 use Rattle.module_checker.specs.Scopes.{Scope, nothing, over, has, innermost}
 use Rattle.module_checker.specs.Meanings.{Meaning, Procedure, Signal, Later, Headless}
-use Rattle.module_checker.specs.Steps.{State, Check, Checked, and_then, ◌>>=◌, pure, only, ensure, in_scope, measured, with_top, within_operands}
+use Rattle.module_checker.specs.Steps.{State, Fault, Check, Checked, and_then, ◌>>=◌, pure, only, ensure, in_scope, measured, with_top, within_operands}
 use Rattle.module_checker.specs.Around.{Around, Known, body_of, in_statement, inside, with_labels}
 use Rattle.module_checker.specs.Names.{announce, settle}
 use Rattle.module_checker.specs.Parts.{first_name, names_of, each_of, same_types, join_stmts}
@@ -107,6 +107,19 @@ head_alone _ = None
 -- the heads among these declarations, which stand behind one of these names
 abbrev pub heads_further : {D A : Type 0} → (D → List Identifier) → (D → Check A) → List Identifier → List D → State → Scope Meaning
 heads_further names rule xs ds s x = head_alone (innermost (behind names rule ds (passed_over xs s)).scopes x)
+
+abbrev pub fault_or : {A : Type 0} → Fault → Checked A → Checked A
+fault_or e (Ok r) = Err e
+fault_or e (Err f) = Err f
+
+abbrev pub told : {A : Type 0} → Checked A → (Unit {0} → Checked A) → Checked A
+told (Ok r) again = Ok r
+told (Err e) again = fault_or e (again tt)
+
+-- A declaration before these others. What it declares needs no head further on, since none is in a constant; of a declaration
+-- with a fault these heads tell which fault is the first.
+abbrev pub before_others : {D A : Type 0} → (D → List Identifier) → (Around → D → Check A) → Around → D → List D → Check A
+before_others names rule a d ds = λ now. told (rule a d now) (λ _. rule (record a { further = heads_further names (rule a) (names d) ds now }) d now)
 
 -- Heads of procedures, signals and errors: parameters and results are one scope, which the types in it do not see.
 unfoldable pub named_parameters : Around → s.NamedFields → Check (List PlainField)
@@ -226,17 +239,13 @@ declared a np ns xs access (s.Error takes) = within_operands 0 (first_name xs) (
   x ← heading a takes None
   declared_signals item.Error xs access ns x)
 
--- a declaration, before these others; the numbers of what stands further on are in no constant, so they are never seen
-abbrev pub declared_before : Around → ℕ → ℕ → s.Declaration → List s.Declaration → Check Declared
-declared_before a np ns d ds = λ now. declared (record a { further = further now }) np ns d.names d.access d.declared now
-  where
-    further : State → Scope Meaning
-    further now = heads_further (λ (e : s.Declaration). e.names) (λ e. declared a 0 0 e.names e.access e.declared) d.names ds now
+abbrev pub declaration : ℕ → ℕ → Around → s.Declaration → Check Declared
+declaration np ns a d = declared a np ns d.names d.access d.declared
 
 unfoldable pub all_declared : Around → ℕ → ℕ → List s.Declaration → Check (List Declared)
 all_declared a np ns [] = pure []
 all_declared a np ns (d ∷ ds) = do
-  x ← declared_before a np ns d ds
+  x ← before_others (λ (e : s.Declaration). e.names) (declaration np ns) a d ds
   more ← all_declared a (np + x.procedures) (ns + length x.signals) ds
   pure (x ∷ more)
 
