@@ -4,7 +4,7 @@ use Rattle.std.proofs.Common.{refl}
 use Rattle.module_checker.specs.PlainTypes.{PlainInterface}
 use Rattle.module_checker.specs.declared.fault.Cause.{Cause}
 use Rattle.module_checker.specs.declared.fault.Cause.TheVariants.{UnknownName, TwiceDeclared, TypeMismatch, NotConstant, BadLabel, WrongCount, ExportDiffers}
-use Rattle.module_checker.proofs.Texts.{Row, fine, bad, good, wrong, mistakes, mistakes_under, interface}
+use Rattle.module_checker.proofs.Texts.{Row, fine, bad, good, wrong, mistakes, interface}
 use Rattle.module_checker.proofs.Everything.{everything}
 
 abbrev given : List PlainInterface

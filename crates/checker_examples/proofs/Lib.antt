@@ -1,5 +1,6 @@
 mod Causes
 mod Expressions
+mod Generated
 mod Interfaces
 mod Limits
 mod Names

@@ -1,9 +1,8 @@
 -- Limits, at their edge.
 use Rattle.std.specs.Prelude.{◌≡◌, ℕ, List, [], ◌∷◌, ◌++◌, codes}
 use Rattle.std.proofs.Common.{refl}
-use Rattle.module_checker.specs.PlainTypes.{PlainInterface}
 use Rattle.module_checker.specs.declared.fault.Cause.TheVariants.{UnknownName, FrameTooLarge, GlobalsTooLarge, TypeTooLarge}
-use Rattle.module_checker.proofs.Texts.{Row, fine, bad, good, wrong, mistakes, mistakes_under, interface}
+use Rattle.module_checker.proofs.Texts.{Row, fine, bad, good, wrong, mistakes, mistakes_under}
 use Rattle.module_checker.proofs.Everything.{everything}
 
 -- 1,024 words of locals: parameters, results, the variables of all blocks, three words for each FOR or THROUGH, one for each SELECT
@@ -27,7 +26,8 @@ arms_and_bodies =
     good (codes "S: SIGNAL [s, t: STRING] = CODE; P: PROCEDURE = BEGIN ENABLE S => NULL; x: ARRAY [0..1019] OF INTEGER; END;")
     ∷ wrong FrameTooLarge (codes "S: SIGNAL [s, t: STRING] = CODE; ^P: PROCEDURE = BEGIN ENABLE S => NULL; x: ARRAY [0..1020] OF INTEGER; END;")
     ∷ good (codes "S, T: SIGNAL [s, t: STRING] = CODE; P: PROCEDURE = BEGIN ENABLE S, T => NULL; x: ARRAY [0..1019] OF INTEGER; END;")
-    ∷ wrong FrameTooLarge (codes "S, T: SIGNAL [s, t: STRING] = CODE; ^P: PROCEDURE = BEGIN ENABLE BEGIN S => NULL; T => NULL END; x: ARRAY [0..1019] OF INTEGER; END;")
+    ∷ wrong FrameTooLarge (codes "S, T: SIGNAL [s, t: STRING] = CODE; ^P: PROCEDURE = BEGIN ENABLE BEGIN S => NULL; T => NULL END; "
+    ++ codes "x: ARRAY [0..1019] OF INTEGER; END;")
     ∷ good (codes "S: SIGNAL [s, t: STRING] = CODE; P: PROCEDURE = BEGIN ENABLE S, BoundsFault => NULL; x: ARRAY [0..1023] OF INTEGER; END;")
     -- the body of a module, without its globals; its fault is at its name, after the bodies of its procedures
     ∷ good (codes "x: ARRAY [0..9999] OF INTEGER; BEGIN y: ARRAY [0..1022] OF INTEGER; SELECT 1 FROM ENDCASE END;")
@@ -110,7 +110,8 @@ types_in_types = refl
 
 abbrev words : List Row
 words =
-    good (codes "T: TYPE = RECORD [a, b: ARRAY [0..8191] OF INTEGER]; A: TYPE = ARRAY [0..127] OF ARRAY [0..127] OF INTEGER; B: TYPE = ARRAY [0..8191] OF STRING;")
+    good (codes "T: TYPE = RECORD [a, b: ARRAY [0..8191] OF INTEGER]; A: TYPE = ARRAY [0..127] OF ARRAY [0..127] OF INTEGER; "
+    ++ codes "B: TYPE = ARRAY [0..8191] OF STRING;")
     ∷ wrong TypeTooLarge (codes "T: TYPE = ^RECORD [a, b: ARRAY [0..8191] OF INTEGER, c: BOOLEAN];")
     ∷ wrong TypeTooLarge (codes "T: TYPE = ^ARRAY [0..127] OF ARRAY [0..128] OF INTEGER;")
     ∷ wrong TypeTooLarge (codes "T: TYPE = ^ARRAY [0..8192] OF STRING;")

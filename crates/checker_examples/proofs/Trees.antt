@@ -1,10 +1,9 @@
 -- The typed trees of small texts.
-use Rattle.std.specs.Prelude.{◌≡◌, ℕ, true, false, List, [], ◌∷◌, Option, Some, None, Ok, Err, codes}
+use Rattle.std.specs.Prelude.{◌≡◌, ℕ, List, [], ◌∷◌, Option, Some, None, Ok, Err, codes}
 use Rattle.std.proofs.Common.{refl}
 use Rattle.mesa_types.specs.declared.faces.Import.{Import}
 use Rattle.mesa_types.specs.Syntax as s
 use Rattle.module_checker.specs.Typed as t
-use Rattle.module_checker.specs.PlainTypes.{PlainInterface}
 use Rattle.module_checker.specs.Steps.{Checked}
 use Rattle.module_checker.specs.CheckedModule.{program_by}
 use Rattle.module_checker.proofs.Lexing.{Token}

@@ -1,0 +1,171 @@
+-- Lists that are too long to be written: enumerations of 65,536 and of 65,537 elements, and 65,536 string literals.
+use Rattle.std.proofs.Common.{◌≡◌, ℕ, zero, suc, ◌+◌, ◌-◌, ◌*◌, ◌/◌, ◌%◌, ◌≤◌, Bool, true, false, ◌||◌, List, [], ◌∷◌, length, Option, Some, None, Ok, Err, cond, refl, sym, ap, ◌∙◌, arith}
+use Rattle.std.specs.Prelude.{bytes_eq, is_some, nat_le, not, if◌then◌else◌}
+use Rattle.std.proofs.Math.Nat.{div-add-mod}
+use Rattle.std.proofs.lemmas.Slice.Eq.{bytes_eq-Decides}
+use Rattle.mesa_base.specs.declared.limits.TheConstants.{DISTINCT_STRINGS, ENUMERATION_ELEMENTS}
+use Rattle.mesa_base.specs.declared.place.Place.{Place}
+use Rattle.mesa_base.specs.declared.identifier.Identifier.{Identifier}
+use Rattle.mesa_types.specs.Syntax as syntax
+use Rattle.module_checker.specs.PlainTypes as v
+use Rattle.module_checker.specs.PlainTypes.{PlainType}
+use Rattle.module_checker.specs.Scopes.{innermost, nothing}
+use Rattle.module_checker.specs.Meanings.{Meaning, Constant}
+use Rattle.module_checker.specs.Around.{Around}
+use Rattle.module_checker.specs.Steps.{State, Fault, Checked, and_then, only, or_refuse, refuse}
+use Rattle.module_checker.specs.Typed as t
+use Rattle.module_checker.specs.Ranges.{typed, Free}
+use Rattle.module_checker.specs.Names.{is_declared, at_once, coming, element_in}
+use Rattle.module_checker.specs.TypeRules.{elements, few}
+use Rattle.module_checker.specs.Checking.{type_exp, check}
+use Rattle.module_checker.specs.Values.{number_in, string}
+use Rattle.module_checker.specs.declared.fault.Cause.TheVariants.{TwiceDeclared, TypeTooLarge, GlobalsTooLarge}
+
+-- names of five letters from a to p, one for each number that is small enough
+name : ℕ → List ℕ
+name k =
+    (97 + k / 65536) ∷ (97 + k % 65536 / 4096) ∷ (97 + k % 65536 % 4096 / 256) ∷ (97 + k % 65536 % 4096 % 256 / 16)
+    ∷ (97 + k % 65536 % 4096 % 256 % 16) ∷ []
+
+number : List ℕ → ℕ
+number (a ∷ b ∷ c ∷ d ∷ e ∷ []) = 65536 * (a - 97) + (4096 * (b - 97) + (256 * (c - 97) + (16 * (d - 97) + (e - 97))))
+number _ = 0
+
+number_of_name : (k : ℕ) → number (name k) ≡ k
+unfolding name number
+number_of_name k = omega (
+  arith,
+  div-add-mod k 65536,
+  div-add-mod (k % 65536) 4096,
+  div-add-mod (k % 65536 % 4096) 256,
+  div-add-mod (k % 65536 % 4096 % 256) 16,
+)
+
+decided : {P : Type 0} (b : Bool) → (b ≡ true → P) → (b ≡ false → P) → P
+decided true given other = given refl
+decided false given other = other refl
+
+differ : (j k : ℕ) → (j ≡ k → ⊥) → bytes_eq (name j) (name k) ≡ false
+differ j k other = decided (bytes_eq (name j) (name k)) (λ same.
+    let e : number (name j) ≡ number (name k) = ap number ((bytes_eq-Decides (name j) (name k)).0 same) in
+    absurd (other (sym (number_of_name j) ∙ e ∙ number_of_name k)))
+    (λ is. is)
+
+-- Enumerations.
+names : Place → (n k : ℕ) → List Identifier
+names p zero k = []
+names p (suc n) k = record { name = name k; place = p } ∷ names p n (suc k)
+
+length_of_names : (p : Place) (n k : ℕ) → length (names p n k) ≡ n
+unfolding names
+length_of_names p zero k = refl
+length_of_names p (suc n) k = ap suc (length_of_names p n (suc k))
+
+abbrev is_fine : {A : Type 0} → Checked A → Bool
+is_fine (Ok a) = true
+is_fine (Err f) = false
+
+-- no name from this one on stands in the scope
+New : ℕ → State → Type 0
+New k s = (j : ℕ) → k ≤ j → is_declared (name j) s ≡ false
+
+-- as at the start of a scope
+new_at_start : (s : State) → New 0 (record s { scopes = nothing ∷ s.scopes; coming = nothing })
+unfolding New
+new_at_start s j above = refl
+
+still_new_at_once : (k : ℕ) (m : Meaning) (s : State) → New k s → New (suc k) (at_once (name k) m s)
+unfolding New
+still_new_at_once k m s new j above =
+    ap (λ b. is_some (s.coming (name j)) || is_some (cond b (Some m) (innermost s.scopes (name j)))) (differ k j (λ e. omega (arith, above, e)))
+    ∙ new j (omega (arith, above))
+
+still_new_coming : (k : ℕ) (m : Meaning) (s : State) → New k s → New (suc k) (coming (name k) m s)
+unfolding New
+still_new_coming k m s new j above =
+    ap (λ b. is_some (cond b (Some m) (s.coming (name j))) || is_some (innermost s.scopes (name j))) (differ k j (λ e. omega (arith, above, e)))
+    ∙ new j (omega (arith, above))
+
+still_new : (b : Bool) (k : ℕ) (m : Meaning) (s : State) → New k s → New (suc k) (element_in b (name k) m s)
+still_new true k m s new = still_new_at_once k m s new
+still_new false k m s new = still_new_coming k m s new
+
+new_elements : (a : Around) (t : PlainType) (p : Place) (n k m : ℕ) (s : State) → New k s → is_fine (elements a t m (names p n k) s) ≡ true
+unfolding elements names New
+new_elements a t p zero k m s new = refl
+new_elements a t p (suc n) k m s new =
+    ap (λ b. is_fine (and_then (only (not b) TwiceDeclared p) (λ u. elements a t (m + 1) (names p n (suc k)) (after s)))) (new k (omega arith))
+    ∙ new_elements a t p n (suc k) (m + 1) (after s) (still_new a.is_outermost k (Constant t m) s new)
+  where
+    after : State → State
+    after s = element_in a.is_outermost (name k) (Constant t m) s
+
+abbrev told : {A : Type 0} → Checked A → Option Fault
+told (Ok a) = None
+told (Err f) = Some f
+
+then_told : {A : Type 0} (k : A) (r : Checked (Unit {0} × State)) (f : Checked (Unit {0})) → is_fine r ≡ true
+    → told (and_then {A = Unit {0} × State} {B = A × State} r (λ r.
+    and_then {A = Unit {0} × State} (and_then {B = Unit {0} × State} f (λ u. Ok (u, r.1))) (λ q. Ok (k, q.1)))) ≡ told f
+then_told k (Ok r) (Ok u) fine = refl
+then_told k (Ok r) (Err e) fine = refl
+then_told k (Err e) f fine = absurd (omega (arith, ap {B = ℕ} (λ b. cond b 1 0) fine))
+
+-- of an enumeration of so many new names only their number is asked
+enumerated : (a : Around) (p : Place) (n : ℕ) (s : State) → New 0 s
+    → told (type_exp a (syntax.Enumeration p (names p n 0)) s) ≡ told (only (nat_le n ENUMERATION_ELEMENTS) TypeTooLarge p)
+unfolding type_exp few
+enumerated a p n s new =
+    then_told _ _ (few p (names p n 0)) (new_elements a _ p n 0 0 s new)
+    ∙ ap (λ m. told (only (nat_le m ENUMERATION_ELEMENTS) TypeTooLarge p)) (length_of_names p n 0)
+
+longest_enumeration : (a : Around) (p : Place) (s : State) → New 0 s → told (type_exp a (syntax.Enumeration p (names p 65536 0)) s) ≡ None
+longest_enumeration a p s new = enumerated a p 65536 s new
+
+longer_enumeration : (a : Around) (p : Place) (s : State) → New 0 s
+    → told (type_exp a (syntax.Enumeration p (names p 65537 0)) s) ≡ Some (record { cause = TypeTooLarge; place = p })
+longer_enumeration a p s new = enumerated a p 65537 s new
+
+-- String literals.
+texts : (n k : ℕ) → List (List ℕ)
+texts zero k = []
+texts (suc n) k = name k ∷ texts n (suc k)
+
+same_name : (k : ℕ) → bytes_eq (name k) (name k) ≡ true
+same_name k = (bytes_eq-Decides (name k) (name k)).1 refl
+
+here_it_is : (x y : List ℕ) (m : ℕ) (xs : List (List ℕ)) → bytes_eq x y ≡ true
+    → number_in x m (y ∷ xs) ≡ (if nat_le (suc m) DISTINCT_STRINGS then Some m else None)
+unfolding number_in
+here_it_is x y m xs same = rw same refl
+
+further_on : (x y : List ℕ) (m : ℕ) (xs : List (List ℕ)) → bytes_eq x y ≡ false → number_in x m (y ∷ xs) ≡ number_in x (suc m) xs
+unfolding number_in
+further_on x y m xs other = rw other refl
+
+-- the number of a literal with so many others before it, and some behind it
+numbered : (n j k m : ℕ) → number_in (name (k + n)) m (texts (suc (n + j)) k) ≡ (if nat_le (suc (m + n)) DISTINCT_STRINGS then Some (m + n) else None)
+unfolding texts
+numbered zero j k m =
+    let e : k + 0 ≡ k = omega arith in let d : m ≡ m + 0 = omega arith in
+    ap (λ i. number_in (name i) m (name k ∷ texts (0 + j) (suc k))) e ∙ here_it_is (name k) (name k) m _ (same_name k)
+    ∙ ap (λ i. if nat_le (suc i) DISTINCT_STRINGS then Some i else None) d
+numbered (suc n) j k m =
+    let e : k + suc n ≡ suc k + n = omega arith in let d : suc m + n ≡ m + suc n = omega arith in let l : suc n + j ≡ suc (n + j) = omega arith in
+    further_on (name (k + suc n)) (name k) m (texts (suc n + j) (suc k)) (differ (k + suc n) k (λ same. omega (arith, same)))
+    ∙ ap (λ i. number_in (name i) (suc m) (texts (suc n + j) (suc k))) e ∙ ap (λ i. number_in (name (suc k + n)) (suc m) (texts i (suc k))) l
+    ∙ numbered n j (suc k) (suc m) ∙ ap (λ i. if nat_le (suc i) DISTINCT_STRINGS then Some i else None) d
+
+-- of 65,536 literals the last but one has a number, and the last none
+last_but_one : (p : Place) → string (texts 65536 0) p (name 65534) ≡ Ok (typed v.String (t.Literal 65534))
+unfolding string
+last_but_one p = ap (λ o. and_then (or_refuse o GlobalsTooLarge p) (λ n. Ok (typed v.String (t.Literal n)))) (numbered 65534 1 0 0)
+
+last : (p : Place) → string (texts 65536 0) p (name 65535) ≡ refuse GlobalsTooLarge p
+unfolding string
+last p = ap (λ o. and_then (or_refuse o GlobalsTooLarge p) (λ n. Ok (typed v.String (t.Literal n)))) (numbered 65535 0 0 0)
+
+a_literal_too_many : (a : Around) (p : Place) (s : State) → a.known.strings ≡ texts 65536 0
+    → check a Free (syntax.StringLiteral p (name 65535)) s ≡ refuse GlobalsTooLarge p
+unfolding check
+a_literal_too_many a p s all = rw all (rw (last p) refl)
