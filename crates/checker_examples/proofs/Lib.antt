@@ -5,6 +5,7 @@ mod Interfaces
 mod Limits
 mod Names
 mod Orders
+mod Readings
 mod Statements
 mod Trees
 mod Types
