@@ -8,5 +8,6 @@ mod Orders
 mod Readings
 mod Statements
 mod Trees
+mod TreesOfForms
 mod Types
 mod Worked

@@ -12,27 +12,27 @@ use Rattle.module_checker.proofs.Texts.{in_program, with_io}
 use Rattle.module_checker.proofs.Everything.{everything}
 use Rattle.checker_examples.proofs.Worked.{io}
 
-abbrev body_of : Checked t.Module → t.Body
+abbrev pub body_of : Checked t.Module → t.Body
 body_of (Ok m) = m.body
 body_of (Err f) = record { variables = t.NoKinds; does = t.Null }
 
-abbrev body_for : Option (s.Module × List Token) → t.Body
+abbrev pub body_for : Option (s.Module × List Token) → t.Body
 body_for (Some r) = body_of (program_by r.0 [] r.0.kind)
 body_for None = record { variables = t.NoKinds; does = t.Null }
 
-abbrev body : List ℕ → t.Body
+abbrev pub body : List ℕ → t.Body
 body text = body_for (read (in_program text))
 
-abbrev then : t.Stmt → t.Stmts → t.Stmts
+abbrev pub then : t.Stmt → t.Stmts → t.Stmts
 then s ss = t.AndStmt s ss
 
-abbrev block : t.Stmts → t.Stmt
+abbrev pub block : t.Stmts → t.Stmt
 block ss = t.Block t.NoPhrase ss t.NoExits
 
-abbrev word : t.Home → t.Expr
+abbrev pub word : t.Home → t.Expr
 word h = t.Variable h t.NoSuffix 1
 
-abbrev of : t.Stmt → t.Body
+abbrev pub of : t.Stmt → t.Body
 of does = record { variables = t.NoKinds; does = does }
 
 -- an INTEGER and a CARDINAL: the operation is INTEGER, and the CARDINAL is checked; so is a CARDINAL that is given
