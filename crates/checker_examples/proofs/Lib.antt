@@ -9,5 +9,6 @@ mod Readings
 mod Statements
 mod Trees
 mod TreesOfForms
+mod TreesOfStatements
 mod Types
 mod Worked

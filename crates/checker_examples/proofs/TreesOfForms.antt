@@ -29,7 +29,8 @@ runs = refl
 
 -- the base of an operation: a literal takes that of the other operand, a sign takes it away
 bases : body (codes "x: INTEGER; k: CARDINAL; k _ k / 2 MOD 3; x _ +1 + k; x _ (1) + k;") ≡ of (block (declared (
-    then (t.Assign (t.Global 1) t.NoSuffix (t.Operate k (t.Then t.Every (t.Divide t.Unsigned) (t.Number 2) (t.Then t.Every (t.Modulo t.Unsigned) (t.Number 3) t.NoOperation))))
+    then (t.Assign (t.Global 1) t.NoSuffix (t.Operate k (t.Then t.Every (t.Divide t.Unsigned) (t.Number 2)
+    (t.Then t.Every (t.Modulo t.Unsigned) (t.Number 3) t.NoOperation))))
     (gives (t.Operate (t.Number 1) (t.Then t.Every t.Add (t.Checked common k) t.NoOperation))
     (gives (t.Checked common (t.Operate (t.Number 1) (t.Then t.Every t.Add k t.NoOperation))) t.NoStmts)))))
 unfolding everything
@@ -39,7 +40,8 @@ abbrev tells : t.Expr → t.Stmts → t.Stmts
 tells e ss = then (t.If e t.Null t.Null) ss
 
 -- relations: both operands may have a check; NOT before one turns it, before IN it stands around
-relations : body (codes "x: INTEGER; k: CARDINAL; IF x < k THEN NULL; IF k ~> x THEN NULL; IF NOT x = 1 THEN NULL; IF x NOT IN [1..k) THEN NULL;") ≡ of (block (declared (
+relations : body (codes "x: INTEGER; k: CARDINAL; IF x < k THEN NULL; IF k ~> x THEN NULL; "
+    ++ codes "IF NOT x = 1 THEN NULL; IF x NOT IN [1..k) THEN NULL;") ≡ of (block (declared (
     tells (t.Relate t.Signed t.Less x (t.Checked common k))
     (tells (t.Relate t.Signed t.AtMost (t.Checked common k) x)
     (tells (t.Not (t.Relate t.Signed t.Equal x (t.Number 1)))
@@ -71,7 +73,8 @@ unfolding everything
 indexes = refl
 
 -- a field of a variable is a suffix, of what a call gives a part; fields in fields are one list
-parts : body (codes "x, k: INTEGER; R: TYPE = RECORD [a: STRING, b: RECORD [c, d: INTEGER]]; F: PROCEDURE RETURNS [R] = BEGIN END; r: R; x _ r.b.d; x _ F[].b.d;") ≡ of (block (
+parts : body (codes "x, k: INTEGER; R: TYPE = RECORD [a: STRING, b: RECORD [c, d: INTEGER]]; "
+    ++ codes "F: PROCEDURE RETURNS [R] = BEGIN END; r: R; x _ r.b.d; x _ F[].b.d;") ≡ of (block (
     then (t.Declare (t.Global 0 ∷ t.Global 1 ∷ []) t.Ordinal)
     (then (t.Declare (t.Global 2 ∷ []) (t.Record (t.AndKind t.Texts (t.AndKind (t.Record (t.AndKind t.Ordinal (t.AndKind t.Ordinal t.NoKinds))) t.NoKinds))))
     (gives (t.Variable (t.Global 2) (t.Field 1 2 (t.Field 1 1 t.NoSuffix)) 1)
