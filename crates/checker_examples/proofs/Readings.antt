@@ -57,6 +57,10 @@ interfaces =
     bad UnknownName (codes "DIRECTORY I: FROM \"I\", J: FROM \"J\"; M: PROGRAM = BEGIN OPEN I; x: ^Color; Color: TYPE = INTEGER; END.")
     ∷ bad UnknownName (codes "DIRECTORY I: FROM \"I\", J: FROM \"J\"; M: PROGRAM = BEGIN x: I.^Color; I: TYPE = INTEGER; END.")
     ∷ fine (codes "DIRECTORY I: FROM \"I\", J: FROM \"J\"; M: PROGRAM = BEGIN OPEN I; red: INTEGER; x: Color _ I.red; red _ 1; x _ green; END.")
+    -- an item that is not imported is not visible, as the first part of a name too
+    ∷ bad UnknownName (codes "DIRECTORY I: FROM \"I\", J: FROM \"J\"; M: PROGRAM = BEGIN OPEN I; x: Put.^T; END.")
+    ∷ bad UnknownName (codes "DIRECTORY I: FROM \"I\", J: FROM \"J\"; M: PROGRAM = BEGIN OPEN I; ^Put.x _ 1; END.")
+    ∷ bad TypeMismatch (codes "DIRECTORY I: FROM \"I\", J: FROM \"J\"; M: PROGRAM IMPORTS I = BEGIN OPEN I; x: Put.^T; END.")
     -- a USING list does not restrict exports
     ∷ bad ExportDiffers (codes "DIRECTORY I: FROM \"I\", J: FROM \"J\" USING [Odd]; M: PROGRAM EXPORTS J = BEGIN ^Put: PUBLIC ERROR = CODE; END.")
     -- a constant of an interface, in bounds and tests

@@ -60,6 +60,7 @@ of_interface a n x = seen a x (or_nothing (slice_get a.known.interfaces n) x.nam
 abbrev pub in_meaning : Around → Option Meaning → Identifier → Check Meaning
 in_meaning a None x = fail UnknownName x.place
 in_meaning a (Some Later) x = fail UnknownName x.place
+in_meaning a (Some NotImported) x = fail UnknownName x.place
 in_meaning a (Some (Interface n)) x = of_interface a n x
 in_meaning a (Some m) x = fail TypeMismatch x.place
 
