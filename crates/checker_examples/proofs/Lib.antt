@@ -3,6 +3,7 @@ mod Expressions
 mod Generated
 mod Interfaces
 mod Limits
+mod LongHeads
 mod Names
 mod Orders
 mod Readings
