@@ -16,7 +16,8 @@ use Rattle.module_checker.specs.Steps.{State, Fault, Checked, and_then, only, or
 use Rattle.module_checker.specs.Typed as t
 use Rattle.module_checker.specs.Ranges.{typed, Free}
 use Rattle.module_checker.specs.Names.{is_declared, at_once, coming, element_in}
-use Rattle.module_checker.specs.TypeRules.{elements, few}
+use Rattle.module_checker.specs.Parts.{names_of}
+use Rattle.module_checker.specs.TypeRules.{elements, few, origin}
 use Rattle.module_checker.specs.Checking.{type_exp, check}
 use Rattle.module_checker.specs.Values.{number_in, string}
 use Rattle.module_checker.specs.declared.fault.Cause.TheVariants.{TwiceDeclared, TypeTooLarge, GlobalsTooLarge}
@@ -90,41 +91,50 @@ still_new : (b : Bool) (k : ℕ) (m : Meaning) (s : State) → New k s → New (
 still_new true k m s new = still_new_at_once k m s new
 still_new false k m s new = still_new_coming k m s new
 
-new_elements : (a : Around) (t : PlainType) (p : Place) (n k m : ℕ) (s : State) → New k s → is_fine (elements a t m (names p n k) s) ≡ true
-unfolding elements names New
+-- the scope with so many elements more
+filled : Around → PlainType → (m n k : ℕ) → State → State
+filled a t m zero k s = s
+filled a t m (suc n) k s = filled a t (m + 1) n (suc k) (element_in a.is_outermost (name k) (Constant t m) s)
+
+new_elements : (a : Around) (t : PlainType) (p : Place) (n k m : ℕ) (s : State) → New k s
+    → elements a t m (names p n k) s ≡ Ok (tt {0}, filled a t m n k s)
+unfolding elements names New filled
 new_elements a t p zero k m s new = refl
 new_elements a t p (suc n) k m s new =
-    ap (λ b. is_fine (and_then (only (not b) TwiceDeclared p) (λ u. elements a t (m + 1) (names p n (suc k)) (after s)))) (new k (omega arith))
+    ap (λ b. and_then (only (not b) TwiceDeclared p) (λ u. elements a t (m + 1) (names p n (suc k)) (after s))) (new k (omega arith))
     ∙ new_elements a t p n (suc k) (m + 1) (after s) (still_new a.is_outermost k (Constant t m) s new)
   where
     after : State → State
     after s = element_in a.is_outermost (name k) (Constant t m) s
 
-abbrev told : {A : Type 0} → Checked A → Option Fault
-told (Ok a) = None
-told (Err f) = Some f
+element_counts_nothing : (b : Bool) (x : List ℕ) (m : Meaning) (s : State) → (element_in b x m s).operands ≡ s.operands
+element_counts_nothing true x m s = refl
+element_counts_nothing false x m s = refl
 
-then_told : {A : Type 0} (k : A) (r : Checked (Unit {0} × State)) (f : Checked (Unit {0})) → is_fine r ≡ true
-    → told (and_then {A = Unit {0} × State} {B = A × State} r (λ r.
-    and_then {A = Unit {0} × State} (and_then {B = Unit {0} × State} f (λ u. Ok (u, r.1))) (λ q. Ok (k, q.1)))) ≡ told f
-then_told k (Ok r) (Ok u) fine = refl
-then_told k (Ok r) (Err e) fine = refl
-then_told k (Err e) f fine = absurd (omega (arith, ap {B = ℕ} (λ b. cond b 1 0) fine))
+elements_count_nothing : (a : Around) (t : PlainType) (m n k : ℕ) (s : State) → (filled a t m n k s).operands ≡ s.operands
+unfolding filled
+elements_count_nothing a t m zero k s = refl
+elements_count_nothing a t m (suc n) k s =
+    elements_count_nothing a t (m + 1) n (suc k) (element_in a.is_outermost (name k) (Constant t m) s)
+    ∙ element_counts_nothing a.is_outermost (name k) (Constant t m) s
 
 -- of an enumeration of so many new names only their number is asked
-enumerated : (a : Around) (p : Place) (n : ℕ) (s : State) → New 0 s
-    → told (type_exp a (syntax.Enumeration p (names p n 0)) s) ≡ told (only (nat_le n ENUMERATION_ELEMENTS) TypeTooLarge p)
-unfolding type_exp few
-enumerated a p n s new =
-    then_told _ _ (few p (names p n 0)) (new_elements a _ p n 0 0 s new)
-    ∙ ap (λ m. told (only (nat_le m ENUMERATION_ELEMENTS) TypeTooLarge p)) (length_of_names p n 0)
+few_names : (p : Place) (n : ℕ) → few p (names p n 0) ≡ only (nat_le n ENUMERATION_ELEMENTS) TypeTooLarge p
+unfolding few
+few_names p n = ap (λ m. only (nat_le m ENUMERATION_ELEMENTS) TypeTooLarge p) (length_of_names p n 0)
 
-longest_enumeration : (a : Around) (p : Place) (s : State) → New 0 s → told (type_exp a (syntax.Enumeration p (names p 65536 0)) s) ≡ None
-longest_enumeration a p s new = enumerated a p 65536 s new
+abbrev made : Around → Place → ℕ → PlainType
+made a p n = v.Enumeration (origin a.known p) (names_of (names p n 0))
+
+longest_enumeration : (a : Around) (p : Place) (s : State) → New 0 s
+    → type_exp a (syntax.Enumeration p (names p 65536 0)) s ≡ Ok (made a p 65536, filled a (made a p 65536) 0 65536 0 s)
+unfolding type_exp
+longest_enumeration a p s new = rw (new_elements a (made a p 65536) p 65536 0 0 s new) (rw (few_names p 65536) refl)
 
 longer_enumeration : (a : Around) (p : Place) (s : State) → New 0 s
-    → told (type_exp a (syntax.Enumeration p (names p 65537 0)) s) ≡ Some (record { cause = TypeTooLarge; place = p })
-longer_enumeration a p s new = enumerated a p 65537 s new
+    → type_exp a (syntax.Enumeration p (names p 65537 0)) s ≡ refuse TypeTooLarge p
+unfolding type_exp
+longer_enumeration a p s new = rw (new_elements a (made a p 65537) p 65537 0 0 s new) (rw (few_names p 65537) refl)
 
 -- String literals.
 texts : (n k : ℕ) → List (List ℕ)
