@@ -1,6 +1,6 @@
 -- Lists that are too long to be written: enumerations of 65,536 and of 65,537 elements, and 65,536 string literals.
 use Rattle.std.proofs.Common.{◌≡◌, ℕ, zero, suc, ◌+◌, ◌-◌, ◌*◌, ◌/◌, ◌%◌, ◌≤◌, Bool, true, false, ◌||◌, List, [], ◌∷◌, length, Option, Some, None, Ok, Err, cond, refl, sym, ap, ◌∙◌, arith}
-use Rattle.std.specs.Prelude.{bytes_eq, is_some, nat_le, not, if◌then◌else◌}
+use Rattle.std.specs.Prelude.{codes, bytes_eq, is_some, nat_le, not, if◌then◌else◌}
 use Rattle.std.proofs.Math.Nat.{div-add-mod}
 use Rattle.std.proofs.lemmas.Slice.Eq.{bytes_eq-Decides}
 use Rattle.mesa_base.specs.declared.limits.TheConstants.{DISTINCT_STRINGS, ENUMERATION_ELEMENTS}
@@ -10,12 +10,13 @@ use Rattle.mesa_types.specs.Syntax as syntax
 use Rattle.module_checker.specs.PlainTypes as v
 use Rattle.module_checker.specs.PlainTypes.{PlainType}
 use Rattle.module_checker.specs.Scopes.{innermost, nothing}
-use Rattle.module_checker.specs.Meanings.{Meaning, Constant}
+use Rattle.module_checker.specs.Meanings.{Meaning, Constant, Later}
 use Rattle.module_checker.specs.Around.{Around}
 use Rattle.module_checker.specs.Steps.{State, Fault, Checked, and_then, only, or_refuse, refuse}
 use Rattle.module_checker.specs.Typed as t
 use Rattle.module_checker.specs.Ranges.{typed, Free}
-use Rattle.module_checker.specs.Names.{is_declared, at_once, coming, element_in}
+use Rattle.module_checker.specs.Names.{is_declared, at_once, coming, element_in, announce, settle, each_means}
+use Rattle.module_checker.specs.Definitions.{definition, defined, nothing_defined}
 use Rattle.module_checker.specs.Parts.{names_of}
 use Rattle.module_checker.specs.TypeRules.{elements, few, origin}
 use Rattle.module_checker.specs.Checking.{type_exp, check}
@@ -135,6 +136,36 @@ longer_enumeration : (a : Around) (p : Place) (s : State) → New 0 s
     → type_exp a (syntax.Enumeration p (names p 65537 0)) s ≡ refuse TypeTooLarge p
 unfolding type_exp
 longer_enumeration a p s new = rw (new_elements a (made a p 65537) p 65537 0 0 s new) (rw (few_names p 65537) refl)
+
+-- An interface with one enumeration of so many elements.
+abbrev here : Place
+here = record { token = 5; line = 1; column = 5 }
+
+abbrev defined_name : Identifier
+defined_name = record { name = codes "T"; place = here }
+
+abbrev enumeration : ℕ → syntax.Definition
+enumeration n = record { names = defined_name ∷ []; defined = syntax.TypeItem (syntax.Enumeration here (names here n 0)) }
+
+abbrev announced : State → State
+announced now = coming (codes "T") Later (record now { operands = 0 })
+
+abbrev got : {A : Type 0} → Checked (A × State) → Option A
+got (Ok r) = Some r.0
+got (Err f) = None
+
+definition_comes : (a : Around) (now : State) → is_declared (codes "T") (record now { operands = 0 }) ≡ false → New 0 (announced now)
+    → got (definition a (enumeration 65536) now)
+    ≡ Some (record nothing_defined { types = record { name = codes "T"; kind = made a here 65536 } ∷ [] })
+unfolding announce defined settle each_means
+definition_comes a now fresh new =
+    rw fresh (rw (longest_enumeration a here (announced now) new)
+    (rw (elements_count_nothing a (made a here 65536) 0 65536 0 (announced now)) refl))
+
+definition_fails : (a : Around) (now : State) → is_declared (codes "T") (record now { operands = 0 }) ≡ false → New 0 (announced now)
+    → definition a (enumeration 65537) now ≡ refuse TypeTooLarge here
+unfolding announce defined
+definition_fails a now fresh new = rw fresh (rw (longer_enumeration a here (announced now) new) refl)
 
 -- String literals.
 texts : (n k : ℕ) → List (List ℕ)
