@@ -1,6 +1,6 @@
 -- Lists that are too long to be written: enumerations of 65,536 and of 65,537 elements, and 65,536 string literals.
 use Rattle.std.proofs.Common.{◌≡◌, ℕ, zero, suc, ◌+◌, ◌-◌, ◌*◌, ◌/◌, ◌%◌, ◌≤◌, Bool, true, false, ◌||◌, List, [], ◌∷◌, length, Option, Some, None, Ok, Err, cond, refl, sym, ap, ◌∙◌, arith}
-use Rattle.std.specs.Prelude.{codes, bytes_eq, is_some, nat_le, not, if◌then◌else◌}
+use Rattle.std.specs.Prelude.{codes, option_map, bytes_eq, is_some, nat_le, not, if◌then◌else◌}
 use Rattle.std.proofs.Math.Nat.{div-add-mod}
 use Rattle.std.proofs.lemmas.Slice.Eq.{bytes_eq-Decides}
 use Rattle.mesa_base.specs.declared.limits.TheConstants.{DISTINCT_STRINGS, ENUMERATION_ELEMENTS}
@@ -8,15 +8,20 @@ use Rattle.mesa_base.specs.declared.place.Place.{Place}
 use Rattle.mesa_base.specs.declared.identifier.Identifier.{Identifier}
 use Rattle.mesa_types.specs.Syntax as syntax
 use Rattle.module_checker.specs.PlainTypes as v
-use Rattle.module_checker.specs.PlainTypes.{PlainType}
+use Rattle.module_checker.specs.PlainTypes.{PlainType, PlainInterface}
 use Rattle.module_checker.specs.Scopes.{innermost, nothing}
 use Rattle.module_checker.specs.Meanings.{Meaning, Constant, Later}
-use Rattle.module_checker.specs.Around.{Around}
+use Rattle.module_checker.specs.Around.{Around, Known, body_of}
 use Rattle.module_checker.specs.Steps.{State, Fault, Checked, and_then, only, or_refuse, refuse}
 use Rattle.module_checker.specs.Typed as t
 use Rattle.module_checker.specs.Ranges.{typed, Free}
 use Rattle.module_checker.specs.Names.{is_declared, at_once, coming, element_in, announce, settle, each_means}
-use Rattle.module_checker.specs.Definitions.{definition, defined, nothing_defined}
+use Rattle.module_checker.specs.Definitions.{Defined, definition, defined, nothing_defined, and_defined, all_defined}
+use Rattle.module_checker.specs.Programs.{outermost, told}
+use Rattle.module_checker.specs.CheckedModule.{defined_as, interface_by, known_of, start}
+use Rattle.module_checker.specs.Mentions as mentions
+use Rattle.module_checker.specs.Directory as directory
+use Rattle.module_checker.specs.Definitions as definitions
 use Rattle.module_checker.specs.Parts.{names_of}
 use Rattle.module_checker.specs.TypeRules.{elements, few, origin}
 use Rattle.module_checker.specs.Checking.{type_exp, check}
@@ -150,6 +155,10 @@ enumeration n = record { names = defined_name ∷ []; defined = syntax.TypeItem 
 abbrev announced : State → State
 announced now = coming (codes "T") Later (record now { operands = 0 })
 
+abbrev some_or : {A : Type 0} → A → Option A → A
+some_or a (Some b) = b
+some_or a None = a
+
 abbrev got : {A : Type 0} → Checked (A × State) → Option A
 got (Ok r) = Some r.0
 got (Err f) = None
@@ -166,6 +175,77 @@ definition_fails : (a : Around) (now : State) → is_declared (codes "T") (recor
     → definition a (enumeration 65537) now ≡ refuse TypeTooLarge here
 unfolding announce defined
 definition_fails a now fresh new = rw fresh (rw (longer_enumeration a here (announced now) new) refl)
+
+one_definition : (r : Checked (Defined × State)) (again : Unit {0} → Checked (Defined × State)) (x : Defined) → got r ≡ Some x
+    → got (and_then {A = Defined × State} {B = Defined × State} (told r again) (λ q. Ok (and_defined q.0 nothing_defined, q.1)))
+    ≡ Some (and_defined x nothing_defined)
+one_definition (Ok q) again x e = ap (option_map (λ y. and_defined y nothing_defined)) e
+one_definition (Err f) again x e = absurd (omega (arith, ap {B = ℕ} (λ o. cond (is_some o) 1 0) e))
+
+no_definition : (r : Checked (Defined × State)) (again : Unit {0} → Checked (Defined × State)) (f : Fault) → r ≡ Err f → again tt ≡ Err f
+    → told r again ≡ Err f
+no_definition r again f e d = rw e (rw d refl)
+
+as_interface : (m : syntax.Module) (r : Checked (Defined × State)) (x : Defined) → got r ≡ Some x
+    → and_then {A = Defined × State} {B = PlainInterface} r (λ q. Ok (defined_as m 10 q.0)) ≡ Ok (defined_as m 10 x)
+as_interface m (Ok q) x e = ap (λ o. Ok (defined_as m 10 (some_or q.0 o))) e
+as_interface m (Err f) x e = absurd (omega (arith, ap {B = ℕ} (λ o. cond (is_some o) 1 0) e))
+
+abbrev with_enumeration : ℕ → syntax.Module
+with_enumeration n = record {
+  directory = [];
+  name = record { name = codes "D"; place = here };
+  kind = syntax.Interface here [] (enumeration n ∷ []);
+}
+
+short_differs : (j : ℕ) → bytes_eq (codes "T") (name j) ≡ false
+unfolding name
+short_differs j = decided (bytes_eq (codes "T") (name j)) (λ same.
+    absurd (omega (arith, ap length ((bytes_eq-Decides (codes "T") (name j)).0 same))))
+    (λ is. is)
+
+module _ (a : Around) (now : State) (fresh : is_declared (codes "T") (record now { operands = 0 }) ≡ false) (new : New 0 (announced now)) where
+  all_of_one : got (all_defined a (enumeration 65536 ∷ []) now)
+      ≡ Some (record nothing_defined { types = record { name = codes "T"; kind = made a here 65536 } ∷ [] })
+  unfolding all_defined
+  all_of_one = one_definition (definition a (enumeration 65536) now) _ _ (definition_comes a now fresh new)
+
+  none_of_one : all_defined a (enumeration 65537 ∷ []) now ≡ refuse TypeTooLarge here
+  unfolding all_defined
+  none_of_one = rw (no_definition (definition a (enumeration 65537) now) _ _ (definition_fails a now fresh new) (definition_fails _ now fresh new)) refl
+
+module _ (n : ℕ) where
+  known : Known
+  unfolding directory.offered mentions.texts mentions.origins mentions.of_kind mentions.of_definitions mentions.of_type
+  known = known_of (with_enumeration n) (Some 10) false [] []
+
+  at_start : State
+  unfolding directory.opened directory.directory_scope definitions.ahead known
+  at_start = start (with_enumeration n) known (definitions.ahead (enumeration n ∷ [])) [] []
+
+  new_names : New 0 (announced at_start)
+  unfolding New at_start
+  new_names j above = ap (λ b. is_some (cond b (Some Later) None) || false) (short_differs j)
+
+-- an interface with an enumeration of 65,536 elements is checked, and one of 65,537 is refused at its brace
+longest : interface_by (with_enumeration 65536) 10 [] (with_enumeration 65536).kind ≡ Ok (record {
+  name = codes "D";
+  stamp = 10;
+  items = [];
+  constants = [];
+  types = record {
+    name = codes "T";
+    kind = v.Enumeration (record { «module» = codes "D"; stamp = Some 10; number = 0 }) (names_of (names here 65536 0));
+  } ∷ [];
+})
+unfolding directory.directory directory.listed directory.offered mentions.texts mentions.origins mentions.of_kind mentions.of_definitions mentions.of_type
+    directory.opened directory.directory_scope definitions.ahead known at_start
+longest = as_interface (with_enumeration 65536) _ _ (all_of_one (outermost (body_of (known 65536) [] [])) (at_start 65536) refl (new_names 65536))
+
+longer : interface_by (with_enumeration 65537) 10 [] (with_enumeration 65537).kind ≡ refuse TypeTooLarge here
+unfolding directory.directory directory.listed directory.offered mentions.texts mentions.origins mentions.of_kind mentions.of_definitions mentions.of_type
+    directory.opened directory.directory_scope definitions.ahead known at_start
+longer = rw (none_of_one (outermost (body_of (known 65537) [] [])) (at_start 65537) refl (new_names 65537)) refl
 
 -- String literals.
 texts : (n k : ℕ) → List (List ℕ)

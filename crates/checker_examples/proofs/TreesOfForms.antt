@@ -1,5 +1,5 @@
 -- The typed tree of each form: where a text has several that mean the same, the one that is taken.
-use Rattle.std.specs.Prelude.{◌≡◌, ℕ, true, false, List, [], ◌∷◌, ◌++◌, codes}
+use Rattle.std.specs.Prelude.{◌≡◌, true, false, [], ◌∷◌, ◌++◌, codes}
 use Rattle.std.proofs.Common.{refl}
 use Rattle.module_checker.specs.Typed as t
 use Rattle.module_checker.proofs.Everything.{everything}
