@@ -12,15 +12,15 @@ use Rattle.module_checker.proofs.Texts.{in_program, with_io}
 use Rattle.module_checker.proofs.Everything.{everything}
 use Rattle.checker_examples.proofs.Worked.{io}
 
-abbrev pub body_of : Checked t.Module → t.Body
-body_of (Ok m) = m.body
-body_of (Err f) = record { variables = t.NoKinds; does = t.Null }
+abbrev pub body_of : Checked t.Module → Option t.Body
+body_of (Ok m) = Some m.body
+body_of (Err f) = None
 
-abbrev pub body_for : Option (s.Module × List Token) → t.Body
+abbrev pub body_for : Option (s.Module × List Token) → Option t.Body
 body_for (Some r) = body_of (program_by r.0 [] r.0.kind)
-body_for None = record { variables = t.NoKinds; does = t.Null }
+body_for None = None
 
-abbrev pub body : List ℕ → t.Body
+abbrev pub body : List ℕ → Option t.Body
 body text = body_for (read (in_program text))
 
 abbrev pub then : t.Stmt → t.Stmts → t.Stmts
@@ -32,8 +32,8 @@ block ss = t.Block t.NoPhrase ss t.NoExits
 abbrev pub word : t.Home → t.Expr
 word h = t.Variable h t.NoSuffix 1
 
-abbrev pub of : t.Stmt → t.Body
-of does = record { variables = t.NoKinds; does = does }
+abbrev pub of : t.Stmt → Option t.Body
+of does = Some (record { variables = t.NoKinds; does = does })
 
 -- an INTEGER and a CARDINAL: the operation is INTEGER, and the CARDINAL is checked; so is a CARDINAL that is given
 mixed : body (codes "x: INTEGER; k: CARDINAL; x _ x + k; x _ k;") ≡ of (block (
@@ -65,13 +65,13 @@ unfolding everything
 phrase = refl
 
 -- an arm's parameters are variables of the body that holds it
-parameters : body (codes "S: SIGNAL [x: INTEGER] RETURNS [INTEGER] = CODE; BEGIN ENABLE S => RESUME[x]; SIGNAL S[1]; END;") ≡ record {
+parameters : body (codes "S: SIGNAL [x: INTEGER] RETURNS [INTEGER] = CODE; BEGIN ENABLE S => RESUME[x]; SIGNAL S[1]; END;") ≡ Some (record {
   variables = t.AndKind t.Ordinal t.NoKinds;
   does = block (then (t.Marked 0 (t.Block
       (t.Catch 0 (t.AndArm (t.OnOwn 0 ∷ []) 0 1 (t.Resume [] (t.AndExpr (word (t.Local 0)) t.NoExprs)) t.NoArms))
       (then (t.Perform (t.Raise (t.OwnSignal 0) [] (t.AndExpr (t.Number 1) t.NoExprs) 1 t.NoPhrase)) t.NoStmts)
       t.NoExits)) t.NoStmts);
-}
+})
 unfolding everything
 parameters = refl
 
