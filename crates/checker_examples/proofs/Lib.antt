@@ -4,6 +4,7 @@ mod Generated
 mod Interfaces
 mod Limits
 mod LongHeads
+mod Mixtures
 mod Names
 mod Orders
 mod Readings
