@@ -1,5 +1,5 @@
 -- Expressions: operators, relations, records, arrays, calls, raises.
-use Rattle.std.specs.Prelude.{◌≡◌, List, [], ◌∷◌, codes}
+use Rattle.std.specs.Prelude.{◌≡◌, List, [], ◌∷◌, ◌++◌, codes}
 use Rattle.std.proofs.Common.{refl}
 use Rattle.module_checker.specs.declared.fault.Cause.TheVariants.{UnknownName, TwiceDeclared, TypeMismatch, WrongCount}
 use Rattle.module_checker.proofs.Texts.{Row, good, wrong, mistakes}
@@ -62,6 +62,9 @@ parts =
     ∷ wrong WrongCount (codes "A: TYPE = ARRAY [0..1] OF INTEGER; a: A _ ^[1];")
     ∷ wrong WrongCount (codes "A: TYPE = ARRAY [0..1] OF INTEGER; a: A _ ^[x: 1, y: 2];")
     ∷ wrong TypeMismatch (codes "T: TYPE = INTEGER; i: INTEGER _ ^T[1];")
+    ∷ wrong TypeMismatch (codes "T: TYPE = INTEGER; i: INTEGER _ ^T[1 ! ANY => NULL];")
+    ∷ wrong TypeMismatch (codes "A: TYPE = ARRAY [0..1] OF INTEGER; a: A _ A[1 ^! ANY => NULL];")
+    ∷ wrong TypeMismatch (codes "i: INTEGER; i _ ^i[1 ! ANY => NULL];")
     ∷ wrong TypeMismatch (codes "R: TYPE = RECORD [x: INTEGER]; Q: TYPE = RECORD [x: INTEGER]; r: R; q: Q _ ^r;")
     ∷ []
 
@@ -91,7 +94,8 @@ calls =
     ∷ wrong TypeMismatch (codes "F: PROCEDURE RETURNS [a, b: INTEGER] = BEGIN END; x: BOOLEAN; [x, q] _ ^F[];")
     ∷ wrong TypeMismatch (codes "x: INTEGER; [x] _ ^x;")
     ∷ wrong TypeMismatch (codes "x: INTEGER; [x] _ ^[1];")
-    ∷ good (codes "R: TYPE = RECORD [x, y: INTEGER]; r: R; F: PROCEDURE RETURNS [R] = BEGIN END; G: PROCEDURE RETURNS [n: INTEGER] = BEGIN END; x, y: INTEGER; [x, y] _ r; [y: x] _ F[]; [x] _ G[]; [n: x] _ G[]; x _ F[].y + G[];")
+    ∷ good (codes "R: TYPE = RECORD [x, y: INTEGER]; r: R; F: PROCEDURE RETURNS [R] = BEGIN END; G: PROCEDURE RETURNS [n: INTEGER] = BEGIN END; "
+    ++ codes "x, y: INTEGER; [x, y] _ r; [y: x] _ F[]; [x] _ G[]; [n: x] _ G[]; x _ F[].y + G[];")
     ∷ wrong TypeMismatch (codes "F: PROCEDURE RETURNS [ARRAY [0..1] OF INTEGER] = BEGIN END; x: INTEGER; x _ ^F[][0];")
     ∷ good (codes "F: PROCEDURE RETURNS [STRING] = BEGIN END; c: CHARACTER; c _ F[][0];")
     ∷ []
@@ -102,7 +106,8 @@ calls_and_extractors = refl
 
 abbrev raises : List Row
 raises =
-    good (codes "S: SIGNAL [n: INTEGER] RETURNS [INTEGER] = CODE; E: ERROR = CODE; x: INTEGER; x _ SIGNAL S[1]; [x] _ SIGNAL S[n: 2]; ERROR E; ERROR; ERROR BoundsFault; ERROR E[! ANY => NULL];")
+    good (codes "S: SIGNAL [n: INTEGER] RETURNS [INTEGER] = CODE; E: ERROR = CODE; x: INTEGER; x _ SIGNAL S[1]; [x] _ SIGNAL S[n: 2]; ERROR E; ERROR; "
+    ++ codes "ERROR BoundsFault; ERROR E[! ANY => NULL];")
     ∷ wrong WrongCount (codes "S: SIGNAL [n: INTEGER] RETURNS [INTEGER] = CODE; x: INTEGER; x _ SIGNAL S^[];")
     ∷ wrong WrongCount (codes "S: SIGNAL [n: INTEGER] RETURNS [INTEGER] = CODE; x: INTEGER; x _ ^SIGNAL S;")
     ∷ wrong TypeMismatch (codes "E: ERROR = CODE; SIGNAL ^E;")

@@ -1,8 +1,16 @@
+mod Causes
 mod Expressions
+mod Generated
 mod Interfaces
+mod Limits
+mod LongHeads
+mod Mixtures
 mod Names
 mod Orders
+mod Readings
 mod Statements
 mod Trees
+mod TreesOfForms
+mod TreesOfStatements
 mod Types
 mod Worked

@@ -1,7 +1,7 @@
 -- Names: what is visible where, and what stands twice.
 use Rattle.std.specs.Prelude.{◌≡◌, List, [], ◌∷◌, codes}
 use Rattle.std.proofs.Common.{refl}
-use Rattle.module_checker.specs.declared.fault.Cause.TheVariants.{UnknownName, TwiceDeclared, TypeMismatch, NotConstant}
+use Rattle.module_checker.specs.declared.fault.Cause.TheVariants.{UnknownName, TwiceDeclared, TypeMismatch, NotConstant, WrongCount}
 use Rattle.module_checker.proofs.Texts.{Row, good, wrong, mistakes}
 use Rattle.module_checker.proofs.Everything.{everything}
 
@@ -70,3 +70,43 @@ sorts =
 sorts_of_names : mistakes [] 0 sorts ≡ []
 unfolding everything
 sorts_of_names = refl
+
+-- a procedure or signal that a constant, a bound or a type names before its head: the head is taken as if it were checked
+abbrev before_heads : List Row
+before_heads =
+    wrong NotConstant (codes "c: INTEGER = ^F[1]; F: PROCEDURE [n: INTEGER] RETURNS [INTEGER] = BEGIN RETURN[n] END;")
+    ∷ wrong NotConstant (codes "c: INTEGER = ^1 + F[n: 1]; F: PROCEDURE [n: INTEGER] RETURNS [INTEGER] = BEGIN RETURN[n] END;")
+    ∷ wrong TypeMismatch (codes "c: INTEGER = F[^TRUE]; F: PROCEDURE [n: INTEGER] RETURNS [INTEGER] = BEGIN RETURN[n] END;")
+    ∷ wrong UnknownName (codes "c: INTEGER = F[^q]; F: PROCEDURE [n: INTEGER] RETURNS [INTEGER] = BEGIN RETURN[n] END;")
+    ∷ wrong WrongCount (codes "c: INTEGER = F^[]; F: PROCEDURE [n: INTEGER] RETURNS [INTEGER] = BEGIN RETURN[n] END;")
+    ∷ wrong WrongCount (codes "c: INTEGER = F^[m: 1]; F: PROCEDURE [n: INTEGER] RETURNS [INTEGER] = BEGIN RETURN[n] END;")
+    ∷ wrong TypeMismatch (codes "c: INTEGER = ^F[]; F: PROCEDURE = BEGIN END;")
+    ∷ wrong TypeMismatch (codes "c: INTEGER = ^F; F: PROCEDURE RETURNS [INTEGER] = BEGIN RETURN[1] END;")
+    ∷ wrong TypeMismatch (codes "c: INTEGER = ^F[]; F: PROCEDURE RETURNS [BOOLEAN] = BEGIN RETURN[TRUE] END;")
+    ∷ wrong TypeMismatch (codes "c: INTEGER = 1 ^+ F[]; F: PROCEDURE RETURNS [BOOLEAN] = BEGIN RETURN[TRUE] END;")
+    ∷ wrong NotConstant (codes "x: [0..^F[]]; F: PROCEDURE RETURNS [INTEGER] = BEGIN RETURN[1] END;")
+    ∷ wrong WrongCount (codes "x: [0..F^[1]]; F: PROCEDURE RETURNS [INTEGER] = BEGIN RETURN[1] END;")
+    ∷ wrong WrongCount (codes "F: PROCEDURE [n: [0..G^[]]] = BEGIN END; G: PROCEDURE [n: INTEGER] RETURNS [INTEGER] = BEGIN RETURN[n] END;")
+    ∷ wrong NotConstant (codes "c: INTEGER = ^SIGNAL S; S: SIGNAL RETURNS [INTEGER] = CODE;")
+    ∷ wrong TypeMismatch (codes "c: INTEGER = SIGNAL ^E; E: ERROR = CODE;")
+    ∷ wrong TypeMismatch (codes "c: INTEGER = ^ERROR E; E: ERROR = CODE;")
+    -- its types are those that stand before the head, not before the constant
+    ∷ wrong WrongCount (codes "c: INTEGER = F^[]; T: TYPE = [0..9]; F: PROCEDURE [n: T] RETURNS [INTEGER] = BEGIN RETURN[n] END;")
+    ∷ wrong TypeMismatch (codes "c: INTEGER = F[^1]; T: TYPE = {red}; F: PROCEDURE [n: T] RETURNS [INTEGER] = BEGIN RETURN[1] END;")
+    ∷ wrong UnknownName (codes "c: INTEGER = F[^red]; T: TYPE = {red}; F: PROCEDURE [n: T] RETURNS [INTEGER] = BEGIN RETURN[1] END;")
+    ∷ wrong WrongCount (codes "c: INTEGER = F^[]; x: q; F: PROCEDURE [n: INTEGER] RETURNS [INTEGER] = BEGIN RETURN[n] END;")
+    -- a head with a fault, as one that needs the constant itself
+    ∷ wrong NotConstant (codes "c: INTEGER = ^F[q]; F: PROCEDURE [n: z] RETURNS [INTEGER] = BEGIN RETURN[1] END;")
+    ∷ wrong NotConstant (codes "c: INTEGER = ^1 + F[q]; F: PROCEDURE [n: z] RETURNS [INTEGER] = BEGIN RETURN[1] END;")
+    ∷ wrong NotConstant (codes "c: INTEGER = ^F[q]; T: TYPE = [0..c]; F: PROCEDURE [n: T] RETURNS [INTEGER] = BEGIN RETURN[1] END;")
+    ∷ wrong NotConstant (codes "F: PROCEDURE [n: [0..^F[q]]] RETURNS [INTEGER] = BEGIN RETURN[1] END;")
+    ∷ wrong NotConstant (codes "c: INTEGER = ^F[q]; G: INTEGER; F, G: PROCEDURE RETURNS [INTEGER] = BEGIN RETURN[1] END;")
+    -- no type, whatever its head is
+    ∷ wrong TypeMismatch (codes "x: ^F; F: PROCEDURE = BEGIN END;")
+    ∷ wrong TypeMismatch (codes "x: ^F; F: PROCEDURE [n: z] = BEGIN END;")
+    ∷ wrong TypeMismatch (codes "x: ARRAY ^F [0..3] OF INTEGER; F: ERROR [n: z] = CODE;")
+    ∷ []
+
+before_their_heads : mistakes [] 0 before_heads ≡ []
+unfolding everything
+before_their_heads = refl

@@ -1,5 +1,5 @@
 -- Statements: tests, loops, labels, jumps, RETURN, SELECT.
-use Rattle.std.specs.Prelude.{◌≡◌, List, [], ◌∷◌, codes}
+use Rattle.std.specs.Prelude.{◌≡◌, List, [], ◌∷◌, ◌++◌, codes}
 use Rattle.std.proofs.Common.{refl}
 use Rattle.module_checker.specs.declared.fault.Cause.TheVariants.{UnknownName, TwiceDeclared, TypeMismatch, BadLabel, WrongCount, NotResumable, UnwindJumps}
 use Rattle.module_checker.proofs.Texts.{Row, good, wrong, mistakes}
@@ -77,12 +77,14 @@ arms =
     ∷ wrong WrongCount (codes "S: SIGNAL RETURNS [INTEGER] = CODE; BEGIN ENABLE S => RESUME^[]; NULL END;")
     ∷ wrong WrongCount (codes "S: SIGNAL RETURNS [INTEGER] = CODE; BEGIN ENABLE S => ^RESUME; NULL END;")
     ∷ wrong TypeMismatch (codes "S: SIGNAL RETURNS [INTEGER] = CODE; BEGIN ENABLE S => RESUME[^TRUE]; NULL END;")
-    ∷ good (codes "S: SIGNAL [x: INTEGER] RETURNS [r: INTEGER] = CODE; T: SIGNAL [x: INTEGER] RETURNS [r: INTEGER] = CODE; BEGIN ENABLE BEGIN S, T => RESUME[x]; ANY => REJECT END; NULL END;")
+    ∷ good (codes "S: SIGNAL [x: INTEGER] RETURNS [r: INTEGER] = CODE; T: SIGNAL [x: INTEGER] RETURNS [r: INTEGER] = CODE; "
+    ++ codes "BEGIN ENABLE BEGIN S, T => RESUME[x]; ANY => REJECT END; NULL END;")
     ∷ wrong UnknownName (codes "S: SIGNAL [x: INTEGER] = CODE; T: SIGNAL [z: INTEGER] = CODE; y: INTEGER; BEGIN ENABLE S, T => y _ ^x; NULL END;")
     ∷ good (codes "S: SIGNAL RETURNS [r: INTEGER] = CODE; T: SIGNAL RETURNS [q: INTEGER] = CODE; BEGIN ENABLE S, T => RESUME[r: 1]; NULL END;")
     ∷ wrong TypeMismatch (codes "y: INTEGER; BEGIN ENABLE ^y => NULL; NULL END;")
     ∷ wrong UnknownName (codes "BEGIN ENABLE ^q => NULL; NULL END;")
-    ∷ good (codes "Q: PROCEDURE = BEGIN END; P: PROCEDURE RETURNS [INTEGER] = BEGIN DO Q[! ANY => EXIT]; Q[! ANY => RETURN[3]]; Q[! ANY => GOTO L] ENDLOOP; EXITS L => NULL END;")
+    ∷ good (codes "Q: PROCEDURE = BEGIN END; P: PROCEDURE RETURNS [INTEGER] = BEGIN DO Q[! ANY => EXIT]; Q[! ANY => RETURN[3]]; "
+    ++ codes "Q[! ANY => GOTO L] ENDLOOP; EXITS L => NULL END;")
     ∷ wrong BadLabel (codes "Q: PROCEDURE RETURNS [BOOLEAN] = BEGIN END; WHILE Q[! ANY => ^EXIT] DO ENDLOOP;")
     ∷ good (codes "S: SIGNAL = CODE; P: PROCEDURE = BEGIN ENABLE S => RESUME; SIGNAL S END;")
     ∷ []

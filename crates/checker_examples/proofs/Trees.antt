@@ -1,10 +1,9 @@
 -- The typed trees of small texts.
-use Rattle.std.specs.Prelude.{◌≡◌, ℕ, true, false, List, [], ◌∷◌, Option, Some, None, Ok, Err, codes}
+use Rattle.std.specs.Prelude.{◌≡◌, ℕ, List, [], ◌∷◌, Option, Some, None, Ok, Err, codes}
 use Rattle.std.proofs.Common.{refl}
 use Rattle.mesa_types.specs.declared.faces.Import.{Import}
 use Rattle.mesa_types.specs.Syntax as s
 use Rattle.module_checker.specs.Typed as t
-use Rattle.module_checker.specs.PlainTypes.{PlainInterface}
 use Rattle.module_checker.specs.Steps.{Checked}
 use Rattle.module_checker.specs.CheckedModule.{program_by}
 use Rattle.module_checker.proofs.Lexing.{Token}
@@ -13,33 +12,34 @@ use Rattle.module_checker.proofs.Texts.{in_program, with_io}
 use Rattle.module_checker.proofs.Everything.{everything}
 use Rattle.checker_examples.proofs.Worked.{io}
 
-abbrev body_of : Checked t.Module → t.Body
-body_of (Ok m) = m.body
-body_of (Err f) = record { variables = t.NoKinds; does = t.Null }
+abbrev pub body_of : Checked t.Module → Option t.Body
+body_of (Ok m) = Some m.body
+body_of (Err f) = None
 
-abbrev body_for : Option (s.Module × List Token) → t.Body
+abbrev pub body_for : Option (s.Module × List Token) → Option t.Body
 body_for (Some r) = body_of (program_by r.0 [] r.0.kind)
-body_for None = record { variables = t.NoKinds; does = t.Null }
+body_for None = None
 
-abbrev body : List ℕ → t.Body
+abbrev pub body : List ℕ → Option t.Body
 body text = body_for (read (in_program text))
 
-abbrev then : t.Stmt → t.Stmts → t.Stmts
+abbrev pub then : t.Stmt → t.Stmts → t.Stmts
 then s ss = t.AndStmt s ss
 
-abbrev block : t.Stmts → t.Stmt
+abbrev pub block : t.Stmts → t.Stmt
 block ss = t.Block t.NoPhrase ss t.NoExits
 
-abbrev word : t.Home → t.Expr
+abbrev pub word : t.Home → t.Expr
 word h = t.Variable h t.NoSuffix 1
 
-abbrev of : t.Stmt → t.Body
-of does = record { variables = t.NoKinds; does = does }
+abbrev pub of : t.Stmt → Option t.Body
+of does = Some (record { variables = t.NoKinds; does = does })
 
 -- an INTEGER and a CARDINAL: the operation is INTEGER, and the CARDINAL is checked; so is a CARDINAL that is given
 mixed : body (codes "x: INTEGER; k: CARDINAL; x _ x + k; x _ k;") ≡ of (block (
     then (t.Declare (t.Global 0 ∷ []) t.Ordinal) (then (t.Declare (t.Global 1 ∷ []) t.Ordinal)
-    (then (t.Assign (t.Global 0) t.NoSuffix (t.Operate (word (t.Global 0)) (t.Then t.Every t.Add (t.Checked (t.From t.Unsigned 0 32767) (word (t.Global 1))) t.NoOperation)))
+    (then (t.Assign (t.Global 0) t.NoSuffix
+    (t.Operate (word (t.Global 0)) (t.Then t.Every t.Add (t.Checked (t.From t.Unsigned 0 32767) (word (t.Global 1))) t.NoOperation)))
     (then (t.Assign (t.Global 0) t.NoSuffix (t.Checked (t.From t.Unsigned 0 32767) (word (t.Global 1)))) t.NoStmts)))))
 unfolding everything
 mixed = refl
@@ -65,13 +65,13 @@ unfolding everything
 phrase = refl
 
 -- an arm's parameters are variables of the body that holds it
-parameters : body (codes "S: SIGNAL [x: INTEGER] RETURNS [INTEGER] = CODE; BEGIN ENABLE S => RESUME[x]; SIGNAL S[1]; END;") ≡ record {
+parameters : body (codes "S: SIGNAL [x: INTEGER] RETURNS [INTEGER] = CODE; BEGIN ENABLE S => RESUME[x]; SIGNAL S[1]; END;") ≡ Some (record {
   variables = t.AndKind t.Ordinal t.NoKinds;
   does = block (then (t.Marked 0 (t.Block
       (t.Catch 0 (t.AndArm (t.OnOwn 0 ∷ []) 0 1 (t.Resume [] (t.AndExpr (word (t.Local 0)) t.NoExprs)) t.NoArms))
       (then (t.Perform (t.Raise (t.OwnSignal 0) [] (t.AndExpr (t.Number 1) t.NoExprs) 1 t.NoPhrase)) t.NoStmts)
       t.NoExits)) t.NoStmts);
-}
+})
 unfolding everything
 parameters = refl
 
@@ -116,6 +116,7 @@ strings_for (Some r) = strings_of (program_by r.0 [] r.0.kind)
 strings_for None = []
 
 -- each string once, by its first mention in the text
-strings : strings_for (read (in_program (codes "s: STRING _ \"b\"; P: PROCEDURE = BEGIN s _ \"a\"; s _ \"b\" END; s _ \"c\";"))) ≡ codes "b" ∷ codes "a" ∷ codes "c" ∷ []
+strings : strings_for (read (in_program (codes "s: STRING _ \"b\"; P: PROCEDURE = BEGIN s _ \"a\"; s _ \"b\" END; s _ \"c\";")))
+    ≡ codes "b" ∷ codes "a" ∷ codes "c" ∷ []
 unfolding everything
 strings = refl

@@ -88,7 +88,8 @@ then_if P (Err e) f h = tt
 PairsIn : ℕ → ℕ → List Pair → Type 0
 PairsIn n h ps = Ascend n h (item_numbers ps)
 
-pair_ascends : (n k : ℕ) (i : PlainItem) (o : Option Offer) (ps : List Pair) → Ascend (suc n) (n + suc k) (item_numbers ps) → IfOk (pair_for n i o ps) (PairsIn n (n + suc k))
+pair_ascends : (n k : ℕ) (i : PlainItem) (o : Option Offer) (ps : List Pair)
+    → Ascend (suc n) (n + suc k) (item_numbers ps) → IfOk (pair_for n i o ps) (PairsIn n (n + suc k))
 unfolding PairsIn Ascend
 pair_ascends n k i None ps a = from_before n _ _ a
 pair_ascends n k i (Some o) ps a = (omega arith, omega arith, a)
@@ -102,7 +103,8 @@ unfolding PairsIn Ascend pairs
 pairs_ascend os n [] = tt
 pairs_ascend os n (i ∷ is) = then_if _ (fits_item i (offer_named i.name os)) _ (λ u e.
     then_if _ (pairs os (suc n) is) _ (λ ps e.
-    pair_ascends n (length is) i (offer_named i.name os) ps (one_more n (length is) _ (if_ok (PairsIn (suc n) (suc n + length is)) (pairs os (suc n) is) ps e (pairs_ascend os (suc n) is)))))
+    pair_ascends n (length is) i (offer_named i.name os) ps
+    (one_more n (length is) _ (if_ok (PairsIn (suc n) (suc n + length is)) (pairs os (suc n) is) ps e (pairs_ascend os (suc n) is)))))
 
 exported_in_order : (os : List Offer) (is : List PlainInterface) → IfOk (exported os is) ExportsInOrder
 unfolding ExportsInOrder exported PairsIn
@@ -122,7 +124,8 @@ ExportsOf x = ExportsInOrder x.exports
 module _ (m : s.Module) (is : List PlainInterface) (imports exports : List Identifier) where
   imports_of : (r : Whole × State) → IfOk (module_of m is imports exports r) ImportsOf
   unfolding ImportsOf
-  imports_of r = then_if ImportsOf (exported (offers_of r.0.declared) (those_of m.directory is exports)) _ (λ es e. imported_in_order (those_of m.directory is imports) r.1.used)
+  imports_of r = then_if ImportsOf (exported (offers_of r.0.declared) (those_of m.directory is exports)) _ (λ es e.
+      imported_in_order (those_of m.directory is imports) r.1.used)
 
   exports_of : (r : Whole × State) → IfOk (module_of m is imports exports r) ExportsOf
   unfolding ExportsOf
@@ -136,12 +139,14 @@ in_two_steps P r p f h = then_if P r (λ _. and_then p f) (λ a e. then_if P p f
 imports_by : (m : s.Module) (is : List PlainInterface) (k : s.ModuleKind) → IfOk (program_by m is k) ImportsOf
 imports_by m is (s.Interface p opens defs) = tt
 imports_by m is (s.Program p imports exports opens inner) =
-    in_two_steps ImportsOf (lists m is imports exports opens) (whole_of m is imports opens inner) (module_of m is imports exports) (imports_of m is imports exports)
+    in_two_steps ImportsOf (lists m is imports exports opens) (whole_of m is imports opens inner) (module_of m is imports exports)
+    (imports_of m is imports exports)
 
 exports_by : (m : s.Module) (is : List PlainInterface) (k : s.ModuleKind) → IfOk (program_by m is k) ExportsOf
 exports_by m is (s.Interface p opens defs) = tt
 exports_by m is (s.Program p imports exports opens inner) =
-    in_two_steps ExportsOf (lists m is imports exports opens) (whole_of m is imports opens inner) (module_of m is imports exports) (exports_of m is imports exports)
+    in_two_steps ExportsOf (lists m is imports exports opens) (whole_of m is imports opens inner) (module_of m is imports exports)
+    (exports_of m is imports exports)
 
 pub shapes_in_order : ShapesAreInOrder
 unfolding checked ImportsOf ExportsOf

@@ -1,8 +1,9 @@
 -- Texts by which a wrong definition is noticed.
-use Rattle.std.specs.Prelude.{◌≡◌, List, [], ◌∷◌, codes}
+use Rattle.std.specs.Prelude.{◌≡◌, List, [], ◌∷◌, ◌++◌, codes}
 use Rattle.std.proofs.Common.{refl}
-use Rattle.module_checker.specs.declared.fault.Cause.TheVariants.{UnknownName, TwiceDeclared, NotConstant, BadLabel, WrongCount, NotResumable, UnwindJumps, FrameTooLarge}
-use Rattle.module_checker.proofs.Texts.{Row, good, wrong, mistakes}
+use Rattle.module_checker.specs.declared.fault.Cause.TheVariants.{UnknownName, TwiceDeclared, TypeMismatch, NotConstant, BadLabel, WrongCount, NotResumable, UnwindJumps, FrameTooLarge}
+use Rattle.module_checker.specs.PlainTypes.{PlainInterface}
+use Rattle.module_checker.proofs.Texts.{Row, fine, good, wrong, mistakes, interface}
 use Rattle.module_checker.proofs.Everything.{everything}
 
 abbrev rows : List Row
@@ -21,7 +22,26 @@ rows =
     ∷ wrong WrongCount (codes "P: PROCEDURE [n: INTEGER] = BEGIN END; P^[1, q];")
     ∷ wrong TwiceDeclared (codes "c: {red, ^red};")
     ∷ wrong BadLabel (codes "DO NULL REPEAT FINISHED => ^EXIT ENDLOOP;")
+    ∷ wrong UnknownName (codes "P: PROCEDURE [x: ARRAY [0..1024] OF INTEGER] = BEGIN ^y _ 1; END;")
+    ∷ wrong WrongCount (codes "P: PROCEDURE [n, m: INTEGER] = BEGIN END; P^[m: 1];")
+    ∷ wrong TypeMismatch (codes "x: INTEGER; x _ ^TRUE;")
+    ∷ wrong TypeMismatch (codes "c: INTEGER = F[^TRUE]; F: PROCEDURE [n: INTEGER] RETURNS [INTEGER] = BEGIN RETURN[n] END;")
     ∷ []
+
+-- two interfaces with one name, of which the first that is opened gives it
+abbrev given : List PlainInterface
+given = interface 10 (codes "I: DEFINITIONS = BEGIN Put: PROCEDURE [n: INTEGER]; END.")
+    ++ interface 11 (codes "J: DEFINITIONS = BEGIN Put: PROCEDURE [c: CHARACTER]; END.")
+
+abbrev opening : List Row
+opening =
+    fine (codes "DIRECTORY I: FROM \"I\", J: FROM \"J\"; M: PROGRAM IMPORTS I, J = BEGIN OPEN I, J; Put[1]; END.")
+    ∷ fine (codes "DIRECTORY I: FROM \"I\", J: FROM \"J\"; M: PROGRAM IMPORTS I, J = BEGIN OPEN J, I; Put['a]; END.")
+    ∷ []
+
+first_opened : mistakes given 0 opening ≡ []
+unfolding everything
+first_opened = refl
 
 noticed : mistakes [] 0 rows ≡ []
 unfolding everything

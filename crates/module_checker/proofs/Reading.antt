@@ -91,7 +91,8 @@ names zero = fail
 names (suc n) = identifier >>= (λ x. on (codes ",") (λ p. names n >>= (λ xs. pure (x ∷ xs))) (pure (x ∷ [])))
 
 abbrev pub qualified : Read QualifiedName
-qualified = identifier >>= (λ x. on (codes ".") (λ p. identifier >>= (λ y. pure (record { first = x; second = Some y }))) (pure (record { first = x; second = None })))
+qualified = identifier >>= (λ x.
+    on (codes ".") (λ p. identifier >>= (λ y. pure (record { first = x; second = Some y }))) (pure (record { first = x; second = None })))
 
 unfoldable pub qualifieds : ℕ → Read (List QualifiedName)
 qualifieds zero = fail
@@ -136,7 +137,8 @@ is_literal (t ∷ ts) = of_kind t.kind
     of_kind _ = false
 
 abbrev pub words : List (List ℕ)
-words = codes "END" ∷ codes "ELSE" ∷ codes "ENDLOOP" ∷ codes "ENDCASE" ∷ codes "EXITS" ∷ codes "REPEAT" ∷ codes "THEN" ∷ codes "DO" ∷ codes "AND" ∷ codes "OR" ∷ codes "FROM" ∷ []
+words = codes "END" ∷ codes "ELSE" ∷ codes "ENDLOOP" ∷ codes "ENDCASE" ∷ codes "EXITS" ∷ codes "REPEAT"
+    ∷ codes "THEN" ∷ codes "DO" ∷ codes "AND" ∷ codes "OR" ∷ codes "FROM" ∷ []
 
 abbrev pub is_word : List Token → Bool
 is_word [] = false
@@ -275,7 +277,8 @@ unfoldable mutual
   raise zero = fail
   raise (suc n) =
       on (codes "SIGNAL") (λ p. qualified >>= (λ q. raise_brackets n >>= (λ b. pure (s.SignalRaise p q b))))
-      (on (codes "ERROR") (λ p. λ ts. branch (is_name ts) (qualified >>= (λ q. raise_brackets n >>= (λ b. pure (s.ErrorRaise p q b)))) (pure (s.UnnamedError p)) ts) fail)
+      (on (codes "ERROR") (λ p. λ ts. branch (is_name ts)
+      (qualified >>= (λ q. raise_brackets n >>= (λ b. pure (s.ErrorRaise p q b)))) (pure (s.UnnamedError p)) ts) fail)
 
   pub raise_brackets : ℕ → Read s.MaybeBrackets
   raise_brackets zero = fail
@@ -495,7 +498,8 @@ abbrev pub open_list : Read (List Identifier)
 open_list = on (codes "OPEN") (λ p. names 20 >>= (λ xs. take (codes ";") >>= (λ q. pure xs))) (pure [])
 
 abbrev pub using_list : Read (Option (List Identifier))
-using_list = on (codes "USING") (λ p. take (codes "[") >>= (λ q. on (codes "]") (λ r. pure (Some [])) (names 20 >>= (λ xs. take (codes "]") >>= (λ r. pure (Some xs)))))) (pure None)
+using_list = on (codes "USING") (λ p. take (codes "[") >>= (λ q.
+    on (codes "]") (λ r. pure (Some [])) (names 20 >>= (λ xs. take (codes "]") >>= (λ r. pure (Some xs)))))) (pure None)
 
 abbrev pub file_of : List Token → Option (List ℕ × List Token)
 file_of [] = None
@@ -511,7 +515,8 @@ directory_item = identifier >>= (λ x. take (codes ":") >>= (λ p. take (codes "
 
 unfoldable pub directory_items : ℕ → Read (List DirectoryItem)
 directory_items zero = fail
-directory_items (suc k) = directory_item >>= (λ d. on (codes ",") (λ p. directory_items k >>= (λ ds. pure (d ∷ ds))) (take (codes ";") >>= (λ p. pure (d ∷ []))))
+directory_items (suc k) = directory_item >>= (λ d. on (codes ",") (λ p. directory_items k >>= (λ ds. pure (d ∷ ds)))
+    (take (codes ";") >>= (λ p. pure (d ∷ []))))
 
 abbrev pub directory : Read (List DirectoryItem)
 directory = on (codes "DIRECTORY") (λ p. directory_items 20) (pure [])
@@ -522,7 +527,8 @@ inner n = enable n >>= (λ ph. declarations n 40 >>= (λ ds. statements n >>= (�
 
 abbrev pub kind_of : ℕ → Read s.ModuleKind
 kind_of n =
-    on (codes "PROGRAM") (λ p. name_list (codes "IMPORTS") >>= (λ is. name_list (codes "EXPORTS") >>= (λ es. take (codes "=") >>= (λ q. take (codes "BEGIN") >>= (λ r.
+    on (codes "PROGRAM") (λ p. name_list (codes "IMPORTS") >>= (λ is. name_list (codes "EXPORTS") >>= (λ es.
+    take (codes "=") >>= (λ q. take (codes "BEGIN") >>= (λ r.
     open_list >>= (λ os. inner n >>= (λ i. pure (s.Program p is es os i))))))))
     (on (codes "DEFINITIONS") (λ p. take (codes "=") >>= (λ q. take (codes "BEGIN") >>= (λ r. open_list >>= (λ os.
     definitions n 40 >>= (λ ds. pure (s.Interface p os ds)))))) fail)

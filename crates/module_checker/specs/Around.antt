@@ -45,6 +45,8 @@ pub record Around : Type 0 where
   pub is_outermost : Bool
   -- where the constant or bound begins that this is a part of
   pub constant : Option Place
+  -- the procedures, signals and errors of the module whose heads stand further on, each as if its head were checked
+  pub further : Scope Meaning
   pub takes : List PlainField
   pub gives : List PlainField
   -- the statement to which a phrase belongs, and how many marked statements stand around
@@ -64,6 +66,7 @@ body_of known takes gives = record {
   known = known;
   is_outermost = false;
   constant = None;
+  further = nothing;
   takes = takes;
   gives = gives;
   statement = 0;

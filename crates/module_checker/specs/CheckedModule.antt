@@ -1,6 +1,7 @@
 -- Checked: what a text means as a typed module or as an interface, or its first fault, with its cause and place. The stamp
 -- comes first, then the DIRECTORY, IMPORTS, EXPORTS and OPEN, then what stands in the module.
 use Rattle.std.specs.Prelude.{ℕ, Bool, true, false, List, [], ◌∷◌, map, take, Option, Some, None, Ok}
+use Rattle.mesa_base.specs.declared.limits.TheConstants.{DISTINCT_STRINGS}
 use Rattle.module_checker.specs.Typed.{NoKinds}
 use Rattle.mesa_types.specs.Syntax as s
 use Rattle.module_checker.specs.Typed as t
@@ -55,7 +56,7 @@ module_of m is imports exports r =
       exports = es;
       globals = r.1.globals;
       signals = map item_of (signals_of r.0.declared);
-      strings = take 65535 (texts [] (of_kind m.kind));
+      strings = take DISTINCT_STRINGS (texts [] (of_kind m.kind));
       procedures = r.0.procedures;
       body = r.0.body;
     }))

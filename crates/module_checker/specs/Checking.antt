@@ -2,6 +2,7 @@
 -- come before their operator, from left to right; the heads of a block's declarations before all else in it.
 use Rattle.std.specs.Prelude.{ℕ, ◌+◌, Bool, true, false, ◌||◌, List, [], ◌∷◌, ◌++◌, length, map, Option, None, nat_eq, not}
 use Rattle.mesa_types.specs.Syntax as s
+use Rattle.mesa_types.specs.Operators as words
 use Rattle.mesa_base.specs.declared.place.Place.{Place}
 use Rattle.module_checker.specs.Typed as t
 use Rattle.module_checker.specs.PlainTypes as v
@@ -14,7 +15,7 @@ use Rattle.module_checker.specs.Around.{Around, inside, in_constant, with_labels
 use Rattle.module_checker.specs.Names.{named, qualified, type_named, word_base, arm_labels, announce, settle}
 use Rattle.module_checker.specs.Parts.{first, first_of_interval, first_of_type, first_name, last_of, names_of, distinct, field_named, kinds, kind_by, places_of, each_of, count, keys, count_lefts, keys_of_lefts, are_fields, complete, and_operation}
 use Rattle.module_checker.specs.Ranges.{Typed, Aim, Free, Into, Several, Arguments, finish}
-use Rattle.module_checker.specs.Values.{number, letter, truth, bit, string, is_truth, not_of, signed, compared, within, by_level, level_of, step, summed, truth_operand, no_phrase, by_shape, by_aim, construct_shape, in_fields, by_keys, bound_aim, in_order, Raises, raises_by, raised}
+use Rattle.module_checker.specs.Values.{number, letter, truth, string, is_truth, not_of, signed, compared, within, by_level, level_of, step, summed, truth_operand, no_phrase, by_shape, by_aim, construct_shape, has_parts, in_fields, by_keys, bound_aim, in_order, Raises, raises_by, raised}
 use Rattle.module_checker.specs.Reached.{Reached, Named, Value, Variable, Results, Use, Read, Store, Perform, reached, settled, value, field, indexed, text_at, at_index, may_apply, shape_of, Target, stored, performed}
 use Rattle.module_checker.specs.TypeRules.{origin, limited, elements, few, is_index, bound, subrange, interval_base}
 use Rattle.module_checker.specs.Statements.{whole, held, numbered, returned, declare, given_initial, Ends, tested, tested_inside, rounds, counter, given, Counted, NotCounted, By, Controlled, looped, source, extracted, enter_arm, Headed, Nothing, Variables, constant_meaning, labels_of_exits, labels_of_repeats, numbers_from, Left, also_left, new_labels, is_finished, labels_of}
@@ -56,7 +57,7 @@ unfoldable mutual
     x ← lift (string a.known.strings p bytes)
     _ ← spend 2
     lift (finish aim x)
-  check a aim (s.Truth p b) = spend 1 >>= (λ _. lift (finish aim (truth (t.Number (bit b)))))
+  check a aim (s.Truth p b) = spend 1 >>= (λ _. lift (finish aim (truth (t.Number (words.truth b)))))
   check a aim (s.Parenthesis p e) = check a aim e
   check a aim (s.Reference (s.LeftOf x ss)) = do
     m ← named a x
@@ -121,6 +122,7 @@ unfoldable mutual
     w ← phrase a ph
     pure (Results (t.Call c x.places x.values (words_of_fields callee.gives) w) callee.gives)
   apply a last (Named (TypeName k)) (s.BracketsOf p items ph) = do
+    _ ← lift (has_parts k last)
     _ ← lift (no_phrase ph)
     x ← construct a k last p items
     pure (Value 0 x.value k)

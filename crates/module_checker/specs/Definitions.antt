@@ -15,7 +15,7 @@ use Rattle.module_checker.specs.Parts.{first, first_name}
 use Rattle.module_checker.specs.Ranges.{Into}
 use Rattle.module_checker.specs.Statements.{constant_meaning}
 use Rattle.module_checker.specs.Checking.{check, type_exp}
-use Rattle.module_checker.specs.Programs.{elements_of, also, Heading, heading, named_item}
+use Rattle.module_checker.specs.Programs.{elements_of, also, before_others, Heading, heading, named_item}
 -- what the interface's own names mean before their declaration
 use Rattle.module_checker.specs.PlainTypes.{PlainConstant, PlainItem, PlainName, PlainType}
 
@@ -71,9 +71,12 @@ defined a xs (s.ConstantItem e x) = do
 abbrev pub and_defined : Defined → Defined → Defined
 and_defined d e = record { items = d.items ++ e.items; constants = d.constants ++ e.constants; types = d.types ++ e.types }
 
+abbrev pub definition : Around → s.Definition → Check Defined
+definition a d = within_operands 0 (first_name d.names) (announce d.names >>= (λ _. defined a d.names d.defined))
+
 unfoldable pub all_defined : Around → List s.Definition → Check Defined
 all_defined a [] = pure nothing_defined
 all_defined a (d ∷ ds) = do
-  x ← within_operands 0 (first_name d.names) (announce d.names >>= (λ _. defined a d.names d.defined))
+  x ← before_others (λ (e : s.Definition). e.names) definition a d ds
   more ← all_defined a ds
   pure (and_defined x more)

@@ -1,7 +1,6 @@
 pub mod Around
 pub mod Checking
 pub mod CheckedModule
-pub mod Constants
 pub mod Definitions
 pub mod Directory
 pub mod Laws

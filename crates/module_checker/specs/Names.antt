@@ -31,20 +31,23 @@ mark (Procedure (LinkedProcedure m n) item) s = use_item m n s
 mark (Signal (LinkedSignal m n) item) s = use_item m n s
 mark _ s = s
 
-abbrev pub or_place : Option Place → Place → Place
-or_place (Some q) p = q
-or_place None p = p
+-- a procedure, signal or error before its own head, which is taken as if it were checked; where that head has a fault the
+-- name makes no constant, and is no type
+abbrev pub before_head : Option Place → Place → Option Meaning → Check Meaning
+before_head constant p (Some m) = pure m
+before_head (Some start) p None = fail NotConstant start
+before_head None p None = fail TypeMismatch p
 
--- what a name means that is found, or not; what a procedure gives is no constant, whatever its head says further on
-unfoldable pub seen : Around → Place → Option Meaning → Check Meaning
-seen a p None = fail UnknownName p
-seen a p (Some Later) = fail UnknownName p
-seen a p (Some NotImported) = fail UnknownName p
-seen a p (Some Headless) = fail NotConstant (or_place a.constant p)
-seen a p (Some m) = λ s. Ok (m, mark m s)
+-- what a name means that is found, or not
+unfoldable pub seen : Around → Identifier → Option Meaning → Check Meaning
+seen a x None = fail UnknownName x.place
+seen a x (Some Later) = fail UnknownName x.place
+seen a x (Some NotImported) = fail UnknownName x.place
+seen a x (Some Headless) = before_head a.constant x.place (a.further x.name)
+seen a x (Some m) = λ s. Ok (m, mark m s)
 
 unfoldable pub named : Around → Identifier → Check Meaning
-named a x = λ s. seen a x.place (find x.name s.scopes) s
+named a x = λ s. seen a x (find x.name s.scopes) s
 
 abbrev pub or_nothing : Option (Scope Meaning) → Scope Meaning
 or_nothing None = nothing
@@ -52,11 +55,12 @@ or_nothing (Some scope) = scope
 
 -- a name of an interface
 unfoldable pub of_interface : Around → ℕ → Identifier → Check Meaning
-of_interface a n x = seen a x.place (or_nothing (slice_get a.known.interfaces n) x.name)
+of_interface a n x = seen a x (or_nothing (slice_get a.known.interfaces n) x.name)
 
 abbrev pub in_meaning : Around → Option Meaning → Identifier → Check Meaning
 in_meaning a None x = fail UnknownName x.place
 in_meaning a (Some Later) x = fail UnknownName x.place
+in_meaning a (Some NotImported) x = fail UnknownName x.place
 in_meaning a (Some (Interface n)) x = of_interface a n x
 in_meaning a (Some m) x = fail TypeMismatch x.place
 

@@ -1,6 +1,7 @@
 -- A program: the heads of its declarations in text order, then its ENABLE, initial values, procedures, statements and EXITS
 -- in text order, then its exports (Language Manual, chapters 4 and 7).
-use Rattle.std.specs.Prelude.{ℕ, suc, ◌+◌, Bool, true, false, ◌&&◌, List, [], ◌∷◌, ◌++◌, length, map, replicate, Option, Some, None, Ok, if◌then◌else◌, bytes_eq, nat_le}
+use Rattle.std.specs.Prelude.{ℕ, suc, ◌+◌, Bool, true, false, ◌&&◌, List, [], ◌∷◌, ◌++◌, length, map, replicate, Option, Some, None, Ok, Err, if◌then◌else◌, bytes_eq, nat_le}
+use Rattle.mesa_base.specs.declared.limits.TheConstants.{OPERAND_WORDS, SIGNAL_WORDS, LOCAL_WORDS}
 use Rattle.mesa_base.specs.declared.place.Place.{Place}
 use Rattle.mesa_types.specs.Shapes.{words_in_all}
 use Rattle.module_checker.specs.Typed.{NoKinds}
@@ -14,9 +15,9 @@ use Rattle.mesa_types.specs.declared.faces.ItemKind.TheVariants as item
 use Rattle.mesa_base.specs.declared.identifier.Identifier.{Identifier}
 use Rattle.mesa_types.specs.declared.syntax.Access.{Access}
 use Rattle.mesa_types.specs.declared.syntax.Access.TheVariants.{Public, Private}
-use Rattle.module_checker.specs.Scopes.{Scope, nothing, over, has}
+use Rattle.module_checker.specs.Scopes.{Scope, nothing, over, has, innermost}
 use Rattle.module_checker.specs.Meanings.{Meaning, Procedure, Signal, Later, Headless}
-use Rattle.module_checker.specs.Steps.{State, Check, Checked, and_then, ◌>>=◌, pure, only, ensure, in_scope, measured, within_operands}
+use Rattle.module_checker.specs.Steps.{State, Fault, Check, Checked, and_then, ◌>>=◌, pure, only, ensure, in_scope, measured, with_top, within_operands}
 use Rattle.module_checker.specs.Around.{Around, Known, body_of, in_statement, inside, with_labels}
 use Rattle.module_checker.specs.Names.{announce, settle}
 use Rattle.module_checker.specs.Parts.{first_name, names_of, each_of, same_types, join_stmts}
@@ -84,6 +85,41 @@ behind_top [] = []
 
 abbrev pub heads_are_done : Check (Unit {0})
 heads_are_done = λ s. Ok (tt, record s { scopes = behind_top s.scopes })
+
+-- Heads that stand further on, as if they were checked: each behind all that stands before it, where a declaration with a
+-- fault is passed over. Its names are then taken, and not visible.
+abbrev pub passed_over : List Identifier → State → State
+passed_over xs s = with_top (over (innermost s.scopes) (also Later xs nothing)) s
+
+abbrev pub next_or : {A : Type 0} → State → Checked (A × State) → State
+next_or s (Ok r) = r.1
+next_or s (Err f) = s
+
+unfoldable pub behind : {D A : Type 0} → (D → List Identifier) → (D → Check A) → List D → State → State
+behind names rule [] s = s
+behind names rule (d ∷ ds) s = behind names rule ds (next_or (passed_over (names d) s) (rule d s))
+
+abbrev pub head_alone : Option Meaning → Option Meaning
+head_alone (Some (Procedure c i)) = Some (Procedure c i)
+head_alone (Some (Signal r i)) = Some (Signal r i)
+head_alone _ = None
+
+-- the heads among these declarations, which stand behind one of these names
+abbrev pub heads_further : {D A : Type 0} → (D → List Identifier) → (D → Check A) → List Identifier → List D → State → Scope Meaning
+heads_further names rule xs ds s x = head_alone (innermost (behind names rule ds (passed_over xs s)).scopes x)
+
+abbrev pub fault_or : {A : Type 0} → Fault → Checked A → Checked A
+fault_or e (Ok r) = Err e
+fault_or e (Err f) = Err f
+
+abbrev pub told : {A : Type 0} → Checked A → (Unit {0} → Checked A) → Checked A
+told (Ok r) again = Ok r
+told (Err e) again = fault_or e (again tt)
+
+-- A declaration before these others. What it declares needs no head further on, since none is in a constant; of a declaration
+-- with a fault these heads tell which fault is the first.
+abbrev pub before_others : {D A : Type 0} → (D → List Identifier) → (Around → D → Check A) → Around → D → List D → Check A
+before_others names rule a d ds = λ now. told (rule a d now) (λ _. rule (record a { further = heads_further names (rule a) (names d) ds now }) d now)
 
 -- Heads of procedures, signals and errors: parameters and results are one scope, which the types in it do not see.
 unfoldable pub named_parameters : Around → s.NamedFields → Check (List PlainField)
@@ -173,10 +209,10 @@ declared_procedure xs access n h = do
     offers = if_public access (map (procedure_offer n (first_item h.0 xs)) xs);
   })
 
--- 2,048 words of parameters and results (rule of this project)
+-- the words of the parameters and results of a signal or error are limited (rule of this project)
 abbrev pub declared_signals : ItemKind → List Identifier → Option Access → ℕ → Heading → Check Declared
 declared_signals kind xs access n h = do
-  _ ← ensure (nat_le (words_of_fields h.takes + words_of_fields h.gives) 2048) FrameTooLarge (first_name xs)
+  _ ← ensure (nat_le (words_of_fields h.takes + words_of_fields h.gives) SIGNAL_WORDS) FrameTooLarge (first_name xs)
   _ ← settle xs (signal_meanings n (map (named_item kind h) xs))
   pure (record {
     head = SignalHead;
@@ -203,10 +239,13 @@ declared a np ns xs access (s.Error takes) = within_operands 0 (first_name xs) (
   x ← heading a takes None
   declared_signals item.Error xs access ns x)
 
+abbrev pub declaration : ℕ → ℕ → Around → s.Declaration → Check Declared
+declaration np ns a d = declared a np ns d.names d.access d.declared
+
 unfoldable pub all_declared : Around → ℕ → ℕ → List s.Declaration → Check (List Declared)
 all_declared a np ns [] = pure []
 all_declared a np ns (d ∷ ds) = do
-  x ← declared a np ns d.names d.access d.declared
+  x ← before_others (λ (e : s.Declaration). e.names) (declaration np ns) a d ds
   more ← all_declared a (np + x.procedures) (ns + length x.signals) ds
   pure (x ∷ more)
 
@@ -218,7 +257,7 @@ unfoldable pub offers_of : List Declared → List Offer
 offers_of [] = []
 offers_of (d ∷ ds) = d.offers ++ offers_of ds
 
--- Bodies: 1,024 words of parameters, results, variables and hidden words (rule of this project).
+-- Bodies: the words of parameters, results, variables and hidden words together are limited (rule of this project).
 abbrev pub fresh : State → State
 fresh s = record s { variables = NoKinds; hidden = 0 }
 
@@ -230,15 +269,15 @@ in_frame p = λ s. and_then (p (fresh s)) (as_before s)
 
 abbrev pub frame : List PlainField → List PlainField → Place → Check t.Kinds
 frame takes gives p = λ s.
-    and_then (only (nat_le (words_of_fields takes + words_of_fields gives + words_in_all s.variables + s.hidden) 1024) FrameTooLarge p) (λ _.
-    Ok (s.variables, s))
+    and_then (only (nat_le (words_of_fields takes + words_of_fields gives + words_in_all s.variables + s.hidden) LOCAL_WORDS) FrameTooLarge p)
+    (λ _. Ok (s.variables, s))
 
 -- the operands of a head count as those of a statement, and are looked at after the body
 unfoldable pub procedure : Known → List Identifier → PlainItem → Scope Meaning → ℕ → s.Block → Check t.Procedure
 procedure known xs i scope operands b = in_frame (do
   does ← in_scope scope (block (body_of known i.takes i.gives) b)
   variables ← frame i.takes i.gives (first_name xs)
-  _ ← ensure (nat_le operands 16384) FrameTooLarge (first_name xs)
+  _ ← ensure (nat_le operands OPERAND_WORDS) FrameTooLarge (first_name xs)
   pure (record { head = item_of i; body = record { variables = variables; does = does } }))
 
 -- what the declarations leave: procedures, and statements of the body

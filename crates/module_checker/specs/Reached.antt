@@ -92,8 +92,9 @@ pub data Bracketed : Type 0 where
   -- a byte of a string, with the words that it still counts
   InText : ℕ → t.Expr → Bracketed
 
+-- of a string that is named, its byte is named; what a call gave is counted already
 abbrev pub text_at : Place → PlainType → ℕ → t.Expr → Checked Bracketed
-text_at last k n e = if is_text k then Ok (InText n e) else refuse TypeMismatch last
+text_at last k n e = if is_text k then Ok (InText (min n 1) e) else refuse TypeMismatch last
 
 abbrev pub indexed_by : Place → Home → t.Suffixes → PlainType → Option (PlainType × PlainType) → Checked Bracketed
 indexed_by last h ss k (Some p) = Ok (InArray h ss p.0 p.1)

@@ -1,5 +1,6 @@
 -- Rules of statements that look at no part of the text again (Language Manual, chapters 4, 7 and 8).
 use Rattle.std.specs.Prelude.{ℕ, ◌+◌, Bool, true, false, ◌&&◌, not, List, [], ◌∷◌, ◌++◌, length, map, Option, Some, None, Ok, if◌then◌else◌, nat_eq, nat_le, is_some}
+use Rattle.mesa_base.specs.declared.limits.TheConstants.{GLOBAL_WORDS}
 use Rattle.mesa_base.specs.declared.place.Place.{Place}
 use Rattle.mesa_types.specs.Shapes.{join, one, count_in, words_in_all}
 use Rattle.mesa_types.specs.Syntax as s
@@ -8,7 +9,7 @@ use Rattle.module_checker.specs.Typed.{Home, Global, Local, Base, Range, Given, 
 use Rattle.mesa_base.specs.declared.identifier.Identifier.{Identifier}
 use Rattle.mesa_types.specs.declared.syntax.RepeatLabels.{RepeatLabels}
 use Rattle.mesa_types.specs.declared.syntax.RepeatLabels.TheVariants as repeat
-use Rattle.module_checker.specs.Constants.{constant}
+use Rattle.mesa_types.specs.Constants.{constant}
 use Rattle.module_checker.specs.Operators.{Meeting, related, number_type, turned, Sort, Number, sort_of}
 use Rattle.module_checker.specs.Ranges.{Typed, checked, range_for, Arguments}
 use Rattle.module_checker.specs.Scopes.{Scope, with_name, nothing}
@@ -170,9 +171,9 @@ variables a k (x ∷ xs) = do
   hs ← variables a k xs
   pure (h ∷ hs)
 
--- 16,384 words of globals (rule of this project)
+-- the words of the globals are limited (rule of this project)
 abbrev pub few_globals : Place → Check (Unit {0})
-few_globals p = λ s. and_then (only (nat_le (words_in_all s.globals) 16384) GlobalsTooLarge p) (λ _. Ok (tt, s))
+few_globals p = λ s. and_then (only (nat_le (words_in_all s.globals) GLOBAL_WORDS) GlobalsTooLarge p) (λ _. Ok (tt, s))
 
 abbrev pub meaning_of : PlainType → Home → Meaning
 meaning_of k h = Variable h k

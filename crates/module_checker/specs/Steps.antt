@@ -1,5 +1,6 @@
 -- The steps that every rule is made of: a rule gives a value or the first fault, and may change the state of checking.
 use Rattle.std.specs.Prelude.{ℕ, ◌+◌, Bool, Option, Some, None, Result, Ok, Err, List, ◌∷◌, if◌then◌else◌, nat_le}
+use Rattle.mesa_base.specs.declared.limits.TheConstants.{OPERAND_WORDS}
 use Rattle.mesa_base.specs.declared.place.Place.{Place}
 use Rattle.module_checker.specs.Typed as t
 use Rattle.module_checker.specs.Scopes.{Scope, nothing, outer, innermost}
@@ -94,6 +95,6 @@ seeing scope p = λ s. and_then (p (with_top scope s)) (λ r. Ok (r.0, with_top 
 abbrev pub measured : {A : Type 0} → Check A → Check (A × ℕ)
 measured p = λ s. and_then (p (record s { operands = 0 })) (λ r. Ok ((r.0, r.1.operands), record r.1 { operands = s.operands }))
 
--- a statement's operands are at most 16,384 words (rule of this project)
+-- the words of a statement's operands are limited (rule of this project)
 abbrev pub within_operands : {A : Type 0} → ℕ → Place → Check A → Check A
-within_operands before place p = measured p >>= (λ r. ensure (nat_le (before + r.1) 16384) FrameTooLarge place >>= (λ _. pure r.0))
+within_operands before place p = measured p >>= (λ r. ensure (nat_le (before + r.1) OPERAND_WORDS) FrameTooLarge place >>= (λ _. pure r.0))

@@ -1,5 +1,6 @@
 -- Types as they are written (Language Manual, chapter 3): subranges, elements, limits, origins by number.
-use Rattle.std.specs.Prelude.{ℕ, ◌+◌, ◌-◌, ◌%◌, Bool, true, false, ◌&&◌, List, [], ◌∷◌, length, filter, Option, Some, None, Ok, if◌then◌else◌, nat_le, nat_lt, is_some, not}
+use Rattle.std.specs.Prelude.{ℕ, ◌+◌, ◌-◌, Bool, true, false, ◌&&◌, List, [], ◌∷◌, length, filter, Option, Some, None, Ok, if◌then◌else◌, nat_le, nat_lt, is_some, not}
+use Rattle.mesa_base.specs.declared.limits.TheConstants.{TYPE_WORDS, TYPE_DEPTH, ENUMERATION_ELEMENTS}
 use Rattle.mesa_base.specs.declared.place.Place.{Place}
 use Rattle.module_checker.specs.Typed as t
 use Rattle.module_checker.specs.Typed.{Base, Signed, Unsigned}
@@ -7,7 +8,8 @@ use Rattle.module_checker.specs.PlainTypes as v
 use Rattle.mesa_types.specs.declared.types.Origin.{Origin}
 use Rattle.mesa_base.specs.declared.identifier.Identifier.{Identifier}
 use Rattle.module_checker.specs.Operators.{Sort, Number, sort_of}
-use Rattle.module_checker.specs.Constants.{constant, number_of, bit}
+use Rattle.mesa_types.specs.Constants.{constant}
+use Rattle.mesa_types.specs.Operators.{shifted, truth, wrap}
 use Rattle.module_checker.specs.Ranges.{Typed}
 use Rattle.module_checker.specs.Around.{Around, Known}
 use Rattle.module_checker.specs.Meanings.{Constant}
@@ -20,9 +22,9 @@ use Rattle.module_checker.specs.PlainTypes.{PlainType, base_of, bounds, depth_of
 abbrev pub origin : Known → Place → Origin
 origin known p = record { «module» = known.name; stamp = known.stamp; number = length (filter (λ n. nat_lt n p.token) known.origins) }
 
--- 16,384 words, 64 deep (rule of this project)
+-- the words and the depth of a type are limited (rule of this project)
 unfoldable pub limited : Place → PlainType → Checked PlainType
-limited p k = and_then (only (nat_le (words_of k) 16384 && nat_le (depth_of k) 64) TypeTooLarge p) (λ _. Ok k)
+limited p k = and_then (only (nat_le (words_of k) TYPE_WORDS && nat_le (depth_of k) TYPE_DEPTH) TypeTooLarge p) (λ _. Ok k)
 
 -- the elements of an enumeration are constants of the scope in which it stands
 unfoldable pub elements : Around → PlainType → ℕ → List Identifier → Check (Unit {0})
@@ -31,8 +33,9 @@ elements a k n (x ∷ xs) = λ s.
     and_then (only (not (is_declared x.name s)) TwiceDeclared x.place) (λ _.
     elements a k (n + 1) xs (element_in a.is_outermost x.name (Constant k n) s))
 
+-- and so are the elements of an enumeration
 unfoldable pub few : Place → List Identifier → Checked (Unit {0})
-few p xs = only (nat_le (length xs) 65536) TypeTooLarge p
+few p xs = only (nat_le (length xs) ENUMERATION_ELEMENTS) TypeTooLarge p
 
 abbrev pub is_index_by : Sort → Bool → Bool
 is_index_by (Number b) is_subrange = is_subrange
@@ -77,12 +80,12 @@ base_of_bounds j x k y = bounds_base (sort_of j) x (sort_of k) y (same_base (bas
 
 -- a bound that is left out leaves the next one; an empty interval makes no type
 abbrev pub subrange_if : Bool → Place → PlainType → Bool → ℕ → ℕ → Bool → Checked PlainType
-subrange_if true p k open_low x y open_high = Ok (v.Subrange k ((x + bit open_low) % 65536) ((y + 65536 - bit open_high) % 65536))
+subrange_if true p k open_low x y open_high = Ok (v.Subrange k (wrap (x + truth open_low)) (wrap (y + 65536 - truth open_high)))
 subrange_if false p k open_low x y open_high = refuse TypeMismatch p
 
 unfoldable pub subrange : Place → PlainType → Bool → ℕ → ℕ → Bool → Checked PlainType
 subrange p k open_low x y open_high =
-    subrange_if (nat_le (number_of (sign_of k) x + bit open_low + bit open_high) (number_of (sign_of k) y)) p k open_low x y open_high
+    subrange_if (nat_le (shifted (sign_of k) x + truth open_low + truth open_high) (shifted (sign_of k) y)) p k open_low x y open_high
 
 abbrev pub interval_base : Option PlainType → PlainType → ℕ → PlainType → ℕ → Option PlainType
 interval_base (Some k) i x j y = base_of k

@@ -1,6 +1,7 @@
 -- Values: literals, NOT, signs, relations, runs of operators, constructors, raises (Language Manual, chapters 2, 3 and 8).
 use Rattle.std.specs.Prelude.{ℕ, suc, Bool, true, false, ◌&&◌, List, [], ◌∷◌, Option, Some, None, Ok, if◌then◌else◌, nat_eq, nat_le, bytes_eq, min}
 use Rattle.mesa_types.specs.Syntax as s
+use Rattle.mesa_base.specs.declared.limits.TheConstants.{GREATEST_NUMBER, GREATEST_CHARACTER, DISTINCT_STRINGS}
 use Rattle.mesa_base.specs.declared.place.Place.{Place}
 use Rattle.module_checker.specs.Typed as t
 use Rattle.module_checker.specs.Typed.{Range, Relation}
@@ -25,23 +26,21 @@ use Rattle.module_checker.specs.declared.fault.Cause.TheVariants.{TypeMismatch, 
 use Rattle.module_checker.specs.PlainTypes.{PlainField, PlainItem, PlainType, sign_of, words_of, words_of_fields}
 
 unfoldable pub number : ℕ → Typed
-number n = if nat_le n 32767 then record { value = t.Number n; kind = v.Integer; literal = true; gave = None } else typed v.Cardinal (t.Number (min n 65535))
+number n =
+    if nat_le n 32767 then record { value = t.Number n; kind = v.Integer; literal = true; gave = None }
+    else typed v.Cardinal (t.Number (min n GREATEST_NUMBER))
 
--- a character has a code below 256
+-- a character, by its code
 unfoldable pub letter : ℕ → Typed
-letter n = typed v.Character (t.Number (min n 255))
+letter n = typed v.Character (t.Number (min n GREATEST_CHARACTER))
 
--- the number of a string literal among those of the module, of which 65,535 are numbered
+-- the number of a string literal among those of the module, of which so many are numbered as it may have
 unfoldable pub number_in : List ℕ → ℕ → List (List ℕ) → Option ℕ
 number_in bytes n [] = None
-number_in bytes n (x ∷ xs) = if bytes_eq bytes x then (if nat_le (suc n) 65535 then Some n else None) else number_in bytes (suc n) xs
+number_in bytes n (x ∷ xs) = if bytes_eq bytes x then (if nat_le (suc n) DISTINCT_STRINGS then Some n else None) else number_in bytes (suc n) xs
 
 unfoldable pub string : List (List ℕ) → Place → List ℕ → Checked Typed
 string literals p bytes = and_then (or_refuse (number_in bytes 0 literals) GlobalsTooLarge p) (λ n. Ok (typed v.String (t.Literal n)))
-
-abbrev pub bit : Bool → ℕ
-bit true = 1
-bit false = 0
 
 abbrev pub truth : t.Expr → Typed
 truth e = typed v.Boolean e
@@ -161,6 +160,10 @@ by_keys k p fs xs values = do
 
 abbrev pub construct_shape : {A : Type 0} → PlainType → Place → Check A → Check A
 construct_shape k q other = by_shape (shape_of k) (λ fs. other) (λ n j. other) (fail TypeMismatch q)
+
+-- a type's name that stands before brackets is that of a record or an array
+abbrev pub has_parts : PlainType → Place → Checked (Unit {0})
+has_parts k q = by_shape (shape_of k) (λ fs. Ok tt) (λ n j. Ok tt) (refuse TypeMismatch q)
 
 -- a bound is one of the type that a word before its interval says
 abbrev pub bound_aim : Option PlainType → Place → Aim
