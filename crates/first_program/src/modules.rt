@@ -83,8 +83,8 @@ fn whole(
 ) -> Result<Boxed<TypedModule>, OutOfMemory>
     ensures { IfOk result (λ m. plain m ≡ tree.module_of name.now host (spec.globals all.now) (map stmt statements)) }
 {
+    let (statements, name) = both(statements, name.copy(alloc))?;
     let (statements, globals) = both(statements, globals(alloc, all))?;
-    let ((statements, globals), name) = both((statements, globals), name.copy(alloc))?;
     boxed(alloc, module_of(alloc, name, host, globals, statements)?)
 }
 
