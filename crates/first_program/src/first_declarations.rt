@@ -61,7 +61,7 @@ fn integer(alloc: Global, known: &Known<'_>, plain: &PlainItem) -> Result<TypedS
             alloc, number,
         )?),
         PlainItem::Initial(written, e) if is_integer(written) => {
-            let value = sum(alloc, &known.variables, e)?.value;
+            let value = sum(alloc, &known.variables, e)?.into_value();
             Ok(first_tree::declare_as(alloc, number, value)?)
         }
         _ => Err(FirstFault::NotYet),

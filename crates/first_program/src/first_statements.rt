@@ -58,7 +58,7 @@ impl<'a, 'b> Statements<'a, 'b> {
         ensures { Gives stmt (spec.assignment (finds self.now.variables.now.places) left.now value.now) result }
     {
         let number = home(self.variables, left)?;
-        let value = sum(self.alloc, self.variables, value)?.value;
+        let value = sum(self.alloc, self.variables, value)?.into_value();
         Ok(first_tree::assign(self.alloc, number, value))
     }
 
@@ -83,7 +83,7 @@ impl<'a, 'b> Statements<'a, 'b> {
             (left, right).let_go();
             return Err(FirstFault::NotYet);
         }
-        Ok(first_tree::related(self.alloc, *relation, left.value, right.value)?)
+        Ok(first_tree::related(self.alloc, *relation, left.into_value(), right.into_value())?)
     }
 
     /// A loop; loops may nest so deep in it.

@@ -25,10 +25,18 @@ pub struct CountedSum {
     pub terms: usize,
 }
 
+impl CountedSum {
+    pub fn into_value(self) -> TypedExpr
+        ensures { result ≡ self.value }
+    {
+        let CountedSum { value, terms: _ } = self;
+        value
+    }
+}
+
 impl LetGo for CountedSum {
     fn let_go(self) {
-        let CountedSum { value, terms: _ } = self;
-        value.let_go();
+        self.into_value().let_go();
     }
 }
 
