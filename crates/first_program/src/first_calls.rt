@@ -63,7 +63,7 @@ fn write_decimal(
 ) -> Result<TypedStmt, FirstFault>
     ensures { Gives stmt (spec.write_decimal (finds variables.now.places) e.now) result }
 {
-    let value = sum(alloc, variables, e)?.value;
+    let value = sum(alloc, variables, e)?.into_value();
     Ok(first_tree::call_of(alloc, WRITE_DECIMAL, value)?)
 }
 

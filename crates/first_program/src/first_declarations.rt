@@ -11,16 +11,26 @@ use crate::first_fault::FirstFault;
 use crate::first_sums::sum;
 use crate::first_tree;
 use crate::variables::{MOST_VARIABLES, Variables};
+use held_trees::{LetGo, put};
 use mesa_base::List;
 use mesa_types::TypedStmt;
 use mesa_types::syntax::{Declaration, Declared, PlainItem, TypeExp};
 use std::alloc::Global;
 
 /// What the declarations so far declare, and the statements that do so.
-#[derive(Drop)]
 pub struct Known<'a> {
     pub variables: Variables<'a>,
     pub statements: List<TypedStmt>,
+}
+
+impl<'a> LetGo for Known<'a> {
+    fn let_go(self) {
+        let Known {
+            variables: _,
+            statements,
+        } = self;
+        statements.let_go();
+    }
 }
 
 /// Whether a variable may have the name.
@@ -51,7 +61,7 @@ fn integer(alloc: Global, known: &Known<'_>, plain: &PlainItem) -> Result<TypedS
             alloc, number,
         )?),
         PlainItem::Initial(written, e) if is_integer(written) => {
-            let value = sum(alloc, &known.variables, e)?.value;
+            let value = sum(alloc, &known.variables, e)?.into_value();
             Ok(first_tree::declare_as(alloc, number, value)?)
         }
         _ => Err(FirstFault::NotYet),
@@ -71,7 +81,7 @@ fn variable_named<'a>(
         return Err(FirstFault::NotYet);
     }
     let statement = integer(alloc, known, plain)?;
-    known.statements.push(statement)?;
+    put(&mut known.statements, statement)?;
     known.variables.add(name)?;
     Ok(())
 }
@@ -103,7 +113,10 @@ pub fn declarations<'a>(alloc: Global, all: &'a [Declaration]) -> Result<Known<'
         statements: List::new(alloc),
     };
     for one in all {
-        declaration(alloc, &mut known, one)?;
+        if let Err(fault) = declaration(alloc, &mut known, one) {
+            known.let_go();
+            return Err(fault);
+        }
     }
     Ok(known)
 }

@@ -11,6 +11,7 @@ use crate::first_fault::FirstFault;
 use crate::first_sums::{MOST_TERMS, home, sum};
 use crate::first_tree;
 use crate::variables::Variables;
+use held_trees::{LetGo, both, pushed};
 use mesa_base::List;
 use mesa_types::syntax::{Condition, Control, Expr, Left, Statement};
 use mesa_types::{TypedExpr, TypedStmt};
@@ -57,7 +58,7 @@ impl<'a, 'b> Statements<'a, 'b> {
         ensures { Gives stmt (spec.assignment (finds self.now.variables.now.places) left.now value.now) result }
     {
         let number = home(self.variables, left)?;
-        let value = sum(self.alloc, self.variables, value)?.value;
+        let value = sum(self.alloc, self.variables, value)?.into_value();
         Ok(first_tree::assign(self.alloc, number, value))
     }
 
@@ -77,11 +78,12 @@ impl<'a, 'b> Statements<'a, 'b> {
             return Err(FirstFault::NotYet);
         };
         let left = sum(self.alloc, self.variables, left.get())?;
-        let right = sum(self.alloc, self.variables, right.get())?;
+        let (left, right) = both(left, sum(self.alloc, self.variables, right.get()))?;
         if left.terms + right.terms > MOST_TERMS {
+            (left, right).let_go();
             return Err(FirstFault::NotYet);
         }
-        Ok(first_tree::related(self.alloc, *relation, left.value, right.value)?)
+        Ok(first_tree::related(self.alloc, *relation, left.into_value(), right.into_value())?)
     }
 
     /// A loop; loops may nest so deep in it.
@@ -96,7 +98,7 @@ impl<'a, 'b> Statements<'a, 'b> {
         ensures { Gives stmt (spec.repetition (finds self.now.variables.now.places) self.now.host (spec.nested (finds self.now.variables.now.places) self.now.host depth) before.now body.now) result }
     {
         let condition = self.condition(control(before)?)?;
-        let body = self.nested(body, depth)?;
+        let (condition, body) = both(condition, self.nested(body, depth))?;
         Ok(first_tree::while_loop(self.alloc, condition, body)?)
     }
 
@@ -138,7 +140,8 @@ impl<'a, 'b> Statements<'a, 'b> {
         ensures { Gives (map stmt) (after (map stmt done) (spec.all (spec.statement (finds self.now.variables.now.places) self.now.host depth) all.now)) result }
     {
         for one in all {
-            done.push(self.statement(one, depth)?)?;
+            let (held, next) = both(done, self.statement(one, depth))?;
+            done = pushed(held, next)?;
         }
         Ok(done)
     }

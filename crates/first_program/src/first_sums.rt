@@ -10,6 +10,7 @@ ghost use Rattle.first_program.specs.FirstViews.{finds};
 use crate::first_fault::FirstFault;
 use crate::first_tree;
 use crate::variables::Variables;
+use held_trees::{LetGo, both, pushed};
 use mesa_base::List;
 use mesa_types::syntax::{Expr, Left, Operation as Written};
 use mesa_types::{Operation, TypedExpr};
@@ -19,10 +20,24 @@ use std::alloc::Global;
 pub const MOST_TERMS: usize = 1000;
 
 /// A sum, and how many terms it has.
-#[derive(Drop)]
 pub struct CountedSum {
     pub value: TypedExpr,
     pub terms: usize,
+}
+
+impl CountedSum {
+    pub fn into_value(self) -> TypedExpr
+        ensures { result ≡ self.value }
+    {
+        let CountedSum { value, terms: _ } = self;
+        value
+    }
+}
+
+impl LetGo for CountedSum {
+    fn let_go(self) {
+        self.into_value().let_go();
+    }
 }
 
 /// The number of the variable that a name with nothing behind it is.
@@ -72,7 +87,8 @@ fn steps(
 {
     let mut done = List::new(alloc);
     for one in all {
-        done.push(step(alloc, variables, one)?)?;
+        let (held, next) = both(done, step(alloc, variables, one))?;
+        done = pushed(held, next)?;
     }
     Ok(done)
 }
@@ -92,7 +108,7 @@ fn run(
         return Err(FirstFault::NotYet);
     }
     let first = term(alloc, variables, first)?;
-    let operations = steps(alloc, variables, rest)?;
+    let (first, operations) = both(first, steps(alloc, variables, rest))?;
     let value = first_tree::operated(alloc, first, operations)?;
     Ok(CountedSum {
         value,

@@ -5,8 +5,9 @@ ghost use Rattle.mesa_types.specs.Plain as plain;
 ghost use Rattle.mesa_types.specs.Plain.{expr, operation, stmt};
 ghost use Rattle.first_program.specs.FirstTree as spec;
 
-use interface_records::iodefs;
-use mesa_base::{Boxed, List, Name, OutOfMemory, Shared};
+use held_trees::{both, boxed, boxed_pair, pushed, shared};
+use interface_records::io_face;
+use mesa_base::{List, Name, OutOfMemory, Shared};
 use mesa_types::{
     Base, Callee, Condition, FieldType, Fields, Home, Import, Imports, Loop, Operation, Operator,
     Phrase, Range, Relation, TypeTree, TypedBody, TypedExpr, TypedModule, TypedStmt, syntax,
@@ -58,7 +59,8 @@ pub fn operated(
 ) -> Result<TypedExpr, OutOfMemory>
     ensures { IfOk result (λ made. expr made ≡ spec.operated (expr first) (map operation operations)) }
 {
-    Ok(TypedExpr::Operate(Boxed::new(alloc, first)?, operations))
+    let (operations, first) = both(operations, boxed(alloc, first))?;
+    Ok(TypedExpr::Operate(first, operations))
 }
 
 pub fn related(
@@ -69,20 +71,14 @@ pub fn related(
 ) -> Result<TypedExpr, OutOfMemory>
     ensures { IfOk result (λ made. expr made ≡ spec.related relation (expr left) (expr right)) }
 {
-    Ok(TypedExpr::Relate(
-        Base::Signed,
-        relation,
-        Boxed::new(alloc, left)?,
-        Boxed::new(alloc, right)?,
-    ))
+    let (left, right) = boxed_pair(alloc, left, right)?;
+    Ok(TypedExpr::Relate(Base::Signed, relation, left, right))
 }
 
 fn one_expr(alloc: Global, item: TypedExpr) -> Result<List<TypedExpr>, OutOfMemory>
     ensures { IfOk result (λ list. list ≡ item ∷ []) }
 {
-    let mut list = List::new(alloc);
-    list.push(item)?;
-    Ok(list)
+    pushed(List::new(alloc), item)
 }
 
 fn one_global(alloc: Global, home: u16) -> Result<List<Home>, OutOfMemory>
@@ -98,7 +94,7 @@ pub fn call_of(alloc: Global, item: u32, argument: TypedExpr) -> Result<TypedStm
     ensures { IfOk result (λ made. stmt made ≡ spec.call_of item (expr argument)) }
 {
     let arguments = one_expr(alloc, argument)?;
-    let catching = Boxed::new(alloc, Phrase::NoPhrase)?;
+    let (arguments, catching) = both(arguments, boxed(alloc, Phrase::NoPhrase))?;
     Ok(TypedStmt::Perform(TypedExpr::Call(
         Callee::LinkedProcedure(0, item),
         List::new(alloc),
@@ -125,13 +121,14 @@ pub fn declare(alloc: Global, home: u16) -> Result<TypedStmt, OutOfMemory>
 pub fn declare_as(alloc: Global, home: u16, value: TypedExpr) -> Result<TypedStmt, OutOfMemory>
     ensures { IfOk result (λ made. stmt made ≡ spec.declare_as home (expr value)) }
 {
-    Ok(TypedStmt::DeclareAs(one_global(alloc, home)?, TypeTree::Integer, value))
+    let (value, homes) = both(value, one_global(alloc, home))?;
+    Ok(TypedStmt::DeclareAs(homes, TypeTree::Integer, value))
 }
 
 fn block(alloc: Global, statements: List<TypedStmt>) -> Result<TypedStmt, OutOfMemory>
     ensures { IfOk result (λ made. stmt made ≡ spec.block (map stmt statements)) }
 {
-    let catching = Boxed::new(alloc, Phrase::NoPhrase)?;
+    let (statements, catching) = both(statements, boxed(alloc, Phrase::NoPhrase))?;
     Ok(TypedStmt::Block(catching, statements, List::new(alloc)))
 }
 
@@ -142,14 +139,14 @@ pub fn while_loop(
 ) -> Result<TypedStmt, OutOfMemory>
     ensures { IfOk result (λ made. stmt made ≡ spec.while_loop (expr condition) (map stmt statements)) }
 {
-    let body = block(alloc, statements)?;
+    let (condition, body) = both(condition, block(alloc, statements))?;
     let whole = Loop {
         condition: Condition::While(condition),
         body,
         exits: List::new(alloc),
         finished: None,
     };
-    Ok(TypedStmt::Repeat(Boxed::new(alloc, whole)?))
+    Ok(TypedStmt::Repeat(boxed(alloc, whole)?))
 }
 
 /// A variable of type INTEGER.
@@ -166,20 +163,29 @@ pub fn integer(alloc: Global, name: &Name) -> Result<FieldType, OutOfMemory>
 fn host(alloc: Global) -> Result<Import, OutOfMemory>
     ensures { IfOk result (λ one. one ∷ [] ≡ spec.imports true) }
 {
+    let used = List::from_slice(alloc, &[0, 2])?;
     Ok(Import {
-        face: iodefs(alloc)?.face,
-        used: List::from_slice(alloc, &[0, 2])?,
+        face: io_face(alloc)?,
+        used,
     })
 }
 
 fn imports(alloc: Global, has_host: bool) -> Result<Imports, OutOfMemory>
     ensures { IfOk result (λ all. all ≡ spec.imports has_host) }
 {
-    let mut all = List::new(alloc);
-    if has_host {
-        all.push(host(alloc)?)?;
+    if !has_host {
+        return Ok(List::new(alloc));
     }
-    Ok(all)
+    let one = host(alloc)?;
+    pushed(List::new(alloc), one)
+}
+
+/// What a module does.
+fn does(alloc: Global, statements: List<TypedStmt>) -> Result<Shared<TypedStmt>, OutOfMemory>
+    ensures { IfOk result (λ made. stmt made ≡ spec.block (map stmt statements)) }
+{
+    let all = block(alloc, statements)?;
+    shared(alloc, all)
 }
 
 pub fn module_of(
@@ -191,8 +197,8 @@ pub fn module_of(
 ) -> Result<TypedModule, OutOfMemory>
     ensures { IfOk result (λ made. plain.plain made ≡ spec.module_of name has_host globals (map stmt statements)) }
 {
-    let imports = imports(alloc, has_host)?;
-    let does = block(alloc, statements)?;
+    let (globals, does) = both(globals, does(alloc, statements))?;
+    let ((globals, does), imports) = both((globals, does), imports(alloc, has_host))?;
     Ok(TypedModule {
         name,
         imports,
@@ -203,7 +209,7 @@ pub fn module_of(
         procedures: List::new(alloc),
         body: TypedBody {
             variables: List::new(alloc),
-            does: Shared::new(alloc, does)?,
+            does,
         },
     })
 }

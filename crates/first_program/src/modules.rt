@@ -12,6 +12,7 @@ use crate::first_declarations::{Known, declarations};
 use crate::first_fault::FirstFault;
 use crate::first_statements::Statements;
 use crate::first_tree::{integer, module_of};
+use held_trees::{LetGo, both, boxed, put};
 use mesa_base::{Boxed, Identifier, List, Name, OutOfMemory};
 use mesa_types::syntax::{Declaration, DirectoryItem, Inner, ModuleKind};
 use mesa_types::{Fields, Module, TypedModule, TypedStmt};
@@ -52,7 +53,7 @@ fn put_globals(alloc: Global, globals: &mut Fields, names: &[Identifier]) -> Res
     ensures { OnOk result (globals.new ≡ globals.old ++ spec.integers names.now) }
 {
     for name in names {
-        globals.push(integer(alloc, &name.name)?)?;
+        put(globals, integer(alloc, &name.name)?)?;
     }
     Ok(())
 }
@@ -64,7 +65,10 @@ fn globals(alloc: Global, all: &[Declaration]) -> Result<Fields, OutOfMemory>
 {
     let mut globals = List::new(alloc);
     for one in all {
-        put_globals(alloc, &mut globals, one.names.as_slice())?;
+        if let Err(fault) = put_globals(alloc, &mut globals, one.names.as_slice()) {
+            globals.let_go();
+            return Err(fault);
+        }
     }
     Ok(globals)
 }
@@ -79,9 +83,9 @@ fn whole(
 ) -> Result<Boxed<TypedModule>, OutOfMemory>
     ensures { IfOk result (λ m. plain m ≡ tree.module_of name.now host (spec.globals all.now) (map stmt statements)) }
 {
-    let globals = globals(alloc, all)?;
-    let name = name.copy(alloc)?;
-    Ok(Boxed::new(alloc, module_of(alloc, name, host, globals, statements)?)?)
+    let (statements, name) = both(statements, name.copy(alloc))?;
+    let (statements, globals) = both(statements, globals(alloc, all))?;
+    boxed(alloc, module_of(alloc, name, host, globals, statements)?)
 }
 
 /// What stands between BEGIN and END.

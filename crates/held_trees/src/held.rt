@@ -1,5 +1,5 @@
 //! Values that are held while more is read: where the reading fails they are let go.
-ghost use Rattle.std.specs.Prelude.{◌≡◌, ◌++◌, ◌∷◌, [], IfOk, MatchResult, Ok, Err};
+ghost use Rattle.std.specs.Prelude.{◌≡◌, ◌++◌, ◌∷◌, [], IfOk, OnOk, MatchResult, Ok, Err};
 
 use crate::letting::{InBox, InList, InShared, LetGo};
 use mesa_base::{Boxed, List, OutOfMemory, Shared};
@@ -35,6 +35,20 @@ pub fn boxed_pair<T: InBox>(
 {
     let (second, first) = both(second, T::boxed(alloc, first))?;
     both(first, T::boxed(alloc, second))
+}
+
+/// Puts the part at the end of the list.
+pub fn put<T: InList>(list: &mut List<T>, part: T) -> Result<(), OutOfMemory>
+    ensures { OnOk result (list.new ≡ list.old ++ part ∷ []) }
+{
+    match list.push(part) {
+        Ok(()) => Ok(()),
+        Err(failed) => {
+            let AllocFailed { value } = failed;
+            value.let_go();
+            Err(OutOfMemory)
+        }
+    }
 }
 
 /// The list with the part at its end.

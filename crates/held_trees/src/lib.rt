@@ -13,5 +13,5 @@ mod typed_modules;
 mod typed_statements;
 mod types;
 
-pub use held::{both, boxed, boxed_pair, pushed, share, shared};
+pub use held::{both, boxed, boxed_pair, pushed, put, share, shared};
 pub use letting::{InBox, InList, InShared, LetGo};

@@ -1,8 +1,10 @@
 //! Typed modules and their parts, and the faces of modules, which hold trees and types.
+ghost use Rattle.std.specs.Prelude.{◌≡◌, IfOk};
 
-use crate::letting::{InList, LetGo};
-use mesa_base::List;
+use crate::letting::{InBox, InList, LetGo};
+use mesa_base::{Boxed, List, OutOfMemory};
 use mesa_types::{Export, Face, Import, Shape, TypedBody, TypedModule, TypedProcedure};
+use std::alloc::Global;
 use std::mem::drop;
 
 impl LetGo for Face {
@@ -94,5 +96,11 @@ impl LetGo for TypedModule {
         signals.let_go();
         procedures.let_go();
         body.let_go();
+    }
+}
+
+impl InBox for TypedModule {
+    fn boxed(alloc: Global, part: TypedModule) -> Result<Boxed<TypedModule>, OutOfMemory> {
+        Boxed::new(alloc, part)
     }
 }

@@ -89,16 +89,23 @@ fn items(alloc: Global) -> Result<Items, OutOfMemory>
     Ok(items)
 }
 
-/// The built-in interface IODefs, stamp 000000000001 (rule of this project).
+/// What IODefs offers, stamp 000000000001 (rule of this project).
+pub fn io_face(alloc: Global) -> Result<Face, OutOfMemory>
+    ensures { IfOk result (λ face. face ≡ built_in.face) }
+{
+    Ok(Face {
+        name: name(alloc, b"IODefs")?,
+        stamp: Stamp::new(1),
+        items: items(alloc)?,
+    })
+}
+
+/// The built-in interface IODefs, which has neither constants nor types (rule of this project).
 pub fn iodefs(alloc: Global) -> Result<Interface, OutOfMemory>
     ensures { IfOk result (λ interface. interface ≡ built_in) }
 {
     Ok(Interface {
-        face: Face {
-            name: name(alloc, b"IODefs")?,
-            stamp: Stamp::new(1),
-            items: items(alloc)?,
-        },
+        face: io_face(alloc)?,
         constants: List::new(alloc),
         types: List::new(alloc),
     })

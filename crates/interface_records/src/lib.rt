@@ -6,7 +6,7 @@ mod interface;
 mod sameness;
 mod wanted;
 
-pub use built_in::iodefs;
+pub use built_in::{io_face, iodefs};
 pub use interface::{Constant, Constants, Interface, Interfaces, NamedType, NamedTypes};
 pub use sameness::{same_face, same_signature};
 pub use wanted::{Wanted, WantedItem, Wanteds};
