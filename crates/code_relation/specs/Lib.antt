@@ -1,0 +1,9 @@
+pub mod CodeFor
+pub mod Links
+pub mod Loops
+pub mod Modules
+pub mod OwnCode
+pub mod Points
+pub mod Reading
+pub mod Scopes
+pub mod Slots
