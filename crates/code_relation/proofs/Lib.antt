@@ -1,3 +1,4 @@
 pub mod Control
 pub mod Made
 pub mod Plain
+pub mod Signals

@@ -9,6 +9,8 @@ use Rattle.mesa_types.specs.declared.typed_parts.Home.TheVariants.{Global, Local
 use Rattle.mesa_types.specs.Shapes.{words_in_all}
 use Rattle.code_forms.specs.declared.around.Moved.{Moved}
 use Rattle.code_forms.specs.declared.instruction.Instruction.{Instruction}
+use Rattle.code_forms.specs.declared.module_code.Arm.{Arm}
+use Rattle.code_forms.specs.declared.module_code.Label.{Label}
 use Rattle.code_forms.specs.declared.module_code.CodeEntry.{CodeEntry}
 use Rattle.code_forms.specs.declared.module_code.CodeKind.TheVariants.{Signal, Error, Procedure}
 use Rattle.code_forms.specs.declared.module_code.CodeLink.{CodeLink}
@@ -71,6 +73,17 @@ part field offset words = record { field = field; offset = offset; words = words
 
 abbrev pub bases : (number first last : Base) → Bases
 bases number first last = record { number = number; first = first; last = last }
+
+-- an interface of which the text names these items
+abbrev pub import : List ℕ → Import
+import used = record { face = record { name = codes "I"; stamp = 1; items = [] }; used = used }
+
+-- a phrase with its range, and an arm with the slot and the number of its parameters' words and with its region
+abbrev pub arm : List Label → (slot words start end : ℕ) → Arm
+arm labels slot words start end = record { labels = labels; slot = slot; words = words; start = start; end = end }
+
+abbrev pub phrase : (from to : ℕ) → List Arm → Phrase
+phrase from to arms = record { from = from; to = to; arms = arms }
 
 -- one fact and the others
 infixr 3 ◌&◌
