@@ -2,7 +2,7 @@
 use Rattle.std.specs.Prelude.{[], false, refl, true, ◌∷◌}
 use Rattle.code_relation.proofs.Made.{at, bases, global, kinds, local, plain_block, procedure, stmts, ◌&◌}
 use Rattle.code_relation.specs.CodeFor.{StmtCode, always, and_case, and_exit, and_statement, assign, block, bounds, count, falls, finished, if_else, jump, jumps, lies_last, lies_within, loop, marked, never, no_exits, no_finish, no_phrase, no_statements, no_test, null, number, on_relation, on_value, otherwise, related, related_last, relates, rounds, select, select_none, until, variable, while}
-use Rattle.code_relation.specs.Reading.{Coded, Offset, at_body}
+use Rattle.code_relation.specs.Reading.{Coded, Offset, at_body, no_more}
 use Rattle.mesa_types.specs.Counts.{hidden, hidden_arms, hidden_cases, hidden_condition, hidden_exits, hidden_expr, hidden_exprs, hidden_finish, hidden_interval, hidden_loop, hidden_operations, hidden_phrase, hidden_stmts, hidden_suffixes, hidden_targets, hidden_tests, last_words, words_given, words_of}
 use Rattle.mesa_types.specs.Operators.{differ}
 use Rattle.mesa_types.specs.Shapes.{join, words_before, words_in, words_in_all}
@@ -38,14 +38,14 @@ repeated_stands : StmtCode repeated (at_body repeated) (
     (Marked 1 (plain_block (If (global 0) (Jump 0 (PastStatement 0)) (Jump 0 (PastStatement 1)) ∷ Assign (Local 0) NoSuffix (Number 1) ∷ []))) NoExits NoFinish))) 0 54
 unfolding differ words_in words_in_all words_before join point_of hidden hidden_expr hidden_exprs hidden_suffixes hidden_operations hidden_interval hidden_phrase hidden_arms hidden_stmts hidden_targets hidden_cases hidden_tests hidden_exits hidden_loop hidden_finish hidden_condition words_of words_given last_words
 repeated_stands =
-    marked (loop (rounds [] 0 16 49 54 54 (refl)
-    (while (on_relation 5 10 (variable tt (refl & refl)) (variable tt (refl & refl)) (refl & refl & refl)))
+    marked (loop (rounds [] 0 16 49 54 54 no_more
+    (while (on_relation 5 10 (variable tt (refl & no_more)) (variable tt (refl & no_more)) (refl & refl & no_more)))
     (marked (block [] 49 49 no_phrase
     (and_statement 41
-    (if_else 26 31 36 (on_value 21 (variable tt (refl & refl)) (refl & refl)) (jump (Offset 54) refl (refl & refl)) (jumps (refl & refl)) (jump (Offset 49) refl (refl & refl)))
-    (and_statement 49 (assign 44 tt (number (refl & refl)) (refl & refl)) no_statements))
+    (if_else 26 31 36 (on_value 21 (variable tt (refl & no_more)) (refl & no_more)) (jump (Offset 54) refl (refl & no_more)) (jumps (refl & no_more)) (jump (Offset 49) refl (refl & no_more)))
+    (and_statement 49 (assign 44 tt (number (refl & no_more)) (refl & no_more)) no_statements))
     falls no_exits))
-    (refl & refl) (no_finish falls) no_exits))
+    (refl & no_more) (no_finish falls) no_exits))
 
 -- UNTIL b DO GOTO l REPEAT l => a ← 1; FINISHED => a ← 2 ENDLOOP
 abbrev labelled : Coded
@@ -67,12 +67,12 @@ labelled_stands : StmtCode labelled (at_body labelled) (
     (AndExit (0 ∷ []) (Assign (Local 0) NoSuffix (Number 1)) NoExits) (Finished (Assign (Local 0) NoSuffix (Number 2)))))) 0 41
 unfolding differ words_in words_in_all words_before join point_of hidden hidden_expr hidden_exprs hidden_suffixes hidden_operations hidden_interval hidden_phrase hidden_arms hidden_stmts hidden_targets hidden_cases hidden_tests hidden_exits hidden_loop hidden_finish hidden_condition words_of words_given last_words
 labelled_stands =
-    marked (loop (rounds (33 ∷ []) 0 10 15 20 33 (refl)
-    (until (on_value 5 (variable tt (refl & refl)) (refl & refl)))
-    (marked (block [] 15 15 no_phrase (and_statement 15 (jump (Offset 33) refl (refl & refl)) no_statements) falls no_exits))
-    (refl & refl)
-    (finished 28 (assign 23 tt (number (refl & refl)) (refl & refl)) (jumps (refl & refl)))
-    (and_exit 41 41 (assign 36 tt (number (refl & refl)) (refl & refl)) falls no_exits)))
+    marked (loop (rounds (33 ∷ []) 0 10 15 20 33 no_more
+    (until (on_value 5 (variable tt (refl & no_more)) (refl & no_more)))
+    (marked (block [] 15 15 no_phrase (and_statement 15 (jump (Offset 33) refl (refl & no_more)) no_statements) falls no_exits))
+    (refl & no_more)
+    (finished 28 (assign 23 tt (number (refl & no_more)) (refl & no_more)) (jumps (refl & no_more)))
+    (and_exit 41 41 (assign 36 tt (number (refl & no_more)) (refl & no_more)) falls no_exits)))
 
 -- DO GOTO l REPEAT l => NULL; FINISHED => a ← 2 ENDLOOP: the control never ends it, so there is no code for its FINISHED
 abbrev endless : Coded
@@ -87,9 +87,9 @@ endless_stands : StmtCode endless (at_body endless) (
     (Finished (Assign (Local 0) NoSuffix (Number 2)))))) 0 10
 unfolding differ words_in words_in_all words_before join point_of hidden hidden_expr hidden_exprs hidden_suffixes hidden_operations hidden_interval hidden_phrase hidden_arms hidden_stmts hidden_targets hidden_cases hidden_tests hidden_exits hidden_loop hidden_finish hidden_condition words_of words_given last_words
 endless_stands =
-    marked (loop (rounds (10 ∷ []) 0 0 5 10 10 (refl) always
-    (marked (block [] 5 5 no_phrase (and_statement 5 (jump (Offset 10) refl (refl & refl)) no_statements) falls no_exits))
-    (refl & refl) never (and_exit 10 10 null falls no_exits)))
+    marked (loop (rounds (10 ∷ []) 0 0 5 10 10 no_more always
+    (marked (block [] 5 5 no_phrase (and_statement 5 (jump (Offset 10) refl (refl & no_more)) no_statements) falls no_exits))
+    (refl & no_more) never (and_exit 10 10 null falls no_exits)))
 
 -- FOR i IN [0..65535] DO ENDLOOP, over all of CARDINAL: its hidden words are in slots 17 to 19
 abbrev over_all : Coded
@@ -123,8 +123,8 @@ over_all_stands : StmtCode over_all (at_body over_all) (
     (LoopOf Always (Marked 1 (plain_block [])) NoExits NoFinish))) 0 79
 unfolding differ words_in words_in_all words_before join point_of hidden hidden_expr hidden_exprs hidden_suffixes hidden_operations hidden_interval hidden_phrase hidden_arms hidden_stmts hidden_targets hidden_cases hidden_tests hidden_exits hidden_loop hidden_finish hidden_condition words_of words_given last_words
 over_all_stands =
-    marked (count 6 28 (bounds 3 (number (refl & refl)) (number (refl & refl))) (refl & refl & refl & refl & refl & refl & refl)
-    (rounds [] 48 48 48 79 79 (refl & refl & refl & refl & refl) always (marked (block [] 48 48 no_phrase no_statements falls no_exits)) (refl & refl & refl & refl & refl & refl & refl & refl & refl & refl)
+    marked (count 6 28 (bounds 3 (number (refl & no_more)) (number (refl & no_more))) (refl & refl & refl & refl & refl & refl & no_more)
+    (rounds [] 48 48 48 79 79 (refl & refl & refl & refl & no_more) always (marked (block [] 48 48 no_phrase no_statements falls no_exits)) (refl & refl & refl & refl & refl & refl & refl & refl & refl & no_more)
     (no_finish falls) no_exits))
 
 -- FOR i DECREASING IN (1..a) WHILE b DO THROUGH [0..3) DO a ← i ENDLOOP ENDLOOP: the inner loop has three further slots
@@ -199,17 +199,17 @@ downward_stands : StmtCode downward (at_body downward) (
     (Marked 3 (plain_block (Assign (Local 1) NoSuffix (local 0) ∷ []))) NoExits NoFinish)) ∷ []))) NoExits NoFinish))) 0 222
 unfolding differ words_in words_in_all words_before join point_of hidden hidden_expr hidden_exprs hidden_suffixes hidden_operations hidden_interval hidden_phrase hidden_arms hidden_stmts hidden_targets hidden_cases hidden_tests hidden_exits hidden_loop hidden_finish hidden_condition words_of words_given last_words
 downward_stands =
-    marked (count 8 69 (bounds 3 (number (refl & refl)) (variable tt (refl & refl))) (refl & refl & refl & refl & refl & refl & refl & refl & refl & refl & refl & refl & refl & refl & refl & refl & refl & refl & refl & refl)
-    (rounds [] 94 104 191 222 222 (refl & refl & refl & refl & refl & refl) (while (on_value 99 (variable tt (refl & refl)) (refl & refl)))
+    marked (count 8 69 (bounds 3 (number (refl & no_more)) (variable tt (refl & no_more))) (refl & refl & refl & refl & refl & refl & refl & refl & refl & refl & refl & refl & refl & refl & refl & refl & refl & refl & refl & no_more)
+    (rounds [] 94 104 191 222 222 (refl & refl & refl & refl & refl & no_more) (while (on_value 99 (variable tt (refl & no_more)) (refl & no_more)))
     (marked (block [] 191 191 no_phrase
     (and_statement 191
-    (marked (count 110 140 (bounds 107 (number (refl & refl)) (number (refl & refl))) (refl & refl & refl & refl & refl & refl & refl & refl & refl)
-    (rounds [] 150 150 160 191 191 (refl & refl & refl) always
-    (marked (block [] 160 160 no_phrase (and_statement 160 (assign 155 tt (variable tt (refl & refl)) (refl & refl)) no_statements) falls no_exits))
-    (refl & refl & refl & refl & refl & refl & refl & refl & refl & refl) (no_finish falls) no_exits)))
+    (marked (count 110 140 (bounds 107 (number (refl & no_more)) (number (refl & no_more))) (refl & refl & refl & refl & refl & refl & refl & refl & no_more)
+    (rounds [] 150 150 160 191 191 (refl & refl & no_more) always
+    (marked (block [] 160 160 no_phrase (and_statement 160 (assign 155 tt (variable tt (refl & no_more)) (refl & no_more)) no_statements) falls no_exits))
+    (refl & refl & refl & refl & refl & refl & refl & refl & refl & no_more) (no_finish falls) no_exits)))
     no_statements)
     falls no_exits))
-    (refl & refl & refl & refl & refl & refl & refl & refl & refl & refl) (no_finish falls) no_exits))
+    (refl & refl & refl & refl & refl & refl & refl & refl & refl & no_more) (no_finish falls) no_exits))
 
 -- BEGIN IF a THEN GOTO l; b ← 1; EXITS l, k => b ← 2; h => b ← 3 END
 abbrev left_by_a_label : Coded
@@ -234,11 +234,11 @@ left_by_a_label_stands : StmtCode left_by_a_label (at_body left_by_a_label) (
 unfolding differ words_in words_in_all words_before join point_of hidden hidden_expr hidden_exprs hidden_suffixes hidden_operations hidden_interval hidden_phrase hidden_arms hidden_stmts hidden_targets hidden_cases hidden_tests hidden_exits hidden_loop hidden_finish hidden_condition words_of words_given last_words
 left_by_a_label_stands =
     block (28 ∷ 41 ∷ []) 23 28 no_phrase
-    (and_statement 15 (if_else 10 15 15 (on_value 5 (variable tt (refl & refl)) (refl & refl)) (jump (Offset 28) refl (refl & refl)) falls null)
-    (and_statement 23 (assign 18 tt (number (refl & refl)) (refl & refl)) no_statements))
-    (jumps (refl & refl))
-    (and_exit 36 41 (assign 31 tt (number (refl & refl)) (refl & refl)) (jumps (refl & refl))
-    (and_exit 49 49 (assign 44 tt (number (refl & refl)) (refl & refl)) falls no_exits))
+    (and_statement 15 (if_else 10 15 15 (on_value 5 (variable tt (refl & no_more)) (refl & no_more)) (jump (Offset 28) refl (refl & no_more)) falls null)
+    (and_statement 23 (assign 18 tt (number (refl & no_more)) (refl & no_more)) no_statements))
+    (jumps (refl & no_more))
+    (and_exit 36 41 (assign 31 tt (number (refl & no_more)) (refl & no_more)) (jumps (refl & no_more))
+    (and_exit 49 49 (assign 44 tt (number (refl & no_more)) (refl & no_more)) falls no_exits))
 
 -- SELECT a FROM 1, IN [5..7) => b ← 1; < 3 => b ← 2 ENDCASE => b ← 3: the selector is held in slot 18, and checked in a test
 abbrev cases : Coded
@@ -285,13 +285,13 @@ cases_stands : StmtCode cases (at_body cases) (
     (Otherwise (Assign (Local 1) NoSuffix (Number 3)))))) 0 127
 unfolding differ words_in words_in_all words_before join point_of hidden hidden_expr hidden_exprs hidden_suffixes hidden_operations hidden_interval hidden_phrase hidden_arms hidden_stmts hidden_targets hidden_cases hidden_tests hidden_exits hidden_loop hidden_finish hidden_condition words_of words_given last_words
 cases_stands =
-    select 5 10 (variable tt (refl & refl)) (refl & refl)
+    select 5 10 (variable tt (refl & no_more)) (refl & no_more)
     (and_case 69 77 82
-    (related 24 (relates 15 18 (refl & refl) (number (refl & refl)) (refl & refl & refl)) (lies_last (lies_within 29 35 (refl & refl) (bounds 32 (number (refl & refl)) (number (refl & refl))) (refl & refl & refl & refl & refl & refl & refl & refl & refl & refl & refl))))
-    (assign 72 tt (number (refl & refl)) (refl & refl)) (jumps (refl & refl))
-    (and_case 106 114 119 (related 101 (relates 92 95 (refl & refl & refl) (number (refl & refl)) (refl & refl & refl)) (no_test (refl & refl)))
-    (assign 109 tt (number (refl & refl)) (refl & refl)) (jumps (refl & refl))
-    (otherwise (assign 122 tt (number (refl & refl)) (refl & refl)))))
+    (related 24 (relates 15 18 (refl & no_more) (number (refl & no_more)) (refl & refl & no_more)) (lies_last (lies_within 29 35 (refl & no_more) (bounds 32 (number (refl & no_more)) (number (refl & no_more))) (refl & refl & refl & refl & refl & refl & refl & refl & refl & refl & no_more))))
+    (assign 72 tt (number (refl & no_more)) (refl & no_more)) (jumps (refl & no_more))
+    (and_case 106 114 119 (related 101 (relates 92 95 (refl & refl & no_more) (number (refl & no_more)) (refl & refl & no_more)) (no_test (refl & no_more)))
+    (assign 109 tt (number (refl & no_more)) (refl & no_more)) (jumps (refl & no_more))
+    (otherwise (assign 122 tt (number (refl & no_more)) (refl & no_more)))))
 
 -- SELECT s FROM ENDCASE => a ← 1, for a STRING s that nothing tests; SELECT a FROM # 2 => a ← 1; NOT IN (1..3] => NULL ENDCASE
 abbrev no_case : Coded
@@ -332,11 +332,11 @@ no_case_stands : StmtCode no_case (at_body no_case) (
 unfolding differ words_in words_in_all words_before join point_of hidden hidden_expr hidden_exprs hidden_suffixes hidden_operations hidden_interval hidden_phrase hidden_arms hidden_stmts hidden_targets hidden_cases hidden_tests hidden_exits hidden_loop hidden_finish hidden_condition words_of words_given last_words
 no_case_stands =
     block [] 98 98 no_phrase
-    (and_statement 16 (select_none 5 8 (variable tt (refl & refl)) (refl & refl) (assign 11 tt (number (refl & refl)) (refl & refl)))
+    (and_statement 16 (select_none 5 8 (variable tt (refl & no_more)) (refl & no_more) (assign 11 tt (number (refl & no_more)) (refl & no_more)))
     (and_statement 98
-    (select 21 26 (variable tt (refl & refl)) (refl & refl)
-    (and_case 40 48 53 (related_last (relates 31 34 (refl & refl) (number (refl & refl)) (refl & refl & refl))) (assign 43 tt (number (refl & refl)) (refl & refl)) (jumps (refl & refl))
-    (and_case 98 98 98 (lies_last (lies_within 58 64 (refl & refl) (bounds 61 (number (refl & refl)) (number (refl & refl))) (refl & refl & refl & refl & refl & refl & refl & refl & refl & refl & refl)))
+    (select 21 26 (variable tt (refl & no_more)) (refl & no_more)
+    (and_case 40 48 53 (related_last (relates 31 34 (refl & no_more) (number (refl & no_more)) (refl & refl & no_more))) (assign 43 tt (number (refl & no_more)) (refl & no_more)) (jumps (refl & no_more))
+    (and_case 98 98 98 (lies_last (lies_within 58 64 (refl & no_more) (bounds 61 (number (refl & no_more)) (number (refl & no_more))) (refl & refl & refl & refl & refl & refl & refl & refl & refl & refl & no_more)))
     null falls (otherwise null))))
     no_statements))
     falls no_exits

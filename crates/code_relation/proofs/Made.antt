@@ -1,5 +1,5 @@
 -- How the procedures and codes of the examples are written by hand.
-use Rattle.std.specs.Prelude.{ℕ, List, [], ◌∷◌, length, map, codes}
+use Rattle.std.specs.Prelude.{◌≡◌, ℕ, ◌+◌, Some, List, [], ◌∷◌, length, map, codes}
 use Rattle.mesa_types.specs.Typed.{Kind, Ordinal, Texts, Kinds, NoKinds, AndKind, Expr, Variable, Exprs, NoExprs, AndExpr, NoSuffix, Stmt, NoPhrase, Block, Stmts, NoStmts, AndStmt, NoExits}
 use Rattle.mesa_types.specs.declared.faces.Import.{Import}
 use Rattle.mesa_types.specs.declared.typed_parts.Base.{Base}
@@ -16,8 +16,9 @@ use Rattle.code_forms.specs.declared.module_code.CodeKind.TheVariants.{Signal, E
 use Rattle.code_forms.specs.declared.module_code.CodeLink.{CodeLink}
 use Rattle.code_forms.specs.declared.module_code.CodeSignal.{CodeSignal}
 use Rattle.code_forms.specs.declared.module_code.Phrase.{Phrase}
+use Rattle.code_forms.specs.Instructions.{bytes_of}
 use Rattle.code_forms.specs.Routine.{Routine, spots, words}
-use Rattle.code_relation.specs.Reading.{Coded, Place, at_body}
+use Rattle.code_relation.specs.Reading.{Coded, Place, Own, one_more, read, behind}
 
 -- an instruction with its offset and the words before it
 abbrev pub at : (offset depth : ℕ) → Instruction → CodeEntry
@@ -85,7 +86,9 @@ arm labels slot words start end = record { labels = labels; slot = slot; words =
 abbrev pub phrase : (from to : ℕ) → List Arm → Phrase
 phrase from to arms = record { from = from; to = to; arms = arms }
 
--- one fact and the others
+-- an instruction and those after it
 infixr 3 ◌&◌
-abbrev pub ◌&◌ : {A B : Type 0} → A → B → A × B
-a & b = (a, b)
+abbrev pub ◌&◌ : {P : Coded} {w : Place} {i : Instruction} {is : List Instruction} {a b : ℕ}
+    → read P a ≡ Some (record { instruction = i; depth = w.depth; around = w.around }) → Own P (behind P i w) is (a + bytes_of i) b
+    → Own P w (i ∷ is) a b
+r & rest = one_more r rest

@@ -3,7 +3,7 @@ use Rattle.std.specs.Prelude.{[], refl, ◌∷◌}
 use Rattle.code_relation.proofs.Made.{arm, at, exprs, import, kinds, local, phrase, plain_block, procedure, stmts, with_imports, ◌&◌}
 use Rattle.code_relation.specs.CodeFor.{always, and_arm, and_case, and_exit, and_statement, and_value, assign, block, call, catch, continue, falls, jump, jumps, literal, loop, marked, no_arms, no_exits, no_finish, no_phrase, no_range, no_statements, no_values, null, number, otherwise, perform, raise, reject, related_last, relates, resume, retry, return_with, rounds, select, variable}
 use Rattle.code_relation.specs.Modules.{BodyCode}
-use Rattle.code_relation.specs.Reading.{Caller, Coded, Offset, Own}
+use Rattle.code_relation.specs.Reading.{Caller, Coded, Offset, Own, no_more}
 use Rattle.mesa_types.specs.Counts.{hidden, hidden_arms, hidden_cases, hidden_condition, hidden_exits, hidden_expr, hidden_exprs, hidden_finish, hidden_interval, hidden_loop, hidden_operations, hidden_phrase, hidden_stmts, hidden_suffixes, hidden_targets, hidden_tests, last_words, words_given, words_of}
 use Rattle.mesa_types.specs.Operators.{differ}
 use Rattle.mesa_types.specs.Shapes.{join, words_before, words_in, words_in_all}
@@ -40,12 +40,12 @@ unfolding differ words_in words_in_all words_before join point_of hidden hidden_
 resumed_stands = record {
   end = 15;
   does = marked (assign 10 tt
-      (call 5 5 (and_value 5 (variable tt (refl & refl)) no_values) (refl)
+      (call 5 5 (and_value 5 (variable tt (refl & no_more)) no_values) no_more
       (catch 0 _ refl refl
-      (and_arm 16 24 25 (resume 21 (and_value 21 (variable tt (refl & refl)) no_values) (refl & refl)) (refl & refl)
-      (and_arm 25 25 26 null (refl & refl) no_arms)))
-      (refl & refl)) (refl & refl));
-  returns = (refl & refl);
+      (and_arm 16 24 25 (resume 21 (and_value 21 (variable tt (refl & no_more)) no_values) (refl & no_more)) (refl & no_more)
+      (and_arm 25 25 26 null (refl & no_more) no_arms)))
+      (refl & no_more)) (refl & no_more));
+  returns = (refl & no_more);
   room = omega arith;
 }
 
@@ -78,23 +78,23 @@ arms_in_arms_stands : BodyCode arms_in_arms (
 unfolding differ words_in words_in_all words_before join point_of hidden hidden_expr hidden_exprs hidden_suffixes hidden_operations hidden_interval hidden_phrase hidden_arms hidden_stmts hidden_targets hidden_cases hidden_tests hidden_exits hidden_loop hidden_finish hidden_condition words_of words_given last_words
 arms_in_arms_stands = record {
   end = 18;
-  does = marked (loop (rounds [] 0 0 13 18 18 (refl) always
+  does = marked (loop (rounds [] 0 0 13 18 18 no_more always
       (marked (block [] 13 13 no_phrase
       (and_statement 13 (marked (perform 10
-      (raise 5 5 (and_value 5 (variable tt (refl & refl)) no_values) (refl)
+      (raise 5 5 (and_value 5 (variable tt (refl & no_more)) no_values) no_more
       (catch 0 _ refl refl
       (and_arm 19 30 31 (marked (perform 27
-      (call 22 22 (and_value 22 (number (refl & refl)) no_values) (refl)
+      (call 22 22 (and_value 22 (number (refl & no_more)) no_values) no_more
       (catch 1 _ refl refl
-      (and_arm 31 38 39 (jump (Offset 18) refl (refl & refl)) (refl & refl)
-      (and_arm 39 46 47 (retry (Offset 19) refl (refl & refl)) (refl & refl)
-      (and_arm 47 50 51 (jump Caller refl (refl & refl)) (refl & refl) no_arms))))
-      (refl & refl)) (refl & refl))) (refl & refl) no_arms))
-      (refl & refl)) (refl & refl)))
+      (and_arm 31 38 39 (jump (Offset 18) refl (refl & no_more)) (refl & no_more)
+      (and_arm 39 46 47 (retry (Offset 19) refl (refl & no_more)) (refl & no_more)
+      (and_arm 47 50 51 (jump Caller refl (refl & no_more)) (refl & no_more) no_arms))))
+      (refl & no_more)) (refl & no_more))) (refl & no_more) no_arms))
+      (refl & no_more)) (refl & no_more)))
       no_statements)
       falls no_exits))
-      (refl & refl) (no_finish falls) no_exits));
-  returns = (refl & refl);
+      (refl & no_more) (no_finish falls) no_exits));
+  returns = (refl & no_more);
   room = omega arith;
 }
 
@@ -114,9 +114,9 @@ enabled_over_nothing_stands = record {
   end = 8;
   does = block [] 8 8 no_phrase
       (and_statement 0 (marked (block [] 0 0 no_range (and_statement 0 null no_statements) falls no_exits))
-      (and_statement 8 (assign 3 tt (number (refl & refl)) (refl & refl)) no_statements))
+      (and_statement 8 (assign 3 tt (number (refl & no_more)) (refl & no_more)) no_statements))
       falls no_exits;
-  returns = (refl & refl);
+  returns = (refl & no_more);
   room = omega arith;
 }
 
@@ -149,14 +149,14 @@ enabled_stands = record {
   end = 28;
   does = marked (block (20 ∷ []) 15 20
       (catch 0 _ refl refl
-      (and_arm 29 36 37 (jump (Offset 20) refl (refl & refl)) (refl & refl)
-      (and_arm 37 44 45 (continue (Offset 28) refl (refl & refl)) (refl & refl)
-      (and_arm 45 46 47 (reject (refl & refl)) (refl & refl) no_arms))))
-      (and_statement 13 (perform 10 (call 5 5 (and_value 5 (variable tt (refl & refl)) no_values) (refl) no_phrase (refl & refl)) (refl & refl))
-      (and_statement 15 (perform 15 (raise 13 13 no_values (refl) no_phrase (refl & refl)) (refl)) no_statements))
-      (jumps (refl & refl))
-      (and_exit 28 28 (assign 23 tt (number (refl & refl)) (refl & refl)) falls no_exits));
-  returns = (refl & refl);
+      (and_arm 29 36 37 (jump (Offset 20) refl (refl & no_more)) (refl & no_more)
+      (and_arm 37 44 45 (continue (Offset 28) refl (refl & no_more)) (refl & no_more)
+      (and_arm 45 46 47 (reject (refl & no_more)) (refl & no_more) no_arms))))
+      (and_statement 13 (perform 10 (call 5 5 (and_value 5 (variable tt (refl & no_more)) no_values) no_more no_phrase (refl & no_more)) (refl & no_more))
+      (and_statement 15 (perform 15 (raise 13 13 no_values no_more no_phrase (refl & no_more)) no_more) no_statements))
+      (jumps (refl & no_more))
+      (and_exit 28 28 (assign 23 tt (number (refl & no_more)) (refl & no_more)) falls no_exits));
+  returns = (refl & no_more);
   room = omega arith;
 }
 
@@ -184,19 +184,19 @@ unfolding differ words_in words_in_all words_before join point_of hidden hidden_
 enabled_inside_stands = record {
   end = 15;
   does = marked (block [] 15 15
-      (catch 0 _ refl refl (and_arm 16 24 25 (assign 19 tt (number (refl & refl)) (refl & refl)) (refl & refl) no_arms))
+      (catch 0 _ refl refl (and_arm 16 24 25 (assign 19 tt (number (refl & no_more)) (refl & no_more)) (refl & no_more) no_arms))
       (and_statement 15
       (marked (block [] 15 15
-      (catch 1 _ refl refl (and_arm 25 25 26 null (refl & refl) no_arms))
+      (catch 1 _ refl refl (and_arm 25 25 26 null (refl & no_more) no_arms))
       (and_statement 15
       (marked (assign 10 tt
-      (call 5 5 (and_value 5 (variable tt (refl & refl)) no_values) (refl) (catch 2 _ refl refl (and_arm 26 26 27 null (refl & refl) no_arms)) (refl & refl))
-      (refl & refl)))
+      (call 5 5 (and_value 5 (variable tt (refl & no_more)) no_values) no_more (catch 2 _ refl refl (and_arm 26 26 27 null (refl & no_more) no_arms)) (refl & no_more))
+      (refl & no_more)))
       no_statements)
       falls no_exits))
       no_statements)
       falls no_exits);
-  returns = (refl & refl);
+  returns = (refl & no_more);
   room = omega arith;
 }
 
@@ -229,14 +229,14 @@ returned_stands = record {
   end = 29;
   does = block [] 29 29 no_phrase
       (and_statement 15 (marked (assign 10 tt
-      (call 5 5 (and_value 5 (variable tt (refl & refl)) no_values) (refl)
+      (call 5 5 (and_value 5 (variable tt (refl & no_more)) no_values) no_more
       (catch 0 _ refl refl
-      (and_arm 30 49 50 (return_with 36 Caller (and_value 33 (literal (refl & refl)) (and_value 36 (number (refl & refl)) no_values)) refl (refl & refl & refl & refl)) (refl & refl) no_arms))
-      (refl & refl)) (refl & refl)))
-      (and_statement 29 (return_with 23 Caller (and_value 20 (variable tt (refl & refl)) (and_value 23 (literal (refl & refl)) no_values)) refl (refl & refl & refl))
+      (and_arm 30 49 50 (return_with 36 Caller (and_value 33 (literal (refl & no_more)) (and_value 36 (number (refl & no_more)) no_values)) refl (refl & refl & refl & no_more)) (refl & no_more) no_arms))
+      (refl & no_more)) (refl & no_more)))
+      (and_statement 29 (return_with 23 Caller (and_value 20 (variable tt (refl & no_more)) (and_value 23 (literal (refl & no_more)) no_values)) refl (refl & refl & no_more))
       no_statements))
       falls no_exits;
-  returns = (refl & refl);
+  returns = (refl & no_more);
   room = omega arith;
 }
 
@@ -265,14 +265,14 @@ unfolding differ words_in words_in_all words_before join point_of hidden hidden_
 through_links_stands = record {
   end = 30;
   does = block [] 30 30 no_phrase
-      (and_statement 8 (perform 8 (call 3 3 (and_value 3 (number (refl & refl)) no_values) (refl) no_phrase (refl & refl)) (refl))
+      (and_statement 8 (perform 8 (call 3 3 (and_value 3 (number (refl & no_more)) no_values) no_more no_phrase (refl & no_more)) no_more)
       (and_statement 21 (marked (assign 16 tt
-      (raise 11 11 (and_value 11 (number (refl & refl)) no_values) (refl) (catch 0 _ refl refl (and_arm 31 31 32 null (refl & refl) no_arms)) (refl & refl)) (refl & refl)))
-      (and_statement 26 (perform 26 (raise 21 21 no_values (refl) no_phrase (refl & refl)) (refl))
-      (and_statement 28 (perform 28 (raise 26 26 no_values (refl) no_phrase (refl & refl)) (refl))
-      (and_statement 30 (perform 30 (raise 28 28 no_values (refl) no_phrase (refl & refl)) (refl)) no_statements)))))
+      (raise 11 11 (and_value 11 (number (refl & no_more)) no_values) no_more (catch 0 _ refl refl (and_arm 31 31 32 null (refl & no_more) no_arms)) (refl & no_more)) (refl & no_more)))
+      (and_statement 26 (perform 26 (raise 21 21 no_values no_more no_phrase (refl & no_more)) no_more)
+      (and_statement 28 (perform 28 (raise 26 26 no_values no_more no_phrase (refl & no_more)) no_more)
+      (and_statement 30 (perform 30 (raise 28 28 no_values no_more no_phrase (refl & no_more)) no_more) no_statements)))))
       falls no_exits;
-  returns = (refl & refl);
+  returns = (refl & no_more);
   room = omega arith;
 }
 
@@ -305,14 +305,14 @@ unfolding differ words_in words_in_all words_before join point_of hidden hidden_
 held_in_an_arm_stands = record {
   end = 29;
   does = marked (select 10 15
-      (call 5 5 (and_value 5 (variable tt (refl & refl)) no_values) (refl)
+      (call 5 5 (and_value 5 (variable tt (refl & no_more)) no_values) no_more
       (catch 0 _ refl refl
       (and_arm 30 54 55
-      (select 35 40 (variable tt (refl & refl)) (refl & refl)
-      (and_case 54 54 54 (related_last (relates 45 48 (refl & refl) (number (refl & refl)) (refl & refl & refl))) null falls (otherwise null)))
-      (refl & refl) no_arms))
-      (refl & refl)) (refl & refl)
-      (and_case 29 29 29 (related_last (relates 20 23 (refl & refl) (number (refl & refl)) (refl & refl & refl))) null falls (otherwise null)));
-  returns = (refl & refl);
+      (select 35 40 (variable tt (refl & no_more)) (refl & no_more)
+      (and_case 54 54 54 (related_last (relates 45 48 (refl & no_more) (number (refl & no_more)) (refl & refl & no_more))) null falls (otherwise null)))
+      (refl & no_more) no_arms))
+      (refl & no_more)) (refl & no_more)
+      (and_case 29 29 29 (related_last (relates 20 23 (refl & no_more) (number (refl & no_more)) (refl & refl & no_more))) null falls (otherwise null)));
+  returns = (refl & no_more);
   room = omega arith;
 }

@@ -1,4 +1,5 @@
 pub mod CodeFor
+pub mod Laws
 pub mod Links
 pub mod Loops
 pub mod Modules

@@ -78,10 +78,11 @@ abbrev pub behind : Coded → Instruction → Place → Place
 behind P i w = record w { depth = depth_after P.routine i w.depth }
 
 -- these instructions stand from one offset to another, each with the words before it and the phrases around
-abbrev pub Own : Coded → Place → List Instruction → ℕ → ℕ → Type 0
-Own P w [] a b = a ≡ b
-Own P w (i ∷ is) a b =
-    (read P a ≡ Some (record { instruction = i; depth = w.depth; around = w.around })) × Own P (behind P i w) is (a + bytes_of i) b
+pub data Own (P : Coded) : Place → List Instruction → ℕ → ℕ → Type 0 where
+  no_more : {w : Place} {a : ℕ} → Own P w [] a a
+  one_more : {w : Place} {i : Instruction} {is : List Instruction} {a b : ℕ}
+      → read P a ≡ Some (record { instruction = i; depth = w.depth; around = w.around }) → Own P (behind P i w) is (a + bytes_of i) b
+      → Own P w (i ∷ is) a b
 
 -- with so many words more on the operand stack; where so many hidden words more are in use
 abbrev pub deeper : ℕ → Place → Place

@@ -1,2 +1,6 @@
-//! Which code stands for a typed module. No call of the program is here.
+//! Which code stands for a typed module, with examples. No call of the program is here.
 #![tactic(auto)]
+
+mod laws;
+
+pub use laws::{code_is_whole, code_lies_in_order};
