@@ -1,5 +1,7 @@
 pub mod Control
 pub mod Made
+pub mod Modules
 pub mod Plain
+pub mod Refused
 pub mod Signals
 pub mod Whole
