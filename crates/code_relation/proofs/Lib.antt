@@ -1,4 +1,5 @@
 pub mod Control
+pub mod Depths
 pub mod Made
 pub mod Modules
 pub mod Plain

@@ -1,7 +1,18 @@
 -- The laws of the relation.
-use Rattle.std.specs.Prelude.{◌≡◌, ℕ, ◌+◌, ◌≤◌, List, ◌++◌, Some}
+use Rattle.std.specs.Prelude.{◌≡◌, ℕ, ◌+◌, ◌≤◌, List, [], ◌∷◌, ◌++◌, Some, Bool}
+use Rattle.mesa_types.specs.declared.typed_parts.Base.{Base}
+use Rattle.mesa_types.specs.declared.typed_parts.Bases.{Bases}
+use Rattle.mesa_types.specs.declared.typed_parts.Home.{Home}
+use Rattle.mesa_types.specs.declared.typed_parts.Operator.{Operator}
+use Rattle.mesa_types.specs.declared.typed_parts.Range.{Range}
+use Rattle.mesa_types.specs.declared.relation.Relation.{Relation}
 use Rattle.mesa_types.specs.Typed.{Expr, Stmt}
+use Rattle.code_forms.specs.declared.instruction.Instruction.{Instruction}
 use Rattle.code_forms.specs.Instructions.{bytes_of}
+use Rattle.code_forms.specs.Depths.{depth_after}
+use Rattle.code_relation.specs.Loops.{Counter, start_code, count_code, step_code}
+use Rattle.code_relation.specs.OwnCode.{field_code, check_code, index_code, relation_code, relation_jump, operator_code, within_code, arrange_code, total}
+use Rattle.code_relation.specs.Slots.{zero_code, spread_code}
 use Rattle.code_relation.specs.CodeFor.{ExprCode, StmtCode}
 use Rattle.code_relation.specs.Reading.{Coded, Place, Read, read}
 
@@ -21,3 +32,24 @@ pub record CodeIsWhole : Type 0 where
 pub record CodeLiesInOrder : Type 0 where
   pub of_expression : (P : Coded) (w : Place) (e : Expr) (a b : ℕ) → ExprCode P w e a b → a ≤ b
   pub of_statement : (P : Coded) (w : Place) (s : Stmt) (a b : ℕ) → StmtCode P w s a b → a ≤ b
+
+-- the words on the operand stack behind some instructions
+abbrev pub left_by : Coded → List Instruction → ℕ → ℕ
+left_by P [] depth = depth
+left_by P (i ∷ is) depth = left_by P is (depth_after P.routine i depth)
+
+-- own code takes and puts as many words as its row says, by the table of the instructions
+pub record OwnCodeKeepsWords : Type 0 where
+  pub field : (P : Coded) (before words after d : ℕ) → left_by P (field_code before words after) (d + before + words + after) ≡ d + words
+  pub check : (P : Coded) (r : Range) (d : ℕ) → left_by P (check_code r) (d + 1) ≡ d + 1
+  pub index : (P : Coded) (r : Range) (first n words d : ℕ) → left_by P (index_code r first n words) (d + 2) ≡ d + 1
+  pub relation : (P : Coded) (b : Base) (o : Relation) (d : ℕ) → left_by P (relation_code b o) (d + 2) ≡ d + 1
+  pub relation_jump : (P : Coded) (b : Base) (o : Relation) (sense : Bool) (target d : ℕ) → left_by P (relation_jump b o sense target) (d + 2) ≡ d
+  pub operator : (P : Coded) (t : ℕ) (o : Operator) (d : ℕ) → left_by P (operator_code t o) (d + 2) ≡ d + 1
+  pub within : (P : Coded) (t : ℕ) (bases : Bases) (p q : Bool) (d : ℕ) → left_by P (within_code t bases p q) (d + 3) ≡ d + 1
+  pub arranged : (P : Coded) (places sizes : List ℕ) (d : ℕ) → left_by P (arrange_code places sizes) (d + total sizes) ≡ d + total sizes
+  pub cleared : (P : Coded) (hs : List Home) (words d : ℕ) → left_by P (zero_code P hs words) d ≡ d
+  pub spread : (P : Coded) (hs : List Home) (words d : ℕ) → left_by P (spread_code P hs words) (d + words) ≡ d
+  pub started : (P : Coded) (z : ℕ) (b : Base) (p q : Bool) (d : ℕ) → left_by P (start_code z b p q) (d + 2) ≡ d
+  pub counted : (P : Coded) (k : Counter) (target d : ℕ) → left_by P (count_code P k target) d ≡ d
+  pub stepped : (P : Coded) (k : Counter) (d : ℕ) → left_by P (step_code k) d ≡ d

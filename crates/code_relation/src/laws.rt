@@ -1,4 +1,4 @@
-ghost use Rattle.code_relation.specs.Laws.{CodeIsWhole, CodeLiesInOrder};
+ghost use Rattle.code_relation.specs.Laws.{CodeIsWhole, CodeLiesInOrder, OwnCodeKeepsWords};
 
 /// The code that stands for a construct is a run of whole instructions, and the phrases that are enabled around the
 /// construct are enabled at each of them.
@@ -11,4 +11,11 @@ pub fn code_is_whole()
 #[tactic(auto, using(crate::proofs::Whole::code_lies_in_order))]
 pub fn code_lies_in_order()
     ensures { CodeLiesInOrder }
+{}
+
+/// The own code of checks, indexes, operators, keyed lists, declarations and loops takes from the operand stack and puts
+/// there as many words as its row says, by the table of the instructions.
+#[tactic(auto, using(crate::proofs::Depths::own_code_keeps_words))]
+pub fn own_code_keeps_words()
+    ensures { OwnCodeKeepsWords }
 {}

@@ -3,4 +3,4 @@
 
 mod laws;
 
-pub use laws::{code_is_whole, code_lies_in_order};
+pub use laws::{code_is_whole, code_lies_in_order, own_code_keeps_words};
