@@ -1,3 +1,4 @@
+pub mod Agreement
 pub mod Control
 pub mod Depths
 pub mod Made

@@ -14,7 +14,8 @@ use Rattle.code_relation.specs.Loops.{Counter, start_code, count_code, step_code
 use Rattle.code_relation.specs.OwnCode.{field_code, check_code, index_code, relation_code, relation_jump, operator_code, within_code, arrange_code, total}
 use Rattle.code_relation.specs.Slots.{zero_code, spread_code}
 use Rattle.code_relation.specs.CodeFor.{ExprCode, StmtCode}
-use Rattle.code_relation.specs.Reading.{Coded, Place, Read, read}
+use Rattle.code_relation.specs.Agreement.{WaysAgree}
+use Rattle.code_relation.specs.Reading.{Coded, Destination, Place, Read, read}
 
 -- whole instructions from one offset to another; at each of them these phrases are enabled, and maybe others inside of them
 pub data Run (P : Coded) (around : List ℕ) : ℕ → ℕ → Type 0 where
@@ -53,3 +54,9 @@ pub record OwnCodeKeepsWords : Type 0 where
   pub started : (P : Coded) (z : ℕ) (b : Base) (p q : Bool) (d : ℕ) → left_by P (start_code z b p q) (d + 2) ≡ d
   pub counted : (P : Coded) (k : Counter) (target d : ℕ) → left_by P (count_code P k target) d ≡ d
   pub stepped : (P : Coded) (k : Counter) (d : ℕ) → left_by P (step_code k) d ≡ d
+
+-- the ways to the points of a sound body, where they are offsets of the code and where nothing is said of them, are out of the arms that
+-- a jump says
+pub record JumpsLeaveTheirArms : Type 0 where
+  pub in_code : WaysAgree Destination
+  pub in_scopes : WaysAgree (Unit {0})

@@ -1,3 +1,4 @@
+pub mod Agreement
 pub mod CodeFor
 pub mod Laws
 pub mod Links

@@ -1,4 +1,4 @@
-ghost use Rattle.code_relation.specs.Laws.{CodeIsWhole, CodeLiesInOrder, OwnCodeKeepsWords};
+ghost use Rattle.code_relation.specs.Laws.{CodeIsWhole, CodeLiesInOrder, JumpsLeaveTheirArms, OwnCodeKeepsWords};
 
 /// The code that stands for a construct is a run of whole instructions, and the phrases that are enabled around the
 /// construct are enabled at each of them.
@@ -18,4 +18,11 @@ pub fn code_lies_in_order()
 #[tactic(auto, using(crate::proofs::Depths::own_code_keeps_words))]
 pub fn own_code_keeps_words()
     ensures { OwnCodeKeepsWords }
+{}
+
+/// The points that are visible in a sound body have their ways: a jump leaves as many arms as it says, whether the points
+/// lie at offsets of the code or are counted alone.
+#[tactic(auto, using(crate::proofs::Agreement::jumps_leave_their_arms))]
+pub fn jumps_leave_their_arms()
+    ensures { JumpsLeaveTheirArms }
 {}
