@@ -1,5 +1,5 @@
 -- The points of a sound body have their ways.
-use Rattle.std.proofs.Common.{◌≡◌, refl, sym, ◌∙◌, ap, subst, ℕ, zero, suc, ◌+◌, ◌<◌, ◌≤◌, ◌⊎◌, inl, inr, ⊎_elim, List, [], ◌∷◌, ◌++◌, map, length, Contains, Option, Some, None, Bool, true, false, nat_eq, eq-eqb, ne_eqb, arith}
+use Rattle.std.proofs.Common.{◌≡◌, refl, sym, ap, subst, ℕ, zero, suc, ◌+◌, ◌<◌, ◌≤◌, ◌⊎◌, inl, inr, ⊎_elim, List, [], ◌∷◌, map, Contains, Option, Some, None, Bool, true, false, nat_eq, eq-eqb, ne_eqb, arith}
 use Rattle.std.proofs.lemmas.List.Elements.{Contains-append_cases}
 use Rattle.mesa_types.specs.declared.types.FieldType.{FieldType}
 use Rattle.mesa_types.specs.declared.typed_parts.Label.{Label}
@@ -60,7 +60,8 @@ module _ {A : Type 0} where
   -- in a marked statement
 
   module _ (Γ : Scope) (points : Points A) (n : ℕ) (start after : A) where
-    marked_kept : (p : Point) (arms : ℕ) → Γ.statements ≤ n → IsUsed Γ p → IsOutOf arms (points p) → IsOutOf arms (in_marked n start after points p)
+    marked_kept : (p : Point) (arms : ℕ) → Γ.statements ≤ n → IsUsed Γ p → IsOutOf arms (points p)
+        → IsOutOf arms (in_marked n start after points p)
     marked_kept (Start k) arms l u h = here_false (nat_eq n k) start (points (Start k)) arms (ne_eqb n k (λ e. omega (e, l, u, arith))) h
     marked_kept (After k) arms l u h = here_false (nat_eq n k) after (points (After k)) arms (ne_eqb n k (λ e. omega (e, l, u, arith))) h
     marked_kept (At k) arms l u h = h
@@ -103,7 +104,8 @@ module _ {A : Type 0} where
     marked_is_used p depth agrees l (inr (inr c)) = marked_used p l (agrees.used p depth c)
 
     marked_around : (p : Point) (depth : ℕ) → Agrees Γ points
-        → ((Start n ≡ p) × (Γ.depth ≡ depth)) ⊎ (((After n ≡ p) × (Γ.depth ≡ depth)) ⊎ Contains Γ.points (seen p depth)) → depth ≤ Γ.depth
+        → ((Start n ≡ p) × (Γ.depth ≡ depth)) ⊎ (((After n ≡ p) × (Γ.depth ≡ depth)) ⊎ Contains Γ.points (seen p depth))
+        → depth ≤ Γ.depth
     marked_around p depth agrees (inl (q, d)) = omega (d, arith)
     marked_around p depth agrees (inr (inl (q, d))) = omega (d, arith)
     marked_around p depth agrees (inr (inr c)) = agrees.around p depth c
@@ -121,11 +123,13 @@ module _ {A : Type 0} where
   label_found : (label : ℕ → Option A) (l : ℕ) (outer : Way A) (place : A) → label l ≡ Some place → IsOutOf 0 (here_or (label l) outer)
   label_found label l outer place e = subst (λ o. IsOutOf 0 (here_or o outer)) (sym e) refl
 
-  label_passed : (label : ℕ → Option A) (l arms : ℕ) (outer : Way A) → label l ≡ None → IsOutOf arms outer → IsOutOf arms (here_or (label l) outer)
+  label_passed : (label : ℕ → Option A) (l arms : ℕ) (outer : Way A) → label l ≡ None → IsOutOf arms outer
+      → IsOutOf arms (here_or (label l) outer)
   label_passed label l arms outer e h = subst (λ o. IsOutOf arms (here_or o outer)) (sym e) h
 
   module _ (Γ : Scope) (points : Points A) (past : ℕ) (es : Exits) (label : ℕ → Option A) (agrees : Agrees Γ points) (new : LabelsIn Γ past es)
-      (found : (l : ℕ) → Contains (labels_in es) l → (place : A) × (label l ≡ Some place)) (none : (l : ℕ) → l < Γ.labels → label l ≡ None) where
+      (found : (l : ℕ) → Contains (labels_in es) l → (place : A) × (label l ≡ Some place))
+      (none : (l : ℕ) → l < Γ.labels → label l ≡ None) where
     labelled_kept : (p : Point) (arms : ℕ) → IsUsed Γ p → IsOutOf arms (points p) → IsOutOf arms (in_labelled label points p)
     labelled_kept (Start k) arms u h = h
     labelled_kept (After k) arms u h = h

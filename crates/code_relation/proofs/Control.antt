@@ -35,14 +35,16 @@ repeated = procedure (kinds (Ordinal ∷ [])) (kinds (Ordinal ∷ Ordinal ∷ []
 
 repeated_stands : StmtCode repeated (at_body repeated) (
     Marked 0 (Repeat Endless (LoopOf (While (Relate Signed Less (local 0) (local 1)))
-    (Marked 1 (plain_block (If (global 0) (Jump 0 (PastStatement 0)) (Jump 0 (PastStatement 1)) ∷ Assign (Local 0) NoSuffix (Number 1) ∷ []))) NoExits NoFinish))) 0 54
+    (Marked 1 (plain_block (If (global 0) (Jump 0 (PastStatement 0)) (Jump 0 (PastStatement 1)) ∷ Assign (Local 0) NoSuffix (Number 1)
+    ∷ []))) NoExits NoFinish))) 0 54
 unfolding differ words_in words_in_all words_before join point_of hidden hidden_expr hidden_exprs hidden_suffixes hidden_operations hidden_interval hidden_phrase hidden_arms hidden_stmts hidden_targets hidden_cases hidden_tests hidden_exits hidden_loop hidden_finish hidden_condition words_of words_given last_words
 repeated_stands =
     marked (loop (rounds [] 0 16 49 54 54 no_more
     (while (on_relation 5 10 (variable tt (refl & no_more)) (variable tt (refl & no_more)) (refl & refl & no_more)))
     (marked (block [] 49 49 no_phrase
     (and_statement 41
-    (if_else 26 31 36 (on_value 21 (variable tt (refl & no_more)) (refl & no_more)) (jump (Offset 54) refl (refl & no_more)) (jumps (refl & no_more)) (jump (Offset 49) refl (refl & no_more)))
+    (if_else 26 31 36 (on_value 21 (variable tt (refl & no_more)) (refl & no_more)) (jump (Offset 54) refl (refl & no_more)) (jumps
+    (refl & no_more)) (jump (Offset 49) refl (refl & no_more)))
     (and_statement 49 (assign 44 tt (number (refl & no_more)) (refl & no_more)) no_statements))
     falls no_exits))
     (refl & no_more) (no_finish falls) no_exits))
@@ -124,7 +126,8 @@ over_all_stands : StmtCode over_all (at_body over_all) (
 unfolding differ words_in words_in_all words_before join point_of hidden hidden_expr hidden_exprs hidden_suffixes hidden_operations hidden_interval hidden_phrase hidden_arms hidden_stmts hidden_targets hidden_cases hidden_tests hidden_exits hidden_loop hidden_finish hidden_condition words_of words_given last_words
 over_all_stands =
     marked (count 6 28 (bounds 3 (number (refl & no_more)) (number (refl & no_more))) (refl & refl & refl & refl & refl & refl & no_more)
-    (rounds [] 48 48 48 79 79 (refl & refl & refl & refl & no_more) always (marked (block [] 48 48 no_phrase no_statements falls no_exits)) (refl & refl & refl & refl & refl & refl & refl & refl & refl & no_more)
+    (rounds [] 48 48 48 79 79 (refl & refl & refl & refl & no_more) always (marked (block [] 48 48 no_phrase no_statements falls no_exits))
+    (refl & refl & refl & refl & refl & refl & refl & refl & refl & no_more)
     (no_finish falls) no_exits))
 
 -- FOR i DECREASING IN (1..a) WHILE b DO THROUGH [0..3) DO a ← i ENDLOOP ENDLOOP: the inner loop has three further slots
@@ -199,13 +202,16 @@ downward_stands : StmtCode downward (at_body downward) (
     (Marked 3 (plain_block (Assign (Local 1) NoSuffix (local 0) ∷ []))) NoExits NoFinish)) ∷ []))) NoExits NoFinish))) 0 222
 unfolding differ words_in words_in_all words_before join point_of hidden hidden_expr hidden_exprs hidden_suffixes hidden_operations hidden_interval hidden_phrase hidden_arms hidden_stmts hidden_targets hidden_cases hidden_tests hidden_exits hidden_loop hidden_finish hidden_condition words_of words_given last_words
 downward_stands =
-    marked (count 8 69 (bounds 3 (number (refl & no_more)) (variable tt (refl & no_more))) (refl & refl & refl & refl & refl & refl & refl & refl & refl & refl & refl & refl & refl & refl & refl & refl & refl & refl & refl & no_more)
+    marked (count 8 69 (bounds 3 (number (refl & no_more)) (variable tt (refl & no_more)))
+    (refl & refl & refl & refl & refl & refl & refl & refl & refl & refl & refl & refl & refl & refl & refl & refl & refl & refl & refl & no_more)
     (rounds [] 94 104 191 222 222 (refl & refl & refl & refl & refl & no_more) (while (on_value 99 (variable tt (refl & no_more)) (refl & no_more)))
     (marked (block [] 191 191 no_phrase
     (and_statement 191
-    (marked (count 110 140 (bounds 107 (number (refl & no_more)) (number (refl & no_more))) (refl & refl & refl & refl & refl & refl & refl & refl & no_more)
+    (marked (count 110 140 (bounds 107 (number (refl & no_more)) (number (refl & no_more)))
+    (refl & refl & refl & refl & refl & refl & refl & refl & no_more)
     (rounds [] 150 150 160 191 191 (refl & refl & no_more) always
-    (marked (block [] 160 160 no_phrase (and_statement 160 (assign 155 tt (variable tt (refl & no_more)) (refl & no_more)) no_statements) falls no_exits))
+    (marked (block [] 160 160 no_phrase (and_statement 160 (assign 155 tt (variable tt (refl & no_more))
+    (refl & no_more)) no_statements) falls no_exits))
     (refl & refl & refl & refl & refl & refl & refl & refl & refl & no_more) (no_finish falls) no_exits)))
     no_statements)
     falls no_exits))
@@ -234,7 +240,8 @@ left_by_a_label_stands : StmtCode left_by_a_label (at_body left_by_a_label) (
 unfolding differ words_in words_in_all words_before join point_of hidden hidden_expr hidden_exprs hidden_suffixes hidden_operations hidden_interval hidden_phrase hidden_arms hidden_stmts hidden_targets hidden_cases hidden_tests hidden_exits hidden_loop hidden_finish hidden_condition words_of words_given last_words
 left_by_a_label_stands =
     block (28 ∷ 41 ∷ []) 23 28 no_phrase
-    (and_statement 15 (if_else 10 15 15 (on_value 5 (variable tt (refl & no_more)) (refl & no_more)) (jump (Offset 28) refl (refl & no_more)) falls null)
+    (and_statement 15 (if_else 10 15 15 (on_value 5 (variable tt (refl & no_more)) (refl & no_more)) (jump (Offset 28) refl
+    (refl & no_more)) falls null)
     (and_statement 23 (assign 18 tt (number (refl & no_more)) (refl & no_more)) no_statements))
     (jumps (refl & no_more))
     (and_exit 36 41 (assign 31 tt (number (refl & no_more)) (refl & no_more)) (jumps (refl & no_more))
@@ -280,16 +287,20 @@ cases = procedure (kinds []) (kinds (Ordinal ∷ Ordinal ∷ [])) (
     ∷ []) []
 
 cases_stands : StmtCode cases (at_body cases) (
-    Select (local 0) (AndCase (IfRelated Every Signed Equal (Number 1) (IfWithin false (bases Signed Signed Signed) (Between (Number 5) false (Number 7) true) NoTests))
-    (Assign (Local 1) NoSuffix (Number 1)) (AndCase (IfRelated (From Signed 0 9) Signed Less (Number 3) NoTests) (Assign (Local 1) NoSuffix (Number 2))
+    Select (local 0) (AndCase (IfRelated Every Signed Equal (Number 1) (IfWithin false (bases Signed Signed Signed) (Between (Number 5) false
+    (Number 7) true) NoTests))
+    (Assign (Local 1) NoSuffix (Number 1)) (AndCase (IfRelated (From Signed 0 9) Signed Less (Number 3) NoTests) (Assign (Local 1) NoSuffix
+    (Number 2))
     (Otherwise (Assign (Local 1) NoSuffix (Number 3)))))) 0 127
 unfolding differ words_in words_in_all words_before join point_of hidden hidden_expr hidden_exprs hidden_suffixes hidden_operations hidden_interval hidden_phrase hidden_arms hidden_stmts hidden_targets hidden_cases hidden_tests hidden_exits hidden_loop hidden_finish hidden_condition words_of words_given last_words
 cases_stands =
     select 5 10 (variable tt (refl & no_more)) (refl & no_more)
     (and_case 69 77 82
-    (related 24 (relates 15 18 (refl & no_more) (number (refl & no_more)) (refl & refl & no_more)) (lies_last (lies_within 29 35 (refl & no_more) (bounds 32 (number (refl & no_more)) (number (refl & no_more))) (refl & refl & refl & refl & refl & refl & refl & refl & refl & refl & no_more))))
+    (related 24 (relates 15 18 (refl & no_more) (number (refl & no_more)) (refl & refl & no_more)) (lies_last (lies_within 29 35 (refl & no_more)
+    (bounds 32 (number (refl & no_more)) (number (refl & no_more))) (refl & refl & refl & refl & refl & refl & refl & refl & refl & refl & no_more))))
     (assign 72 tt (number (refl & no_more)) (refl & no_more)) (jumps (refl & no_more))
-    (and_case 106 114 119 (related 101 (relates 92 95 (refl & refl & no_more) (number (refl & no_more)) (refl & refl & no_more)) (no_test (refl & no_more)))
+    (and_case 106 114 119 (related 101 (relates 92 95 (refl & refl & no_more) (number (refl & no_more)) (refl & refl & no_more)) (no_test
+    (refl & no_more)))
     (assign 109 tt (number (refl & no_more)) (refl & no_more)) (jumps (refl & no_more))
     (otherwise (assign 122 tt (number (refl & no_more)) (refl & no_more)))))
 
@@ -335,8 +346,10 @@ no_case_stands =
     (and_statement 16 (select_none 5 8 (variable tt (refl & no_more)) (refl & no_more) (assign 11 tt (number (refl & no_more)) (refl & no_more)))
     (and_statement 98
     (select 21 26 (variable tt (refl & no_more)) (refl & no_more)
-    (and_case 40 48 53 (related_last (relates 31 34 (refl & no_more) (number (refl & no_more)) (refl & refl & no_more))) (assign 43 tt (number (refl & no_more)) (refl & no_more)) (jumps (refl & no_more))
-    (and_case 98 98 98 (lies_last (lies_within 58 64 (refl & no_more) (bounds 61 (number (refl & no_more)) (number (refl & no_more))) (refl & refl & refl & refl & refl & refl & refl & refl & refl & refl & no_more)))
+    (and_case 40 48 53 (related_last (relates 31 34 (refl & no_more) (number (refl & no_more)) (refl & refl & no_more))) (assign 43 tt (number
+    (refl & no_more)) (refl & no_more)) (jumps (refl & no_more))
+    (and_case 98 98 98 (lies_last (lies_within 58 64 (refl & no_more) (bounds 61 (number (refl & no_more)) (number (refl & no_more)))
+    (refl & refl & refl & refl & refl & refl & refl & refl & refl & refl & no_more)))
     null falls (otherwise null))))
     no_statements))
     falls no_exits

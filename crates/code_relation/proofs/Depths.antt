@@ -1,5 +1,5 @@
 -- Own code takes and puts as many words as its row says.
-use Rattle.std.proofs.Common.{◌≡◌, refl, sym, ◌∙◌, ap, subst, ℕ, zero, suc, ◌+◌, ◌-◌, ◌≤◌, List, [], ◌∷◌, ◌++◌, length, Bool, true, false, nat_eq, if◌then◌else◌, arith}
+use Rattle.std.proofs.Common.{◌≡◌, refl, ◌∙◌, ap, subst, ℕ, zero, suc, ◌+◌, ◌-◌, ◌≤◌, List, [], ◌∷◌, ◌++◌, length, Bool, true, false, nat_eq, if◌then◌else◌, arith}
 use Rattle.mesa_types.specs.declared.typed_parts.Base.{Base}
 use Rattle.mesa_types.specs.declared.typed_parts.Base.TheVariants.{Signed, Unsigned}
 use Rattle.mesa_types.specs.declared.typed_parts.Bases.{Bases}
@@ -17,7 +17,7 @@ use Rattle.mesa_types.specs.Operators.{differ}
 use Rattle.code_forms.specs.declared.instruction.Instruction.{Instruction}
 use Rattle.code_relation.specs.Laws.{left_by, OwnCodeKeepsWords}
 use Rattle.code_relation.specs.Loops.{Counter, NoCounter, CountedIn, start_code, some_code, up_code, down_code, when, give_code, count_code, step_code}
-use Rattle.code_relation.specs.OwnCode.{pop_code, lift_code, drop_code, field_code, check_code, from_code, index_code, comparison, is_opposite, not_if, jump_where, relation_code, relation_jump, operator_code, less_code, bound_code, within_code, total, size_for, size_after, without, rolls, arrange_from, arrange_code}
+use Rattle.code_relation.specs.OwnCode.{pop_code, lift_code, drop_code, field_code, check_code, from_code, index_code, comparison, is_opposite, not_if, jump_where, relation_code, relation_jump, operator_code, less_code, bound_code, within_code, total, size_for, size_after, without, rolls, arrange_from}
 use Rattle.code_relation.specs.Reading.{Coded}
 use Rattle.code_relation.specs.Slots.{zero_code, copy_code, spread_code}
 
@@ -141,7 +141,8 @@ left_over q (p ∷ ps) (s ∷ sizes) = go (nat_eq p q) (left_over q ps sizes)
     go true h = omega arith
     go false h = omega (h, arith)
 
-rolled : (P : Coded) (q count : ℕ) (places sizes : List ℕ) (moved d : ℕ) → total sizes + moved ≤ d → left_by P (rolls q count places sizes moved) d ≡ d
+rolled : (P : Coded) (q count : ℕ) (places sizes : List ℕ) (moved d : ℕ) → total sizes + moved ≤ d
+    → left_by P (rolls q count places sizes moved) d ≡ d
 rolled P q zero places sizes moved d h = refl
 rolled P q (suc count) places sizes moved d h =
     via P (lift_code (size_for q places sizes) (size_after q places sizes + moved)) _ d

@@ -1,12 +1,11 @@
 -- How the procedures and codes of the examples are written by hand.
-use Rattle.std.specs.Prelude.{◌≡◌, ℕ, ◌+◌, Some, List, [], ◌∷◌, length, map, codes}
-use Rattle.mesa_types.specs.Typed.{Kind, Ordinal, Texts, Kinds, NoKinds, AndKind, Expr, Variable, Exprs, NoExprs, AndExpr, NoSuffix, Stmt, NoPhrase, Block, Stmts, NoStmts, AndStmt, NoExits}
+use Rattle.std.specs.Prelude.{◌≡◌, ℕ, ◌+◌, Some, List, [], ◌∷◌, codes}
+use Rattle.mesa_types.specs.Typed.{Kind, Kinds, NoKinds, AndKind, Expr, Variable, Exprs, NoExprs, AndExpr, NoSuffix, Stmt, NoPhrase, Block, Stmts, NoStmts, AndStmt, NoExits}
 use Rattle.mesa_types.specs.declared.faces.Import.{Import}
 use Rattle.mesa_types.specs.declared.typed_parts.Base.{Base}
 use Rattle.mesa_types.specs.declared.typed_parts.Bases.{Bases}
 use Rattle.mesa_types.specs.declared.typed_parts.Part.{Part}
 use Rattle.mesa_types.specs.declared.typed_parts.Home.TheVariants.{Global, Local}
-use Rattle.mesa_types.specs.Shapes.{words_in_all}
 use Rattle.code_forms.specs.declared.around.Moved.{Moved}
 use Rattle.code_forms.specs.declared.instruction.Instruction.{Instruction}
 use Rattle.code_forms.specs.declared.module_code.Arm.{Arm}
@@ -17,7 +16,7 @@ use Rattle.code_forms.specs.declared.module_code.CodeLink.{CodeLink}
 use Rattle.code_forms.specs.declared.module_code.CodeSignal.{CodeSignal}
 use Rattle.code_forms.specs.declared.module_code.Phrase.{Phrase}
 use Rattle.code_forms.specs.Instructions.{bytes_of}
-use Rattle.code_forms.specs.Routine.{Routine, spots, words}
+use Rattle.code_forms.specs.Routine.{spots, words}
 use Rattle.code_relation.specs.Reading.{Coded, Place, Own, one_more, read, behind}
 
 -- an instruction with its offset and the words before it
@@ -45,7 +44,17 @@ with_imports imports globals locals entries phrases = record {
   imports = imports;
   globals = globals;
   locals = locals;
-  routine = record { globals = 20; strings = 2; signals = signals; links = links; procedures = sizes; frame = 40; room = 20; code = spots entries; phrases = phrases };
+  routine = record {
+    globals = 20;
+    strings = 2;
+    signals = signals;
+    links = links;
+    procedures = sizes;
+    frame = 40;
+    room = 20;
+    code = spots entries;
+    phrases = phrases;
+  };
   entries = entries;
 }
 

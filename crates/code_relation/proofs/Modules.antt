@@ -12,13 +12,13 @@ use Rattle.mesa_types.specs.declared.types.TypeTree.TheFolds.{fold-roll-TypeTree
 use Rattle.mesa_types.specs.Plain.{Shaped, shape_step, field_kind_step, kind_of, kinds_of}
 use Rattle.mesa_types.specs.declared.typed_parts.Callee.TheVariants.{OwnProcedure, LinkedProcedure}
 use Rattle.mesa_types.specs.declared.typed_parts.Goal.TheVariants.{PastStatement, ToLabel, ToReturn}
-use Rattle.mesa_types.specs.declared.typed_parts.Home.TheVariants.{Global, Local}
+use Rattle.mesa_types.specs.declared.typed_parts.Home.TheVariants.{Global}
 use Rattle.mesa_types.specs.declared.typed_parts.Label.TheVariants.{OnAny, OnUnwind, OnOwn, OnBounds, OnZero}
 use Rattle.mesa_types.specs.declared.typed_parts.Operator.TheVariants as operator
 use Rattle.mesa_types.specs.declared.typed_parts.Raised.TheVariants.{OwnSignal}
 use Rattle.mesa_types.specs.declared.typed_parts.Range.TheVariants.{Every}
 use Rattle.mesa_types.specs.Sound.{labels_in}
-use Rattle.mesa_types.specs.Typed.{Start, After, At, Leave, point_of, Kind, Ordinal, Kinds, NoKinds, AndKind, Number, Operate, NoOperation, Then, Call, Raise, NoPhrase, Catch, NoArms, AndArm, NoSuffix, Stmt, Null, Marked, Assign, Perform, Block, Repeat, Endless, Jump, ReturnWith, Retry, Continue, NoExits, AndExit, LoopOf, NoFinish, Always, Procedure, Module}
+use Rattle.mesa_types.specs.Typed.{Start, After, At, Leave, point_of, Kind, Ordinal, Kinds, NoKinds, AndKind, Number, Operate, NoOperation, Then, Call, Raise, NoPhrase, Catch, NoArms, AndArm, NoSuffix, Stmt, Null, Marked, Assign, Perform, Block, Repeat, Endless, Jump, ReturnWith, Retry, NoExits, AndExit, LoopOf, NoFinish, Always, Module}
 use Rattle.mesa_types.specs.Shapes.{words_in, words_in_all, words_before, join}
 use Rattle.mesa_types.specs.Counts.{hidden, hidden_expr, hidden_exprs, hidden_suffixes, hidden_operations, hidden_phrase, hidden_stmts, hidden_exits, words_of, words_given}
 use Rattle.mesa_types.specs.Links.{items_used, links_of}
@@ -31,7 +31,7 @@ use Rattle.code_forms.specs.Routine.{routine_with}
 use Rattle.code_relation.specs.CodeFor.{number, variable, operate, operation, no_operation, call, and_value, no_values, no_phrase, block, no_exits, falls, and_statement, no_statements, assign, perform, return_with}
 use Rattle.code_relation.specs.Modules.{BodyCode, PartsFor}
 use Rattle.code_relation.specs.Reading.{Coded, Caller, no_more}
-use Rattle.code_relation.specs.Scopes.{PhraseScope, in_expr, in_exprs, in_suffixes, in_operations, in_interval, in_phrase, in_arms, in_stmt, in_stmts, in_targets, in_cases, in_tests, in_exits, in_loop, in_finish, in_condition, scopes}
+use Rattle.code_relation.specs.Scopes.{in_expr, in_exprs, in_suffixes, in_operations, in_interval, in_phrase, in_arms, in_stmt, in_stmts, in_targets, in_cases, in_tests, in_exits, in_loop, in_finish, in_condition, scopes}
 use Rattle.code_relation.proofs.Made.{at, kinds, local, global, exprs, stmts, plain_block, ◌&◌}
 
 -- a parameter or result of the type INTEGER
@@ -52,7 +52,11 @@ head kind name takes gives = record { kind = kind; name = name; takes = takes; g
 
 abbrev host : Import
 host = record {
-  face = record { name = codes "IODefs"; stamp = 1; items = head item.Procedure (codes "WriteChar") integers [] ∷ head item.Procedure (codes "WriteDecimal") integers [] ∷ [] };
+  face = record {
+    name = codes "IODefs";
+    stamp = 1;
+    items = head item.Procedure (codes "WriteChar") integers [] ∷ head item.Procedure (codes "WriteDecimal") integers [] ∷ [];
+  };
   used = 1 ∷ [];
 }
 
@@ -70,9 +74,9 @@ twice = record {
   signals = head item.Signal (codes "Odd") integers integers ∷ [];
   strings = codes ".." ∷ [];
   procedures = record {
-      head = head item.Procedure (codes "Twice") integers integers;
-      body = record { variables = kinds []; does = twice_does };
-    } ∷ [];
+    head = head item.Procedure (codes "Twice") integers integers;
+    body = record { variables = kinds []; does = twice_does };
+  } ∷ [];
   body = record {
     variables = kinds [];
     does = plain_block (
@@ -180,8 +184,8 @@ twice_stands = record {
         results = sym (ap words_in_all an_integer);
         body = subst (λ ks. BodyCode (twice_with ks) twice_does) (sym an_integer) body_stands;
       },
-      tt
-    )
+      tt,
+    ),
   );
 }
 
@@ -193,7 +197,8 @@ jumping =
     (Catch 2 (AndArm (OnOwn 0 ∷ []) 1 1 (Marked 3 (Perform (Call (OwnProcedure 1) [] (exprs (Number 1 ∷ [])) 1 (Catch 3
     (AndArm (OnBounds ∷ []) 0 0 (Jump 2 (PastStatement 0)) (AndArm (OnZero ∷ []) 0 0 (Retry 3) (AndArm (OnAny ∷ []) 0 0 (Jump 2 ToReturn) NoArms)))))))
     (AndArm (OnUnwind ∷ []) 0 0 Null NoArms)))))
-    ∷ Marked 2 (Block (Catch 2 (AndArm (OnAny ∷ []) 0 0 (Jump 1 (ToLabel 7)) NoArms)) (stmts []) (AndExit (7 ∷ []) Null NoExits)) ∷ []))) NoExits NoFinish))
+    ∷ Marked 2 (Block (Catch 2 (AndArm (OnAny ∷ []) 0 0 (Jump 1 (ToLabel 7)) NoArms)) (stmts [])
+    (AndExit (7 ∷ []) Null NoExits)) ∷ []))) NoExits NoFinish))
 
 -- the outer phrase is that of statement 2, which none of the jumps leaves from its own arms; that of statement 3 has three jumps
 scopes_of_jumping : scopes (record { variables = kinds []; does = jumping }) ≡

@@ -56,7 +56,8 @@ chosen_or_nothing_stands : StmtCode chosen_or_nothing (at_body chosen_or_nothing
     If (Not (SomeOf (exprs (local 0 ∷ local 1 ∷ [])))) (Assign (Global 0) NoSuffix (local 0)) Null) 0 30
 unfolding differ words_in words_in_all words_before join point_of hidden hidden_expr hidden_exprs hidden_suffixes hidden_operations hidden_interval hidden_phrase hidden_arms hidden_stmts hidden_targets hidden_cases hidden_tests hidden_exits hidden_loop hidden_finish hidden_condition words_of words_given last_words
 chosen_or_nothing_stands =
-    if_else 20 30 30 (on_negation (if_some (and_operand 10 (on_value 5 (variable tt (refl & no_more)) (refl & no_more)) (and_operand 20 (on_value 15 (variable tt (refl & no_more)) (refl & no_more)) no_operands))))
+    if_else 20 30 30 (on_negation (if_some (and_operand 10 (on_value 5 (variable tt (refl & no_more)) (refl & no_more)) (and_operand 20 (on_value 15
+    (variable tt (refl & no_more)) (refl & no_more)) no_operands))))
     (assign 25 tt (variable tt (refl & no_more)) (refl & no_more)) falls null
 
 -- a ← -(a * b MOD 3) + g: the right operand of MOD is checked to be none of the negative ones
@@ -82,7 +83,8 @@ unfolding differ words_in words_in_all words_before join point_of hidden hidden_
 worked_out_stands =
     assign 27 tt
     (operate 21 (negate 20 (operate 5 (variable tt (refl & no_more))
-    (operation 5 10 11 no_more (variable tt (refl & no_more)) (refl & no_more) (operation 11 19 20 no_more (checked 14 (number (refl & no_more)) (refl & no_more)) (refl & no_more) no_operation))) (refl & no_more))
+    (operation 5 10 11 no_more (variable tt (refl & no_more)) (refl & no_more) (operation 11 19 20 no_more (checked 14 (number (refl & no_more))
+    (refl & no_more)) (refl & no_more) no_operation))) (refl & no_more))
     (operation 21 26 27 no_more (variable tt (refl & no_more)) (refl & no_more) no_operation))
     (refl & no_more)
 
@@ -115,7 +117,8 @@ characters_stands : StmtCode characters (at_body characters) (
 unfolding differ words_in words_in_all words_before join point_of hidden hidden_expr hidden_exprs hidden_suffixes hidden_operations hidden_interval hidden_phrase hidden_arms hidden_stmts hidden_targets hidden_cases hidden_tests hidden_exits hidden_loop hidden_finish hidden_condition words_of words_given last_words
 characters_stands =
     assign 64 tt
-    (operate 3 (number (refl & no_more)) (operation 3 8 29 no_more (variable tt (refl & no_more)) (refl & refl & refl & refl & refl & no_more) (operation 29 34 64 no_more (variable tt (refl & no_more)) (refl & refl & refl & refl & refl & refl & refl & refl & no_more) no_operation)))
+    (operate 3 (number (refl & no_more)) (operation 3 8 29 no_more (variable tt (refl & no_more)) (refl & refl & refl & refl & refl & no_more)
+    (operation 29 34 64 no_more (variable tt (refl & no_more)) (refl & refl & refl & refl & refl & refl & refl & refl & no_more) no_operation)))
     (refl & no_more)
 
 -- b ← a IN [1..5): three scratch words hold the number and the bounds
@@ -141,7 +144,8 @@ lies_inside_stands : StmtCode lies_inside (at_body lies_inside) (
     Assign (Local 1) NoSuffix (Within (bases Signed Signed Signed) (local 0) (Between (Number 1) false (Number 5) true))) 0 45
 unfolding differ words_in words_in_all words_before join point_of hidden hidden_expr hidden_exprs hidden_suffixes hidden_operations hidden_interval hidden_phrase hidden_arms hidden_stmts hidden_targets hidden_cases hidden_tests hidden_exits hidden_loop hidden_finish hidden_condition words_of words_given last_words
 lies_inside_stands =
-    assign 40 tt (within 5 11 (variable tt (refl & no_more)) (bounds 8 (number (refl & no_more)) (number (refl & no_more))) (refl & refl & refl & refl & refl & refl & refl & refl & refl & no_more)) (refl & no_more)
+    assign 40 tt (within 5 11 (variable tt (refl & no_more)) (bounds 8 (number (refl & no_more)) (number (refl & no_more)))
+    (refl & refl & refl & refl & refl & refl & refl & refl & refl & no_more)) (refl & no_more)
 
 -- a ← a AND NOT b; b ← a OR b: as values
 abbrev truths : Coded
@@ -166,16 +170,19 @@ truths = procedure (kinds []) (kinds (Ordinal ∷ Ordinal ∷ [])) (
     ∷ []) []
 
 truths_stands : StmtCode truths (at_body truths) (
-    plain_block (Assign (Local 0) NoSuffix (AllOf (exprs (local 0 ∷ Not (local 1) ∷ []))) ∷ Assign (Local 1) NoSuffix (SomeOf (exprs (local 0 ∷ local 1 ∷ []))) ∷ [])) 0 72
+    plain_block (Assign (Local 0) NoSuffix (AllOf (exprs (local 0 ∷ Not (local 1) ∷ []))) ∷ Assign (Local 1) NoSuffix (SomeOf (exprs (local 0 ∷ local 1
+    ∷ []))) ∷ [])) 0 72
 unfolding differ words_in words_in_all words_before join point_of hidden hidden_expr hidden_exprs hidden_suffixes hidden_operations hidden_interval hidden_phrase hidden_arms hidden_stmts hidden_targets hidden_cases hidden_tests hidden_exits hidden_loop hidden_finish hidden_condition words_of words_given last_words
 truths_stands =
     block [] 72 72 no_phrase
     (and_statement 36
     (assign 31 tt (all_of 20 28 (and_operand 10 (on_value 5 (variable tt (refl & no_more)) (refl & no_more))
-    (and_operand 20 (on_negation (on_value 15 (variable tt (refl & no_more)) (refl & no_more))) no_operands)) (refl & refl & no_more) (refl & no_more)) (refl & no_more))
+    (and_operand 20 (on_negation (on_value 15 (variable tt (refl & no_more)) (refl & no_more))) no_operands)) (refl & refl & no_more)
+    (refl & no_more)) (refl & no_more))
     (and_statement 72
     (assign 67 tt (some_of 56 64 (and_operand 46 (on_value 41 (variable tt (refl & no_more)) (refl & no_more))
-    (and_operand 56 (on_value 51 (variable tt (refl & no_more)) (refl & no_more)) no_operands)) (refl & refl & no_more) (refl & no_more)) (refl & no_more))
+    (and_operand 56 (on_value 51 (variable tt (refl & no_more)) (refl & no_more)) no_operands)) (refl & refl & no_more) (refl & no_more))
+    (refl & no_more))
     no_statements))
     falls no_exits
 
@@ -211,10 +218,12 @@ inverted_stands =
     (and_statement 11 (assign 6 tt (negation 5 (variable tt (refl & no_more)) (refl & no_more)) (refl & no_more))
     (and_statement 44
     (if_else 36 44 44 (on_negation (if_all 31 (and_operand 21 (on_value 16 (variable tt (refl & no_more)) (refl & no_more))
-    (and_operand 31 (on_value 26 (variable tt (refl & no_more)) (refl & no_more)) no_operands)) (refl & no_more))) (assign 39 tt (number (refl & no_more)) (refl & no_more)) falls null)
+    (and_operand 31 (on_value 26 (variable tt (refl & no_more)) (refl & no_more)) no_operands)) (refl & no_more))) (assign 39 tt (number
+    (refl & no_more)) (refl & no_more)) falls null)
     (and_statement 77
     (if_else 69 77 77 (unless_some 64 (and_operand 54 (on_value 49 (variable tt (refl & no_more)) (refl & no_more))
-    (and_operand 64 (on_value 59 (variable tt (refl & no_more)) (refl & no_more)) no_operands)) (refl & no_more)) (assign 72 tt (number (refl & no_more)) (refl & no_more)) falls null)
+    (and_operand 64 (on_value 59 (variable tt (refl & no_more)) (refl & no_more)) no_operands)) (refl & no_more)) (assign 72 tt (number
+    (refl & no_more)) (refl & no_more)) falls null)
     no_statements)))
     falls no_exits
 
@@ -235,7 +244,8 @@ unless_stands : StmtCode unless (at_body unless) (
 unfolding differ words_in words_in_all words_before join point_of hidden hidden_expr hidden_exprs hidden_suffixes hidden_operations hidden_interval hidden_phrase hidden_arms hidden_stmts hidden_targets hidden_cases hidden_tests hidden_exits hidden_loop hidden_finish hidden_condition words_of words_given last_words
 unless_stands =
     if_else 20 28 28 (unless_all (and_operand 10 (on_value 5 (variable tt (refl & no_more)) (refl & no_more))
-    (and_operand 20 (on_value 15 (variable tt (refl & no_more)) (refl & no_more)) no_operands))) (assign 23 tt (number (refl & no_more)) (refl & no_more)) falls null
+    (and_operand 20 (on_value 15 (variable tt (refl & no_more)) (refl & no_more)) no_operands))) (assign 23 tt (number (refl & no_more))
+    (refl & no_more)) falls null
 
 -- s ← "the second literal"; n ← s.length; n ← s[n]: s has two words
 abbrev strings : Coded
@@ -289,14 +299,17 @@ elements = procedure (kinds []) (kinds (Array 4 (Record (kinds (Texts ∷ Ordina
 
 elements_stands : StmtCode elements (at_body elements) (
     plain_block (Assign (Local 2) NoSuffix (Variable (Local 0) (Index Every 2 4 3 (local 1) (Field 1 2 NoSuffix)) 1)
-    ∷ Assign (Local 0) (Index (From Unsigned 0 32767) 2 4 3 (Operate (local 2) (Then Every operator.Subtract (Number 2) NoOperation)) (Field 1 2 NoSuffix)) (local 2) ∷ [])) 0 67
+    ∷ Assign (Local 0) (Index (From Unsigned 0 32767) 2 4 3 (Operate (local 2) (Then Every operator.Subtract (Number 2) NoOperation))
+    (Field 1 2 NoSuffix)) (local 2) ∷ [])) 0 67
 unfolding differ words_in words_in_all words_before join point_of hidden hidden_expr hidden_exprs hidden_suffixes hidden_operations hidden_interval hidden_phrase hidden_arms hidden_stmts hidden_targets hidden_cases hidden_tests hidden_exits hidden_loop hidden_finish hidden_condition words_of words_given last_words
 elements_stands =
     block [] 67 67 no_phrase
-    (and_statement 29 (assign 24 tt (element 3 17 tt (refl & no_more) (index 8 17 (variable tt (refl & no_more)) (refl & refl & refl & no_more) (field here)) (refl & no_more)) (refl & no_more))
+    (and_statement 29 (assign 24 tt (element 3 17 tt (refl & no_more) (index 8 17 (variable tt (refl & no_more)) (refl & refl & refl & no_more)
+    (field here)) (refl & no_more)) (refl & no_more))
     (and_statement 67
     (assign_element 32 55 60 tt (refl & no_more)
-    (index 41 55 (operate 37 (variable tt (refl & no_more)) (operation 37 40 41 no_more (number (refl & no_more)) (refl & no_more) no_operation)) (refl & refl & refl & refl & no_more) (field here))
+    (index 41 55 (operate 37 (variable tt (refl & no_more)) (operation 37 40 41 no_more (number (refl & no_more)) (refl & no_more) no_operation))
+    (refl & refl & refl & refl & no_more) (field here))
     (variable tt (refl & no_more)) (refl & no_more))
     no_statements))
     falls no_exits
@@ -316,7 +329,8 @@ globals_too_stands : StmtCode globals_too (at_body globals_too) (
     Assign (Global 0) (Index Every 0 3 1 (local 0) NoSuffix) (Variable (Global 1) (Field 1 1 NoSuffix) 1)) 0 25
 unfolding differ words_in words_in_all words_before join point_of hidden hidden_expr hidden_exprs hidden_suffixes hidden_operations hidden_interval hidden_phrase hidden_arms hidden_stmts hidden_targets hidden_cases hidden_tests hidden_exits hidden_loop hidden_finish hidden_condition words_of words_given last_words
 globals_too_stands =
-    assign_element 3 13 18 tt (refl & no_more) (index 8 13 (variable tt (refl & no_more)) (refl & no_more) here) (variable tt (refl & no_more)) (refl & no_more)
+    assign_element 3 13 18 tt (refl & no_more) (index 8 13 (variable tt (refl & no_more)) (refl & no_more) here) (variable tt (refl & no_more))
+    (refl & no_more)
 
 -- r ← [s: "..", n: 5], where the record has n first; it has three words, and the string comes over n: x ← that record's s
 abbrev made : Coded
@@ -339,9 +353,11 @@ made_stands : StmtCode made (at_body made) (
 unfolding differ words_in words_in_all words_before join point_of hidden hidden_expr hidden_exprs hidden_suffixes hidden_operations hidden_interval hidden_phrase hidden_arms hidden_stmts hidden_targets hidden_cases hidden_tests hidden_exits hidden_loop hidden_finish hidden_condition words_of words_given last_words
 made_stands =
     block [] 35 35 no_phrase
-    (and_statement 16 (assign 11 tt (construct 6 (and_value 3 (literal (refl & no_more)) (and_value 6 (number (refl & no_more)) no_values)) (refl & no_more)) (refl & no_more))
+    (and_statement 16 (assign 11 tt (construct 6 (and_value 3 (literal (refl & no_more)) (and_value 6 (number (refl & no_more)) no_values))
+    (refl & no_more)) (refl & no_more))
     (and_statement 35
-    (assign 30 tt (field_of 22 0 (construct 22 (and_value 19 (number (refl & no_more)) (and_value 22 (literal (refl & no_more)) no_values)) no_more) refl (refl & refl & no_more)) (refl & no_more))
+    (assign 30 tt (field_of 22 0 (construct 22 (and_value 19 (number (refl & no_more)) (and_value 22 (literal
+    (refl & no_more)) no_values)) no_more) refl (refl & refl & no_more)) (refl & no_more))
     no_statements))
     falls no_exits
 
@@ -364,7 +380,8 @@ declared_stands : StmtCode declared (at_body declared) (
 unfolding differ words_in words_in_all words_before join point_of hidden hidden_expr hidden_exprs hidden_suffixes hidden_operations hidden_interval hidden_phrase hidden_arms hidden_stmts hidden_targets hidden_cases hidden_tests hidden_exits hidden_loop hidden_finish hidden_condition words_of words_given last_words
 declared_stands =
     block [] 38 38 no_phrase
-    (and_statement 10 (declare (refl & refl & no_more)) (and_statement 38 (declare_as 20 23 (refl & refl & no_more) (literal (refl & no_more)) (refl & refl & refl & no_more)) no_statements))
+    (and_statement 10 (declare (refl & refl & no_more)) (and_statement 38 (declare_as 20 23 (refl & refl & no_more) (literal (refl & no_more))
+    (refl & refl & refl & no_more)) no_statements))
     falls no_exits
 
 -- [t[i], s] ← [7, 8, ".."], by keys: the first field to an element, the last to s; the second is dropped
@@ -385,12 +402,14 @@ extracted = procedure (kinds []) (kinds (Array 3 Ordinal ∷ Ordinal ∷ Texts �
     ∷ []) []
 
 extracted_stands : StmtCode extracted (at_body extracted) (
-    Extract true (AndTarget (part 0 0 1) (Local 0) (Index Every 0 3 1 (local 1) NoSuffix) (From Signed 0 9) (AndTarget (part 2 2 2) (Local 2) NoSuffix Every NoTargets))
+    Extract true (AndTarget (part 0 0 1) (Local 0) (Index Every 0 3 1 (local 1) NoSuffix) (From Signed 0 9) (AndTarget (part 2 2 2)
+    (Local 2) NoSuffix Every NoTargets))
     (Construct [] (exprs (Number 7 ∷ Number 8 ∷ Literal 0 ∷ [])))) 0 47
 unfolding differ words_in words_in_all words_before join point_of hidden hidden_expr hidden_exprs hidden_suffixes hidden_operations hidden_interval hidden_phrase hidden_arms hidden_stmts hidden_targets hidden_cases hidden_tests hidden_exits hidden_loop hidden_finish hidden_condition words_of words_given last_words
 extracted_stands =
     extract 9
-    (construct 9 (and_value 3 (number (refl & no_more)) (and_value 6 (number (refl & no_more)) (and_value 9 (literal (refl & no_more)) no_values))) no_more)
+    (construct 9 (and_value 3 (number (refl & no_more)) (and_value 6 (number (refl & no_more)) (and_value 9 (literal
+    (refl & no_more)) no_values))) no_more)
     (and_element 12 22 39 tt (refl & no_more) (index 17 22 (variable tt (refl & no_more)) (refl & no_more) here) (refl & refl & refl & no_more)
     (and_target 44 tt (refl & no_more) (no_targets (refl & no_more))))
 
@@ -414,7 +433,9 @@ called_stands : StmtCode called (at_body called) (
 unfolding differ words_in words_in_all words_before join point_of hidden hidden_expr hidden_exprs hidden_suffixes hidden_operations hidden_interval hidden_phrase hidden_arms hidden_stmts hidden_targets hidden_cases hidden_tests hidden_exits hidden_loop hidden_finish hidden_condition words_of words_given last_words
 called_stands =
     block [] 34 34 no_phrase
-    (and_statement 21 (perform 18 (call 8 13 (and_value 3 (literal (refl & no_more)) (and_value 8 (variable tt (refl & no_more)) no_values)) (refl & no_more) no_phrase (refl & no_more)) (refl & no_more))
-    (and_statement 34 (perform 31 (call 26 26 (and_value 26 (variable tt (refl & no_more)) no_values) no_more no_phrase (refl & no_more)) (refl & no_more))
+    (and_statement 21 (perform 18 (call 8 13 (and_value 3 (literal (refl & no_more)) (and_value 8 (variable tt (refl & no_more)) no_values))
+    (refl & no_more) no_phrase (refl & no_more)) (refl & no_more))
+    (and_statement 34 (perform 31 (call 26 26 (and_value 26 (variable tt (refl & no_more)) no_values) no_more no_phrase (refl & no_more))
+    (refl & no_more))
     no_statements))
     falls no_exits

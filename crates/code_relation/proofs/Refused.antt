@@ -1,5 +1,5 @@
 -- Codes that do not stand for their construct: in each one thing is wrong.
-use Rattle.std.proofs.Common.{◌≡◌, refl, sym, ◌∙◌, ap, subst, ℕ, zero, suc, ◌+◌, List, [], ◌∷◌, Option, Some, None, Bool, true, false, arith}
+use Rattle.std.proofs.Common.{◌≡◌, refl, ap, ℕ, zero, suc, ◌+◌, [], ◌∷◌, Option, Some, None, arith}
 use Rattle.mesa_types.specs.declared.typed_parts.Base.TheVariants.{Signed}
 use Rattle.mesa_types.specs.declared.typed_parts.Callee.TheVariants.{OwnProcedure}
 use Rattle.mesa_types.specs.declared.typed_parts.Goal.TheVariants.{ToReturn}
@@ -7,15 +7,15 @@ use Rattle.mesa_types.specs.declared.typed_parts.Home.TheVariants.{Local}
 use Rattle.mesa_types.specs.declared.typed_parts.Label.TheVariants.{OnAny}
 use Rattle.mesa_types.specs.declared.typed_parts.Range.TheVariants.{Every, From}
 use Rattle.mesa_types.specs.declared.relation.Relation.TheVariants.{Equal}
-use Rattle.mesa_types.specs.Typed.{Ordinal, Texts, Kinds, Expr, Number, Literal, Checked, Construct, Call, Phrase, Catch, NoArms, AndArm, NoSuffix, Stmt, Null, Assign, Select, Block, Repeat, Endless, Jump, Otherwise, AndCase, NoTests, IfRelated, NoExits, AndExit, LoopOf, NoFinish, While, point_of}
+use Rattle.mesa_types.specs.Typed.{Ordinal, Texts, Number, Literal, Checked, Construct, Call, Phrase, Catch, NoArms, AndArm, NoSuffix, Null, Assign, Select, Block, Repeat, Endless, Jump, Otherwise, AndCase, NoTests, IfRelated, NoExits, AndExit, LoopOf, NoFinish, While, point_of}
 use Rattle.mesa_types.specs.Shapes.{words_in, words_in_all, words_before}
-use Rattle.mesa_types.specs.Counts.{hidden, hidden_expr, hidden_exprs, hidden_suffixes, hidden_phrase, hidden_arms, words_of, words_given}
+use Rattle.mesa_types.specs.Counts.{hidden_expr, hidden_exprs, hidden_suffixes, words_of, words_given}
 use Rattle.code_forms.specs.declared.instruction.Instruction.{Instruction}
 use Rattle.code_forms.specs.declared.instruction.Instruction.TheVariants as i
 use Rattle.code_forms.specs.declared.module_code.Label.TheVariants as l
 use Rattle.code_forms.specs.declared.module_code.Phrase as code
 use Rattle.code_forms.specs.Instructions.{bytes_of, number_of}
-use Rattle.code_relation.specs.CodeFor.{ExprCode, StmtCode, PhraseCode, variable, element, number, literal, checked, call, construct, and_value, no_values, on_value, no_phrase, no_range, catch, assign, assign_element, select, block, loop, rounds, while, null, jump, and_statement, no_statements}
+use Rattle.code_relation.specs.CodeFor.{StmtCode, PhraseCode, variable, element, number, literal, checked, call, construct, and_value, no_values, on_value, no_range, catch, assign, assign_element, select, block, loop, rounds, while, null, jump, and_statement, no_statements}
 use Rattle.code_relation.specs.Reading.{Coded, Place, Offset, Caller, Own, no_more, one_more, Read, at_body, in_region, beyond}
 use Rattle.code_relation.proofs.Made.{at, kinds, procedure, local, exprs, stmts, arm, phrase}
 

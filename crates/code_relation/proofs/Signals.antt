@@ -3,7 +3,7 @@ use Rattle.std.specs.Prelude.{[], refl, ◌∷◌}
 use Rattle.code_relation.proofs.Made.{arm, at, exprs, import, kinds, local, phrase, plain_block, procedure, stmts, with_imports, ◌&◌}
 use Rattle.code_relation.specs.CodeFor.{always, and_arm, and_case, and_exit, and_statement, and_value, assign, block, call, catch, continue, falls, jump, jumps, literal, loop, marked, no_arms, no_exits, no_finish, no_phrase, no_range, no_statements, no_values, null, number, otherwise, perform, raise, reject, related_last, relates, resume, retry, return_with, rounds, select, variable}
 use Rattle.code_relation.specs.Modules.{BodyCode}
-use Rattle.code_relation.specs.Reading.{Caller, Coded, Offset, Own, no_more}
+use Rattle.code_relation.specs.Reading.{Caller, Coded, Offset, no_more}
 use Rattle.mesa_types.specs.Counts.{hidden, hidden_arms, hidden_cases, hidden_condition, hidden_exits, hidden_expr, hidden_exprs, hidden_finish, hidden_interval, hidden_loop, hidden_operations, hidden_phrase, hidden_stmts, hidden_suffixes, hidden_targets, hidden_tests, last_words, words_given, words_of}
 use Rattle.mesa_types.specs.Operators.{differ}
 use Rattle.mesa_types.specs.Shapes.{join, words_before, words_in, words_in_all}
@@ -74,7 +74,8 @@ arms_in_arms = procedure (kinds []) (kinds (Ordinal ∷ Ordinal ∷ [])) (
 arms_in_arms_stands : BodyCode arms_in_arms (
     Marked 0 (Repeat Endless (LoopOf Always (Marked 1 (plain_block (Marked 2 (Perform (Raise (OwnSignal 0) [] (exprs (local 0 ∷ [])) 1
     (Catch 2 (AndArm (OnOwn 0 ∷ []) 1 1 (Marked 3 (Perform (Call (OwnProcedure 1) [] (exprs (Number 1 ∷ [])) 1 (Catch 3
-    (AndArm (OnBounds ∷ []) 0 0 (Jump 2 (PastStatement 0)) (AndArm (OnZero ∷ []) 0 0 (Retry 3) (AndArm (OnAny ∷ []) 0 0 (Jump 2 ToReturn) NoArms))))))) NoArms)))) ∷ []))) NoExits NoFinish)))
+    (AndArm (OnBounds ∷ []) 0 0 (Jump 2 (PastStatement 0)) (AndArm (OnZero ∷ []) 0 0 (Retry 3) (AndArm (OnAny ∷ []) 0 0
+    (Jump 2 ToReturn) NoArms))))))) NoArms)))) ∷ []))) NoExits NoFinish)))
 unfolding differ words_in words_in_all words_before join point_of hidden hidden_expr hidden_exprs hidden_suffixes hidden_operations hidden_interval hidden_phrase hidden_arms hidden_stmts hidden_targets hidden_cases hidden_tests hidden_exits hidden_loop hidden_finish hidden_condition words_of words_given last_words
 arms_in_arms_stands = record {
   end = 18;
@@ -141,7 +142,8 @@ enabled = procedure (kinds []) (kinds (Ordinal ∷ Ordinal ∷ [])) (
     ∷ []) (phrase 0 15 (arm (l.Own 0 ∷ []) 0 0 29 37 ∷ arm (l.BoundsFault ∷ []) 0 0 37 45 ∷ arm (l.Any ∷ []) 0 0 45 47 ∷ []) ∷ [])
 
 enabled_stands : BodyCode enabled (
-    Marked 0 (Block (Catch 0 (AndArm (OnOwn 0 ∷ []) 0 0 (Jump 1 (ToLabel 0)) (AndArm (OnBounds ∷ []) 0 0 (Continue 0) (AndArm (OnAny ∷ []) 0 0 Reject NoArms))))
+    Marked 0 (Block (Catch 0 (AndArm (OnOwn 0 ∷ []) 0 0 (Jump 1 (ToLabel 0)) (AndArm (OnBounds ∷ []) 0 0 (Continue 0) (AndArm (OnAny
+    ∷ []) 0 0 Reject NoArms))))
     (stmts (Perform (Call (OwnProcedure 1) [] (exprs (local 0 ∷ [])) 1 NoPhrase) ∷ Perform (Raise TheUnnamed [] NoExprs 0 NoPhrase) ∷ []))
     (AndExit (0 ∷ []) (Assign (Local 0) NoSuffix (Number 1)) NoExits)))
 unfolding differ words_in words_in_all words_before join point_of hidden hidden_expr hidden_exprs hidden_suffixes hidden_operations hidden_interval hidden_phrase hidden_arms hidden_stmts hidden_targets hidden_cases hidden_tests hidden_exits hidden_loop hidden_finish hidden_condition words_of words_given last_words
@@ -152,7 +154,8 @@ enabled_stands = record {
       (and_arm 29 36 37 (jump (Offset 20) refl (refl & no_more)) (refl & no_more)
       (and_arm 37 44 45 (continue (Offset 28) refl (refl & no_more)) (refl & no_more)
       (and_arm 45 46 47 (reject (refl & no_more)) (refl & no_more) no_arms))))
-      (and_statement 13 (perform 10 (call 5 5 (and_value 5 (variable tt (refl & no_more)) no_values) no_more no_phrase (refl & no_more)) (refl & no_more))
+      (and_statement 13 (perform 10 (call 5 5 (and_value 5 (variable tt (refl & no_more)) no_values) no_more no_phrase (refl & no_more))
+      (refl & no_more))
       (and_statement 15 (perform 15 (raise 13 13 no_values no_more no_phrase (refl & no_more)) no_more) no_statements))
       (jumps (refl & no_more))
       (and_exit 28 28 (assign 23 tt (number (refl & no_more)) (refl & no_more)) falls no_exits));
@@ -190,7 +193,8 @@ enabled_inside_stands = record {
       (catch 1 _ refl refl (and_arm 25 25 26 null (refl & no_more) no_arms))
       (and_statement 15
       (marked (assign 10 tt
-      (call 5 5 (and_value 5 (variable tt (refl & no_more)) no_values) no_more (catch 2 _ refl refl (and_arm 26 26 27 null (refl & no_more) no_arms)) (refl & no_more))
+      (call 5 5 (and_value 5 (variable tt (refl & no_more)) no_values) no_more (catch 2 _ refl refl (and_arm 26 26 27 null
+      (refl & no_more) no_arms)) (refl & no_more))
       (refl & no_more)))
       no_statements)
       falls no_exits))
@@ -231,9 +235,11 @@ returned_stands = record {
       (and_statement 15 (marked (assign 10 tt
       (call 5 5 (and_value 5 (variable tt (refl & no_more)) no_values) no_more
       (catch 0 _ refl refl
-      (and_arm 30 49 50 (return_with 36 Caller (and_value 33 (literal (refl & no_more)) (and_value 36 (number (refl & no_more)) no_values)) refl (refl & refl & refl & no_more)) (refl & no_more) no_arms))
+      (and_arm 30 49 50 (return_with 36 Caller (and_value 33 (literal (refl & no_more)) (and_value 36 (number (refl & no_more)) no_values)) refl
+      (refl & refl & refl & no_more)) (refl & no_more) no_arms))
       (refl & no_more)) (refl & no_more)))
-      (and_statement 29 (return_with 23 Caller (and_value 20 (variable tt (refl & no_more)) (and_value 23 (literal (refl & no_more)) no_values)) refl (refl & refl & no_more))
+      (and_statement 29 (return_with 23 Caller (and_value 20 (variable tt (refl & no_more)) (and_value 23 (literal
+      (refl & no_more)) no_values)) refl (refl & refl & no_more))
       no_statements))
       falls no_exits;
   returns = (refl & no_more);
@@ -258,7 +264,8 @@ through_links = with_imports (import (3 ∷ []) ∷ import (1 ∷ []) ∷ []) (k
 
 through_links_stands : BodyCode through_links (
     plain_block (Perform (Call (LinkedProcedure 0 3) [] (exprs (Number 3 ∷ [])) 0 NoPhrase)
-    ∷ Marked 0 (Assign (Local 0) NoSuffix (Raise (LinkedSignal 1 1) [] (exprs (Number 4 ∷ [])) 1 (Catch 0 (AndArm (OnLinked 1 1 ∷ []) 0 0 Null NoArms))))
+    ∷ Marked 0 (Assign (Local 0) NoSuffix (Raise (LinkedSignal 1 1) [] (exprs (Number 4 ∷ [])) 1 (Catch 0 (AndArm (OnLinked 1 1
+    ∷ []) 0 0 Null NoArms))))
     ∷ Perform (Raise (OwnSignal 1) [] NoExprs 0 NoPhrase) ∷ Perform (Raise TheBoundsFault [] NoExprs 0 NoPhrase)
     ∷ Perform (Raise TheZeroDivisor [] NoExprs 0 NoPhrase) ∷ []))
 unfolding differ words_in words_in_all words_before join point_of hidden hidden_expr hidden_exprs hidden_suffixes hidden_operations hidden_interval hidden_phrase hidden_arms hidden_stmts hidden_targets hidden_cases hidden_tests hidden_exits hidden_loop hidden_finish hidden_condition words_of words_given last_words
@@ -267,7 +274,8 @@ through_links_stands = record {
   does = block [] 30 30 no_phrase
       (and_statement 8 (perform 8 (call 3 3 (and_value 3 (number (refl & no_more)) no_values) no_more no_phrase (refl & no_more)) no_more)
       (and_statement 21 (marked (assign 16 tt
-      (raise 11 11 (and_value 11 (number (refl & no_more)) no_values) no_more (catch 0 _ refl refl (and_arm 31 31 32 null (refl & no_more) no_arms)) (refl & no_more)) (refl & no_more)))
+      (raise 11 11 (and_value 11 (number (refl & no_more)) no_values) no_more (catch 0 _ refl refl (and_arm 31 31 32 null (refl & no_more) no_arms))
+      (refl & no_more)) (refl & no_more)))
       (and_statement 26 (perform 26 (raise 21 21 no_values no_more no_phrase (refl & no_more)) no_more)
       (and_statement 28 (perform 28 (raise 26 26 no_values no_more no_phrase (refl & no_more)) no_more)
       (and_statement 30 (perform 30 (raise 28 28 no_values no_more no_phrase (refl & no_more)) no_more) no_statements)))))
@@ -309,10 +317,12 @@ held_in_an_arm_stands = record {
       (catch 0 _ refl refl
       (and_arm 30 54 55
       (select 35 40 (variable tt (refl & no_more)) (refl & no_more)
-      (and_case 54 54 54 (related_last (relates 45 48 (refl & no_more) (number (refl & no_more)) (refl & refl & no_more))) null falls (otherwise null)))
+      (and_case 54 54 54 (related_last (relates 45 48 (refl & no_more) (number (refl & no_more)) (refl & refl & no_more))) null falls
+      (otherwise null)))
       (refl & no_more) no_arms))
       (refl & no_more)) (refl & no_more)
-      (and_case 29 29 29 (related_last (relates 20 23 (refl & no_more) (number (refl & no_more)) (refl & refl & no_more))) null falls (otherwise null)));
+      (and_case 29 29 29 (related_last (relates 20 23 (refl & no_more) (number (refl & no_more)) (refl & refl & no_more))) null falls
+      (otherwise null)));
   returns = (refl & no_more);
   room = omega arith;
 }

@@ -1,5 +1,5 @@
 -- Code that stands for a construct is a run of whole instructions.
-use Rattle.std.proofs.Common.{Bool, ◌≡◌, refl, sym, ◌∙◌, subst, ℕ, ◌+◌, ◌≤◌, List, [], ◌∷◌, ◌++◌, Some, append_assoc, arith}
+use Rattle.std.proofs.Common.{Bool, refl, sym, ◌∙◌, ℕ, ◌≤◌, List, [], ◌∷◌, ◌++◌, append_assoc, arith}
 use Rattle.mesa_types.specs.Typed.{Condition, Expr, Exprs, Exits, Finish, Loop, Operations, Phrase, Stmt, Stmts, Suffixes, Targets, Cases, Tests, Interval}
 use Rattle.mesa_types.specs.declared.typed_parts.Base.{Base}
 use Rattle.mesa_types.specs.declared.typed_parts.Bases.{Bases}
@@ -7,7 +7,6 @@ use Rattle.mesa_types.specs.declared.typed_parts.Part.{Part}
 use Rattle.mesa_types.specs.declared.typed_parts.Range.{Range}
 use Rattle.mesa_types.specs.declared.relation.Relation.{Relation}
 use Rattle.code_forms.specs.declared.instruction.Instruction.{Instruction}
-use Rattle.code_forms.specs.Instructions.{bytes_of}
 use Rattle.code_relation.specs.CodeFor.{Onward, ExprCode, ExprsCode, BoundsCode, OperationsCode, PathCode, BranchCode, OperandsCode, PhraseCode, StmtCode, StmtsCode, TargetsCode, CasesCode, TestsCode, RelatedCode, LiesCode, ExitsCode, LoopCode, ConditionCode, FinishCode, number, literal, variable, element, field_of, length_of, byte_of, checked, operate, negate, relate, within, negation, all_of, some_of, construct, call, raise, no_values, and_value, bounds, no_operation, operation, here, field, index, on_value, on_negation, on_relation, unless_all, if_all, if_some, unless_some, no_operands, and_operand, no_phrase, no_range, catch, null, marked, declare, declare_as, assign, assign_element, extract, perform, if_else, select, select_none, block, loop, count, jump, return_with, resume, reject, retry, continue, no_statements, and_statement, no_targets, and_target, and_element, otherwise, and_case, no_test, related, related_last, lies, lies_last, relates, lies_within, no_exits, and_exit, rounds, always, while, until, no_finish, finished, never, falls, jumps}
 use Rattle.code_relation.specs.Laws.{Run, ends, goes, CodeIsWhole, CodeLiesInOrder}
 use Rattle.code_relation.specs.Loops.{Counter}

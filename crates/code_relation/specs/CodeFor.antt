@@ -20,13 +20,12 @@ use Rattle.mesa_types.specs.declared.relation.Relation.{Relation}
 use Rattle.mesa_types.specs.Typed.{Kind, Start, After, Leave, point_of, Expr, Number, Literal, Variable, FieldOf, LengthOf, ByteOf, Checked, Operate, Negate, Relate, Within, Not, AllOf, SomeOf, Construct, Call, Raise, Exprs, NoExprs, AndExpr, Suffixes, NoSuffix, Field, Index, Operations, NoOperation, Then, Interval, Between, Phrase, NoPhrase, Catch, Arms, NoArms, AndArm, Stmt, Null, Marked, Declare, DeclareAs, Assign, Extract, Perform, If, Select, Block, Repeat, Endless, For, Jump, ReturnWith, Resume, Reject, Retry, Continue, Stmts, NoStmts, AndStmt, Targets, NoTargets, AndTarget, Cases, Otherwise, AndCase, Tests, NoTests, IfRelated, IfWithin, Exits, NoExits, AndExit, Loop, LoopOf, Finish, NoFinish, Finished, Condition, Always, While, Until}
 use Rattle.mesa_types.specs.Operators.{differ}
 use Rattle.mesa_types.specs.Shapes.{words_in}
-use Rattle.mesa_types.specs.Counts.{hidden, hidden_expr, hidden_exprs, hidden_suffixes, hidden_interval, hidden_phrase, hidden_stmts, hidden_targets, hidden_tests, hidden_exits, hidden_condition, words_of, words_given, last_words}
+use Rattle.mesa_types.specs.Counts.{hidden, hidden_expr, hidden_suffixes, hidden_interval, hidden_phrase, hidden_stmts, hidden_targets, hidden_tests, hidden_exits, hidden_condition, words_of, words_given, last_words}
 use Rattle.code_forms.specs.declared.instruction.Instruction.TheVariants as i
 use Rattle.code_forms.specs.declared.module_code.Arm.{Arm}
-use Rattle.code_forms.specs.declared.module_code.Phrase as code
 use Rattle.code_relation.specs.Links.{call_code, raise_code, label_code}
 use Rattle.code_relation.specs.Loops.{Counter, NoCounter, CountedIn, start_code, count_code, step_code}
-use Rattle.code_relation.specs.OwnCode.{pop_code, lift_code, field_code, check_code, index_code, relation_code, relation_jump, jump_where, not_if, operator_code, within_code, arrange_code}
+use Rattle.code_relation.specs.OwnCode.{pop_code, lift_code, field_code, check_code, index_code, relation_code, relation_jump, jump_where, operator_code, within_code, arrange_code}
 use Rattle.code_relation.specs.Points.{OutOf, in_marked, in_labelled, is_among}
 use Rattle.code_relation.specs.Reading.{Coded, Destination, Offset, Place, Own, deeper, beyond, past, past_all, in_region, scratch, jump_to}
 use Rattle.code_relation.specs.Slots.{words_from, local_slot, load, store, load_within, store_within, fields_of, HasIndex, HasNoIndex, zero_code, spread_code, sizes}

@@ -4,7 +4,7 @@ use Rattle.mesa_types.specs.declared.faces.Item.{Item}
 use Rattle.mesa_types.specs.declared.faces.ItemKind.{ItemKind}
 use Rattle.mesa_types.specs.declared.faces.ItemKind.TheVariants as item
 use Rattle.mesa_types.specs.declared.types.FieldType.{FieldType}
-use Rattle.mesa_types.specs.Typed.{Stmt, Body, Procedure, Module}
+use Rattle.mesa_types.specs.Typed.{Stmt, Procedure, Module}
 use Rattle.mesa_types.specs.Shapes.{words_in_all, join}
 use Rattle.mesa_types.specs.Links.{links_of}
 use Rattle.mesa_types.specs.Plain.{kinds_of}

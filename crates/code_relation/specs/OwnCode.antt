@@ -1,7 +1,7 @@
 -- The instructions of leaves, checks, indexes and operators by themselves, their operands' left out (rule of this project). They are
 -- right for all words, also where a word stands for no value of its type. An operator that needs more than the operand stack uses
 -- scratch words, from slot t on; they are written when its operands have been evaluated and hold nothing past its end.
-use Rattle.std.specs.Prelude.{ℕ, zero, suc, ◌+◌, ◌-◌, List, [], ◌∷◌, ◌++◌, length, Bool, true, false, nat_eq, if◌then◌else◌}
+use Rattle.std.specs.Prelude.{ℕ, zero, suc, ◌+◌, List, [], ◌∷◌, ◌++◌, length, Bool, true, false, nat_eq, if◌then◌else◌}
 use Rattle.mesa_types.specs.declared.typed_parts.Base.{Base}
 use Rattle.mesa_types.specs.declared.typed_parts.Base.TheVariants.{Signed, Unsigned}
 use Rattle.mesa_types.specs.declared.typed_parts.Bases.{Bases}

@@ -1,7 +1,7 @@
 -- The points of a body to which a jump can go, and how many arms it leaves on its way (Language Manual, chapters 4 and 8; rule of
 -- this project). EXIT names the place after its loop, LOOP the place after its loop's body, GOTO a label, RETURN the return; RETRY
 -- names the start of the statement to which the phrase of its arm belongs, CONTINUE the place after it.
-use Rattle.std.specs.Prelude.{ℕ, suc, List, [], ◌∷◌, Bool, true, false, ◌||◌, Option, Some, None, nat_eq, if◌then◌else◌}
+use Rattle.std.specs.Prelude.{ℕ, suc, List, [], ◌∷◌, Bool, true, false, ◌||◌, Option, Some, None, nat_eq}
 use Rattle.mesa_types.specs.Typed.{Point, Start, After, At, Leave}
 
 -- how a jump comes to a point: out of so many arms, to what lies there; there is no way to a point that is not visible

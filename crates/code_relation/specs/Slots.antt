@@ -2,7 +2,7 @@
 -- lie one behind the other in order: parameters, results, then those of blocks and arms, each in slots of its own; globals alike.
 -- Behind the variables of a procedure lie 16 scratch words, then its hidden words in the order of the text: three for each FOR or
 -- THROUGH and one for each SELECT, each in a slot of its own.
-use Rattle.std.specs.Prelude.{ℕ, zero, suc, ◌+◌, List, [], ◌∷◌, ◌++◌}
+use Rattle.std.specs.Prelude.{ℕ, zero, suc, ◌+◌, List, [], ◌∷◌}
 use Rattle.mesa_types.specs.declared.typed_parts.Home.{Home}
 use Rattle.mesa_types.specs.declared.typed_parts.Home.TheVariants.{Global, Local}
 use Rattle.mesa_types.specs.Typed.{Kinds, NoKinds, AndKind, Exprs, NoExprs, AndExpr, Suffixes, NoSuffix, Field, Index}
