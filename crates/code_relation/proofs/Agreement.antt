@@ -46,7 +46,7 @@ module _ {A : Type 0} where
 
   -- in a body
 
-  agrees_in_body : (m : Module) (takes gives : List FieldType) (body : Body) (return : A) → Agrees (scope_of m takes gives body) (in_body return)
+  pub agrees_in_body : (m : Module) (takes gives : List FieldType) (body : Body) (return : A) → Agrees (scope_of m takes gives body) (in_body return)
   unfolding scope_of
   agrees_in_body m takes gives body return = record {
     ways = λ p depth arms c e.
@@ -110,7 +110,7 @@ module _ {A : Type 0} where
     marked_around p depth agrees (inr (inl (q, d))) = omega (d, arith)
     marked_around p depth agrees (inr (inr c)) = agrees.around p depth c
 
-    agrees_in_marked : Agrees Γ points → Γ.statements ≤ n → Agrees (sound.in_marked n Γ) (in_marked n start after points)
+    pub agrees_in_marked : Agrees Γ points → Γ.statements ≤ n → Agrees (sound.in_marked n Γ) (in_marked n start after points)
     unfolding sound.in_marked
     agrees_in_marked agrees l = record {
       ways = λ p depth arms c e. marked_way p depth arms agrees l e (marked_cases p depth c);
@@ -175,7 +175,7 @@ module _ {A : Type 0} where
     labelled_around p depth (inl (l, c, q, d)) = omega (d, arith)
     labelled_around p depth (inr c) = agrees.around p depth c
 
-    agrees_in_labelled : Agrees (sound.in_labelled past es Γ) (in_labelled label points)
+    pub agrees_in_labelled : Agrees (sound.in_labelled past es Γ) (in_labelled label points)
     unfolding sound.in_labelled
     agrees_in_labelled = record {
       ways = λ p depth arms c e. labelled_way p depth arms e (labelled_cases p depth c);
@@ -213,7 +213,7 @@ module _ {A : Type 0} where
     arm_way p depth zero agrees c e = absurd (omega (agrees.around p depth c, e, arith))
     arm_way p depth (suc arms) agrees c e = one_more (points p) arms (agrees.ways p depth arms c (omega (e, arith)))
 
-    agrees_in_arm : (labels : List Label) → Agrees Γ points → Agrees (sound.in_arm n labels Γ) (in_arm points)
+    pub agrees_in_arm : (labels : List Label) → Agrees Γ points → Agrees (sound.in_arm n labels Γ) (in_arm points)
     unfolding sound.in_arm
     agrees_in_arm labels agrees = record {
       ways = λ p depth arms c e. arm_way p depth arms agrees (seen_past labels (seen p depth) c) e;

@@ -1,5 +1,6 @@
 pub mod Agreement
 pub mod Control
+pub mod Counted
 pub mod Depths
 pub mod Made
 pub mod Modules

@@ -9,3 +9,4 @@ pub mod Points
 pub mod Reading
 pub mod Scopes
 pub mod Slots
+pub mod Told
