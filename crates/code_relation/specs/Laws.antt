@@ -6,12 +6,16 @@ use Rattle.mesa_types.specs.declared.typed_parts.Home.{Home}
 use Rattle.mesa_types.specs.declared.typed_parts.Operator.{Operator}
 use Rattle.mesa_types.specs.declared.typed_parts.Range.{Range}
 use Rattle.mesa_types.specs.declared.relation.Relation.{Relation}
-use Rattle.mesa_types.specs.Typed.{Expr, Stmt}
+use Rattle.mesa_types.specs.declared.types.FieldType.{FieldType}
+use Rattle.mesa_types.specs.Sound.{BodyIn}
+use Rattle.mesa_types.specs.Typed.{Expr, Stmt, Body, Module}
 use Rattle.code_forms.specs.declared.instruction.Instruction.{Instruction}
 use Rattle.code_forms.specs.Instructions.{bytes_of}
 use Rattle.code_forms.specs.Depths.{depth_after}
 use Rattle.code_relation.specs.Loops.{Counter, start_code, count_code, step_code}
 use Rattle.code_relation.specs.OwnCode.{field_code, check_code, index_code, relation_code, relation_jump, operator_code, within_code, arrange_code, total}
+use Rattle.code_relation.specs.Scopes.{scopes}
+use Rattle.code_relation.specs.Told.{told_scopes}
 use Rattle.code_relation.specs.Slots.{zero_code, spread_code}
 use Rattle.code_relation.specs.CodeFor.{ExprCode, StmtCode}
 use Rattle.code_relation.specs.Agreement.{WaysAgree}
@@ -60,3 +64,7 @@ pub record OwnCodeKeepsWords : Type 0 where
 pub record JumpsLeaveTheirArms : Type 0 where
   pub in_code : WaysAgree Destination
   pub in_scopes : WaysAgree (Unit {0})
+
+-- in a sound body the arms that jumps leave are those that the tree says
+abbrev pub ScopesAreTold : Type 0
+ScopesAreTold = (m : Module) (takes gives : List FieldType) (body : Body) → BodyIn m takes gives body → scopes body ≡ told_scopes body

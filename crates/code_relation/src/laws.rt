@@ -1,4 +1,4 @@
-ghost use Rattle.code_relation.specs.Laws.{CodeIsWhole, CodeLiesInOrder, JumpsLeaveTheirArms, OwnCodeKeepsWords};
+ghost use Rattle.code_relation.specs.Laws.{CodeIsWhole, CodeLiesInOrder, JumpsLeaveTheirArms, OwnCodeKeepsWords, ScopesAreTold};
 
 /// The code that stands for a construct is a run of whole instructions, and the phrases that are enabled around the
 /// construct are enabled at each of them.
@@ -25,4 +25,10 @@ pub fn own_code_keeps_words()
 #[tactic(auto, using(crate::proofs::Agreement::jumps_leave_their_arms))]
 pub fn jumps_leave_their_arms()
     ensures { JumpsLeaveTheirArms }
+{}
+
+/// The arms that the jumps of a sound body leave, as they are counted, are those that its tree says.
+#[tactic(auto, using(crate::proofs::Counted::scopes_are_told))]
+pub fn scopes_are_told()
+    ensures { ScopesAreTold }
 {}
