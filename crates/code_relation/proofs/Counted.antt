@@ -60,12 +60,14 @@ reaches_marked Γ n arms p (depth, c, e) = (
   e,
 )
 
-reaches_labelled : (Γ : Scope) (past : ℕ) (es : Exits) (arms : ℕ) (p : Point) → sound.Reaches Γ arms p → sound.Reaches (sound.in_labelled past es Γ) arms p
+reaches_labelled : (Γ : Scope) (past : ℕ) (es : Exits) (arms : ℕ) (p : Point) → sound.Reaches Γ arms p
+    → sound.Reaches (sound.in_labelled past es Γ) arms p
 unfolding sound.in_labelled sound.Reaches
 reaches_labelled Γ past es arms p (depth, c, e) =
     (depth, Contains-append_right (map (λ l. seen (At l) Γ.depth) (labels_in es)) Γ.points (seen p depth) c, e)
 
-known_in_marked : (Γ : Scope) (points : Depths) (n : ℕ) → Known Γ points → Γ.statements ≤ n → Known (sound.in_marked n Γ) (in_marked n tt tt points)
+known_in_marked : (Γ : Scope) (points : Depths) (n : ℕ) → Known Γ points → Γ.statements ≤ n
+    → Known (sound.in_marked n Γ) (in_marked n tt tt points)
 unfolding sound.in_marked
 known_in_marked Γ points n k l = record {
   agrees = agrees_in_marked Γ points n tt tt k.agrees l;
@@ -102,7 +104,8 @@ unfolding sound.in_arm sound.Reaches
 one_arm_out Γ n labels p r (depth, c, e) =
     (depth, subst (λ ps. Contains ps (seen p depth)) (sym (still_seen labels Γ.points r)) c, omega (e, arith))
 
-known_in_arm : (Γ : Scope) (points : Depths) (n : ℕ) (labels : List Label) → Known Γ points → sound.Reaches Γ 0 (Start n) → sound.Reaches Γ 0 (After n)
+known_in_arm : (Γ : Scope) (points : Depths) (n : ℕ) (labels : List Label) → Known Γ points
+    → sound.Reaches Γ 0 (Start n) → sound.Reaches Γ 0 (After n)
     → Known (sound.in_arm n labels Γ) (in_arm points)
 unfolding sound.in_arm
 known_in_arm Γ points n labels k start after = record {
@@ -157,12 +160,14 @@ mutual
   words_told NoExprs Γ ps k h = refl
   words_told (AndExpr e es) Γ ps k (h, g) = both (expr_told e Γ ps _ k h) (words_told es Γ ps k g)
 
-  suffixes_told : (s : Suffixes) (Γ : Scope) (points : Depths) (i j : Kind) → Known Γ points → SuffixesIn Γ s i j → in_suffixes points s ≡ told_suffixes s
+  suffixes_told : (s : Suffixes) (Γ : Scope) (points : Depths) (i j : Kind) → Known Γ points → SuffixesIn Γ s i j
+      → in_suffixes points s ≡ told_suffixes s
   suffixes_told NoSuffix Γ ps i j k h = refl
   suffixes_told (Field n offset s) Γ ps i j k (ks, part, q, at, h) = suffixes_told s Γ ps part j k h
   suffixes_told (Index r first n words e s) Γ ps i j k (part, q, w, f, l, c, h, g) = both (expr_told e Γ ps _ k h) (suffixes_told s Γ ps part j k g)
 
-  operations_told : (os : Operations) (Γ : Scope) (points : Depths) → Known Γ points → OperationsIn Γ os → in_operations points os ≡ told_operations os
+  operations_told : (os : Operations) (Γ : Scope) (points : Depths) → Known Γ points → OperationsIn Γ os
+      → in_operations points os ≡ told_operations os
   operations_told NoOperation Γ ps k h = refl
   operations_told (Then r o e os) Γ ps k (c, h, g) = both (expr_told e Γ ps _ k h) (operations_told os Γ ps k g)
 
@@ -208,7 +213,8 @@ mutual
   stmts_told NoStmts Γ ps k h = refl
   stmts_told (AndStmt s ss) Γ ps k (h, g) = both (stmt_told s Γ ps k h) (stmts_told ss Γ ps k g)
 
-  targets_told : (ts : Targets) (Γ : Scope) (points : Depths) (ks : Kinds) → Known Γ points → TargetsIn Γ ts ks → in_targets points ts ≡ told_targets ts
+  targets_told : (ts : Targets) (Γ : Scope) (points : Depths) (ks : Kinds) → Known Γ points → TargetsIn Γ ts ks
+      → in_targets points ts ≡ told_targets ts
   targets_told NoTargets Γ ps ks k h = refl
   targets_told (AndTarget p v s r ts) Γ ps ks k (part, j, at, w, var, h, c, g) = both (suffixes_told s Γ ps j part k h) (targets_told ts Γ ps ks k g)
 

@@ -1,5 +1,5 @@
 -- Code that stands for a construct is a run of whole instructions.
-use Rattle.std.proofs.Common.{Bool, refl, sym, ◌∙◌, ℕ, ◌≤◌, List, [], ◌∷◌, ◌++◌, append_assoc, arith}
+use Rattle.std.proofs.Common.{Bool, ◌+◌, refl, sym, ◌∙◌, ℕ, ◌≤◌, List, [], ◌∷◌, ◌++◌, append_assoc, arith}
 use Rattle.mesa_types.specs.Typed.{Condition, Expr, Exprs, Exits, Finish, Loop, Operations, Phrase, Stmt, Stmts, Suffixes, Targets, Cases, Tests, Interval}
 use Rattle.mesa_types.specs.declared.typed_parts.Base.{Base}
 use Rattle.mesa_types.specs.declared.typed_parts.Bases.{Bases}
@@ -7,10 +7,11 @@ use Rattle.mesa_types.specs.declared.typed_parts.Part.{Part}
 use Rattle.mesa_types.specs.declared.typed_parts.Range.{Range}
 use Rattle.mesa_types.specs.declared.relation.Relation.{Relation}
 use Rattle.code_forms.specs.declared.instruction.Instruction.{Instruction}
+use Rattle.code_forms.specs.Instructions.{bytes_of}
 use Rattle.code_relation.specs.CodeFor.{Onward, ExprCode, ExprsCode, BoundsCode, OperationsCode, PathCode, BranchCode, OperandsCode, PhraseCode, StmtCode, StmtsCode, TargetsCode, CasesCode, TestsCode, RelatedCode, LiesCode, ExitsCode, LoopCode, ConditionCode, FinishCode, number, literal, variable, element, field_of, length_of, byte_of, checked, operate, negate, relate, within, negation, all_of, some_of, construct, call, raise, no_values, and_value, bounds, no_operation, operation, here, field, index, on_value, on_negation, on_relation, unless_all, if_all, if_some, unless_some, no_operands, and_operand, no_phrase, no_range, catch, null, marked, declare, declare_as, assign, assign_element, extract, perform, if_else, select, select_none, block, loop, count, jump, return_with, resume, reject, retry, continue, no_statements, and_statement, no_targets, and_target, and_element, otherwise, and_case, no_test, related, related_last, lies, lies_last, relates, lies_within, no_exits, and_exit, rounds, always, while, until, no_finish, finished, never, falls, jumps}
-use Rattle.code_relation.specs.Laws.{Run, ends, goes, CodeIsWhole, CodeLiesInOrder}
+use Rattle.code_relation.specs.Laws.{Run, ends, goes, CodeIsWhole, CodeLiesInOrder, OwnCodeJoins, behind_all}
 use Rattle.code_relation.specs.Loops.{Counter}
-use Rattle.code_relation.specs.Reading.{Coded, Place, Own, no_more, one_more}
+use Rattle.code_relation.specs.Reading.{Coded, Place, Own, no_more, one_more, behind}
 
 -- Runs.
 
@@ -169,3 +170,17 @@ in_order (goes r inner is inside p) = let h : _ = in_order p in omega arith
 
 pub code_lies_in_order : CodeLiesInOrder
 code_lies_in_order = record { of_expression = λ P w e a b c. in_order (expr_run c); of_statement = λ P w s a b c. in_order (stmt_run c) }
+
+-- own code joins and splits
+
+join_own : {P : Coded} {w : Place} {is js : List Instruction} {a b c : ℕ} → Own P w is a b → Own P (behind_all P is w) js b c → Own P w (is ++ js) a c
+join_own no_more q = q
+join_own (one_more r p) q = one_more r (join_own p q)
+
+split_own : {P : Coded} (is js : List Instruction) (w : Place) (a c : ℕ) → Own P w (is ++ js) a c
+    → (b : ℕ) × Own P w is a b × Own P (behind_all P is w) js b c
+split_own [] js w a c p = (a, no_more, p)
+split_own {P} (i ∷ is) js w a c (one_more r p) = let h : _ = split_own is js (behind P i w) (a + bytes_of i) c p in (h.0, one_more r h.1, h.2)
+
+pub own_code_joins : OwnCodeJoins
+own_code_joins = record { joins = λ P w is js a b c p q. join_own p q; splits = λ P w is js a c p. split_own is js w a c p }

@@ -19,7 +19,7 @@ use Rattle.code_relation.specs.Told.{told_scopes}
 use Rattle.code_relation.specs.Slots.{zero_code, spread_code}
 use Rattle.code_relation.specs.CodeFor.{ExprCode, StmtCode}
 use Rattle.code_relation.specs.Agreement.{WaysAgree}
-use Rattle.code_relation.specs.Reading.{Coded, Destination, Place, Read, read}
+use Rattle.code_relation.specs.Reading.{Coded, Destination, Place, Own, Read, read, behind}
 
 -- whole instructions from one offset to another; at each of them these phrases are enabled, and maybe others inside of them
 pub data Run (P : Coded) (around : List ℕ) : ℕ → ℕ → Type 0 where
@@ -42,6 +42,17 @@ pub record CodeLiesInOrder : Type 0 where
 abbrev pub left_by : Coded → List Instruction → ℕ → ℕ
 left_by P [] depth = depth
 left_by P (i ∷ is) depth = left_by P is (depth_after P.routine i depth)
+
+-- own code joins and splits
+abbrev pub behind_all : Coded → List Instruction → Place → Place
+behind_all P [] w = w
+behind_all P (i ∷ is) w = behind_all P is (behind P i w)
+
+pub record OwnCodeJoins : Type 0 where
+  pub joins : (P : Coded) (w : Place) (is js : List Instruction) (a b c : ℕ) → Own P w is a b → Own P (behind_all P is w) js b c
+      → Own P w (is ++ js) a c
+  pub splits : (P : Coded) (w : Place) (is js : List Instruction) (a c : ℕ) → Own P w (is ++ js) a c
+      → (b : ℕ) × Own P w is a b × Own P (behind_all P is w) js b c
 
 -- own code takes and puts as many words as its row says, by the table of the instructions
 pub record OwnCodeKeepsWords : Type 0 where

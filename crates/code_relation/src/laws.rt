@@ -1,4 +1,4 @@
-ghost use Rattle.code_relation.specs.Laws.{CodeIsWhole, CodeLiesInOrder, JumpsLeaveTheirArms, OwnCodeKeepsWords, ScopesAreTold};
+ghost use Rattle.code_relation.specs.Laws.{CodeIsWhole, CodeLiesInOrder, JumpsLeaveTheirArms, OwnCodeJoins, OwnCodeKeepsWords, ScopesAreTold};
 
 /// The code that stands for a construct is a run of whole instructions, and the phrases that are enabled around the
 /// construct are enabled at each of them.
@@ -31,4 +31,10 @@ pub fn jumps_leave_their_arms()
 #[tactic(auto, using(crate::proofs::Counted::scopes_are_told))]
 pub fn scopes_are_told()
     ensures { ScopesAreTold }
+{}
+
+/// Own code of two parts is that of the first and behind it that of the second.
+#[tactic(auto, using(crate::proofs::Whole::own_code_joins))]
+pub fn own_code_joins()
+    ensures { OwnCodeJoins }
 {}
