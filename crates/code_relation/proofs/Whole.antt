@@ -1,16 +1,18 @@
 -- Code that stands for a construct is a run of whole instructions.
 use Rattle.std.proofs.Common.{Bool, ◌+◌, refl, sym, ◌∙◌, ℕ, ◌≤◌, List, [], ◌∷◌, ◌++◌, append_assoc, arith}
-use Rattle.mesa_types.specs.Typed.{Condition, Expr, Exprs, Exits, Finish, Loop, Operations, Phrase, Stmt, Stmts, Suffixes, Targets, Cases, Tests, Interval}
+use Rattle.mesa_types.specs.Typed.{Arms, Condition, Expr, Exprs, Exits, Finish, Loop, Operations, Phrase, Stmt, Stmts, Suffixes, Targets, Cases, Tests, Interval}
 use Rattle.mesa_types.specs.declared.typed_parts.Base.{Base}
 use Rattle.mesa_types.specs.declared.typed_parts.Bases.{Bases}
 use Rattle.mesa_types.specs.declared.typed_parts.Part.{Part}
 use Rattle.mesa_types.specs.declared.typed_parts.Range.{Range}
 use Rattle.mesa_types.specs.declared.relation.Relation.{Relation}
 use Rattle.code_forms.specs.declared.instruction.Instruction.{Instruction}
+use Rattle.code_forms.specs.declared.module_code.Arm.{Arm}
 use Rattle.code_forms.specs.Instructions.{bytes_of}
-use Rattle.code_relation.specs.CodeFor.{Onward, ExprCode, ExprsCode, BoundsCode, OperationsCode, PathCode, BranchCode, OperandsCode, PhraseCode, StmtCode, StmtsCode, TargetsCode, CasesCode, TestsCode, RelatedCode, LiesCode, ExitsCode, LoopCode, ConditionCode, FinishCode, number, literal, variable, element, field_of, length_of, byte_of, checked, operate, negate, relate, within, negation, all_of, some_of, construct, call, raise, no_values, and_value, bounds, no_operation, operation, here, field, index, on_value, on_negation, on_relation, unless_all, if_all, if_some, unless_some, no_operands, and_operand, no_phrase, no_range, catch, null, marked, declare, declare_as, assign, assign_element, extract, perform, if_else, select, select_none, block, loop, count, jump, return_with, resume, reject, retry, continue, no_statements, and_statement, no_targets, and_target, and_element, otherwise, and_case, no_test, related, related_last, lies, lies_last, relates, lies_within, no_exits, and_exit, rounds, always, while, until, no_finish, finished, never, falls, jumps}
-use Rattle.code_relation.specs.Laws.{Run, ends, goes, CodeIsWhole, CodeLiesInOrder, OwnCodeJoins, behind_all}
+use Rattle.code_relation.specs.CodeFor.{Onward, ArmsCode, no_arms, and_arm, ExprCode, ExprsCode, BoundsCode, OperationsCode, PathCode, BranchCode, OperandsCode, PhraseCode, StmtCode, StmtsCode, TargetsCode, CasesCode, TestsCode, RelatedCode, LiesCode, ExitsCode, LoopCode, ConditionCode, FinishCode, number, literal, variable, element, field_of, length_of, byte_of, checked, operate, negate, relate, within, negation, all_of, some_of, construct, call, raise, no_values, and_value, bounds, no_operation, operation, here, field, index, on_value, on_negation, on_relation, unless_all, if_all, if_some, unless_some, no_operands, and_operand, no_phrase, no_range, catch, null, marked, declare, declare_as, assign, assign_element, extract, perform, if_else, select, select_none, block, loop, count, jump, return_with, resume, reject, retry, continue, no_statements, and_statement, no_targets, and_target, and_element, otherwise, and_case, no_test, related, related_last, lies, lies_last, relates, lies_within, no_exits, and_exit, rounds, always, while, until, no_finish, finished, never, falls, jumps}
+use Rattle.code_relation.specs.Laws.{Run, RegionsRun, ends, goes, CodeIsWhole, CodeLiesInOrder, OwnCodeJoins, behind_all}
 use Rattle.code_relation.specs.Loops.{Counter}
+use Rattle.code_relation.specs.Modules.{BodyCode, body_end}
 use Rattle.code_relation.specs.Reading.{Coded, Place, Own, no_more, one_more, behind}
 
 -- Runs.
@@ -161,8 +163,20 @@ mutual
 
 -- the laws
 
+arms_run : {P : Coded} {w : Place} {arms : Arms} {regions : List Arm} → ArmsCode P w arms regions → RegionsRun P w.around regions
+arms_run no_arms = tt
+arms_run (and_arm a c b s o arms) = (stmt_run s joined own o, arms_run arms)
+
+body_run : {P : Coded} {s : Stmt} → BodyCode P s → Run P [] 0 (body_end P.routine)
+body_run c = stmt_run c.does joined own c.returns
+
 pub code_is_whole : CodeIsWhole
-code_is_whole = record { of_expression = λ P w e a b c. expr_run c; of_statement = λ P w s a b c. stmt_run c }
+code_is_whole = record {
+  of_expression = λ P w e a b c. expr_run c;
+  of_statement = λ P w s a b c. stmt_run c;
+  of_arms = λ P w arms regions c. arms_run c;
+  of_body = λ P s c. body_run c;
+}
 
 in_order : {P : Coded} {around : List ℕ} {a b : ℕ} → Run P around a b → a ≤ b
 in_order ends = omega arith

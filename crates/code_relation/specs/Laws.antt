@@ -8,16 +8,18 @@ use Rattle.mesa_types.specs.declared.typed_parts.Range.{Range}
 use Rattle.mesa_types.specs.declared.relation.Relation.{Relation}
 use Rattle.mesa_types.specs.declared.types.FieldType.{FieldType}
 use Rattle.mesa_types.specs.Sound.{BodyIn}
-use Rattle.mesa_types.specs.Typed.{Expr, Stmt, Body, Module}
+use Rattle.mesa_types.specs.Typed.{Arms, Expr, Stmt, Body, Module}
 use Rattle.code_forms.specs.declared.instruction.Instruction.{Instruction}
+use Rattle.code_forms.specs.declared.module_code.Arm.{Arm}
 use Rattle.code_forms.specs.Instructions.{bytes_of}
 use Rattle.code_forms.specs.Depths.{depth_after}
 use Rattle.code_relation.specs.Loops.{Counter, start_code, count_code, step_code}
 use Rattle.code_relation.specs.OwnCode.{field_code, check_code, index_code, relation_code, relation_jump, operator_code, within_code, arrange_code, total}
 use Rattle.code_relation.specs.Scopes.{scopes}
 use Rattle.code_relation.specs.Told.{told_scopes}
+use Rattle.code_relation.specs.Modules.{BodyCode, body_end}
 use Rattle.code_relation.specs.Slots.{zero_code, spread_code}
-use Rattle.code_relation.specs.CodeFor.{ExprCode, StmtCode}
+use Rattle.code_relation.specs.CodeFor.{ArmsCode, ExprCode, StmtCode}
 use Rattle.code_relation.specs.Agreement.{WaysAgree}
 use Rattle.code_relation.specs.Reading.{Coded, Destination, Place, Own, Read, read, behind}
 
@@ -27,11 +29,18 @@ pub data Run (P : Coded) (around : List ℕ) : ℕ → ℕ → Type 0 where
   goes : {a b : ℕ} (r : Read) (inner : List ℕ) → read P a ≡ Some r → r.around ≡ inner ++ around → Run P around (a + bytes_of r.instruction) b
       → Run P around a b
 
+-- so each of these regions is
+abbrev pub RegionsRun : Coded → List ℕ → List Arm → Type 0
+RegionsRun P around [] = Unit {0}
+RegionsRun P around (r ∷ rs) = Run P around r.start r.end × RegionsRun P around rs
+
 -- code that stands for a construct begins and ends where an instruction of the procedure does, and what is enabled around the construct
 -- is enabled at each of its instructions
 pub record CodeIsWhole : Type 0 where
   pub of_expression : (P : Coded) (w : Place) (e : Expr) (a b : ℕ) → ExprCode P w e a b → Run P w.around a b
   pub of_statement : (P : Coded) (w : Place) (s : Stmt) (a b : ℕ) → StmtCode P w s a b → Run P w.around a b
+  pub of_arms : (P : Coded) (w : Place) (arms : Arms) (regions : List Arm) → ArmsCode P w arms regions → RegionsRun P w.around regions
+  pub of_body : (P : Coded) (s : Stmt) → BodyCode P s → Run P [] 0 (body_end P.routine)
 
 -- and so it ends no earlier than it begins
 pub record CodeLiesInOrder : Type 0 where
