@@ -1,4 +1,5 @@
 pub mod Agreement
+pub mod Apart
 pub mod Control
 pub mod Counted
 pub mod Depths

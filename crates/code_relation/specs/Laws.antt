@@ -1,5 +1,5 @@
 -- The laws of the relation.
-use Rattle.std.specs.Prelude.{◌≡◌, ℕ, ◌+◌, ◌≤◌, List, [], ◌∷◌, ◌++◌, Some, Bool}
+use Rattle.std.specs.Prelude.{◌≡◌, ℕ, ◌+◌, ◌<◌, ◌≤◌, List, [], ◌∷◌, ◌++◌, Some, Bool}
 use Rattle.mesa_types.specs.declared.typed_parts.Base.{Base}
 use Rattle.mesa_types.specs.declared.typed_parts.Bases.{Bases}
 use Rattle.mesa_types.specs.declared.typed_parts.Home.{Home}
@@ -7,6 +7,7 @@ use Rattle.mesa_types.specs.declared.typed_parts.Operator.{Operator}
 use Rattle.mesa_types.specs.declared.typed_parts.Range.{Range}
 use Rattle.mesa_types.specs.declared.relation.Relation.{Relation}
 use Rattle.mesa_types.specs.declared.types.FieldType.{FieldType}
+use Rattle.mesa_types.specs.Shapes.{count_in}
 use Rattle.mesa_types.specs.Sound.{BodyIn}
 use Rattle.mesa_types.specs.Typed.{Arms, Expr, Stmt, Body, Module}
 use Rattle.code_forms.specs.declared.instruction.Instruction.{Instruction}
@@ -18,10 +19,10 @@ use Rattle.code_relation.specs.OwnCode.{field_code, check_code, index_code, rela
 use Rattle.code_relation.specs.Scopes.{scopes}
 use Rattle.code_relation.specs.Told.{told_scopes}
 use Rattle.code_relation.specs.Modules.{BodyCode, body_end}
-use Rattle.code_relation.specs.Slots.{zero_code, spread_code}
+use Rattle.code_relation.specs.Slots.{local_slot, global_slot, words_at, zero_code, spread_code}
 use Rattle.code_relation.specs.CodeFor.{ArmsCode, ExprCode, StmtCode}
 use Rattle.code_relation.specs.Agreement.{WaysAgree}
-use Rattle.code_relation.specs.Reading.{Coded, Destination, Place, Own, Read, read, behind}
+use Rattle.code_relation.specs.Reading.{Coded, Destination, Place, Own, Read, read, behind, scratch}
 
 -- whole instructions from one offset to another; at each of them these phrases are enabled, and maybe others inside of them
 pub data Run (P : Coded) (around : List ℕ) : ℕ → ℕ → Type 0 where
@@ -88,3 +89,9 @@ pub record JumpsLeaveTheirArms : Type 0 where
 -- in a sound body the arms that jumps leave are those that the tree says
 abbrev pub ScopesAreTold : Type 0
 ScopesAreTold = (m : Module) (takes gives : List FieldType) (body : Body) → BodyIn m takes gives body → scopes body ≡ told_scopes body
+
+-- each variable has slots of its own, one before the other, and those of a procedure before its scratch words
+pub record SlotsAreApart : Type 0 where
+  pub locals : (P : Coded) (n m : ℕ) → n < m → m < count_in P.locals → local_slot P n + words_at P.locals n ≤ local_slot P m
+  pub globals : (P : Coded) (n m : ℕ) → n < m → m < count_in P.globals → global_slot P n + words_at P.globals n ≤ global_slot P m
+  pub scratch_words : (P : Coded) (n : ℕ) → n < count_in P.locals → local_slot P n + words_at P.locals n ≤ scratch P

@@ -1,4 +1,4 @@
-ghost use Rattle.code_relation.specs.Laws.{CodeIsWhole, CodeLiesInOrder, JumpsLeaveTheirArms, OwnCodeJoins, OwnCodeKeepsWords, ScopesAreTold};
+ghost use Rattle.code_relation.specs.Laws.{CodeIsWhole, CodeLiesInOrder, JumpsLeaveTheirArms, OwnCodeJoins, OwnCodeKeepsWords, ScopesAreTold, SlotsAreApart};
 
 /// The code that stands for a construct is a run of whole instructions, and the phrases that are enabled around the
 /// construct are enabled at each of them.
@@ -37,4 +37,10 @@ pub fn scopes_are_told()
 #[tactic(auto, using(crate::proofs::Whole::own_code_joins))]
 pub fn own_code_joins()
     ensures { OwnCodeJoins }
+{}
+
+/// Each variable has slots of its own, one before the other, and those of a procedure before its scratch words.
+#[tactic(auto, using(crate::proofs::Apart::slots_are_apart))]
+pub fn slots_are_apart()
+    ensures { SlotsAreApart }
 {}
