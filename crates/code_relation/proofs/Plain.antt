@@ -1,13 +1,13 @@
 -- The code of leaves, operators, conditions, variables with suffixes and constructors, each with its offsets and depths.
 use Rattle.std.specs.Prelude.{[], false, refl, true, ◌∷◌}
 use Rattle.code_relation.proofs.Made.{at, bases, exprs, global, kinds, local, part, plain_block, procedure, ◌&◌}
-use Rattle.code_relation.specs.CodeFor.{StmtCode, all_of, and_element, and_operand, and_statement, and_target, and_value, assign, assign_element, block, bounds, byte_of, call, checked, construct, declare, declare_as, element, extract, falls, field, field_of, here, if_all, if_else, if_some, index, jumps, length_of, literal, negate, negation, no_exits, no_operands, no_operation, no_phrase, no_statements, no_targets, no_values, null, number, on_negation, on_relation, on_value, operate, operation, perform, some_of, unless_all, unless_some, variable, within}
+use Rattle.code_relation.specs.CodeFor.{StmtCode, all_of, and_element, and_operand, and_statement, and_target, and_value, assign, assign_element, block, bounds, byte_of, call, checked, construct, declare, declare_as, element, extract, falls, field, field_of, here, if_all, if_else, if_some, index, jumps, length_of, literal, negate, negation, no_exits, no_operands, no_operation, no_phrase, no_statements, no_targets, no_values, null, number, on_negation, on_relation, on_value, operate, operation, perform, relate, some_of, unless_all, unless_some, variable, within}
 use Rattle.code_relation.specs.Reading.{Coded, at_body, no_more}
 use Rattle.mesa_types.specs.Counts.{hidden, hidden_arms, hidden_cases, hidden_condition, hidden_exits, hidden_expr, hidden_exprs, hidden_finish, hidden_interval, hidden_loop, hidden_operations, hidden_phrase, hidden_stmts, hidden_suffixes, hidden_targets, hidden_tests, last_words, words_given, words_of}
 use Rattle.mesa_types.specs.Operators.{differ}
 use Rattle.mesa_types.specs.Shapes.{join, words_before, words_in, words_in_all}
 use Rattle.mesa_types.specs.Typed.{AllOf, AndTarget, Array, Assign, Between, ByteOf, Call, Checked, Construct, Declare, DeclareAs, Extract, Field, FieldOf, If, Index, LengthOf, Literal, Negate, NoOperation, NoPhrase, NoSuffix, NoTargets, Not, Null, Number, Operate, Ordinal, Perform, Record, Relate, SomeOf, Texts, Then, Variable, Within, point_of}
-use Rattle.mesa_types.specs.declared.relation.Relation.TheVariants.{AtMost}
+use Rattle.mesa_types.specs.declared.relation.Relation.TheVariants.{AtMost, NotEqual}
 use Rattle.mesa_types.specs.declared.typed_parts.Base.TheVariants.{Signed, Unsigned}
 use Rattle.mesa_types.specs.declared.typed_parts.Callee.TheVariants.{OwnProcedure}
 use Rattle.mesa_types.specs.declared.typed_parts.Home.TheVariants.{Global, Local}
@@ -146,6 +146,23 @@ unfolding differ words_in words_in_all words_before join point_of hidden hidden_
 lies_inside_stands =
     assign 40 tt (within 5 11 (variable tt (refl & no_more)) (bounds 8 (number (refl & no_more)) (number (refl & no_more)))
     (refl & refl & refl & refl & refl & refl & refl & refl & refl & no_more)) (refl & no_more)
+
+-- b ← a # b, as a value
+abbrev compared : Coded
+compared = procedure (kinds []) (kinds (Ordinal ∷ Ordinal ∷ [])) (
+    at 0 0 (i.LoadL 0 1)
+    ∷ at 5 1 (i.LoadL 1 1)
+    ∷ at 10 2 i.Eq
+    ∷ at 11 1 i.Not
+    ∷ at 12 1 (i.StoreL 1 1)
+    ∷ at 17 0 i.Return
+    ∷ []) []
+
+compared_stands : StmtCode compared (at_body compared) (
+    Assign (Local 1) NoSuffix (Relate Signed NotEqual (local 0) (local 1))) 0 17
+unfolding differ words_in words_in_all words_before join point_of hidden hidden_expr hidden_exprs hidden_suffixes hidden_operations hidden_interval hidden_phrase hidden_arms hidden_stmts hidden_targets hidden_cases hidden_tests hidden_exits hidden_loop hidden_finish hidden_condition words_of words_given last_words
+compared_stands =
+    assign 12 tt (relate 5 10 (variable tt (refl & no_more)) (variable tt (refl & no_more)) (refl & refl & no_more)) (refl & no_more)
 
 -- a ← a AND NOT b; b ← a OR b: as values
 abbrev truths : Coded
