@@ -1,0 +1,11 @@
+pub mod Agreement
+pub mod Apart
+pub mod Control
+pub mod Counted
+pub mod Depths
+pub mod Made
+pub mod Modules
+pub mod Plain
+pub mod Refused
+pub mod Signals
+pub mod Whole

@@ -1,0 +1,12 @@
+pub mod Agreement
+pub mod CodeFor
+pub mod Laws
+pub mod Links
+pub mod Loops
+pub mod Modules
+pub mod OwnCode
+pub mod Points
+pub mod Reading
+pub mod Scopes
+pub mod Slots
+pub mod Told
