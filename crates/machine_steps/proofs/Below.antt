@@ -1,26 +1,23 @@
 -- What each way of going on makes of the turns and the activations: fewer turns are left, or as many and the activations weigh less.
-use Rattle.std.proofs.Common.{◌≡◌, ℕ, zero, suc, ◌+◌, ◌<◌, ◌≤◌, List, [], ◌∷◌, length, Bool, true, false, Option, Some, None, refl, sym, ap, subst, ◌∙◌, arith}
-use Rattle.std.specs.Prelude.{nat_eq, nat_lt, if◌then◌else◌, ◌||◌, ◌++◌, take}
-use Rattle.mesa_types.specs.Operators.{truth}
+use Rattle.std.proofs.Common.{◌≡◌, ℕ, zero, suc, ◌+◌, ◌<◌, ◌≤◌, List, [], ◌∷◌, length, Bool, true, false, Option, Some, None, refl, sym, subst, arith}
+use Rattle.std.specs.Prelude.{nat_eq, nat_lt, if◌then◌else◌, ◌||◌}
 use Rattle.code_forms.specs.declared.instruction.Instruction.{Instruction}
 use Rattle.code_forms.specs.declared.instruction.Instruction.TheVariants.{CallLink}
-use Rattle.code_forms.specs.declared.module_code.Arm.{Arm}
 use Rattle.code_forms.specs.declared.module_code.CodeProcedure.{CodeProcedure}
 use Rattle.object_files.specs.declared.image.Image.{Image}
 use Rattle.object_files.specs.declared.image.Link.{Link}
 use Rattle.object_files.specs.declared.image.Link.TheVariants.{Wanted, To}
-use Rattle.signaller.specs.declared.search.Search.{Search}
 use Rattle.signaller.specs.declared.signal_id.SignalId.{SignalId}
 use Rattle.signaller.specs.declared.signal_id.SignalId.TheVariants.{NoInput}
-use Rattle.machine_steps.specs.Words.{zeros, words_at, push, popped, under, on_top, on_two}
-use Rattle.machine_steps.specs.State.{Target, Why, ForRaise, ForJump, Role, Frame, InArm, Active, Activations, Store, State, Runs, Seeks, Leaves, Ending, Stepped, Goes, Stops}
-use Rattle.machine_steps.specs.LookUps.{procedure_of, called, bound_to, text_of, Host, WriteChar, WriteString, WriteDecimal, ReadChar, EndOfInput, host_of, procedure_under, instruction_under, arm_under}
-use Rattle.machine_steps.specs.Activations.{activation_at, owner, set_variables, variables_of}
+use Rattle.machine_steps.specs.Words.{on_top}
+use Rattle.machine_steps.specs.State.{Target, Why, ForRaise, ForJump, Role, Frame, InArm, Active, Activations, Store, State, Runs, Seeks, Leaves, Stepped, Goes, Stops}
+use Rattle.machine_steps.specs.LookUps.{procedure_of, called, bound_to, Host, WriteChar, WriteString, WriteDecimal, ReadChar, EndOfInput, host_of, procedure_under, instruction_under, arm_under}
+use Rattle.machine_steps.specs.Activations.{owner}
 use Rattle.machine_steps.specs.Moves.{with, spend_of, spend, limit, enter, onward, give}
-use Rattle.machine_steps.specs.Signals.{put_at, enter_arm, around, raise, reject, takes_back, can_resume, resumed, resume}
+use Rattle.machine_steps.specs.Signals.{put_at, enter_arm, raise, reject, can_resume, resumed, resume}
 use Rattle.machine_steps.specs.Calls.{enter_frame, start, call, host_write, read_char, end_of_input, host, call_in, call_bound, pending, returned, return_of, return_from}
-use Rattle.machine_steps.specs.Leaving.{target_for, left_to_ask, dropped, leave}
-use Rattle.machine_steps.proofs.Measure.{OwnedRole, Owned, weight_of, weight, weight_some, Alike, set_alike}
+use Rattle.machine_steps.specs.Leaving.{dropped, leave}
+use Rattle.machine_steps.proofs.Measure.{Owned, weight_of, weight, weight_some, set_alike}
 
 abbrev pub turns_of : State → ℕ
 turns_of (Runs S m) = m.turns
@@ -106,7 +103,7 @@ unfolding start
 below_start image j W S m o =
     below_with m.turns W (procedure_of image j 0) m _ (λ p e. below_spend W (3 + weight S) _ _ (λ m1 l. below_frame j 0 p [] S m1 o))
 
-below_call : (j number : ℕ) (p : CodeProcedure) (a : Active) (S : Activations) (m : Store) → Owned (a ∷ S)
+pub below_call : (j number : ℕ) (p : CodeProcedure) (a : Active) (S : Activations) (m : Store) → Owned (a ∷ S)
     → Below m.turns (2 + weight (a ∷ S)) (call j (suc number) p a S m)
 unfolding call
 below_call j number p a S m o = below_called j number p _ _ m o
@@ -151,7 +148,7 @@ unfolding with called call_in
 below_call_of image j zero a S m o = tt
 below_call_of image j (suc number) a S m o =
     below_with m.turns _ (called image j (suc number)) m _ (λ p e.
-      below_if m.turns _ (nat_eq a.instance j || m.started j) _ _ (below_call j number p a S m o) (below_start image j _ (a ∷ S) m o))
+    below_if m.turns _ (nat_eq a.instance j || m.started j) _ _ (below_call j number p a S m o) (below_start image j _ (a ∷ S) m o))
 
 pub below_bound : (image : Image) (l : Link) (a : Active) (S : Activations) (m : Store) → Owned (a ∷ S)
     → Below m.turns (2 + weight (a ∷ S)) (call_bound image l a S m)
@@ -196,9 +193,9 @@ pub below_arm : (image : Image) (n : ℕ) (b : Active) (q : ℕ) (why : Why) (wo
 unfolding enter_arm put_at
 below_arm image n b q why words W S m o low inside =
     below_with m.turns W (arm_under image b n) m _ (λ arm e.
-      below_spend W _ m _ (λ m1 l.
-        let same = set_alike S (owner b.role q) _ in
-        below_enter _ _ m1 (subst (λ k. owner b.role q < k) (sym same.long) (omega (arith, low, inside)), same.owned o)))
+    below_spend W _ m _ (λ m1 l.
+    let same = set_alike S (owner b.role q) _ in
+    below_enter _ _ m1 (subst (λ k. owner b.role q < k) (sym same.long) (omega (arith, low, inside)), same.owned o)))
 
 pub below_reject : (role : Role (List ℕ)) (number : ℕ) (S : Activations) (m : Store) → Owned S → Below m.turns (weight_of role number + weight S) (reject role S m)
 unfolding reject

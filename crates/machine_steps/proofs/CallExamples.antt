@@ -1,11 +1,11 @@
 -- Calls, starts, the host and its input, and how activations are counted; each run with the least turns with which its end is reached.
-use Rattle.std.specs.Prelude.{◌≡◌, refl, ℕ, List, [], ◌∷◌, length, replicate, ◌<◌, ◌≤◌, codes, Bool, true, false, None, Some}
+use Rattle.std.specs.Prelude.{◌≡◌, refl, ℕ, List, [], ◌∷◌, length, replicate, ◌<◌, ◌≤◌, codes, true, false}
 use Rattle.std.proofs.lemmas.Bool.{lt-ltb, le-ltb}
 use Rattle.code_forms.specs.declared.instruction.Instruction.TheVariants.{Lit, Str, LoadL, StoreL, LoadG, StoreG, Add, Sub, Mul, Eq, LessI, JumpIf, JumpIfNot, JumpBack, Call, CallLink, Return, Raise, RaiseLink, Resume, Leave, Pop}
 use Rattle.code_forms.specs.declared.module_code.Label.TheVariants as l
 use Rattle.object_files.specs.declared.image.Image.{Image}
-use Rattle.object_files.specs.declared.image.Link.TheVariants.{Wanted, To}
-use Rattle.signaller.specs.declared.signal_id.SignalId.TheVariants.{Own, BoundsFault, ZeroDivisor, NoInput, Unnamed}
+use Rattle.object_files.specs.declared.image.Link.TheVariants.{To}
+use Rattle.signaller.specs.declared.signal_id.SignalId.TheVariants.{Own, NoInput}
 use Rattle.machine_steps.specs.declared.end.End.TheVariants.{Done, Uncaught, Spent, FrameLimit}
 use Rattle.machine_steps.specs.State.{Frame, Active, Activations, Store, Runs, Ended, Broken, Stepped, Goes, Stops}
 use Rattle.machine_steps.specs.Moves.{enter}
@@ -20,8 +20,8 @@ nothing = record {
   strings = [];
   links = with_host [];
   procedures =
-    procedure 0 0 0 0 (Return ∷ []) []
-    ∷ [];
+      procedure 0 0 0 0 (Return ∷ []) []
+      ∷ [];
 }
 
 nothing_1 : (k : Keeps nothing) → seen (alone nothing k) 1 ≡ Saw [] (Ended Done) 0 0 1
@@ -44,8 +44,8 @@ echoes = record {
   strings = [];
   links = with_host [];
   procedures =
-    procedure 0 0 0 1 (CallLink 4 ∷ JumpIf 25 ∷ CallLink 3 ∷ CallLink 0 ∷ JumpBack 0 ∷ Return ∷ []) []
-    ∷ [];
+      procedure 0 0 0 1 (CallLink 4 ∷ JumpIf 25 ∷ CallLink 3 ∷ CallLink 0 ∷ JumpBack 0 ∷ Return ∷ []) []
+      ∷ [];
 }
 
 -- with its least turns, and cut at each bound; so many bytes were taken
@@ -106,8 +106,8 @@ reads = record {
   strings = [];
   links = with_host [];
   procedures =
-    procedure 0 0 0 1 (CallLink 3 ∷ Pop 1 ∷ Return ∷ []) []
-    ∷ [];
+      procedure 0 0 0 1 (CallLink 3 ∷ Pop 1 ∷ Return ∷ []) []
+      ∷ [];
 }
 
 reads_at_end : (k : Keeps reads) → seen_over (alone reads k) [] false 5 ≡ Saw [] (Ended (Uncaught NoInput)) 2 0 1
@@ -126,8 +126,8 @@ reads_caught = record {
   strings = [];
   links = with_host [];
   procedures =
-    procedure 0 0 0 1 (CallLink 3 ∷ Pop 1 ∷ Return ∷ Lit 110 ∷ CallLink 0 ∷ Leave 1 8 ∷ []) (phrase 0 5 (arm ((l.Link 5) ∷ []) 0 0 9 24 ∷ []) ∷ [])
-    ∷ [];
+      procedure 0 0 0 1 (CallLink 3 ∷ Pop 1 ∷ Return ∷ Lit 110 ∷ CallLink 0 ∷ Leave 1 8 ∷ []) (phrase 0 5 (arm ((l.Link 5) ∷ []) 0 0 9 24 ∷ []) ∷ [])
+      ∷ [];
 }
 
 reads_caught_5 : (k : Keeps reads_caught) → seen (alone reads_caught k) 5 ≡ Saw (codes "n") (Ended Done) 0 0 5
@@ -142,8 +142,8 @@ raises_no_input = record {
   strings = [];
   links = with_host [];
   procedures =
-    procedure 0 0 0 0 (RaiseLink 5 ∷ []) []
-    ∷ [];
+      procedure 0 0 0 0 (RaiseLink 5 ∷ []) []
+      ∷ [];
 }
 
 raises_no_input_2 : (k : Keeps raises_no_input) → seen (alone raises_no_input k) 2 ≡ Saw [] (Ended (Uncaught NoInput)) 0 0 1
@@ -158,8 +158,8 @@ writes = record {
   strings = codes "hey" ∷ [];
   links = with_host [];
   procedures =
-    procedure 0 0 0 2 (Str 1 ∷ CallLink 1 ∷ Lit 0 ∷ Lit 0 ∷ CallLink 1 ∷ Lit 65535 ∷ CallLink 2 ∷ Lit 577 ∷ CallLink 0 ∷ Return ∷ []) []
-    ∷ [];
+      procedure 0 0 0 2 (Str 1 ∷ CallLink 1 ∷ Lit 0 ∷ Lit 0 ∷ CallLink 1 ∷ Lit 65535 ∷ CallLink 2 ∷ Lit 577 ∷ CallLink 0 ∷ Return ∷ []) []
+      ∷ [];
 }
 
 writes_5 : (k : Keeps writes) → seen (alone writes k) 5 ≡ Saw (codes "hey-1A") (Ended Done) 0 0 10
@@ -174,12 +174,12 @@ fibonacci = record {
   strings = [];
   links = with_host [];
   procedures =
-    procedure 0 0 0 1 (Lit 10 ∷ Call 1 ∷ CallLink 2 ∷ Return ∷ []) []
-    ∷ procedure 1 1 2 3
+      procedure 0 0 0 1 (Lit 10 ∷ Call 1 ∷ CallLink 2 ∷ Return ∷ []) []
+      ∷ procedure 1 1 2 3
       (LoadL 0 1 ∷ Lit 2 ∷ LessI ∷ JumpIfNot 25 ∷ LoadL 0 1 ∷ StoreL 1 1 ∷ Return ∷ LoadL 0 1 ∷ Lit 1 ∷ Sub ∷ Call 1 ∷ LoadL 0 1 ∷ Lit 2 ∷ Sub ∷ Call 1 ∷
       Add ∷ StoreL 1 1 ∷ Return ∷ [])
       []
-    ∷ [];
+      ∷ [];
 }
 
 fibonacci_179 : (k : Keeps fibonacci) → seen (alone fibonacci k) 179 ≡ Saw (codes "55") (Ended Done) 0 0 1947
@@ -194,9 +194,9 @@ two_results = record {
   strings = [];
   links = with_host [];
   procedures =
-    procedure 0 0 0 2 (Call 1 ∷ StoreG 0 2 ∷ LoadG 0 1 ∷ CallLink 2 ∷ LoadG 1 1 ∷ CallLink 2 ∷ Return ∷ []) []
-    ∷ procedure 0 2 2 2 (Lit 1 ∷ StoreL 0 1 ∷ Lit 2 ∷ StoreL 1 1 ∷ LoadL 1 1 ∷ LoadL 0 1 ∷ StoreL 0 2 ∷ Return ∷ []) []
-    ∷ [];
+      procedure 0 0 0 2 (Call 1 ∷ StoreG 0 2 ∷ LoadG 0 1 ∷ CallLink 2 ∷ LoadG 1 1 ∷ CallLink 2 ∷ Return ∷ []) []
+      ∷ procedure 0 2 2 2 (Lit 1 ∷ StoreL 0 1 ∷ Lit 2 ∷ StoreL 1 1 ∷ LoadL 1 1 ∷ LoadL 0 1 ∷ StoreL 0 2 ∷ Return ∷ []) []
+      ∷ [];
 }
 
 two_results_4 : (k : Keeps two_results) → seen (alone two_results k) 4 ≡ Saw (codes "21") (Ended Done) 0 0 15
@@ -213,9 +213,9 @@ server = record {
   strings = [];
   links = [];
   procedures =
-    procedure 0 0 0 0 (Return ∷ []) []
-    ∷ procedure 1 1 4 2 (Lit 9 ∷ StoreL 2 1 ∷ LoadL 0 1 ∷ Raise 0 ∷ StoreL 3 1 ∷ LoadL 3 1 ∷ Lit 10 ∷ Mul ∷ LoadL 2 1 ∷ Add ∷ StoreL 1 1 ∷ Return ∷ []) []
-    ∷ [];
+      procedure 0 0 0 0 (Return ∷ []) []
+      ∷ procedure 1 1 4 2 (Lit 9 ∷ StoreL 2 1 ∷ LoadL 0 1 ∷ Raise 0 ∷ StoreL 3 1 ∷ LoadL 3 1 ∷ Lit 10 ∷ Mul ∷ LoadL 2 1 ∷ Add ∷ StoreL 1 1 ∷ Return ∷ []) []
+      ∷ [];
 }
 
 abbrev asker : Written
@@ -225,10 +225,10 @@ asker = record {
   strings = [];
   links = with_host (procedure_link 1 1 ∷ signal_link 1 1 ∷ []);
   procedures =
-    procedure 0 0 1 2
+      procedure 0 0 1 2
       (Lit 4 ∷ CallLink 6 ∷ CallLink 2 ∷ Return ∷ LoadL 0 1 ∷ Lit 1 ∷ Add ∷ Resume 1 ∷ [])
       (phrase 3 8 (arm ((l.Link 7) ∷ []) 0 1 14 26 ∷ []) ∷ [])
-    ∷ [];
+      ∷ [];
 }
 
 -- with these CONTROL instances
@@ -283,11 +283,11 @@ counter = record {
   strings = [];
   links = [];
   procedures =
-    procedure 0 0 0 0 (Return ∷ []) []
-    ∷ procedure 0 1 1 2
+      procedure 0 0 0 0 (Return ∷ []) []
+      ∷ procedure 0 1 1 2
       (LoadG 0 1 ∷ Lit 1 ∷ Add ∷ StoreG 0 1 ∷ Lit 2 ∷ LoadG 0 1 ∷ LessI ∷ JumpIfNot 33 ∷ Raise 0 ∷ LoadG 0 1 ∷ StoreL 0 1 ∷ Return ∷ [])
       []
-    ∷ [];
+      ∷ [];
 }
 
 abbrev other : Written
@@ -297,12 +297,12 @@ other = record {
   strings = [];
   links = with_host (procedure_link 0 1 ∷ []);
   procedures =
-    procedure 0 0 0 0 (Return ∷ []) []
-    ∷ procedure 0 0 1 2
+      procedure 0 0 0 0 (Return ∷ []) []
+      ∷ procedure 0 0 1 2
       (Lit 3 ∷ StoreL 0 1 ∷ LoadL 0 1 ∷ Lit 0 ∷ Eq ∷ JumpIf 51 ∷ CallLink 6 ∷ CallLink 2 ∷ LoadL 0 1 ∷ Lit 1 ∷ Sub ∷ StoreL 0 1 ∷ JumpBack 8 ∷ Return ∷
       [])
       []
-    ∷ [];
+      ∷ [];
 }
 
 abbrev main : Written
@@ -312,16 +312,16 @@ main = record {
   strings = [];
   links = with_host (procedure_link 0 1 ∷ error_link ∷ procedure_link 0 0 ∷ []);
   procedures =
-    procedure 0 0 0 1
+      procedure 0 0 0 1
       (CallLink 6 ∷ CallLink 2 ∷ CallLink 8 ∷ Return ∷ Lit 120 ∷ CallLink 0 ∷ Leave 1 15 ∷ [])
       (phrase 10 15 (arm ((l.Link 7) ∷ []) 0 0 16 31 ∷ []) ∷ [])
-    ∷ [];
+      ∷ [];
 }
 
 -- with the instance whose Full is caught
 abbrev counting : Keeps counter → Keeps other → Keeps main → ℕ → Image
 counting k j i caught = image_of (object counter k ∷ object other j ∷ object main i ∷ []) (0 ∷ 0 ∷ 1 ∷ 2 ∷ [])
-  ([] ∷ [] ∷ bound_to_host (To 0 1 ∷ []) ∷ bound_to_host (To 1 1 ∷ To caught 0 ∷ To 2 1 ∷ []) ∷ []) (3 ∷ [])
+    ([] ∷ [] ∷ bound_to_host (To 0 1 ∷ []) ∷ bound_to_host (To 1 1 ∷ To caught 0 ∷ To 2 1 ∷ []) ∷ []) (3 ∷ [])
 
 counts_15 : (k : Keeps counter) (j : Keeps other) (i : Keeps main) → seen (counting k j i 1) 15 ≡ Saw (codes "112") (Ended (Uncaught (Own 0 0))) 0 0 77
 unfolding seen
@@ -355,9 +355,9 @@ descends = record {
   strings = [];
   links = with_host [];
   procedures =
-    procedure 0 0 0 1 (Lit 1 ∷ Call 1 ∷ Lit 46 ∷ CallLink 0 ∷ Lit 46 ∷ CallLink 0 ∷ Return ∷ []) []
-    ∷ procedure 1 0 1 2 (LoadL 0 1 ∷ Lit 0 ∷ Eq ∷ JumpIfNot 15 ∷ Return ∷ LoadL 0 1 ∷ Lit 1 ∷ Sub ∷ Call 1 ∷ Return ∷ []) []
-    ∷ [];
+      procedure 0 0 0 1 (Lit 1 ∷ Call 1 ∷ Lit 46 ∷ CallLink 0 ∷ Lit 46 ∷ CallLink 0 ∷ Return ∷ []) []
+      ∷ procedure 1 0 1 2 (LoadL 0 1 ∷ Lit 0 ∷ Eq ∷ JumpIfNot 15 ∷ Return ∷ LoadL 0 1 ∷ Lit 1 ∷ Sub ∷ Call 1 ∷ Return ∷ []) []
+      ∷ [];
 }
 
 -- its body runs over so many other activations

@@ -1,13 +1,10 @@
 -- Jumps out of arms, each with the least turns with which its end is reached.
-use Rattle.std.specs.Prelude.{◌≡◌, refl, ℕ, List, [], ◌∷◌, codes, Bool, true, false, None, Some}
-use Rattle.code_forms.specs.declared.instruction.Instruction.TheVariants.{Lit, LoadG, StoreG, LoadL, StoreL, Add, LessI, JumpIfNot, JumpBack, Call, CallLink, Return, Raise, ArmEnd, Resume, Leave, LeaveReturn, Pop}
+use Rattle.std.specs.Prelude.{◌≡◌, refl, [], ◌∷◌, codes}
+use Rattle.code_forms.specs.declared.instruction.Instruction.TheVariants.{Lit, LoadG, StoreG, StoreL, Add, LessI, JumpIfNot, JumpBack, Call, CallLink, Return, Raise, ArmEnd, Resume, Leave, LeaveReturn, Pop}
 use Rattle.code_forms.specs.declared.module_code.Label.TheVariants as l
-use Rattle.object_files.specs.declared.image.Image.{Image}
-use Rattle.object_files.specs.declared.image.Link.TheVariants.{Wanted, To}
-use Rattle.signaller.specs.declared.signal_id.SignalId.TheVariants.{Own, BoundsFault, ZeroDivisor, NoInput, Unnamed}
-use Rattle.machine_steps.specs.declared.end.End.TheVariants.{Done, Uncaught, Spent, FrameLimit}
-use Rattle.machine_steps.specs.State.{Ended, Broken}
-use Rattle.machine_steps.proofs.Written.{arm, phrase, procedure, error, signal_with, procedure_link, signal_link, error_link, with_host, Written, Keeps, object, bound_to_host, image_of, alone, Saw, seen, seen_over}
+use Rattle.machine_steps.specs.declared.end.End.TheVariants.{Done, Spent}
+use Rattle.machine_steps.specs.State.{Ended}
+use Rattle.machine_steps.proofs.Written.{arm, phrase, procedure, error, with_host, Written, Keeps, alone, Saw, seen}
 
 -- E is raised in C, caught where A calls B, and A goes on behind that call; C and B have UNWIND arms:
 -- C: BEGIN ENABLE UNWIND => WriteChar['c]; ERROR E END; B: BEGIN ENABLE UNWIND => WriteChar['b]; C[] END;
@@ -19,13 +16,13 @@ unwinds = record {
   strings = [];
   links = with_host [];
   procedures =
-    procedure 0 0 0 1 (Call 1 ∷ Return ∷ []) []
-    ∷ procedure 0 0 0 1
+      procedure 0 0 0 1 (Call 1 ∷ Return ∷ []) []
+      ∷ procedure 0 0 0 1
       (Call 2 ∷ Lit 100 ∷ CallLink 0 ∷ Return ∷ Lit 97 ∷ CallLink 0 ∷ Leave 1 5 ∷ [])
       (phrase 0 5 (arm ((l.Own 0) ∷ []) 0 0 14 29 ∷ []) ∷ [])
-    ∷ procedure 0 0 0 1 (Call 3 ∷ Return ∷ Lit 98 ∷ CallLink 0 ∷ ArmEnd ∷ []) (phrase 0 5 (arm (l.Unwind ∷ []) 0 0 6 15 ∷ []) ∷ [])
-    ∷ procedure 0 0 0 1 (Raise 0 ∷ Return ∷ Lit 99 ∷ CallLink 0 ∷ ArmEnd ∷ []) (phrase 0 5 (arm (l.Unwind ∷ []) 0 0 6 15 ∷ []) ∷ [])
-    ∷ [];
+      ∷ procedure 0 0 0 1 (Call 3 ∷ Return ∷ Lit 98 ∷ CallLink 0 ∷ ArmEnd ∷ []) (phrase 0 5 (arm (l.Unwind ∷ []) 0 0 6 15 ∷ []) ∷ [])
+      ∷ procedure 0 0 0 1 (Raise 0 ∷ Return ∷ Lit 99 ∷ CallLink 0 ∷ ArmEnd ∷ []) (phrase 0 5 (arm (l.Unwind ∷ []) 0 0 6 15 ∷ []) ∷ [])
+      ∷ [];
 }
 
 -- with its least turns, and cut at each bound
@@ -90,13 +87,13 @@ unwinds_own = record {
   strings = [];
   links = with_host [];
   procedures =
-    procedure 0 0 0 1 (Call 1 ∷ Lit 100 ∷ CallLink 0 ∷ Return ∷ []) []
-    ∷ procedure 0 0 0 1
+      procedure 0 0 0 1 (Call 1 ∷ Lit 100 ∷ CallLink 0 ∷ Return ∷ []) []
+      ∷ procedure 0 0 0 1
       (Call 2 ∷ Return ∷ Lit 97 ∷ CallLink 0 ∷ Leave 1 5 ∷ Lit 120 ∷ CallLink 0 ∷ ArmEnd ∷ [])
       (phrase 0 5 (arm ((l.Own 0) ∷ []) 0 0 6 21 ∷ []) ∷ phrase 0 5 (arm (l.Unwind ∷ []) 0 0 21 30 ∷ []) ∷ [])
-    ∷ procedure 0 0 0 1 (Call 3 ∷ Return ∷ Lit 98 ∷ CallLink 0 ∷ ArmEnd ∷ []) (phrase 0 5 (arm (l.Unwind ∷ []) 0 0 6 15 ∷ []) ∷ [])
-    ∷ procedure 0 0 0 1 (Raise 0 ∷ Return ∷ Lit 99 ∷ CallLink 0 ∷ ArmEnd ∷ []) (phrase 0 5 (arm (l.Unwind ∷ []) 0 0 6 15 ∷ []) ∷ [])
-    ∷ [];
+      ∷ procedure 0 0 0 1 (Call 3 ∷ Return ∷ Lit 98 ∷ CallLink 0 ∷ ArmEnd ∷ []) (phrase 0 5 (arm (l.Unwind ∷ []) 0 0 6 15 ∷ []) ∷ [])
+      ∷ procedure 0 0 0 1 (Raise 0 ∷ Return ∷ Lit 99 ∷ CallLink 0 ∷ ArmEnd ∷ []) (phrase 0 5 (arm (l.Unwind ∷ []) 0 0 6 15 ∷ []) ∷ [])
+      ∷ [];
 }
 
 unwinds_own_12 : (k : Keeps unwinds_own) → seen (alone unwinds_own k) 12 ≡ Saw (codes "acbd") (Ended Done) 0 0 17
@@ -111,12 +108,12 @@ retries = record {
   strings = [];
   links = with_host [];
   procedures =
-    procedure 0 0 0 2
+      procedure 0 0 0 2
       (Call 1 ∷ LoadG 0 1 ∷ CallLink 2 ∷ Return ∷ LoadG 0 1 ∷ Lit 1 ∷ Add ∷ StoreG 0 1 ∷ LoadG 0 1 ∷ Lit 4 ∷ LessI ∷ JumpIfNot 51 ∷ Leave 1 0 ∷ Leave 1 5 ∷
       [])
       (phrase 0 5 (arm ((l.Own 0) ∷ []) 0 0 16 58 ∷ []) ∷ [])
-    ∷ procedure 0 0 0 1 (Lit 112 ∷ CallLink 0 ∷ Raise 0 ∷ Return ∷ []) []
-    ∷ [];
+      ∷ procedure 0 0 0 1 (Lit 112 ∷ CallLink 0 ∷ Raise 0 ∷ Return ∷ []) []
+      ∷ [];
 }
 
 retries_18 : (k : Keeps retries) → seen (alone retries k) 18 ≡ Saw (codes "pppp4") (Ended Done) 0 0 55
@@ -136,16 +133,16 @@ replaces = record {
   strings = [];
   links = with_host [];
   procedures =
-    procedure 0 0 0 1 (Call 1 ∷ Return ∷ []) []
-    ∷ procedure 0 0 0 1
+      procedure 0 0 0 1 (Call 1 ∷ Return ∷ []) []
+      ∷ procedure 0 0 0 1
       (Call 2 ∷ Lit 100 ∷ CallLink 0 ∷ Return ∷ Lit 97 ∷ CallLink 0 ∷ Leave 1 5 ∷ [])
       (phrase 0 5 (arm ((l.Own 0) ∷ []) 0 0 14 29 ∷ []) ∷ [])
-    ∷ procedure 0 0 0 1
+      ∷ procedure 0 0 0 1
       (Call 3 ∷ Lit 98 ∷ CallLink 0 ∷ Return ∷ Lit 116 ∷ CallLink 0 ∷ Leave 1 5 ∷ [])
       (phrase 0 5 (arm ((l.Own 1) ∷ []) 0 0 14 29 ∷ []) ∷ [])
-    ∷ procedure 0 0 0 1 (Raise 0 ∷ Return ∷ Call 4 ∷ ArmEnd ∷ []) (phrase 0 5 (arm (l.Unwind ∷ []) 0 0 6 12 ∷ []) ∷ [])
-    ∷ procedure 0 0 0 1 (Raise 1 ∷ Return ∷ []) []
-    ∷ [];
+      ∷ procedure 0 0 0 1 (Raise 0 ∷ Return ∷ Call 4 ∷ ArmEnd ∷ []) (phrase 0 5 (arm (l.Unwind ∷ []) 0 0 6 12 ∷ []) ∷ [])
+      ∷ procedure 0 0 0 1 (Raise 1 ∷ Return ∷ []) []
+      ∷ [];
 }
 
 replaces_14 : (k : Keeps replaces) → seen (alone replaces k) 14 ≡ Saw (codes "atbd") (Ended Done) 0 0 19
@@ -161,16 +158,16 @@ once = record {
   strings = [];
   links = with_host [];
   procedures =
-    procedure 0 0 0 1 (Call 1 ∷ Return ∷ []) []
-    ∷ procedure 0 0 0 1
+      procedure 0 0 0 1 (Call 1 ∷ Return ∷ []) []
+      ∷ procedure 0 0 0 1
       (Call 2 ∷ Lit 100 ∷ CallLink 0 ∷ Return ∷ Lit 116 ∷ CallLink 0 ∷ Leave 1 5 ∷ [])
       (phrase 0 5 (arm ((l.Own 1) ∷ []) 0 0 14 29 ∷ []) ∷ [])
-    ∷ procedure 0 0 0 1
+      ∷ procedure 0 0 0 1
       (Call 3 ∷ Return ∷ Lit 98 ∷ CallLink 0 ∷ ArmEnd ∷ Call 4 ∷ ArmEnd ∷ [])
       (phrase 0 5 (arm (l.Unwind ∷ []) 0 0 6 15 ∷ []) ∷ phrase 0 5 (arm ((l.Own 0) ∷ []) 0 0 15 21 ∷ []) ∷ [])
-    ∷ procedure 0 0 0 1 (Raise 0 ∷ Return ∷ Lit 99 ∷ CallLink 0 ∷ ArmEnd ∷ []) (phrase 0 5 (arm (l.Unwind ∷ []) 0 0 6 15 ∷ []) ∷ [])
-    ∷ procedure 0 0 0 1 (Raise 1 ∷ Return ∷ []) []
-    ∷ [];
+      ∷ procedure 0 0 0 1 (Raise 0 ∷ Return ∷ Lit 99 ∷ CallLink 0 ∷ ArmEnd ∷ []) (phrase 0 5 (arm (l.Unwind ∷ []) 0 0 6 15 ∷ []) ∷ [])
+      ∷ procedure 0 0 0 1 (Raise 1 ∷ Return ∷ []) []
+      ∷ [];
 }
 
 once_15 : (k : Keeps once) → seen (alone once k) 15 ≡ Saw (codes "tcbd") (Ended Done) 0 0 19
@@ -187,13 +184,13 @@ jumps_inside = record {
   strings = [];
   links = with_host [];
   procedures =
-    procedure 0 0 0 1 (Call 1 ∷ Return ∷ []) []
-    ∷ procedure 0 0 0 1
+      procedure 0 0 0 1 (Call 1 ∷ Return ∷ []) []
+      ∷ procedure 0 0 0 1
       (Call 2 ∷ Lit 110 ∷ CallLink 0 ∷ Lit 100 ∷ CallLink 0 ∷ Return ∷ Lit 97 ∷ CallLink 0 ∷ Leave 1 13 ∷ [])
       (phrase 0 5 (arm ((l.Own 0) ∷ []) 0 0 22 37 ∷ []) ∷ [])
-    ∷ procedure 0 0 0 1 (Call 3 ∷ Lit 98 ∷ CallLink 0 ∷ Return ∷ Leave 1 5 ∷ []) (phrase 0 5 (arm (l.Unwind ∷ []) 0 0 14 21 ∷ []) ∷ [])
-    ∷ procedure 0 0 0 1 (Raise 0 ∷ Return ∷ []) []
-    ∷ [];
+      ∷ procedure 0 0 0 1 (Call 3 ∷ Lit 98 ∷ CallLink 0 ∷ Return ∷ Leave 1 5 ∷ []) (phrase 0 5 (arm (l.Unwind ∷ []) 0 0 14 21 ∷ []) ∷ [])
+      ∷ procedure 0 0 0 1 (Raise 0 ∷ Return ∷ []) []
+      ∷ [];
 }
 
 jumps_inside_11 : (k : Keeps jumps_inside) → seen (alone jumps_inside k) 11 ≡ Saw (codes "abnd") (Ended Done) 0 0 17
@@ -209,11 +206,11 @@ leaves_two = record {
   strings = [];
   links = with_host [];
   procedures =
-    procedure 0 0 0 1
+      procedure 0 0 0 1
       (Call 1 ∷ Lit 110 ∷ CallLink 0 ∷ Lit 120 ∷ CallLink 0 ∷ Return ∷ Lit 105 ∷ CallLink 0 ∷ Call 1 ∷ ArmEnd ∷ Lit 111 ∷ CallLink 0 ∷ Leave 2 13 ∷ [])
       (phrase 0 5 (arm ((l.Own 0) ∷ []) 0 0 22 36 ∷ []) ∷ phrase 30 35 (arm ((l.Own 0) ∷ []) 0 0 36 51 ∷ []) ∷ [])
-    ∷ procedure 0 0 0 1 (Raise 0 ∷ Return ∷ []) []
-    ∷ [];
+      ∷ procedure 0 0 0 1 (Raise 0 ∷ Return ∷ []) []
+      ∷ [];
 }
 
 leaves_two_10 : (k : Keeps leaves_two) → seen (alone leaves_two k) 10 ≡ Saw (codes "iox") (Ended Done) 0 0 12
@@ -229,12 +226,12 @@ leaves_one = record {
   strings = [];
   links = with_host [];
   procedures =
-    procedure 0 0 0 1
+      procedure 0 0 0 1
       (Call 1 ∷ Lit 110 ∷ CallLink 0 ∷ Lit 120 ∷ CallLink 0 ∷ Return ∷ Lit 105 ∷ CallLink 0 ∷ Call 1 ∷ ArmEnd ∷ Lit 107 ∷ CallLink 0 ∷ Leave 1 13 ∷
       Lit 111 ∷ CallLink 0 ∷ Leave 1 36 ∷ [])
       (phrase 0 5 (arm ((l.Own 0) ∷ []) 0 0 22 51 ∷ []) ∷ phrase 30 35 (arm ((l.Own 0) ∷ []) 0 0 51 66 ∷ []) ∷ [])
-    ∷ procedure 0 0 0 1 (Raise 0 ∷ Return ∷ []) []
-    ∷ [];
+      ∷ procedure 0 0 0 1 (Raise 0 ∷ Return ∷ []) []
+      ∷ [];
 }
 
 leaves_one_11 : (k : Keeps leaves_one) → seen (alone leaves_one k) 11 ≡ Saw (codes "iokx") (Ended Done) 0 0 15
@@ -250,14 +247,14 @@ returns_out = record {
   strings = [];
   links = with_host [];
   procedures =
-    procedure 0 0 0 1
+      procedure 0 0 0 1
       (Call 1 ∷ CallLink 2 ∷ Call 2 ∷ Lit 110 ∷ CallLink 0 ∷ JumpBack 10 ∷ Lit 120 ∷ CallLink 0 ∷ Return ∷ Leave 1 28 ∷ [])
       (phrase 10 15 (arm ((l.Own 0) ∷ []) 0 0 37 44 ∷ []) ∷ [])
-    ∷ procedure 0 1 1 1
+      ∷ procedure 0 1 1 1
       (Call 2 ∷ Lit 9 ∷ StoreL 0 1 ∷ Return ∷ Lit 3 ∷ StoreL 0 1 ∷ LeaveReturn 1 ∷ [])
       (phrase 0 5 (arm ((l.Own 0) ∷ []) 0 0 14 25 ∷ []) ∷ [])
-    ∷ procedure 0 0 0 1 (Raise 0 ∷ Return ∷ []) []
-    ∷ [];
+      ∷ procedure 0 0 0 1 (Raise 0 ∷ Return ∷ []) []
+      ∷ [];
 }
 
 returns_out_10 : (k : Keeps returns_out) → seen (alone returns_out k) 10 ≡ Saw (codes "3x") (Ended Done) 0 0 13
@@ -272,12 +269,12 @@ resumes_inside = record {
   strings = [];
   links = with_host [];
   procedures =
-    procedure 0 0 0 1 (Call 1 ∷ Return ∷ []) []
-    ∷ procedure 0 0 0 1
+      procedure 0 0 0 1 (Call 1 ∷ Return ∷ []) []
+      ∷ procedure 0 0 0 1
       (Call 2 ∷ Lit 100 ∷ CallLink 0 ∷ Return ∷ Lit 97 ∷ CallLink 0 ∷ Leave 1 5 ∷ [])
       (phrase 0 5 (arm ((l.Own 0) ∷ []) 0 0 14 29 ∷ []) ∷ [])
-    ∷ procedure 0 0 0 1 (Raise 0 ∷ Return ∷ Lit 99 ∷ CallLink 0 ∷ Resume 0 ∷ []) (phrase 0 5 (arm (l.Unwind ∷ []) 0 0 6 17 ∷ []) ∷ [])
-    ∷ [];
+      ∷ procedure 0 0 0 1 (Raise 0 ∷ Return ∷ Lit 99 ∷ CallLink 0 ∷ Resume 0 ∷ []) (phrase 0 5 (arm (l.Unwind ∷ []) 0 0 6 17 ∷ []) ∷ [])
+      ∷ [];
 }
 
 resumes_inside_9 : (k : Keeps resumes_inside) → seen (alone resumes_inside k) 9 ≡ Saw (codes "acd") (Ended Done) 0 0 13
@@ -293,11 +290,11 @@ without_operands = record {
   strings = [];
   links = with_host [];
   procedures =
-    procedure 0 0 0 2
+      procedure 0 0 0 2
       (Lit 7 ∷ Lit 8 ∷ Call 1 ∷ Pop 2 ∷ Return ∷ CallLink 2 ∷ Return ∷ Leave 1 15 ∷ [])
       (phrase 6 11 (arm ((l.Own 0) ∷ []) 0 0 21 28 ∷ []) ∷ [])
-    ∷ procedure 0 0 0 1 (Raise 0 ∷ Return ∷ []) []
-    ∷ [];
+      ∷ procedure 0 0 0 1 (Raise 0 ∷ Return ∷ []) []
+      ∷ [];
 }
 
 without_operands_5 : (k : Keeps without_operands) → seen (alone without_operands k) 5 ≡ Saw (codes "0") (Ended Done) 0 0 7

@@ -2,6 +2,8 @@ pub mod Below
 pub mod CallExamples
 pub mod LeavingExamples
 pub mod Measure
+pub mod Nearer
+pub mod OneResult
 pub mod SignalExamples
 pub mod WorkingExamples
 pub mod Written

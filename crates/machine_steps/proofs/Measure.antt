@@ -1,15 +1,13 @@
 -- How far a state is from its end: the turns left come first, then the activations that stand, a start's frame counting twice, and last
 -- how much code or how many activations lie ahead.
-use Rattle.std.proofs.Common.{◌≡◌, ℕ, zero, suc, ◌+◌, ◌<◌, ◌≤◌, List, [], ◌∷◌, length, Bool, true, false, Option, Some, None, refl, sym, ap, subst, ◌∙◌, arith}
+use Rattle.std.proofs.Common.{◌≡◌, ℕ, zero, suc, ◌+◌, ◌<◌, ◌≤◌, List, [], ◌∷◌, length, Bool, true, false, Some, refl, sym, ap, subst, arith}
 use Rattle.std.specs.Prelude.{nat_eq, nat_le, if◌then◌else◌}
 use Rattle.std.proofs.lemmas.Bool.{eqb-true, leb-true, le-leb, lt-leb}
 use Rattle.std.proofs.lemmas.Option.{none-some, same_Some}
 use Rattle.code_forms.specs.declared.instruction.Instruction.{Instruction}
 use Rattle.code_forms.specs.declared.module_code.CodeEntry.{CodeEntry}
-use Rattle.code_forms.specs.declared.module_code.CodeProcedure.{CodeProcedure}
-use Rattle.object_files.specs.declared.image.Image.{Image}
-use Rattle.machine_steps.specs.State.{Role, Frame, InArm, Active, Activations, Store, State, Runs, Seeks, Leaves, Ending, Stepped, Goes, Stops}
-use Rattle.machine_steps.specs.LookUps.{instruction_at, procedure_under}
+use Rattle.machine_steps.specs.State.{Role, Frame, InArm, Active, Activations}
+use Rattle.machine_steps.specs.LookUps.{instruction_at}
 use Rattle.machine_steps.specs.Activations.{activation_at, owner, with_variables, set_variables}
 
 -- Each arm stands above its frame.

@@ -1,13 +1,11 @@
 -- Raises and arms, each with the least turns with which its end is reached.
-use Rattle.std.specs.Prelude.{◌≡◌, refl, ℕ, List, [], ◌∷◌, codes, Bool, true, false, None, Some}
+use Rattle.std.specs.Prelude.{◌≡◌, refl, [], ◌∷◌, codes}
 use Rattle.code_forms.specs.declared.instruction.Instruction.TheVariants.{Lit, LoadG, StoreG, Index, Add, DivI, ModC, Eq, JumpIfNot, Call, CallLink, Return, Raise, RaiseHost, ArmEnd, Resume, Leave, Pop}
 use Rattle.code_forms.specs.declared.module_code.Label.TheVariants as l
-use Rattle.object_files.specs.declared.image.Image.{Image}
-use Rattle.object_files.specs.declared.image.Link.TheVariants.{Wanted, To}
-use Rattle.signaller.specs.declared.signal_id.SignalId.TheVariants.{Own, BoundsFault, ZeroDivisor, NoInput, Unnamed}
-use Rattle.machine_steps.specs.declared.end.End.TheVariants.{Done, Uncaught, Spent, FrameLimit}
-use Rattle.machine_steps.specs.State.{Ended, Broken}
-use Rattle.machine_steps.proofs.Written.{arm, phrase, procedure, error, signal_with, procedure_link, signal_link, error_link, with_host, Written, Keeps, object, bound_to_host, image_of, alone, Saw, seen, seen_over}
+use Rattle.signaller.specs.declared.signal_id.SignalId.TheVariants.{Own, BoundsFault, ZeroDivisor, Unnamed}
+use Rattle.machine_steps.specs.declared.end.End.TheVariants.{Done, Uncaught, Spent}
+use Rattle.machine_steps.specs.State.{Ended}
+use Rattle.machine_steps.proofs.Written.{arm, phrase, procedure, error, signal_with, with_host, Written, Keeps, alone, Saw, seen}
 
 -- a signal raised inside an arm is offered beyond the phrase that holds the arm
 -- R: SIGNAL S; Q: R[! S => BEGIN WriteChar['i]; SIGNAL S; WriteChar['j]; RESUME END]; Q[! S => BEGIN WriteChar['o]; RESUME END];
@@ -19,14 +17,14 @@ goes_beyond = record {
   strings = [];
   links = with_host [];
   procedures =
-    procedure 0 0 0 1
+      procedure 0 0 0 1
       (Call 1 ∷ Lit 101 ∷ CallLink 0 ∷ Return ∷ Lit 111 ∷ CallLink 0 ∷ Resume 0 ∷ [])
       (phrase 0 5 (arm ((l.Own 0) ∷ []) 0 0 14 25 ∷ []) ∷ [])
-    ∷ procedure 0 0 0 1
+      ∷ procedure 0 0 0 1
       (Call 2 ∷ Return ∷ Lit 105 ∷ CallLink 0 ∷ Raise 0 ∷ Lit 106 ∷ CallLink 0 ∷ Resume 0 ∷ [])
       (phrase 0 5 (arm ((l.Own 0) ∷ []) 0 0 6 30 ∷ []) ∷ [])
-    ∷ procedure 0 0 0 1 (Raise 0 ∷ Return ∷ []) []
-    ∷ [];
+      ∷ procedure 0 0 0 1 (Raise 0 ∷ Return ∷ []) []
+      ∷ [];
 }
 
 goes_beyond_11 : (k : Keeps goes_beyond) → seen (alone goes_beyond k) 11 ≡ Saw (codes "ioje") (Ended Done) 0 0 17
@@ -42,11 +40,11 @@ rejects = record {
   strings = [];
   links = with_host [];
   procedures =
-    procedure 0 0 0 1
+      procedure 0 0 0 1
       (Call 1 ∷ Return ∷ Lit 111 ∷ CallLink 0 ∷ Resume 0 ∷ Lit 105 ∷ CallLink 0 ∷ ArmEnd ∷ [])
       (phrase 0 5 (arm ((l.Own 0) ∷ []) 0 0 6 17 ∷ []) ∷ phrase 0 5 (arm ((l.Own 0) ∷ []) 0 0 17 26 ∷ []) ∷ [])
-    ∷ procedure 0 0 0 1 (Raise 0 ∷ Return ∷ []) []
-    ∷ [];
+      ∷ procedure 0 0 0 1 (Raise 0 ∷ Return ∷ []) []
+      ∷ [];
 }
 
 rejects_7 : (k : Keeps rejects) → seen (alone rejects k) 7 ≡ Saw (codes "io") (Ended Done) 0 0 10
@@ -66,11 +64,11 @@ rejects_words = record {
   strings = [];
   links = with_host [];
   procedures =
-    procedure 0 0 0 1
+      procedure 0 0 0 1
       (Call 1 ∷ Return ∷ Lit 111 ∷ CallLink 0 ∷ Lit 5 ∷ Resume 1 ∷ Resume 0 ∷ [])
       (phrase 0 5 (arm ((l.Own 0) ∷ []) 0 0 6 20 ∷ []) ∷ phrase 0 5 (arm ((l.Own 0) ∷ []) 0 0 20 23 ∷ []) ∷ [])
-    ∷ procedure 0 0 0 1 (Raise 0 ∷ CallLink 2 ∷ Return ∷ []) []
-    ∷ [];
+      ∷ procedure 0 0 0 1 (Raise 0 ∷ CallLink 2 ∷ Return ∷ []) []
+      ∷ [];
 }
 
 rejects_words_7 : (k : Keeps rejects_words) → seen (alone rejects_words k) 7 ≡ Saw (codes "o5") (Ended Done) 0 0 10
@@ -85,9 +83,9 @@ resumes_error = record {
   strings = [];
   links = with_host [];
   procedures =
-    procedure 0 0 0 1 (Call 1 ∷ Return ∷ Resume 0 ∷ []) (phrase 0 5 (arm ((l.Own 0) ∷ []) 0 0 6 9 ∷ []) ∷ [])
-    ∷ procedure 0 0 0 1 (Raise 0 ∷ Return ∷ []) []
-    ∷ [];
+      procedure 0 0 0 1 (Call 1 ∷ Return ∷ Resume 0 ∷ []) (phrase 0 5 (arm ((l.Own 0) ∷ []) 0 0 6 9 ∷ []) ∷ [])
+      ∷ procedure 0 0 0 1 (Raise 0 ∷ Return ∷ []) []
+      ∷ [];
 }
 
 resumes_error_4 : (k : Keeps resumes_error) → seen (alone resumes_error k) 4 ≡ Saw [] (Ended (Uncaught (Own 0 0))) 0 0 3
@@ -103,14 +101,14 @@ first_arm = record {
   strings = [];
   links = with_host [];
   procedures =
-    procedure 0 0 0 1
+      procedure 0 0 0 1
       (Call 1 ∷ Return ∷ Lit 116 ∷ CallLink 0 ∷ Leave 1 0 ∷ Lit 101 ∷ CallLink 0 ∷ Leave 1 0 ∷ Lit 121 ∷ CallLink 0 ∷ Leave 1 5 ∷ [])
       (phrase 0 5 (arm ((l.Own 1) ∷ []) 0 0 6 21 ∷ arm ((l.Own 0) ∷ (l.Own 1) ∷ []) 0 0 21 36 ∷ arm (l.Any ∷ []) 0 0 36 51 ∷ []) ∷ [])
-    ∷ procedure 0 0 0 2
+      ∷ procedure 0 0 0 2
       (LoadG 0 1 ∷ Lit 1 ∷ Add ∷ StoreG 0 1 ∷ LoadG 0 1 ∷ Lit 1 ∷ Eq ∷ JumpIfNot 33 ∷ Raise 1 ∷ LoadG 0 1 ∷ Lit 2 ∷ Eq ∷ JumpIfNot 52 ∷ Raise 0 ∷
       RaiseHost 2 ∷ [])
       []
-    ∷ [];
+      ∷ [];
 }
 
 first_arm_13 : (k : Keeps first_arm) → seen (alone first_arm k) 13 ≡ Saw (codes "tey") (Ended Done) 0 0 48
@@ -125,9 +123,9 @@ unnamed = record {
   strings = [];
   links = with_host [];
   procedures =
-    procedure 0 0 0 0 (Call 1 ∷ RaiseHost 2 ∷ Leave 1 5 ∷ []) (phrase 0 5 (arm (l.Any ∷ []) 0 0 7 14 ∷ []) ∷ [])
-    ∷ procedure 0 0 0 0 (RaiseHost 2 ∷ []) []
-    ∷ [];
+      procedure 0 0 0 0 (Call 1 ∷ RaiseHost 2 ∷ Leave 1 5 ∷ []) (phrase 0 5 (arm (l.Any ∷ []) 0 0 7 14 ∷ []) ∷ [])
+      ∷ procedure 0 0 0 0 (RaiseHost 2 ∷ []) []
+      ∷ [];
 }
 
 unnamed_5 : (k : Keeps unnamed) → seen (alone unnamed k) 5 ≡ Saw [] (Ended (Uncaught Unnamed)) 0 0 4
@@ -143,8 +141,8 @@ bounds = record {
   strings = [];
   links = with_host [];
   procedures =
-    procedure 0 0 0 2 (Lit 0 ∷ Lit 3 ∷ Index 3 1 ∷ Pop 1 ∷ Return ∷ []) []
-    ∷ [];
+      procedure 0 0 0 2 (Lit 0 ∷ Lit 3 ∷ Index 3 1 ∷ Pop 1 ∷ Return ∷ []) []
+      ∷ [];
 }
 
 bounds_2 : (k : Keeps bounds) → seen (alone bounds k) 2 ≡ Saw [] (Ended (Uncaught BoundsFault)) 0 0 3
@@ -158,10 +156,10 @@ divides = record {
   strings = [];
   links = with_host [];
   procedures =
-    procedure 0 0 0 2
+      procedure 0 0 0 2
       (Lit 1 ∷ Lit 0 ∷ DivI ∷ Pop 1 ∷ Return ∷ Lit 98 ∷ CallLink 0 ∷ Leave 1 10 ∷ [])
       (phrase 6 7 (arm (l.BoundsFault ∷ []) 0 0 11 26 ∷ []) ∷ [])
-    ∷ [];
+      ∷ [];
 }
 
 divides_2 : (k : Keeps divides) → seen (alone divides k) 2 ≡ Saw [] (Ended (Uncaught ZeroDivisor)) 0 0 3
@@ -175,10 +173,10 @@ catches_bounds = record {
   strings = [];
   links = with_host [];
   procedures =
-    procedure 0 0 0 2
+      procedure 0 0 0 2
       (Lit 0 ∷ Lit 3 ∷ Index 3 1 ∷ Pop 1 ∷ Return ∷ Lit 98 ∷ CallLink 0 ∷ Leave 1 14 ∷ [])
       (phrase 6 11 (arm (l.BoundsFault ∷ []) 0 0 15 30 ∷ []) ∷ [])
-    ∷ [];
+      ∷ [];
 }
 
 catches_bounds_4 : (k : Keeps catches_bounds) → seen (alone catches_bounds k) 4 ≡ Saw (codes "b") (Ended Done) 0 0 7
@@ -192,10 +190,10 @@ catches_zero = record {
   strings = [];
   links = with_host [];
   procedures =
-    procedure 0 0 0 2
+      procedure 0 0 0 2
       (Lit 1 ∷ Lit 0 ∷ ModC ∷ Pop 1 ∷ Return ∷ Lit 122 ∷ CallLink 0 ∷ Leave 1 10 ∷ ArmEnd ∷ [])
       (phrase 6 7 (arm (l.BoundsFault ∷ l.ZeroDivisor ∷ []) 0 0 11 26 ∷ arm (l.Unwind ∷ []) 0 0 26 27 ∷ []) ∷ [])
-    ∷ [];
+      ∷ [];
 }
 
 catches_zero_4 : (k : Keeps catches_zero) → seen (alone catches_zero k) 4 ≡ Saw (codes "z") (Ended Done) 0 0 7

@@ -1,5 +1,5 @@
 -- How the images of the examples are written by hand, and what is seen of their runs.
-use Rattle.std.specs.Prelude.{◌≡◌, refl, ℕ, zero, suc, ◌+◌, ◌-◌, List, [], ◌∷◌, ◌++◌, length, map, codes, Bool, true, false, Option}
+use Rattle.std.specs.Prelude.{◌≡◌, ℕ, zero, suc, ◌+◌, ◌-◌, List, [], ◌∷◌, length, map, codes, Bool, false}
 use Rattle.std.proofs.Common.{sym, subst}
 use Rattle.std.specs.Fmt.{digits}
 use Rattle.mesa_types.specs.declared.faces.Item.{Item}
@@ -18,12 +18,11 @@ use Rattle.code_forms.specs.declared.module_code.Phrase.{Phrase}
 use Rattle.code_forms.specs.Instructions.{bytes_of}
 use Rattle.code_forms.specs.Ranges.{KeepsRanges}
 use Rattle.object_files.specs.declared.image.Image.{Image}
-use Rattle.object_files.specs.declared.image.Instance.{Instance}
 use Rattle.object_files.specs.declared.image.Link.{Link}
-use Rattle.object_files.specs.declared.image.Link.TheVariants.{Wanted, To}
+use Rattle.object_files.specs.declared.image.Link.TheVariants.{Wanted}
 use Rattle.object_files.specs.declared.object.Object.{Object}
 use Rattle.signaller.specs.Search as search
-use Rattle.machine_steps.specs.State.{Store, State, Ending, Stepped, Goes, Stops}
+use Rattle.machine_steps.specs.State.{Store, Ending, Stepped, Goes, Stops}
 use Rattle.machine_steps.specs.Working as work
 use Rattle.machine_steps.specs.LookUps as look
 use Rattle.machine_steps.specs.Activations as list

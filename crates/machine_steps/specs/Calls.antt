@@ -1,6 +1,6 @@
 -- Calls, starts and returns (Mesa Language Manual, chapters 4 and 7; when an instance is started is a rule of this project), and the
 -- procedures of the host.
-use Rattle.std.specs.Prelude.{ℕ, zero, suc, ◌-◌, ◌%◌, List, [], ◌∷◌, ◌++◌, length, Bool, true, false, ◌||◌, Option, Some, None, nat_eq, if◌then◌else◌}
+use Rattle.std.specs.Prelude.{ℕ, zero, suc, ◌-◌, ◌%◌, List, [], ◌∷◌, ◌++◌, length, true, false, ◌||◌, nat_eq, if◌then◌else◌}
 use Rattle.mesa_base.specs.Decimal.{signed_word}
 use Rattle.mesa_types.specs.Operators.{truth}
 use Rattle.code_forms.specs.declared.instruction.Instruction.{Instruction}
@@ -11,7 +11,7 @@ use Rattle.object_files.specs.declared.image.Link.{Link}
 use Rattle.object_files.specs.declared.image.Link.TheVariants.{Wanted, To}
 use Rattle.signaller.specs.declared.signal_id.SignalId.TheVariants.{NoInput}
 use Rattle.machine_steps.specs.declared.end.End.TheVariants.{Done}
-use Rattle.machine_steps.specs.State.{Role, Frame, InArm, Active, Activations, Store, State, Runs, Ending, Ended, Broken, Stuck, Stepped, Goes, Stops}
+use Rattle.machine_steps.specs.State.{Role, Frame, InArm, Active, Activations, Store, Runs, Ended, Broken, Stuck, Stepped, Goes, Stops}
 use Rattle.machine_steps.specs.Words.{zeros, words_at, popped, under, on_top, on_two}
 use Rattle.machine_steps.specs.LookUps.{procedure_of, called, bound_to, text_of, Host, WriteChar, WriteString, WriteDecimal, ReadChar, EndOfInput, host_of, procedure_under, instruction_under}
 use Rattle.machine_steps.specs.Moves.{with, spend, enter, give}

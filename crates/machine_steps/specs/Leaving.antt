@@ -6,7 +6,7 @@ use Rattle.signaller.specs.declared.search.Found.{Found}
 use Rattle.signaller.specs.declared.search.Found.TheVariants.{Arm as FoundArm, Beyond}
 use Rattle.signaller.specs.declared.search.Search.{Search}
 use Rattle.signaller.specs.Search.{has, search_at, unwind_next}
-use Rattle.machine_steps.specs.State.{Target, Why, ForRaise, ForJump, Role, Frame, InArm, Activation, Active, Activations, Store, State, Leaves, Stuck, Stepped, Goes, Stops}
+use Rattle.machine_steps.specs.State.{Target, ForRaise, ForJump, Role, Frame, InArm, Activation, Active, Activations, Store, Leaves, Stuck, Stepped, Goes, Stops}
 use Rattle.machine_steps.specs.LookUps.{phrases_under, arm_under}
 use Rattle.machine_steps.specs.Activations.{own_frame}
 use Rattle.machine_steps.specs.Moves.{go_to}

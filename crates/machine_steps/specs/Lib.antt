@@ -1,5 +1,6 @@
 pub mod Activations
 pub mod Calls
+pub mod Laws
 pub mod Leaving
 pub mod LookUps
 pub mod Moves

@@ -1,10 +1,10 @@
 -- What an image has, and what an activation finds in it (rule of this project).
-use Rattle.std.specs.Prelude.{ℕ, zero, suc, ◌+◌, List, [], ◌∷◌, length, Option, Some, None, unwrap_or, option_and_then, option_map, slice_get, flat_map, nat_eq, bytes_eq, codes, if◌then◌else◌}
+use Rattle.std.specs.Prelude.{ℕ, zero, suc, List, [], ◌∷◌, Option, Some, None, unwrap_or, option_and_then, option_map, slice_get, flat_map, nat_eq, bytes_eq, codes, if◌then◌else◌}
 use Rattle.code_forms.specs.declared.instruction.Instruction.{Instruction}
 use Rattle.code_forms.specs.declared.module_code.Arm.{Arm}
 use Rattle.code_forms.specs.declared.module_code.CodeEntry.{CodeEntry}
 use Rattle.code_forms.specs.declared.module_code.CodeKind.{CodeKind}
-use Rattle.code_forms.specs.declared.module_code.CodeKind.TheVariants.{Procedure, Signal, Error}
+use Rattle.code_forms.specs.declared.module_code.CodeKind.TheVariants.{Procedure}
 use Rattle.code_forms.specs.declared.module_code.CodeLink.{CodeLink}
 use Rattle.code_forms.specs.declared.module_code.CodeProcedure.{CodeProcedure}
 use Rattle.code_forms.specs.declared.module_code.CodeSignal.{CodeSignal}
@@ -19,7 +19,7 @@ use Rattle.interface_records.specs.declared.wanted.Wanted.{Wanted as WantedEntry
 use Rattle.signaller.specs.declared.search.Links.{Links}
 use Rattle.signaller.specs.declared.signal_id.SignalId.{SignalId}
 use Rattle.signaller.specs.declared.signal_id.SignalId.TheVariants.{Own, NoInput}
-use Rattle.machine_steps.specs.State.{Activation, Active}
+use Rattle.machine_steps.specs.State.{Activation}
 
 -- Modules.
 

@@ -6,7 +6,7 @@ use Rattle.code_forms.specs.Instructions.{bytes_of}
 use Rattle.object_files.specs.declared.image.Image.{Image}
 use Rattle.machine_steps.specs.declared.end.End.TheVariants.{Spent, FrameLimit}
 use Rattle.machine_steps.specs.Words.{push, under}
-use Rattle.machine_steps.specs.State.{Active, Activations, Store, State, Runs, Ending, Ended, Stuck, Stepped, Goes, Stops}
+use Rattle.machine_steps.specs.State.{Active, Activations, Store, Runs, Ended, Stuck, Stepped, Goes, Stops}
 use Rattle.machine_steps.specs.LookUps.{instruction_under}
 
 -- goes on with what is there

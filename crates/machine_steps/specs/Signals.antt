@@ -12,7 +12,7 @@ use Rattle.signaller.specs.declared.signal_id.SignalId.{SignalId}
 use Rattle.signaller.specs.declared.signal_id.SignalId.TheVariants.{Own, BoundsFault, ZeroDivisor, NoInput, Unnamed}
 use Rattle.signaller.specs.Search.{search_at, next_arm}
 use Rattle.machine_steps.specs.declared.end.End.TheVariants.{Uncaught}
-use Rattle.machine_steps.specs.State.{Why, ForRaise, ForJump, Role, Frame, InArm, Activation, Active, Activations, Store, State, Runs, Seeks, Leaves, Ending, Ended, Stuck, Stepped, Goes, Stops}
+use Rattle.machine_steps.specs.State.{Why, ForRaise, ForJump, Role, Frame, InArm, Activation, Active, Activations, Store, Seeks, Leaves, Ended, Stuck, Stepped, Goes, Stops}
 use Rattle.machine_steps.specs.Words.{put_words}
 use Rattle.machine_steps.specs.LookUps.{signal_of, links_of, phrases_under, arm_under}
 use Rattle.machine_steps.specs.Activations.{activation_at, owner, variables_of, set_variables}

@@ -1,5 +1,5 @@
 -- Words of variables and of operands (rule of this project).
-use Rattle.std.specs.Prelude.{ℕ, ◌+◌, ◌-◌, List, [], ◌∷◌, ◌++◌, length, take, drop, reverse, replicate}
+use Rattle.std.specs.Prelude.{ℕ, ◌+◌, List, [], ◌∷◌, ◌++◌, length, take, drop, reverse, replicate}
 
 -- so many zeros
 abbrev pub zeros : ℕ → List ℕ

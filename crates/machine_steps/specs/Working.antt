@@ -1,6 +1,6 @@
 -- The instructions that work on one activation alone, one row each: what it makes of the operands, of the variables of the frame and of
 -- the globals of the instance (rule of this project).
-use Rattle.std.specs.Prelude.{ℕ, suc, ◌+◌, ◌-◌, ◌*◌, List, [], ◌∷◌, length, nat_eq, nat_lt, nat_le, Bool, if◌then◌else◌}
+use Rattle.std.specs.Prelude.{ℕ, suc, ◌+◌, ◌-◌, ◌*◌, List, ◌∷◌, length, nat_eq, nat_lt, nat_le, Bool, if◌then◌else◌}
 use Rattle.mesa_types.specs.declared.typed_parts.Base.TheVariants.{Signed, Unsigned}
 use Rattle.mesa_types.specs.declared.typed_parts.Range.TheVariants.{From}
 use Rattle.mesa_types.specs.declared.relation.Relation.TheVariants.{Less}

@@ -2,5 +2,7 @@
 #![tactic(auto)]
 
 mod end;
+mod laws;
 
 pub use end::End;
+pub use laws::{ends_at_most_once, one_result};
