@@ -10,7 +10,7 @@ use Rattle.machine_steps.specs.declared.end.End.TheVariants.{Done, Uncaught, Spe
 use Rattle.machine_steps.specs.State.{Frame, Active, Activations, Store, Runs, Ended, Broken, Stepped, Goes, Stops}
 use Rattle.machine_steps.specs.Moves.{enter}
 use Rattle.machine_steps.specs.Steps.{fresh}
-use Rattle.machine_steps.proofs.Written.{arm, phrase, procedure, error, signal_with, procedure_link, signal_link, error_link, with_host, Written, Keeps, object, bound_to_host, image_of, alone, Saw, seen, seen_over, seen_from}
+use Rattle.machine_steps.proofs.Written.{arm, phrase, procedure, error, signal_with, procedure_link, signal_link, error_link, with_host, Written, object, bound_to_host, image_of, alone, Saw, seen, seen_over, seen_from}
 
 -- a body that does nothing; its start spends a turn
 abbrev nothing : Written
@@ -24,17 +24,17 @@ nothing = record {
       ∷ [];
 }
 
-nothing_1 : (k : Keeps nothing) → seen (alone nothing k) 1 ≡ Saw [] (Ended Done) 0 0 1
+nothing_1 : seen (alone nothing refl) 1 ≡ Saw [] (Ended Done) 0 0 1
 unfolding seen
-nothing_1 k = refl
+nothing_1 = refl
 
-nothing_0 : (k : Keeps nothing) → seen (alone nothing k) 0 ≡ Saw [] (Ended Spent) 0 0 0
+nothing_0 : seen (alone nothing refl) 0 ≡ Saw [] (Ended Spent) 0 0 0
 unfolding seen
-nothing_0 k = refl
+nothing_0 = refl
 
-nothing_5 : (k : Keeps nothing) → seen (alone nothing k) 5 ≡ Saw [] (Ended Done) 4 0 1
+nothing_5 : seen (alone nothing refl) 5 ≡ Saw [] (Ended Done) 4 0 1
 unfolding seen
-nothing_5 k = refl
+nothing_5 = refl
 
 -- UNTIL EndOfInput[] DO WriteChar[ReadChar[]] ENDLOOP
 abbrev echoes : Written
@@ -49,54 +49,54 @@ echoes = record {
 }
 
 -- with its least turns, and cut at each bound; so many bytes were taken
-echoes_10 : (k : Keeps echoes) → seen_over (alone echoes k) (codes "hi") false 10 ≡ Saw (codes "hi") (Ended Done) 0 2 13
+echoes_10 : seen_over (alone echoes refl) (codes "hi") false 10 ≡ Saw (codes "hi") (Ended Done) 0 2 13
 unfolding seen_over
-echoes_10 k = refl
+echoes_10 = refl
 
-echoes_0 : (k : Keeps echoes) → seen_over (alone echoes k) (codes "hi") false 0 ≡ Saw [] (Ended Spent) 0 0 0
+echoes_0 : seen_over (alone echoes refl) (codes "hi") false 0 ≡ Saw [] (Ended Spent) 0 0 0
 unfolding seen_over
-echoes_0 k = refl
+echoes_0 = refl
 
-echoes_1 : (k : Keeps echoes) → seen_over (alone echoes k) (codes "hi") false 1 ≡ Saw [] (Ended Spent) 0 0 1
+echoes_1 : seen_over (alone echoes refl) (codes "hi") false 1 ≡ Saw [] (Ended Spent) 0 0 1
 unfolding seen_over
-echoes_1 k = refl
+echoes_1 = refl
 
-echoes_2 : (k : Keeps echoes) → seen_over (alone echoes k) (codes "hi") false 2 ≡ Saw [] (Ended Spent) 0 0 3
+echoes_2 : seen_over (alone echoes refl) (codes "hi") false 2 ≡ Saw [] (Ended Spent) 0 0 3
 unfolding seen_over
-echoes_2 k = refl
+echoes_2 = refl
 
-echoes_3 : (k : Keeps echoes) → seen_over (alone echoes k) (codes "hi") false 3 ≡ Saw [] (Ended Spent) 0 1 4
+echoes_3 : seen_over (alone echoes refl) (codes "hi") false 3 ≡ Saw [] (Ended Spent) 0 1 4
 unfolding seen_over
-echoes_3 k = refl
+echoes_3 = refl
 
-echoes_4 : (k : Keeps echoes) → seen_over (alone echoes k) (codes "hi") false 4 ≡ Saw (codes "h") (Ended Spent) 0 1 5
+echoes_4 : seen_over (alone echoes refl) (codes "hi") false 4 ≡ Saw (codes "h") (Ended Spent) 0 1 5
 unfolding seen_over
-echoes_4 k = refl
+echoes_4 = refl
 
-echoes_5 : (k : Keeps echoes) → seen_over (alone echoes k) (codes "hi") false 5 ≡ Saw (codes "h") (Ended Spent) 0 1 6
+echoes_5 : seen_over (alone echoes refl) (codes "hi") false 5 ≡ Saw (codes "h") (Ended Spent) 0 1 6
 unfolding seen_over
-echoes_5 k = refl
+echoes_5 = refl
 
-echoes_6 : (k : Keeps echoes) → seen_over (alone echoes k) (codes "hi") false 6 ≡ Saw (codes "h") (Ended Spent) 0 1 8
+echoes_6 : seen_over (alone echoes refl) (codes "hi") false 6 ≡ Saw (codes "h") (Ended Spent) 0 1 8
 unfolding seen_over
-echoes_6 k = refl
+echoes_6 = refl
 
-echoes_7 : (k : Keeps echoes) → seen_over (alone echoes k) (codes "hi") false 7 ≡ Saw (codes "h") (Ended Spent) 0 2 9
+echoes_7 : seen_over (alone echoes refl) (codes "hi") false 7 ≡ Saw (codes "h") (Ended Spent) 0 2 9
 unfolding seen_over
-echoes_7 k = refl
+echoes_7 = refl
 
-echoes_8 : (k : Keeps echoes) → seen_over (alone echoes k) (codes "hi") false 8 ≡ Saw (codes "hi") (Ended Spent) 0 2 10
+echoes_8 : seen_over (alone echoes refl) (codes "hi") false 8 ≡ Saw (codes "hi") (Ended Spent) 0 2 10
 unfolding seen_over
-echoes_8 k = refl
+echoes_8 = refl
 
-echoes_9 : (k : Keeps echoes) → seen_over (alone echoes k) (codes "hi") false 9 ≡ Saw (codes "hi") (Ended Spent) 0 2 11
+echoes_9 : seen_over (alone echoes refl) (codes "hi") false 9 ≡ Saw (codes "hi") (Ended Spent) 0 2 11
 unfolding seen_over
-echoes_9 k = refl
+echoes_9 = refl
 
 -- a fault after the input breaks it off, when it asks whether the input is at its end; the turn of that call is spent
-echoes_till_fault : (k : Keeps echoes) → seen_over (alone echoes k) (codes "h") true 10 ≡ Saw (codes "h") Broken 4 1 6
+echoes_till_fault : seen_over (alone echoes refl) (codes "h") true 10 ≡ Saw (codes "h") Broken 4 1 6
 unfolding seen_over
-echoes_till_fault k = refl
+echoes_till_fault = refl
 
 -- ReadChar finds no input: at its end NoInput is raised, before a fault the run is broken off
 abbrev reads : Written
@@ -110,13 +110,13 @@ reads = record {
       ∷ [];
 }
 
-reads_at_end : (k : Keeps reads) → seen_over (alone reads k) [] false 5 ≡ Saw [] (Ended (Uncaught NoInput)) 2 0 1
+reads_at_end : seen_over (alone reads refl) [] false 5 ≡ Saw [] (Ended (Uncaught NoInput)) 2 0 1
 unfolding seen_over
-reads_at_end k = refl
+reads_at_end = refl
 
-reads_at_fault : (k : Keeps reads) → seen_over (alone reads k) [] true 5 ≡ Saw [] Broken 3 0 1
+reads_at_fault : seen_over (alone reads refl) [] true 5 ≡ Saw [] Broken 3 0 1
 unfolding seen_over
-reads_at_fault k = refl
+reads_at_fault = refl
 
 -- ReadChar[! NoInput => BEGIN WriteChar['n]; CONTINUE END]
 abbrev reads_caught : Written
@@ -130,9 +130,9 @@ reads_caught = record {
       ∷ [];
 }
 
-reads_caught_5 : (k : Keeps reads_caught) → seen (alone reads_caught k) 5 ≡ Saw (codes "n") (Ended Done) 0 0 5
+reads_caught_5 : seen (alone reads_caught refl) 5 ≡ Saw (codes "n") (Ended Done) 0 0 5
 unfolding seen
-reads_caught_5 k = refl
+reads_caught_5 = refl
 
 -- ERROR NoInput
 abbrev raises_no_input : Written
@@ -146,9 +146,9 @@ raises_no_input = record {
       ∷ [];
 }
 
-raises_no_input_2 : (k : Keeps raises_no_input) → seen (alone raises_no_input k) 2 ≡ Saw [] (Ended (Uncaught NoInput)) 0 0 1
+raises_no_input_2 : seen (alone raises_no_input refl) 2 ≡ Saw [] (Ended (Uncaught NoInput)) 0 0 1
 unfolding seen
-raises_no_input_2 k = refl
+raises_no_input_2 = refl
 
 -- a literal, the empty string, a negative number, and the low byte of a word
 abbrev writes : Written
@@ -162,9 +162,9 @@ writes = record {
       ∷ [];
 }
 
-writes_5 : (k : Keeps writes) → seen (alone writes k) 5 ≡ Saw (codes "hey-1A") (Ended Done) 0 0 10
+writes_5 : seen (alone writes refl) 5 ≡ Saw (codes "hey-1A") (Ended Done) 0 0 10
 unfolding seen
-writes_5 k = refl
+writes_5 = refl
 
 -- F: [n: INTEGER] RETURNS [INTEGER] = BEGIN IF n < 2 THEN RETURN[n]; RETURN[F[n - 1] + F[n - 2]] END; WriteDecimal[F[10]];
 abbrev fibonacci : Written
@@ -182,9 +182,9 @@ fibonacci = record {
       ∷ [];
 }
 
-fibonacci_179 : (k : Keeps fibonacci) → seen (alone fibonacci k) 179 ≡ Saw (codes "55") (Ended Done) 0 0 1947
+fibonacci_179 : seen (alone fibonacci refl) 179 ≡ Saw (codes "55") (Ended Done) 0 0 1947
 unfolding seen
-fibonacci_179 k = refl
+fibonacci_179 = refl
 
 -- F: RETURNS [a, b: INTEGER] = BEGIN a ← 1; b ← 2; RETURN[b, a] END; [x, y] ← F[]; WriteDecimal[x]; WriteDecimal[y];
 abbrev two_results : Written
@@ -199,9 +199,9 @@ two_results = record {
       ∷ [];
 }
 
-two_results_4 : (k : Keeps two_results) → seen (alone two_results k) 4 ≡ Saw (codes "21") (Ended Done) 0 0 15
+two_results_4 : seen (alone two_results refl) 4 ≡ Saw (codes "21") (Ended Done) 0 0 15
 unfolding seen
-two_results_4 k = refl
+two_results_4 = refl
 
 -- Server: S: PUBLIC SIGNAL [x: INTEGER] RETURNS [INTEGER]; Ask: PUBLIC PROCEDURE [x: INTEGER] RETURNS [INTEGER] =
 -- BEGIN k: INTEGER ← 9; r: INTEGER; r ← SIGNAL S[x]; RETURN[r * 10 + k] END; Main: WriteDecimal[Ask[4 ! S => RESUME[x + 1]]];
@@ -232,45 +232,45 @@ asker = record {
 }
 
 -- with these CONTROL instances
-abbrev asking : Keeps server → Keeps asker → List ℕ → Image
-asking k j control = image_of (object server k ∷ object asker j ∷ []) (0 ∷ 1 ∷ []) ([] ∷ bound_to_host (To 0 1 ∷ To 0 0 ∷ []) ∷ []) control
+abbrev asking : List ℕ → Image
+asking control = image_of (object server refl ∷ object asker refl ∷ []) (0 ∷ 1 ∷ []) ([] ∷ bound_to_host (To 0 1 ∷ To 0 0 ∷ []) ∷ []) control
 
-asks_6 : (k : Keeps server) (j : Keeps asker) → seen (asking k j (1 ∷ [])) 6 ≡ Saw (codes "59") (Ended Done) 0 0 21
+asks_6 : seen (asking (1 ∷ [])) 6 ≡ Saw (codes "59") (Ended Done) 0 0 21
 unfolding seen
-asks_6 k j = refl
+asks_6 = refl
 
-asks_0 : (k : Keeps server) (j : Keeps asker) → seen (asking k j (1 ∷ [])) 0 ≡ Saw [] (Ended Spent) 0 0 0
+asks_0 : seen (asking (1 ∷ [])) 0 ≡ Saw [] (Ended Spent) 0 0 0
 unfolding seen
-asks_0 k j = refl
+asks_0 = refl
 
-asks_1 : (k : Keeps server) (j : Keeps asker) → seen (asking k j (1 ∷ [])) 1 ≡ Saw [] (Ended Spent) 0 0 2
+asks_1 : seen (asking (1 ∷ [])) 1 ≡ Saw [] (Ended Spent) 0 0 2
 unfolding seen
-asks_1 k j = refl
+asks_1 = refl
 
-asks_2 : (k : Keeps server) (j : Keeps asker) → seen (asking k j (1 ∷ [])) 2 ≡ Saw [] (Ended Spent) 0 0 2
+asks_2 : seen (asking (1 ∷ [])) 2 ≡ Saw [] (Ended Spent) 0 0 2
 unfolding seen
-asks_2 k j = refl
+asks_2 = refl
 
-asks_3 : (k : Keeps server) (j : Keeps asker) → seen (asking k j (1 ∷ [])) 3 ≡ Saw [] (Ended Spent) 0 0 7
+asks_3 : seen (asking (1 ∷ [])) 3 ≡ Saw [] (Ended Spent) 0 0 7
 unfolding seen
-asks_3 k j = refl
+asks_3 = refl
 
-asks_4 : (k : Keeps server) (j : Keeps asker) → seen (asking k j (1 ∷ [])) 4 ≡ Saw [] (Ended Spent) 0 0 7
+asks_4 : seen (asking (1 ∷ [])) 4 ≡ Saw [] (Ended Spent) 0 0 7
 unfolding seen
-asks_4 k j = refl
+asks_4 = refl
 
-asks_5 : (k : Keeps server) (j : Keeps asker) → seen (asking k j (1 ∷ [])) 5 ≡ Saw [] (Ended Spent) 0 0 20
+asks_5 : seen (asking (1 ∷ [])) 5 ≡ Saw [] (Ended Spent) 0 0 20
 unfolding seen
-asks_5 k j = refl
+asks_5 = refl
 
 -- a CONTROL instance that was started by a call is passed over without a turn; started before, it is not started again
-asks_then_server : (k : Keeps server) (j : Keeps asker) → seen (asking k j (1 ∷ 0 ∷ [])) 6 ≡ Saw (codes "59") (Ended Done) 0 0 21
+asks_then_server : seen (asking (1 ∷ 0 ∷ [])) 6 ≡ Saw (codes "59") (Ended Done) 0 0 21
 unfolding seen
-asks_then_server k j = refl
+asks_then_server = refl
 
-server_then_asks : (k : Keeps server) (j : Keeps asker) → seen (asking k j (0 ∷ 1 ∷ 0 ∷ [])) 6 ≡ Saw (codes "59") (Ended Done) 0 0 21
+server_then_asks : seen (asking (0 ∷ 1 ∷ 0 ∷ [])) 6 ≡ Saw (codes "59") (Ended Done) 0 0 21
 unfolding seen
-server_then_asks k j = refl
+server_then_asks = refl
 
 -- two instances a and b of Counter: n: INTEGER ← 0; Full: PUBLIC ERROR; Next: PUBLIC PROCEDURE RETURNS [INTEGER] =
 -- BEGIN n ← n + 1; IF n > 2 THEN ERROR Full; RETURN[n] END; Other counts by a, Main by b, whose Full it catches: that of a is another
@@ -319,22 +319,22 @@ main = record {
 }
 
 -- with the instance whose Full is caught
-abbrev counting : Keeps counter → Keeps other → Keeps main → ℕ → Image
-counting k j i caught = image_of (object counter k ∷ object other j ∷ object main i ∷ []) (0 ∷ 0 ∷ 1 ∷ 2 ∷ [])
+abbrev counting : ℕ → Image
+counting caught = image_of (object counter refl ∷ object other refl ∷ object main refl ∷ []) (0 ∷ 0 ∷ 1 ∷ 2 ∷ [])
     ([] ∷ [] ∷ bound_to_host (To 0 1 ∷ []) ∷ bound_to_host (To 1 1 ∷ To caught 0 ∷ To 2 1 ∷ []) ∷ []) (3 ∷ [])
 
-counts_15 : (k : Keeps counter) (j : Keeps other) (i : Keeps main) → seen (counting k j i 1) 15 ≡ Saw (codes "112") (Ended (Uncaught (Own 0 0))) 0 0 77
+counts_15 : seen (counting 1) 15 ≡ Saw (codes "112") (Ended (Uncaught (Own 0 0))) 0 0 77
 unfolding seen
-counts_15 k j i = refl
+counts_15 = refl
 
-counts_14 : (k : Keeps counter) (j : Keeps other) (i : Keeps main) → seen (counting k j i 1) 14 ≡ Saw (codes "112") (Ended Spent) 0 0 77
+counts_14 : seen (counting 1) 14 ≡ Saw (codes "112") (Ended Spent) 0 0 77
 unfolding seen
-counts_14 k j i = refl
+counts_14 = refl
 
 -- with that of a it is caught
-counts_17 : (k : Keeps counter) (j : Keeps other) (i : Keeps main) → seen (counting k j i 0) 17 ≡ Saw (codes "112x") (Ended Done) 0 0 81
+counts_17 : seen (counting 0) 17 ≡ Saw (codes "112x") (Ended Done) 0 0 81
 unfolding seen
-counts_17 k j i = refl
+counts_17 = refl
 
 -- Activations.
 
@@ -368,10 +368,10 @@ abbrev over : ℕ → Image → ℕ → Stepped
 over n image turns = Goes (Runs (body ∷ replicate n body) (fresh image [] false turns))
 
 -- over 8,189 there is room for P[1] and P[0]; over 8,190 there is none for P[0]
-descends_8192 : (k : Keeps descends) → seen_from (alone descends k) 100 [] (over 8189 (alone descends k) 3) ≡ Saw (codes ".") (Ended Spent) 0 0 20
+descends_8192 : seen_from (alone descends refl) 100 [] (over 8189 (alone descends refl) 3) ≡ Saw (codes ".") (Ended Spent) 0 0 20
 unfolding seen_from fresh
-descends_8192 k = refl
+descends_8192 = refl
 
-descends_8193 : (k : Keeps descends) → seen_from (alone descends k) 100 [] (over 8190 (alone descends k) 3) ≡ Saw [] (Ended FrameLimit) 1 0 10
+descends_8193 : seen_from (alone descends refl) 100 [] (over 8190 (alone descends refl) 3) ≡ Saw [] (Ended FrameLimit) 1 0 10
 unfolding seen_from fresh
-descends_8193 k = refl
+descends_8193 = refl

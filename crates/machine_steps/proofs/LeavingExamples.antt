@@ -1,10 +1,13 @@
 -- Jumps out of arms, each with the least turns with which its end is reached.
-use Rattle.std.specs.Prelude.{◌≡◌, refl, [], ◌∷◌, codes}
-use Rattle.code_forms.specs.declared.instruction.Instruction.TheVariants.{Lit, LoadG, StoreG, StoreL, Add, LessI, JumpIfNot, JumpBack, Call, CallLink, Return, Raise, ArmEnd, Resume, Leave, LeaveReturn, Pop}
+use Rattle.std.specs.Prelude.{◌≡◌, refl, ℕ, List, [], ◌∷◌, codes, Bool, true, false, None, Some}
+use Rattle.code_forms.specs.declared.instruction.Instruction.TheVariants.{Lit, LoadG, StoreG, LoadL, StoreL, Add, LessI, JumpIfNot, JumpBack, Call, CallLink, Return, Raise, ArmEnd, Resume, Leave, LeaveReturn, Pop}
 use Rattle.code_forms.specs.declared.module_code.Label.TheVariants as l
-use Rattle.machine_steps.specs.declared.end.End.TheVariants.{Done, Spent}
-use Rattle.machine_steps.specs.State.{Ended}
-use Rattle.machine_steps.proofs.Written.{arm, phrase, procedure, error, with_host, Written, Keeps, alone, Saw, seen}
+use Rattle.object_files.specs.declared.image.Image.{Image}
+use Rattle.object_files.specs.declared.image.Link.TheVariants.{Wanted, To}
+use Rattle.signaller.specs.declared.signal_id.SignalId.TheVariants.{Own, BoundsFault, ZeroDivisor, NoInput, Unnamed}
+use Rattle.machine_steps.specs.declared.end.End.TheVariants.{Done, Uncaught, Spent, FrameLimit}
+use Rattle.machine_steps.specs.State.{Ended, Broken}
+use Rattle.machine_steps.proofs.Written.{arm, phrase, procedure, error, signal_with, procedure_link, signal_link, error_link, with_host, Written, object, bound_to_host, image_of, alone, Saw, seen, seen_over}
 
 -- E is raised in C, caught where A calls B, and A goes on behind that call; C and B have UNWIND arms:
 -- C: BEGIN ENABLE UNWIND => WriteChar['c]; ERROR E END; B: BEGIN ENABLE UNWIND => WriteChar['b]; C[] END;
@@ -26,57 +29,57 @@ unwinds = record {
 }
 
 -- with its least turns, and cut at each bound
-unwinds_12 : (k : Keeps unwinds) → seen (alone unwinds k) 12 ≡ Saw (codes "acbd") (Ended Done) 0 0 17
+unwinds_12 : seen (alone unwinds refl) 12 ≡ Saw (codes "acbd") (Ended Done) 0 0 17
 unfolding seen
-unwinds_12 k = refl
+unwinds_12 = refl
 
-unwinds_0 : (k : Keeps unwinds) → seen (alone unwinds k) 0 ≡ Saw [] (Ended Spent) 0 0 0
+unwinds_0 : seen (alone unwinds refl) 0 ≡ Saw [] (Ended Spent) 0 0 0
 unfolding seen
-unwinds_0 k = refl
+unwinds_0 = refl
 
-unwinds_1 : (k : Keeps unwinds) → seen (alone unwinds k) 1 ≡ Saw [] (Ended Spent) 0 0 1
+unwinds_1 : seen (alone unwinds refl) 1 ≡ Saw [] (Ended Spent) 0 0 1
 unfolding seen
-unwinds_1 k = refl
+unwinds_1 = refl
 
-unwinds_2 : (k : Keeps unwinds) → seen (alone unwinds k) 2 ≡ Saw [] (Ended Spent) 0 0 2
+unwinds_2 : seen (alone unwinds refl) 2 ≡ Saw [] (Ended Spent) 0 0 2
 unfolding seen
-unwinds_2 k = refl
+unwinds_2 = refl
 
-unwinds_3 : (k : Keeps unwinds) → seen (alone unwinds k) 3 ≡ Saw [] (Ended Spent) 0 0 3
+unwinds_3 : seen (alone unwinds refl) 3 ≡ Saw [] (Ended Spent) 0 0 3
 unfolding seen
-unwinds_3 k = refl
+unwinds_3 = refl
 
-unwinds_4 : (k : Keeps unwinds) → seen (alone unwinds k) 4 ≡ Saw [] (Ended Spent) 0 0 4
+unwinds_4 : seen (alone unwinds refl) 4 ≡ Saw [] (Ended Spent) 0 0 4
 unfolding seen
-unwinds_4 k = refl
+unwinds_4 = refl
 
-unwinds_5 : (k : Keeps unwinds) → seen (alone unwinds k) 5 ≡ Saw [] (Ended Spent) 0 0 4
+unwinds_5 : seen (alone unwinds refl) 5 ≡ Saw [] (Ended Spent) 0 0 4
 unfolding seen
-unwinds_5 k = refl
+unwinds_5 = refl
 
-unwinds_6 : (k : Keeps unwinds) → seen (alone unwinds k) 6 ≡ Saw [] (Ended Spent) 0 0 6
+unwinds_6 : seen (alone unwinds refl) 6 ≡ Saw [] (Ended Spent) 0 0 6
 unfolding seen
-unwinds_6 k = refl
+unwinds_6 = refl
 
-unwinds_7 : (k : Keeps unwinds) → seen (alone unwinds k) 7 ≡ Saw (codes "a") (Ended Spent) 0 0 7
+unwinds_7 : seen (alone unwinds refl) 7 ≡ Saw (codes "a") (Ended Spent) 0 0 7
 unfolding seen
-unwinds_7 k = refl
+unwinds_7 = refl
 
-unwinds_8 : (k : Keeps unwinds) → seen (alone unwinds k) 8 ≡ Saw (codes "a") (Ended Spent) 0 0 9
+unwinds_8 : seen (alone unwinds refl) 8 ≡ Saw (codes "a") (Ended Spent) 0 0 9
 unfolding seen
-unwinds_8 k = refl
+unwinds_8 = refl
 
-unwinds_9 : (k : Keeps unwinds) → seen (alone unwinds k) 9 ≡ Saw (codes "ac") (Ended Spent) 0 0 10
+unwinds_9 : seen (alone unwinds refl) 9 ≡ Saw (codes "ac") (Ended Spent) 0 0 10
 unfolding seen
-unwinds_9 k = refl
+unwinds_9 = refl
 
-unwinds_10 : (k : Keeps unwinds) → seen (alone unwinds k) 10 ≡ Saw (codes "ac") (Ended Spent) 0 0 12
+unwinds_10 : seen (alone unwinds refl) 10 ≡ Saw (codes "ac") (Ended Spent) 0 0 12
 unfolding seen
-unwinds_10 k = refl
+unwinds_10 = refl
 
-unwinds_11 : (k : Keeps unwinds) → seen (alone unwinds k) 11 ≡ Saw (codes "acb") (Ended Spent) 0 0 15
+unwinds_11 : seen (alone unwinds refl) 11 ≡ Saw (codes "acb") (Ended Spent) 0 0 15
 unfolding seen
-unwinds_11 k = refl
+unwinds_11 = refl
 
 -- the same with the phrase of E round the call as an ENABLE of A, and an UNWIND arm of A within it, which is of the target's own frame:
 -- A: BEGIN ENABLE E => BEGIN WriteChar['a]; CONTINUE END; BEGIN ENABLE UNWIND => WriteChar['x]; B[] END END; A[]; WriteChar['d];
@@ -96,9 +99,9 @@ unwinds_own = record {
       ∷ [];
 }
 
-unwinds_own_12 : (k : Keeps unwinds_own) → seen (alone unwinds_own k) 12 ≡ Saw (codes "acbd") (Ended Done) 0 0 17
+unwinds_own_12 : seen (alone unwinds_own refl) 12 ≡ Saw (codes "acbd") (Ended Done) 0 0 17
 unfolding seen
-unwinds_own_12 k = refl
+unwinds_own_12 = refl
 
 -- P: BEGIN WriteChar['p]; ERROR E END; P[! E => BEGIN k ← k + 1; IF k < 4 THEN RETRY ELSE CONTINUE END]; WriteDecimal[k];
 abbrev retries : Written
@@ -116,13 +119,13 @@ retries = record {
       ∷ [];
 }
 
-retries_18 : (k : Keeps retries) → seen (alone retries k) 18 ≡ Saw (codes "pppp4") (Ended Done) 0 0 55
+retries_18 : seen (alone retries refl) 18 ≡ Saw (codes "pppp4") (Ended Done) 0 0 55
 unfolding seen
-retries_18 k = refl
+retries_18 = refl
 
-retries_17 : (k : Keeps retries) → seen (alone retries k) 17 ≡ Saw (codes "pppp") (Ended Spent) 0 0 54
+retries_17 : seen (alone retries refl) 17 ≡ Saw (codes "pppp") (Ended Spent) 0 0 54
 unfolding seen
-retries_17 k = refl
+retries_17 = refl
 
 -- D: ERROR T; C: BEGIN ENABLE UNWIND => D[]; ERROR E END; B: BEGIN C[! T => BEGIN WriteChar['t]; CONTINUE END]; WriteChar['b] END;
 -- A: BEGIN B[! E => BEGIN WriteChar['a]; CONTINUE END]; WriteChar['d] END; A[]; the jump to B replaces the one to A
@@ -145,9 +148,9 @@ replaces = record {
       ∷ [];
 }
 
-replaces_14 : (k : Keeps replaces) → seen (alone replaces k) 14 ≡ Saw (codes "atbd") (Ended Done) 0 0 19
+replaces_14 : seen (alone replaces refl) 14 ≡ Saw (codes "atbd") (Ended Done) 0 0 19
 unfolding seen
-replaces_14 k = refl
+replaces_14 = refl
 
 -- C: BEGIN ENABLE UNWIND => WriteChar['c]; ERROR E END; B: BEGIN ENABLE UNWIND => WriteChar['b]; C[! E => D[]] END; D: ERROR T;
 -- A: BEGIN B[! T => BEGIN WriteChar['t]; CONTINUE END]; WriteChar['d] END; A[]; B's arm is given up, then C, and B's UNWIND arm runs once
@@ -170,9 +173,9 @@ once = record {
       ∷ [];
 }
 
-once_15 : (k : Keeps once) → seen (alone once k) 15 ≡ Saw (codes "tcbd") (Ended Done) 0 0 19
+once_15 : seen (alone once refl) 15 ≡ Saw (codes "tcbd") (Ended Done) 0 0 19
 unfolding seen
-once_15 k = refl
+once_15 = refl
 
 -- an UNWIND arm of B that jumps itself, to B: B goes on and returns to A, whose jump is over
 -- B: BEGIN BEGIN ENABLE UNWIND => GOTO x; C[] EXITS x => NULL END; WriteChar['b] END; C: ERROR E;
@@ -193,12 +196,13 @@ jumps_inside = record {
       ∷ [];
 }
 
-jumps_inside_11 : (k : Keeps jumps_inside) → seen (alone jumps_inside k) 11 ≡ Saw (codes "abnd") (Ended Done) 0 0 17
+jumps_inside_11 : seen (alone jumps_inside refl) 11 ≡ Saw (codes "abnd") (Ended Done) 0 0 17
 unfolding seen
-jumps_inside_11 k = refl
+jumps_inside_11 = refl
 
--- arms in arms: BEGIN P[! E => BEGIN WriteChar['i]; P[! E => BEGIN WriteChar['o]; GOTO x END] END]; WriteChar['n];
--- EXITS x => NULL END; WriteChar['x]; P: ERROR E; the inner arm leaves both
+-- arms in arms: BEGIN P[! E => BEGIN WriteChar['i]; P[! E => BEGIN WriteChar['o]; GOTO x END, UNWIND => WriteChar['u]] END];
+-- WriteChar['n]; EXITS x => NULL END; WriteChar['x]; P: ERROR E; the inner arm leaves both, and the UNWIND arm, which is of the target's own
+-- frame, is not run
 abbrev leaves_two : Written
 leaves_two = record {
   globals = 0;
@@ -207,15 +211,16 @@ leaves_two = record {
   links = with_host [];
   procedures =
       procedure 0 0 0 1
-      (Call 1 ∷ Lit 110 ∷ CallLink 0 ∷ Lit 120 ∷ CallLink 0 ∷ Return ∷ Lit 105 ∷ CallLink 0 ∷ Call 1 ∷ ArmEnd ∷ Lit 111 ∷ CallLink 0 ∷ Leave 2 13 ∷ [])
-      (phrase 0 5 (arm ((l.Own 0) ∷ []) 0 0 22 36 ∷ []) ∷ phrase 30 35 (arm ((l.Own 0) ∷ []) 0 0 36 51 ∷ []) ∷ [])
+      (Call 1 ∷ Lit 110 ∷ CallLink 0 ∷ Lit 120 ∷ CallLink 0 ∷ Return ∷ Lit 105 ∷ CallLink 0 ∷ Call 1 ∷ ArmEnd ∷ Lit 111 ∷ CallLink 0 ∷ Leave 2 13 ∷
+      Lit 117 ∷ CallLink 0 ∷ ArmEnd ∷ [])
+      (phrase 0 5 (arm ((l.Own 0) ∷ []) 0 0 22 36 ∷ []) ∷ phrase 30 35 (arm ((l.Own 0) ∷ []) 0 0 36 51 ∷ arm (l.Unwind ∷ []) 0 0 51 60 ∷ []) ∷ [])
       ∷ procedure 0 0 0 1 (Raise 0 ∷ Return ∷ []) []
       ∷ [];
 }
 
-leaves_two_10 : (k : Keeps leaves_two) → seen (alone leaves_two k) 10 ≡ Saw (codes "iox") (Ended Done) 0 0 12
+leaves_two_10 : seen (alone leaves_two refl) 10 ≡ Saw (codes "iox") (Ended Done) 0 0 12
 unfolding seen
-leaves_two_10 k = refl
+leaves_two_10 = refl
 
 -- the same, where the inner arm leaves itself alone, to the outer one: that one, its raiser and the frames under it stay
 -- P[! E => BEGIN BEGIN WriteChar['i]; P[! E => BEGIN WriteChar['o]; GOTO k END]; REJECT EXITS k => NULL END; WriteChar['k]; GOTO x END];
@@ -234,9 +239,9 @@ leaves_one = record {
       ∷ [];
 }
 
-leaves_one_11 : (k : Keeps leaves_one) → seen (alone leaves_one k) 11 ≡ Saw (codes "iokx") (Ended Done) 0 0 15
+leaves_one_11 : seen (alone leaves_one refl) 11 ≡ Saw (codes "iokx") (Ended Done) 0 0 15
 unfolding seen
-leaves_one_11 k = refl
+leaves_one_11 = refl
 
 -- P: RETURNS [r: INTEGER] = BEGIN Q[! E => RETURN[3]]; r ← 9 END; Q: ERROR E;
 -- WriteDecimal[P[]]; DO Q[! E => EXIT]; WriteChar['n] ENDLOOP; WriteChar['x];
@@ -257,9 +262,9 @@ returns_out = record {
       ∷ [];
 }
 
-returns_out_10 : (k : Keeps returns_out) → seen (alone returns_out k) 10 ≡ Saw (codes "3x") (Ended Done) 0 0 13
+returns_out_10 : seen (alone returns_out refl) 10 ≡ Saw (codes "3x") (Ended Done) 0 0 13
 unfolding seen
-returns_out_10 k = refl
+returns_out_10 = refl
 
 -- an UNWIND arm that resumes does as one that ends
 abbrev resumes_inside : Written
@@ -277,9 +282,9 @@ resumes_inside = record {
       ∷ [];
 }
 
-resumes_inside_9 : (k : Keeps resumes_inside) → seen (alone resumes_inside k) 9 ≡ Saw (codes "acd") (Ended Done) 0 0 13
+resumes_inside_9 : seen (alone resumes_inside refl) 9 ≡ Saw (codes "acd") (Ended Done) 0 0 13
 unfolding seen
-resumes_inside_9 k = refl
+resumes_inside_9 = refl
 
 -- code that is not valid, since it finds no word where it writes one: the two words that lie under the call are gone after the jump, and what
 -- is not there is 0
@@ -297,6 +302,6 @@ without_operands = record {
       ∷ [];
 }
 
-without_operands_5 : (k : Keeps without_operands) → seen (alone without_operands k) 5 ≡ Saw (codes "0") (Ended Done) 0 0 7
+without_operands_5 : seen (alone without_operands refl) 5 ≡ Saw (codes "0") (Ended Done) 0 0 7
 unfolding seen
-without_operands_5 k = refl
+without_operands_5 = refl

@@ -1,5 +1,6 @@
 pub mod Below
 pub mod CallExamples
+pub mod Kept
 pub mod LeavingExamples
 pub mod Measure
 pub mod Nearer

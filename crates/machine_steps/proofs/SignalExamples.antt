@@ -5,7 +5,7 @@ use Rattle.code_forms.specs.declared.module_code.Label.TheVariants as l
 use Rattle.signaller.specs.declared.signal_id.SignalId.TheVariants.{Own, BoundsFault, ZeroDivisor, Unnamed}
 use Rattle.machine_steps.specs.declared.end.End.TheVariants.{Done, Uncaught, Spent}
 use Rattle.machine_steps.specs.State.{Ended}
-use Rattle.machine_steps.proofs.Written.{arm, phrase, procedure, error, signal_with, with_host, Written, Keeps, alone, Saw, seen}
+use Rattle.machine_steps.proofs.Written.{arm, phrase, procedure, error, signal_with, with_host, Written, alone, Saw, seen}
 
 -- a signal raised inside an arm is offered beyond the phrase that holds the arm
 -- R: SIGNAL S; Q: R[! S => BEGIN WriteChar['i]; SIGNAL S; WriteChar['j]; RESUME END]; Q[! S => BEGIN WriteChar['o]; RESUME END];
@@ -27,9 +27,9 @@ goes_beyond = record {
       ∷ [];
 }
 
-goes_beyond_11 : (k : Keeps goes_beyond) → seen (alone goes_beyond k) 11 ≡ Saw (codes "ioje") (Ended Done) 0 0 17
+goes_beyond_11 : seen (alone goes_beyond refl) 11 ≡ Saw (codes "ioje") (Ended Done) 0 0 17
 unfolding seen
-goes_beyond_11 k = refl
+goes_beyond_11 = refl
 
 -- of two phrases round one call the inner one is asked first, and rejects; then the outer one
 -- BEGIN ENABLE S => BEGIN WriteChar['o]; RESUME END; P[! S => WriteChar['i]] END; P: SIGNAL S;
@@ -47,13 +47,13 @@ rejects = record {
       ∷ [];
 }
 
-rejects_7 : (k : Keeps rejects) → seen (alone rejects k) 7 ≡ Saw (codes "io") (Ended Done) 0 0 10
+rejects_7 : seen (alone rejects refl) 7 ≡ Saw (codes "io") (Ended Done) 0 0 10
 unfolding seen
-rejects_7 k = refl
+rejects_7 = refl
 
-rejects_5 : (k : Keeps rejects) → seen (alone rejects k) 5 ≡ Saw (codes "i") (Ended Spent) 0 0 5
+rejects_5 : seen (alone rejects refl) 5 ≡ Saw (codes "i") (Ended Spent) 0 0 5
 unfolding seen
-rejects_5 k = refl
+rejects_5 = refl
 
 -- a signal with one result is not resumed with none; what is resumed with one word goes on with it
 -- P: WriteDecimal[SIGNAL S[]]; the inner phrase says RESUME, the outer one writes o and says RESUME[5]
@@ -71,9 +71,9 @@ rejects_words = record {
       ∷ [];
 }
 
-rejects_words_7 : (k : Keeps rejects_words) → seen (alone rejects_words k) 7 ≡ Saw (codes "o5") (Ended Done) 0 0 10
+rejects_words_7 : seen (alone rejects_words refl) 7 ≡ Saw (codes "o5") (Ended Done) 0 0 10
 unfolding seen
-rejects_words_7 k = refl
+rejects_words_7 = refl
 
 -- an error is not resumed, and nothing else catches it
 abbrev resumes_error : Written
@@ -88,9 +88,9 @@ resumes_error = record {
       ∷ [];
 }
 
-resumes_error_4 : (k : Keeps resumes_error) → seen (alone resumes_error k) 4 ≡ Saw [] (Ended (Uncaught (Own 0 0))) 0 0 3
+resumes_error_4 : seen (alone resumes_error refl) 4 ≡ Saw [] (Ended (Uncaught (Own 0 0))) 0 0 3
 unfolding seen
-resumes_error_4 k = refl
+resumes_error_4 = refl
 
 -- the first fitting arm of a phrase is run, ANY for what no arm before it names: P[! T => WriteChar['t], E, T => WriteChar['e], ANY => ..]
 -- with RETRY until each was raised once, in the order T, E, the unnamed error
@@ -111,9 +111,9 @@ first_arm = record {
       ∷ [];
 }
 
-first_arm_13 : (k : Keeps first_arm) → seen (alone first_arm k) 13 ≡ Saw (codes "tey") (Ended Done) 0 0 48
+first_arm_13 : seen (alone first_arm refl) 13 ≡ Saw (codes "tey") (Ended Done) 0 0 48
 unfolding seen
-first_arm_13 k = refl
+first_arm_13 = refl
 
 -- Q: ERROR; Q[! ANY => CONTINUE]; ERROR;
 abbrev unnamed : Written
@@ -128,9 +128,9 @@ unnamed = record {
       ∷ [];
 }
 
-unnamed_5 : (k : Keeps unnamed) → seen (alone unnamed k) 5 ≡ Saw [] (Ended (Uncaught Unnamed)) 0 0 4
+unnamed_5 : seen (alone unnamed refl) 5 ≡ Saw [] (Ended (Uncaught Unnamed)) 0 0 4
 unfolding seen
-unnamed_5 k = refl
+unnamed_5 = refl
 
 -- an index that is too large raises BoundsFault, and a divisor 0 ZeroDivisor; nothing catches them, or an arm does, and a label of the one
 -- is not for the other
@@ -145,9 +145,9 @@ bounds = record {
       ∷ [];
 }
 
-bounds_2 : (k : Keeps bounds) → seen (alone bounds k) 2 ≡ Saw [] (Ended (Uncaught BoundsFault)) 0 0 3
+bounds_2 : seen (alone bounds refl) 2 ≡ Saw [] (Ended (Uncaught BoundsFault)) 0 0 3
 unfolding seen
-bounds_2 k = refl
+bounds_2 = refl
 
 abbrev divides : Written
 divides = record {
@@ -162,9 +162,9 @@ divides = record {
       ∷ [];
 }
 
-divides_2 : (k : Keeps divides) → seen (alone divides k) 2 ≡ Saw [] (Ended (Uncaught ZeroDivisor)) 0 0 3
+divides_2 : seen (alone divides refl) 2 ≡ Saw [] (Ended (Uncaught ZeroDivisor)) 0 0 3
 unfolding seen
-divides_2 k = refl
+divides_2 = refl
 
 abbrev catches_bounds : Written
 catches_bounds = record {
@@ -179,9 +179,9 @@ catches_bounds = record {
       ∷ [];
 }
 
-catches_bounds_4 : (k : Keeps catches_bounds) → seen (alone catches_bounds k) 4 ≡ Saw (codes "b") (Ended Done) 0 0 7
+catches_bounds_4 : seen (alone catches_bounds refl) 4 ≡ Saw (codes "b") (Ended Done) 0 0 7
 unfolding seen
-catches_bounds_4 k = refl
+catches_bounds_4 = refl
 
 abbrev catches_zero : Written
 catches_zero = record {
@@ -196,6 +196,6 @@ catches_zero = record {
       ∷ [];
 }
 
-catches_zero_4 : (k : Keeps catches_zero) → seen (alone catches_zero k) 4 ≡ Saw (codes "z") (Ended Done) 0 0 7
+catches_zero_4 : seen (alone catches_zero refl) 4 ≡ Saw (codes "z") (Ended Done) 0 0 7
 unfolding seen
-catches_zero_4 k = refl
+catches_zero_4 = refl

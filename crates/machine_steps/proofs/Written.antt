@@ -1,5 +1,5 @@
 -- How the images of the examples are written by hand, and what is seen of their runs.
-use Rattle.std.specs.Prelude.{◌≡◌, ℕ, zero, suc, ◌+◌, ◌-◌, List, [], ◌∷◌, length, map, codes, Bool, false}
+use Rattle.std.specs.Prelude.{◌≡◌, ℕ, zero, suc, ◌+◌, ◌-◌, List, [], ◌∷◌, length, map, codes, Bool, true, false}
 use Rattle.std.proofs.Common.{sym, subst}
 use Rattle.std.specs.Fmt.{digits}
 use Rattle.mesa_types.specs.declared.faces.Item.{Item}
@@ -16,13 +16,13 @@ use Rattle.code_forms.specs.declared.module_code.CodeSignal.{CodeSignal}
 use Rattle.code_forms.specs.declared.module_code.Label.{Label}
 use Rattle.code_forms.specs.declared.module_code.Phrase.{Phrase}
 use Rattle.code_forms.specs.Instructions.{bytes_of}
-use Rattle.code_forms.specs.Ranges.{KeepsRanges}
 use Rattle.object_files.specs.declared.image.Image.{Image}
 use Rattle.object_files.specs.declared.image.Link.{Link}
 use Rattle.object_files.specs.declared.image.Link.TheVariants.{Wanted}
 use Rattle.object_files.specs.declared.object.Object.{Object}
 use Rattle.signaller.specs.Search as search
 use Rattle.machine_steps.specs.State.{Store, Ending, Stepped, Goes, Stops}
+use Rattle.machine_steps.proofs.Kept.{module_test, keeps_ranges}
 use Rattle.machine_steps.specs.Working as work
 use Rattle.machine_steps.specs.LookUps as look
 use Rattle.machine_steps.specs.Activations as list
@@ -85,8 +85,9 @@ pub record Written : Type 0 where
   pub links : List CodeLink
   pub procedures : List CodeProcedure
 
+-- it is within its ranges
 abbrev pub Keeps : Written → Type 0
-Keeps w = ∥ KeepsRanges w.globals w.signals w.strings w.links w.procedures ∥₁
+Keeps w = module_test w.globals w.signals w.strings w.links w.procedures ≡ true
 
 abbrev pub object : (w : Written) → Keeps w → Object
 object w keeps = record {
@@ -98,7 +99,7 @@ object w keeps = record {
     strings = w.strings;
     links = w.links;
     procedures = w.procedures;
-    ranges = keeps;
+    ranges = ∣ keeps_ranges w.globals w.signals w.strings w.links w.procedures keeps ∣₁;
   };
 }
 
