@@ -148,7 +148,7 @@ unfolding with called call_in
 below_call_of image j zero a S m o = tt
 below_call_of image j (suc number) a S m o =
     below_with m.turns _ (called image j (suc number)) m _ (λ p e.
-    below_if m.turns _ (nat_eq a.instance j || m.started j) _ _ (below_call j number p a S m o) (below_start image j _ (a ∷ S) m o))
+    below_if m.turns _ _ _ _ (below_call j number p a S m o) (below_start image j _ (a ∷ S) m o))
 
 pub below_bound : (image : Image) (l : Link) (a : Active) (S : Activations) (m : Store) → Owned (a ∷ S)
     → Below m.turns (2 + weight (a ∷ S)) (call_bound image l a S m)
