@@ -1,13 +1,10 @@
 -- Jumps out of arms, each with the least turns with which its end is reached.
-use Rattle.std.specs.Prelude.{◌≡◌, refl, ℕ, List, [], ◌∷◌, codes, Bool, true, false, None, Some}
-use Rattle.code_forms.specs.declared.instruction.Instruction.TheVariants.{Lit, LoadG, StoreG, LoadL, StoreL, Add, LessI, JumpIfNot, JumpBack, Call, CallLink, Return, Raise, ArmEnd, Resume, Leave, LeaveReturn, Pop}
+use Rattle.std.specs.Prelude.{◌≡◌, refl, [], ◌∷◌, codes}
+use Rattle.code_forms.specs.declared.instruction.Instruction.TheVariants.{Lit, LoadG, StoreG, StoreL, Add, LessI, JumpIfNot, JumpBack, Call, CallLink, Return, Raise, ArmEnd, Resume, Leave, LeaveReturn, Pop}
 use Rattle.code_forms.specs.declared.module_code.Label.TheVariants as l
-use Rattle.object_files.specs.declared.image.Image.{Image}
-use Rattle.object_files.specs.declared.image.Link.TheVariants.{Wanted, To}
-use Rattle.signaller.specs.declared.signal_id.SignalId.TheVariants.{Own, BoundsFault, ZeroDivisor, NoInput, Unnamed}
-use Rattle.machine_steps.specs.declared.end.End.TheVariants.{Done, Uncaught, Spent, FrameLimit}
-use Rattle.machine_steps.specs.State.{Ended, Broken}
-use Rattle.machine_steps.proofs.Written.{arm, phrase, procedure, error, signal_with, procedure_link, signal_link, error_link, with_host, Written, object, bound_to_host, image_of, alone, Saw, seen, seen_over}
+use Rattle.machine_steps.specs.declared.end.End.TheVariants.{Done, Spent}
+use Rattle.machine_steps.specs.State.{Ended}
+use Rattle.machine_steps.proofs.Written.{arm, phrase, procedure, error, with_host, Written, alone, Saw, seen}
 
 -- E is raised in C, caught where A calls B, and A goes on behind that call; C and B have UNWIND arms:
 -- C: BEGIN ENABLE UNWIND => WriteChar['c]; ERROR E END; B: BEGIN ENABLE UNWIND => WriteChar['b]; C[] END;

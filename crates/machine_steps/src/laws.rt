@@ -1,4 +1,4 @@
-ghost use Rattle.machine_steps.specs.Laws.{EndsAtMostOnce, HasOneResult};
+ghost use Rattle.machine_steps.specs.Laws.{EndsAtMostOnce, HasOneResult, IsNeverStuck};
 
 /// From any state of any image, its code valid or not, the machine comes to at most one end.
 #[tactic(auto, using(crate::proofs::OneResult::ends_at_most_once))]
@@ -11,4 +11,10 @@ pub fn ends_at_most_once()
 #[tactic(auto, using(crate::proofs::OneResult::has_one_result))]
 pub fn one_result()
     ensures { HasOneResult }
+{}
+
+/// The machine is never stuck on an image that can be run: what each instruction, each arm, each return and each jump
+/// needs is there.
+pub fn never_stuck()
+    ensures { IsNeverStuck }
 {}
