@@ -272,6 +272,25 @@ server_then_asks : seen (asking (0 ∷ 1 ∷ 0 ∷ [])) 6 ≡ Saw (codes "59") (
 unfolding seen
 server_then_asks = refl
 
+-- a raise of another instance's signal, which starts nothing: WriteDecimal[SIGNAL S[4 ! S => RESUME[x + 1]]];
+abbrev raiser : Written
+raiser = record {
+  globals = 0;
+  signals = [];
+  strings = [];
+  links = with_host (signal_link 1 1 ∷ []);
+  procedures =
+      procedure 0 0 1 2
+      (Lit 4 ∷ RaiseLink 6 ∷ CallLink 2 ∷ Return ∷ LoadL 0 1 ∷ Lit 1 ∷ Add ∷ Resume 1 ∷ [])
+      (phrase 3 8 (arm ((l.Link 6) ∷ []) 0 1 14 26 ∷ []) ∷ [])
+      ∷ [];
+}
+
+raises_linked : seen (image_of (object server refl ∷ object raiser refl ∷ []) (0 ∷ 1 ∷ []) ([] ∷ bound_to_host (To 0 0 ∷ []) ∷ []) (1 ∷ [])) 4
+    ≡ Saw (codes "5") (Ended Done) 0 0 8
+unfolding seen
+raises_linked = refl
+
 -- two instances a and b of Counter: n: INTEGER ← 0; Full: PUBLIC ERROR; Next: PUBLIC PROCEDURE RETURNS [INTEGER] =
 -- BEGIN n ← n + 1; IF n > 2 THEN ERROR Full; RETURN[n] END; Other counts by a, Main by b, whose Full it catches: that of a is another
 -- Other: Go: PUBLIC PROCEDURE = BEGIN THROUGH [1..3] DO WriteDecimal[Next[]] ENDLOOP END;
@@ -360,18 +379,27 @@ descends = record {
       ∷ [];
 }
 
--- its body runs over so many other activations
-abbrev body : Active
-body = record { instance = 0; procedure = 0; offset = 0; operands = []; role = Frame [] }
+-- the body of an instance runs over so many other activations
+abbrev body : ℕ → Active
+body j = record { instance = j; procedure = 0; offset = 0; operands = []; role = Frame [] }
 
-abbrev over : ℕ → Image → ℕ → Stepped
-over n image turns = Goes (Runs (body ∷ replicate n body) (fresh image [] false turns))
+abbrev over : (instance others : ℕ) → Image → ℕ → Stepped
+over j n image turns = Goes (Runs (body j ∷ replicate n (body j)) (fresh image [] false turns))
 
 -- over 8,189 there is room for P[1] and P[0]; over 8,190 there is none for P[0]
-descends_8192 : seen_from (alone descends refl) 100 [] (over 8189 (alone descends refl) 3) ≡ Saw (codes ".") (Ended Spent) 0 0 20
+descends_8192 : seen_from (alone descends refl) 100 [] (over 0 8189 (alone descends refl) 3) ≡ Saw (codes ".") (Ended Spent) 0 0 20
 unfolding seen_from fresh
 descends_8192 = refl
 
-descends_8193 : seen_from (alone descends refl) 100 [] (over 8190 (alone descends refl) 3) ≡ Saw [] (Ended FrameLimit) 1 0 10
+descends_8193 : seen_from (alone descends refl) 100 [] (over 0 8190 (alone descends refl) 3) ≡ Saw [] (Ended FrameLimit) 1 0 10
 unfolding seen_from fresh
 descends_8193 = refl
+
+-- the frame of a start is given up before that of the call is made: over 8,190 both find room, one after the other; over 8,191 the start finds none
+starts_8192 : seen_from (asking (1 ∷ [])) 100 [] (over 1 8190 (asking (1 ∷ [])) 2) ≡ Saw [] (Ended Spent) 0 0 7
+unfolding seen_from fresh
+starts_8192 = refl
+
+starts_8193 : seen_from (asking (1 ∷ [])) 100 [] (over 1 8191 (asking (1 ∷ [])) 2) ≡ Saw [] (Ended FrameLimit) 0 0 2
+unfolding seen_from fresh
+starts_8193 = refl
