@@ -135,18 +135,10 @@ pub data Running (p : CodeProcedure) (B : List Bare) (own : ℕ) (region : Regio
   in_body : region ≡ Body → Running p B own region
   in_arm : (q n : ℕ) (b : Bare) (why : Why) → activation_at B q ≡ Some b → b.role ≡ InArm own n why → Numbered p n region → Running p B own region
 
-pub running_more : (p : CodeProcedure) (a : Bare) (B : List Bare) (own : ℕ) (region : Region) → Running p B own region → Running p (a ∷ B) own region
-running_more p a B own region (in_body e) = in_body e
-running_more p a B own region (in_arm q n b why at role k) = in_arm q n b why (at_more a B q b at) role k
-
 -- the phrases of a list are all of such code
 abbrev pub AllRun : CodeProcedure → List Bare → ℕ → List ℕ → Type 0
 AllRun p B own [] = Unit {0}
 AllRun p B own (n ∷ numbers) = ((ph : Phrase) → slice_get p.phrases n ≡ Some ph → Running p B own (region_at p.phrases ph.from)) × AllRun p B own numbers
-
-pub all_more : (p : CodeProcedure) (a : Bare) (B : List Bare) (own : ℕ) (numbers : List ℕ) → AllRun p B own numbers → AllRun p (a ∷ B) own numbers
-all_more p a B own [] r = tt
-all_more p a B own (n ∷ numbers) r = (λ ph is. running_more p a B own _ (r.0 ph is), all_more p a B own numbers r.1)
 
 pub all_after : (p : CodeProcedure) (B : List Bare) (own : ℕ) (before : List ℕ) (n : ℕ) (after : List ℕ) → AllRun p B own (before ++ n ∷ after)
     → ((ph : Phrase) → slice_get p.phrases n ≡ Some ph → Running p B own (region_at p.phrases ph.from)) × AllRun p B own after
