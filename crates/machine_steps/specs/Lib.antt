@@ -1,0 +1,11 @@
+pub mod Activations
+pub mod Calls
+pub mod Laws
+pub mod Leaving
+pub mod LookUps
+pub mod Moves
+pub mod Signals
+pub mod State
+pub mod Steps
+pub mod Words
+pub mod Working

@@ -1,0 +1,8 @@
+//! What the frame machine does, step by step, and the laws of it. No call of the program is here.
+#![tactic(auto)]
+
+mod end;
+mod laws;
+
+pub use end::End;
+pub use laws::{ends_at_most_once, never_stuck, one_result};

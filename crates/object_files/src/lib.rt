@@ -1,0 +1,8 @@
+//! Objects and images: a compiled module, and modules bound into instances that can be run.
+#![tactic(auto)]
+
+mod image;
+mod object;
+
+pub use image::{Image, Instance, Instances, Link, LinkTable, LinkTables, Offer, Offers};
+pub use object::{Object, Objects};
