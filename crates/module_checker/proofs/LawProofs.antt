@@ -1,15 +1,12 @@
 -- The proofs of the laws.
-use Rattle.std.proofs.Common.{◌≡◌, ℕ, zero, suc, ◌+◌, List, [], ◌∷◌, length, refl, sym, ◌∙◌, ap, subst, arith, inl, inr, ◌⊎◌}
-use Rattle.std.specs.Prelude.{◌≤◌, ◌<◌, Bool, true, false, Option, Some, None, Ok, Err, IfOk, map}
-use Rattle.mesa_base.specs.declared.place.Place.{Place}
+use Rattle.std.proofs.Common.{◌≡◌, ℕ, suc, ◌+◌, List, [], ◌∷◌, length, refl, sym, ◌∙◌, ap, subst, arith, inl, inr, ◌⊎◌}
+use Rattle.std.specs.Prelude.{Bool, true, false, Option, Some, None, Ok, Err, IfOk, map}
 use Rattle.mesa_types.specs.Syntax as s
 use Rattle.mesa_types.specs.declared.faces.Pair.{Pair}
-use Rattle.mesa_types.specs.declared.faces.Export.{Export}
-use Rattle.interface_records.specs.declared.interface.Interface.{Interface}
 use Rattle.mesa_base.specs.declared.identifier.Identifier.{Identifier}
 use Rattle.module_checker.specs.Typed as t
 use Rattle.module_checker.specs.PlainTypes.{PlainItem, PlainInterface, item_of, face_of, plain_interface}
-use Rattle.module_checker.specs.Steps.{State, Checked, Fault, and_then, only, refuse}
+use Rattle.module_checker.specs.Steps.{State, Checked, Fault, and_then}
 use Rattle.module_checker.specs.Programs.{Offer, Whole, marked_from, imported, first_row, other_rows, pairs, pair_for, offer_named, fits_item, exported, offers_of}
 use Rattle.module_checker.specs.Directory.{those_of}
 use Rattle.module_checker.specs.CheckedModule.{checked, checked_definitions, program_by, module_of, lists, whole_of}

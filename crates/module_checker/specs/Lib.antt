@@ -20,3 +20,4 @@ pub mod Steps
 pub mod TypeRules
 pub mod Typed
 pub mod Values
+pub mod Written

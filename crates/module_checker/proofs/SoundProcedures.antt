@@ -1,0 +1,204 @@
+-- The body of a procedure is sound, where its names are in order and what it marks as used is used.
+use Rattle.std.proofs.Common.{◌≡◌, ℕ, ◌+◌, List, [], ◌∷◌, refl, sym, ap, arith}
+use Rattle.std.specs.Prelude.{◌≤◌, ◌<◌, Bool, true, false, Some, Ok, Err, IfOk, nat_le, slice_get}
+use Rattle.std.proofs.lemmas.Bool.{leb-true}
+use Rattle.mesa_base.specs.declared.place.Place.{Place}
+use Rattle.mesa_base.specs.declared.identifier.Identifier.{Identifier}
+use Rattle.mesa_base.specs.declared.limits.TheConstants.{LOCAL_WORDS, OPERAND_WORDS}
+use Rattle.mesa_types.specs.Sound as sound
+use Rattle.mesa_types.specs.Typed as points
+use Rattle.mesa_types.specs.Syntax as s
+use Rattle.mesa_types.specs.Counts.{hidden}
+use Rattle.mesa_types.specs.Links.{IsUsed}
+use Rattle.mesa_types.specs.Shapes.{join, words_in_all, AllHaveWords}
+use Rattle.module_checker.specs.Typed as t
+use Rattle.module_checker.specs.PlainTypes.{PlainField, PlainItem, kinds_of, item_of, words_of_fields}
+use Rattle.module_checker.specs.declared.fault.Cause.{Cause}
+use Rattle.module_checker.specs.Scopes.{Scope}
+use Rattle.module_checker.specs.Meanings as m
+use Rattle.module_checker.specs.Meanings.{Meaning}
+use Rattle.module_checker.specs.Steps.{State, Checked, and_then, only, in_scope}
+use Rattle.module_checker.specs.Around.{Known, body_of}
+use Rattle.module_checker.specs.Parts.{first_name}
+use Rattle.module_checker.specs.Values.{number_in}
+use Rattle.module_checker.specs.Checking.{block}
+use Rattle.module_checker.specs.Programs.{fresh, as_before, procedure}
+use Rattle.module_checker.specs.Written.{BlockWritten}
+use Rattle.module_checker.proofs.SoundTypes.{FieldsIn, no_truth, none_is_no, field_words_agree}
+use Rattle.module_checker.proofs.SoundSteps.{World, Spot, at, ItemIn, MeaningIn, ScopeIn, ScopesIn, mark_at, Within, Names, Step, Rule, under, if_ok}
+use Rattle.module_checker.proofs.SoundnessStatements.{AroundIn, ArmIn}
+use Rattle.module_checker.proofs.SoundScopes.{scoped, done}
+use Rattle.module_checker.proofs.SoundAround.{first_member}
+use Rattle.module_checker.proofs.SoundStatements.{StatementIn}
+use Rattle.module_checker.proofs.SoundBodies.{block_checks}
+
+-- where a body stands
+unfoldable pub at_start : Spot
+at_start = record { points = record { point = points.Leave; depth = 0 } ∷ []; statements = 0; labels = 0; depth = 0; arm = []; statement = 0 }
+
+-- a module with the locals of one of its bodies
+abbrev pub with_body : World → List PlainField → List PlainField → t.Kinds → World
+with_body W takes gives variables = record W {
+  locals = join (kinds_of takes) (join (kinds_of gives) variables);
+  takes = takes;
+  gives = gives;
+}
+
+-- names that mean no local variable mean the same in each body
+pub in_each_body : (W : World) (takes gives : List PlainField) (ks : t.Kinds) (a : Meaning) → MeaningIn W true a
+    → MeaningIn (with_body W takes gives ks) false a
+unfolding MeaningIn
+in_each_body W takes gives ks (m.Variable (t.Global n) k) h = h
+in_each_body W takes gives ks (m.Variable (t.Local n) k) h = no_truth (sym h.0)
+in_each_body W takes gives ks (m.Constant k n) h = h
+in_each_body W takes gives ks (m.TextConstant n) h = h
+in_each_body W takes gives ks (m.TypeName k) h = h
+in_each_body W takes gives ks (m.Procedure (t.OwnProcedure q) i) h = h
+in_each_body W takes gives ks (m.Procedure (t.LinkedProcedure k n) i) h = h
+in_each_body W takes gives ks (m.Signal (t.OwnSignal n) i) h = h
+in_each_body W takes gives ks (m.Signal (t.LinkedSignal k n) i) h = h
+in_each_body W takes gives ks (m.Signal t.TheBoundsFault i) h = h
+in_each_body W takes gives ks (m.Signal t.TheZeroDivisor i) h = h
+in_each_body W takes gives ks (m.Signal t.TheUnnamed i) h = h
+in_each_body W takes gives ks (m.Interface n) h = h
+in_each_body W takes gives ks m.Later h = h
+in_each_body W takes gives ks m.Headless h = h
+in_each_body W takes gives ks m.NotImported h = h
+
+pub scope_in_body : (W : World) (takes gives : List PlainField) (ks : t.Kinds) (scope : Scope Meaning) → ScopeIn W true scope
+    → ScopeIn (with_body W takes gives ks) false scope
+unfolding ScopeIn
+scope_in_body W takes gives ks scope h = λ x a e. in_each_body W takes gives ks a (h x a e)
+
+pub scopes_in_body : (W : World) (takes gives : List PlainField) (ks : t.Kinds) (scopes : List (Scope Meaning)) → ScopesIn W true scopes
+    → ScopesIn (with_body W takes gives ks) false scopes
+unfolding ScopesIn
+scopes_in_body W takes gives ks [] h = tt
+scopes_in_body W takes gives ks (scope ∷ scopes) h = (scope_in_body W takes gives ks scope h.0, scopes_in_body W takes gives ks scopes h.1)
+
+-- what the module has to offer to each of its bodies
+pub record KnownIn (W : World) (known : Known) : Type 0 where
+  pub strings : (x : List ℕ) (n : ℕ) → number_in x 0 known.strings ≡ Some n → n < W.strings
+  pub interfaces : (n : ℕ) (scope : Scope Meaning) → slice_get known.interfaces n ≡ Some scope → ScopeIn W true scope
+
+pub start_around : (W : World) (known : Known) (takes gives : List PlainField) (ks : t.Kinds) → KnownIn W known → FieldsIn gives
+    → AroundIn (with_body W takes gives ks) false at_start (body_of known takes gives)
+unfolding at_start ArmIn
+start_around W known takes gives ks h g = record {
+  takes = refl;
+  gives = refl;
+  gives_types = g;
+  strings = h.strings;
+  interfaces = λ n scope e. scope_in_body W takes gives ks scope (h.interfaces n scope e);
+  further = λ x. refl;
+  depth = refl;
+  few = omega arith;
+  statements = omega arith;
+  labels = omega arith;
+  labelled = λ x l e. none_is_no l e;
+  exit = λ l e. none_is_no l e;
+  next = λ l e. none_is_no l e;
+  leave = λ u. first_member (record { point = points.Leave; depth = 0 }) [];
+  arm = tt;
+}
+
+-- a body within the limit of words of a frame
+pub record SoundBody (W : World) (takes gives : List PlainField) (body : t.Body) : Type 0 where
+  pub variables : AllHaveWords body.variables
+  pub does : sound.StmtIn (at (with_body W takes gives body.variables) at_start) body.does
+  pub small : words_in_all (kinds_of takes) + words_in_all (kinds_of gives) + words_in_all body.variables + hidden body.does ≤ LOCAL_WORDS
+
+-- of the state behind a body: its globals are the first of those in the end, and what it marks as used is used
+pub record Behind (W : World) (s : State) : Type 0 where
+  pub more_globals : t.Kinds
+  pub globals : W.globals ≡ join s.globals more_globals
+  pub used : (k n : ℕ) → mark_at s.used k n ≡ Some true → IsUsed W.imports k n
+
+in_each_world : {A B : Type 0} (q : Checked B) (P : A → B → Type 0) → ((x : A) → IfOk q (P x)) → IfOk q (λ r. (x : A) → P x r)
+in_each_world (Ok b) P h = h
+in_each_world (Err e) P h = tt
+
+none_more : (ks : t.Kinds) → join ks t.NoKinds ≡ ks
+unfolding join
+none_more t.NoKinds = refl
+none_more (t.AndKind k ks) = ap (t.AndKind k) (none_more ks)
+
+no_words : AllHaveWords t.NoKinds
+unfolding AllHaveWords
+no_words = tt
+
+module _ (W : World) (known : Known) (xs : List Identifier) (i : PlainItem) (scope : Scope Meaning) (words : ℕ) (b : s.Block) where
+  abbrev body_world : t.Kinds → World
+  body_world ks = with_body W i.takes i.gives ks
+
+  block_rule : KnownIn W known → ItemIn i → BlockWritten b → ((ks : t.Kinds) → ScopeIn (body_world ks) false scope) → (ks : t.Kinds)
+      → Rule (body_world ks) false (Unit {0}) (StatementIn (body_world ks) at_start) (in_scope scope (block (body_of known i.takes i.gives) b))
+  block_rule h item w sc ks = scoped (body_world ks) false scope (λ u. sc ks) (under (body_world ks) false
+      (λ u. (start_around W known i.takes i.gives ks h item.gives, w)) ((block_checks (body_world ks) b).by at_start (body_of known i.takes i.gives)))
+
+  made_body : (before : State) (r : t.Stmt × State) → ((ks : t.Kinds) → Step (body_world ks) false (Unit {0}) (StatementIn (body_world ks) at_start)
+      (fresh before) r) → Names W true before → Behind W r.1
+      → words_of_fields i.takes + words_of_fields i.gives + words_in_all (r.1).variables + (r.1).hidden ≤ LOCAL_WORDS
+      → SoundBody W i.takes i.gives (record { variables = (r.1).variables; does = r.0 })
+  made_body before r steps names behind small =
+      let ks = (r.1).variables in
+      let st = steps ks in
+      let inside : Within (body_world ks) r.1 = record {
+        more_globals = behind.more_globals;
+        globals = behind.globals;
+        more_locals = t.NoKinds;
+        locals = ap (λ x. join (kinds_of i.takes) (join (kinds_of i.gives) x)) (sym (none_more ks));
+        used = behind.used;
+      } in
+      let start : Names (body_world ks) false (fresh before) = record {
+        scopes = scopes_in_body W i.takes i.gives ks before.scopes names.scopes;
+        coming = scope_in_body W i.takes i.gives ks before.coming names.coming;
+        rows = names.rows;
+        globals = names.globals;
+        variables = no_words;
+      } in
+      let done' = st.gives done inside start in
+      record {
+        variables = (st.keeps done inside start).variables;
+        does = done'.statement;
+        small = omega (arith, small, field_words_agree i.takes, field_words_agree i.gives, st.hides, done'.hidden_are);
+      }
+
+  abbrev framed : Bool → Cause → Place → State → Checked (t.Kinds × State)
+  framed c cause q u = and_then (only c cause q) (λ x. Ok (u.variables, u))
+
+  abbrev ensured : Bool → Cause → Place → State → Checked (Unit {0} × State)
+  ensured c cause q u = and_then (only c cause q) (λ x. Ok (x, u))
+
+  abbrev made : t.Kinds → t.Stmt → t.Procedure
+  made ks x = record { head = item_of i; body = record { variables = ks; does = x } }
+
+  abbrev ended : t.Stmt × State → Bool → Bool → Cause → Cause → Place → Checked (t.Procedure × State)
+  ended r c d x y q = and_then (framed c x q r.1) (λ u. and_then (ensured d y q u.1) (λ w. Ok (made u.0 r.0, w.1)))
+
+  abbrev IsSound : t.Procedure × State → Type 0
+  IsSound r = Behind W r.1 → ((r.0).head ≡ item_of i) × SoundBody W i.takes i.gives (r.0).body
+
+  ended_in : (before : State) (r : t.Stmt × State) → ((ks : t.Kinds) → Step (body_world ks) false (Unit {0}) (StatementIn (body_world ks) at_start)
+      (fresh before) r) → Names W true before
+      → (c d : Bool) (x y : Cause) (q : Place) → (c ≡ true → words_of_fields i.takes + words_of_fields i.gives + words_in_all
+      (r.1).variables + (r.1).hidden ≤ LOCAL_WORDS) → IfOk (ended r c d x y q) IsSound
+  ended_in before r steps names true true x y q small = λ behind. (refl, made_body before r steps names behind (small refl))
+  ended_in before r steps names true false x y q small = tt
+  ended_in before r steps names false d x y q small = tt
+
+  pub procedure_in : (before : State) → KnownIn W known → ItemIn i → BlockWritten b → ((ks : t.Kinds) → ScopeIn (body_world ks) false scope)
+      → Names W true before
+      → IfOk (procedure known xs i scope words b before) IsSound
+  unfolding procedure
+  procedure_in before h item w sc names =
+      let q = in_scope scope (block (body_of known i.takes i.gives) b) (fresh before) in
+      let steps : IfOk q (λ r. (ks : t.Kinds) → Step (body_world ks) false (Unit {0}) (StatementIn (body_world ks) at_start) (fresh before) r) =
+      in_each_world q (λ ks. Step (body_world ks) false (Unit {0}) (StatementIn (body_world ks) at_start) (fresh before))
+      (λ ks. (block_rule h item w sc ks).by (fresh before)) in
+      if_ok (and_then q _) (as_before before) IsSound IsSound
+      (if_ok q _ (λ r. (ks : t.Kinds) → Step (body_world ks) false (Unit {0}) (StatementIn (body_world ks) at_start) (fresh before) r) IsSound steps (λ r st.
+      ended_in before r st names (nat_le (words_of_fields i.takes + words_of_fields i.gives + words_in_all (r.1).variables + (r.1).hidden) LOCAL_WORDS)
+      (nat_le words OPERAND_WORDS) _ _ (first_name xs)
+      (leb-true (words_of_fields i.takes + words_of_fields i.gives + words_in_all (r.1).variables + (r.1).hidden) LOCAL_WORDS)))
+      (λ r k behind. k (record { more_globals = behind.more_globals; globals = behind.globals; used = behind.used }))
