@@ -1,7 +1,23 @@
+mod Coming
+mod DeclaredNames
+mod Distinct
 pub mod Everything
+mod FineExpressions
+mod FineInterfaces
+mod FineTypes
+mod GivenFaces
+mod HeadForms
+pub mod Keeping
+pub mod Kept
+pub mod KeptModule
+pub mod KeptNames
+pub mod KeptStatements
+pub mod KeptValues
 mod LawProofs
 pub mod Lexing
 mod Noticed
+mod RoundTrip
+mod Outcomes
 pub mod Reading
 pub mod SoundAround
 pub mod SoundBlocks

@@ -5,11 +5,13 @@ pub mod Definitions
 pub mod Directory
 pub mod Laws
 pub mod Meanings
+pub mod Limits
 pub mod Mentions
 pub mod Names
 pub mod Operators
 pub mod Parts
 pub mod Phrases
+pub mod Places
 pub mod PlainTypes
 pub mod Programs
 pub mod Ranges
