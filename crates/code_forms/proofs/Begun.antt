@@ -1,6 +1,6 @@
 -- The region that holds an offset is that of the last arm that begins there or before.
-use Rattle.std.proofs.Common.{◌≡◌, ℕ, zero, suc, ◌+◌, ◌<◌, ◌≤◌, List, [], ◌∷◌, length, get_or, cond, nat_le, true, false, Bool, refl, sym, ap, subst, ◌-◌, ◌∙◌, ⊎_elim, arith}
-use Rattle.std.specs.Prelude.{All, slice_get, Option, Some, None}
+use Rattle.std.proofs.Common.{◌≡◌, ℕ, zero, suc, ◌+◌, ◌<◌, ◌≤◌, List, [], ◌∷◌, length, get_or, cond, nat_le, true, false, refl, sym, ap, subst, ◌-◌, ◌∙◌, ⊎_elim, arith}
+use Rattle.std.specs.Prelude.{slice_get, Some, None}
 use Rattle.std.specs.List.{AllWithin}
 use Rattle.std.proofs.lemmas.Bool.{cases_lt}
 use borrow.Author.Tests.{le-leb, lt-leb}

@@ -1,14 +1,13 @@
 -- The depth before an instruction is one, and how the places beside the instructions come to hold it.
-use Rattle.std.proofs.Common.{◌≡◌, ℕ, zero, suc, ◌+◌, ◌-◌, ◌<◌, ◌≤◌, ◌⊎◌, inl, inr, ⊎_elim, List, [], ◌∷◌, length, get_or, map, Option, Some, None, refl, sym, ap, subst, ◌∙◌, arith}
-use Rattle.std.specs.Prelude.{slice_get, slice_set, IsTrue, Bool, true, false, cond, nat_eq}
+use Rattle.std.proofs.Common.{◌≡◌, ℕ, zero, suc, ◌+◌, ◌<◌, ◌≤◌, ◌⊎◌, inl, inr, ⊎_elim, List, [], ◌∷◌, length, get_or, Option, Some, None, refl, sym, ap, subst, ◌∙◌, arith}
+use Rattle.std.specs.Prelude.{slice_get, slice_set, true, false, cond, nat_eq}
 use Rattle.std.proofs.lemmas.Bool.{cases_lt, cases_eq, eq-eqb, ne_eqb}
 use Rattle.std.proofs.lemmas.List.{get_or-set_other, get_or-set_same}
 use Rattle.std.proofs.lemmas.Option.{slice_get-get_or, slice_get_within, get_or_from_slice_get, same_Some, none-some}
-use Rattle.code_forms.specs.declared.instruction.Instruction.{Instruction}
 use Rattle.code_forms.specs.declared.module_code.CodeEntry.{CodeEntry}
-use Rattle.code_forms.specs.Depths.{depth_after, forward_target, Reaches, Leads, Settled, at_none, at_first, AgreesOnward, AgreesAt}
+use Rattle.code_forms.specs.Depths.{depth_after, Reaches, Leads, Settled, at_none, at_first, AgreesOnward, AgreesAt}
 use Rattle.code_forms.specs.Marks.{unsettled, IsMarked, Marked, LeadsTo, settled_entry, settled_at}
-use Rattle.code_forms.specs.Routine.{Routine, Spot, Begins, goes_on, spot_of, spots}
+use Rattle.code_forms.specs.Routine.{Routine, Spot, spot_of, spots}
 use Rattle.code_forms.proofs.Ordered.{spots_length}
 
 -- the first of two that lead first

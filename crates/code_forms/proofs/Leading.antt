@@ -1,15 +1,14 @@
 -- Where an instruction leads, and what the parts of the test say together.
-use Rattle.std.proofs.Common.{◌≡◌, ℕ, ◌+◌, ◌<◌, ◌≤◌, ◌⊎◌, inl, inr, ⊎_elim, List, length, get_or, Option, Some, None, refl, sym, ap, subst, ◌∙◌, arith}
-use Rattle.std.specs.Prelude.{slice_get, IsTrue, MatchOption, All}
+use Rattle.std.proofs.Common.{◌≡◌, ℕ, ◌+◌, ◌<◌, ◌≤◌, inl, inr, ⊎_elim, List, length, get_or, Option, Some, None, refl, sym, ap, subst, ◌∙◌, arith}
+use Rattle.std.specs.Prelude.{slice_get, IsTrue, MatchOption}
 use Rattle.std.proofs.lemmas.Bool.{cases_lt}
-use Rattle.std.proofs.lemmas.Option.{slice_get-map, slice_get_within, same_Some, none-some}
+use Rattle.std.proofs.lemmas.Option.{slice_get-map, same_Some, none-some}
 use Rattle.std.specs.Option.{option_map}
 use Rattle.code_forms.specs.declared.instruction.Instruction.{Instruction}
-use Rattle.code_forms.specs.declared.instruction.Instruction.TheVariants.{Lit, Str, LoadL, StoreL, LoadG, StoreG, LoadLX, StoreLX, LoadGX, StoreGX, Index, Add, Sub, Mul, Neg, DivI, ModI, DivC, ModC, Eq, LessI, LessC, Not, CheckI, CheckC, Jump, JumpIf, JumpIfNot, JumpBack, StrLen, StrAt, Call, CallLink, Return, Raise, RaiseLink, RaiseHost, ArmEnd, Resume, Leave, LeaveReturn, Pop, Roll, ZeroL, ZeroG}
+use Rattle.code_forms.specs.declared.instruction.Instruction.TheVariants.{JumpBack, Leave}
 use Rattle.code_forms.specs.declared.module_code.CodeEntry.{CodeEntry}
-use Rattle.code_forms.specs.declared.module_code.Phrase.{Phrase}
 use Rattle.code_forms.specs.Depths.{forward_target, backward_target, outward_target, Reaches, Leads, Stays}
-use Rattle.code_forms.specs.Jumps.{GoesBack, GoesOut, JumpsRightly}
+use Rattle.code_forms.specs.Jumps.{JumpsRightly}
 use Rattle.code_forms.specs.Marks.{LeadsTo}
 use Rattle.code_forms.specs.Ranges.{InOrder}
 use Rattle.code_forms.specs.Rising.{RegionsRise, FromsFirst}

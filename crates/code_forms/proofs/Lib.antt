@@ -2,6 +2,7 @@ pub mod Begun
 pub mod Depths
 pub mod Leading
 pub mod NoFault
+pub mod OneFault
 pub mod Ordered
 pub mod Outward
 pub mod Passing

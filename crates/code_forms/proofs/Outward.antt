@@ -1,16 +1,16 @@
 -- A region outward of another stands before it.
-use Rattle.std.proofs.Common.{◌≡◌, ℕ, zero, suc, ◌+◌, ◌-◌, ◌<◌, ◌≤◌, ◌⊎◌, ⊎_elim, List, [], ◌∷◌, length, get_or, cond, Option, Some, None, refl, sym, ap, subst, ◌∙◌, arith}
-use Rattle.std.specs.Prelude.{All, slice_get, nat_le, Bool, true, false}
+use Rattle.std.proofs.Common.{◌≡◌, ℕ, zero, suc, ◌+◌, ◌<◌, ◌≤◌, ⊎_elim, List, [], ◌∷◌, length, get_or, cond, Option, Some, None, refl, sym, ap, subst, arith}
+use Rattle.std.specs.Prelude.{slice_get, nat_le}
 use Rattle.std.proofs.lemmas.Bool.{cases_lt}
-use Rattle.std.proofs.lemmas.Option.{slice_get-get_or, get_or_from_slice_get, slice_get_within, same_Some, none-some}
+use Rattle.std.proofs.lemmas.Option.{get_or_from_slice_get, slice_get_within, same_Some, none-some}
 use Rattle.code_forms.specs.declared.module_code.Arm.{Arm}
 use Rattle.code_forms.specs.declared.module_code.Phrase.{Phrase}
 use Rattle.code_forms.specs.declared.region.Region.{Region}
 use Rattle.code_forms.specs.declared.region.Region.TheVariants.{Body, ArmOf}
 use Rattle.code_forms.specs.Phrases.{first_start}
 use Rattle.code_forms.specs.Regions.{later_arm, later_phrase, region_at, around_phrase, holder, and_then, outward}
-use Rattle.code_forms.specs.Rising.{ArmsRise, RegionsRise, FromsFirst}
-use Rattle.code_forms.proofs.Begun.{NoneBegun, not_yet, begun, no_arm, no_phrase, none_begun}
+use Rattle.code_forms.specs.Rising.{RegionsRise, FromsFirst}
+use Rattle.code_forms.proofs.Begun.{NoneBegun, not_yet, begun, no_phrase, none_begun}
 
 -- how far a region is: the body, then the arms by their phrases
 abbrev pub rank : Region → ℕ

@@ -1,22 +1,23 @@
 -- The pass over the instructions of a procedure.
-use Rattle.std.proofs.Common.{◌≡◌, ℕ, zero, suc, ◌+◌, ◌-◌, ◌<◌, ◌≤◌, ◌⊎◌, inl, inr, ⊎_elim, List, length, get_or, Option, Some, None, refl, sym, ap, subst, ◌∙◌, arith}
+use Rattle.std.proofs.Common.{◌≡◌, ℕ, ◌+◌, ◌<◌, ◌≤◌, inl, ⊎_elim, List, length, get_or, Option, Some, refl, sym, ap, subst, ◌∙◌, arith}
 use Rattle.std.specs.Prelude.{slice_get, slice_set, All}
-use Rattle.std.specs.List.{AllWithin, AllAdjacentBelow, HoldsAt}
+use Rattle.std.specs.List.{AllWithin}
 use Rattle.std.proofs.lemmas.Bool.{cases_lt}
 use Rattle.std.proofs.lemmas.List.Elements.{AllWithin-more_set}
 use Rattle.std.proofs.lemmas.Option.{slice_get-get_or, slice_get_within, get_or_from_slice_get, same_Some}
 use Rattle.code_forms.specs.Around.{routine_around}
 use Rattle.code_forms.specs.declared.around.Around.{Around}
 use Rattle.code_forms.specs.declared.bad_code.CodeFault.{CodeFault}
+use Rattle.code_forms.specs.declared.limits.TheConstants.{STACK_WORDS}
 use Rattle.code_forms.specs.declared.module_code.CodeEntry.{CodeEntry}
 use Rattle.code_forms.specs.Depths.{depth_after, DepthFits, Settled, DepthsAreSettled}
 use Rattle.code_forms.specs.Instructions.{bytes_of}
-use Rattle.code_forms.specs.Marks.{unsettled, IsMarked, Marked, LeadsTo, settled_at}
+use Rattle.code_forms.specs.Marks.{unsettled, Marked, LeadsTo, settled_at}
 use Rattle.code_forms.specs.Phrases.{PhrasesFill}
 use Rattle.code_forms.specs.Ranges.{InOrder}
 use Rattle.code_forms.specs.Routine.{Routine, Spot, spot_of, spots}
 use Rattle.code_forms.specs.Valid.{SpotIsRight, SpotsAreRight, FaultAt, FirstFault, in_code}
-use Rattle.code_forms.proofs.Depths.{own_mark, onward_mark, same_spots, settled_spots, settled_length}
+use Rattle.code_forms.proofs.Depths.{own_mark, onward_mark, same_spots, settled_spots}
 use Rattle.code_forms.proofs.Leading.{spot_there}
 use Rattle.code_forms.proofs.Ordered.{blank, spot_at, spots_length}
 
@@ -54,7 +55,7 @@ own_marked a code i l m =
 
 -- and then of those to which it leads
 pub onward_marked : (a : Around) (old code : List CodeEntry) (i : ℕ) (entry : CodeEntry) (next target : Option ℕ) (depth : ℕ) → spots code ≡ spots old → slice_get code i ≡ Some entry
-    → a.room ≤ 65535 → Marked (routine_around a (spots code)) (i + 1) i code → LeadsTo (routine_around a (spots code)) i next target
+    → a.room ≤ STACK_WORDS → Marked (routine_around a (spots code)) (i + 1) i code → LeadsTo (routine_around a (spots code)) i next target
     → depth ≡ depth_after (routine_around a (spots code)) entry.instruction entry.depth → DepthFits (routine_around a (spots code)) entry.instruction entry.depth
     → Marked (routine_around a (spots old)) (i + 1) (i + 1) (settled_at (settled_at code next depth) target depth)
 onward_marked a old code i entry next target depth h is room m leads e fits =

@@ -1,19 +1,19 @@
 -- Phrases that stand rightly rise, and where they nest.
-use Rattle.std.proofs.Common.{◌≡◌, ℕ, zero, suc, ◌+◌, ◌-◌, ◌<◌, ◌≤◌, ◌⊎◌, inl, inr, ⊎_elim, List, [], ◌∷◌, length, get_or, take, Some, refl, sym, ap, subst, ◌∙◌, arith}
-use Rattle.std.specs.Prelude.{All, slice_get, Option, None}
+use Rattle.std.proofs.Common.{◌≡◌, ℕ, ◌+◌, ◌-◌, ◌<◌, ◌≤◌, inl, inr, ⊎_elim, List, [], ◌∷◌, length, get_or, take, sym, ap, subst, ◌∙◌, arith}
+use Rattle.std.specs.Prelude.{All}
 use Rattle.std.specs.List.{AllAdjacentBelow, AllWithin}
 use Rattle.std.specs.List.Sorted.{IsNonDecreasingBy}
 use Rattle.std.proofs.Math.Seq.{take-length}
 use Rattle.std.proofs.lemmas.Bool.{cases_lt}
 use Rattle.std.proofs.lemmas.List.{get_or-take, length-take-le}
 use Rattle.std.proofs.lemmas.List.Sorted.{IsNonDecreasingBy-from_all_adjacent}
-use Rattle.std.proofs.lemmas.Option.{slice_get-get_or, get_or_from_slice_get, slice_get_within}
+use Rattle.std.proofs.lemmas.Option.{slice_get-get_or, get_or_from_slice_get}
 use Rattle.code_forms.specs.declared.module_code.Arm.{Arm}
 use Rattle.code_forms.specs.declared.module_code.Phrase.{Phrase}
 use Rattle.code_forms.specs.Nesting.{AllStand, NestWith, NestUpTo, Crosses}
 use Rattle.code_forms.specs.Phrases.{arm_start, arm_end, first_start, last_end, phrase_end, regions_end, ArmsFollow, RegionsFollow, Stands, Nests, PhraseIsRight, PhrasesAreRight, EndsWithCode, PhrasesFill}
 use Rattle.code_forms.specs.Rising.{ArmsRise, RegionsRise, FromsFirst}
-use Rattle.code_forms.specs.Routine.{Spot, code_end}
+use Rattle.code_forms.specs.Routine.{Spot}
 use Rattle.code_forms.specs.Valid.{FirstBadPhrase, at_phrase, at_last}
 
 -- an arm and a phrase, where one is asked for

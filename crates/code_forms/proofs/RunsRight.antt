@@ -1,12 +1,11 @@
 -- What a machine finds at each instruction of valid code.
-use Rattle.std.proofs.Common.{◌≡◌, ℕ, ◌+◌, ◌<◌, ◌≤◌, inl, inr, length, get_or, refl, sym, ap, subst, arith}
-use Rattle.std.specs.Prelude.{slice_get, Some, IsTrue}
+use Rattle.std.proofs.Common.{◌≡◌, ℕ, ◌+◌, ◌<◌, inl, inr, length, get_or, refl, sym, ap, subst, arith}
+use Rattle.std.specs.Prelude.{slice_get, Some}
 use Rattle.std.proofs.lemmas.Option.{slice_get-get_or, slice_get_within}
 use Rattle.code_forms.specs.declared.module_code.CodeEntry.{CodeEntry}
 use Rattle.code_forms.specs.declared.module_code.CodeProcedure.{CodeProcedure}
-use Rattle.code_forms.specs.declared.module_code.ModuleCode.{ModuleCode}
-use Rattle.code_forms.specs.Depths.{depth_after, DepthsAreSettled, Leads, Settled, StackIsRight}
-use Rattle.code_forms.specs.Routine.{Routine, goes_on, routine, spots, spot_of}
+use Rattle.code_forms.specs.Depths.{DepthsAreSettled, StackIsRight}
+use Rattle.code_forms.specs.Routine.{Routine, routine, spots, spot_of}
 use Rattle.code_forms.specs.Running.{EntryRuns, RunsInRange}
 use Rattle.code_forms.specs.Valid.{SpotIsRight, RoutineIsValid}
 use Rattle.code_forms.proofs.Depths.{settled_once}

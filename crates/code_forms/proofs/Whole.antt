@@ -1,5 +1,5 @@
 -- Procedures whose depths alone differ, and the code of a whole module.
-use Rattle.std.proofs.Common.{◌≡◌, ℕ, zero, suc, ◌+◌, ◌-◌, ◌<◌, ◌≤◌, ◌^◌, ◌⊎◌, ⊎_elim, List, [], ◌∷◌, length, get_or, map, Option, Some, None, refl, sym, ap, subst, ◌∙◌, arith}
+use Rattle.std.proofs.Common.{◌≡◌, ℕ, zero, suc, ◌+◌, ◌<◌, ◌≤◌, ⊎_elim, List, [], ◌∷◌, length, get_or, map, Option, Some, None, refl, sym, ap, subst, ◌∙◌, arith}
 use Rattle.std.specs.Prelude.{slice_get, slice_set, All}
 use Rattle.std.specs.Option.{option_map}
 use Rattle.std.proofs.Props.{props}
@@ -14,7 +14,7 @@ use Rattle.code_forms.specs.declared.module_code.Phrase.{Phrase}
 use Rattle.code_forms.specs.declared.around.Moved.{Moved}
 use Rattle.code_forms.specs.declared.bad_code.CodeFault.{CodeFault}
 use Rattle.code_forms.specs.Depths.{DepthsAreSettled}
-use Rattle.code_forms.specs.Ranges.{InOrder, PhraseInRange, ProcedureInRange, CanBeRead, IsBody, KeepsRanges}
+use Rattle.code_forms.specs.Ranges.{PhraseInRange, ProcedureInRange, CanBeRead, IsBody, KeepsRanges}
 use Rattle.code_forms.specs.Routine.{Routine, Spot, spot_of, spots, words_of, routine_with}
 use Rattle.code_forms.specs.Same.{bare_entry, with_code, bare_procedure, bare}
 use Rattle.code_forms.specs.Valid.{RoutineIsValid, FirstFault, AreValid, HaveDepths, IsFirstFaultOf}

@@ -1,8 +1,6 @@
 -- What the code of a procedure may name, and the procedure with some code (rule of this project).
-use Rattle.std.specs.Prelude.{ℕ, List, map, Bool, Option, slice_get}
+use Rattle.std.specs.Prelude.{List, map}
 use Rattle.code_forms.specs.declared.around.Around.{Around}
-use Rattle.code_forms.specs.declared.around.Moved.{Moved}
-use Rattle.code_forms.specs.declared.instruction.Instruction.{Instruction}
 use Rattle.code_forms.specs.Routine as r
 
 abbrev pub routine_around : Around → List r.Spot → r.Routine

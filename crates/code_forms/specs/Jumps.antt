@@ -1,9 +1,8 @@
 -- Where jumps may lead (rule of this project).
 use Rattle.std.specs.Prelude.{◌≡◌, ℕ, ◌<◌, ◌≤◌, Some}
 use Rattle.code_forms.specs.declared.instruction.Instruction.{Instruction}
-use Rattle.code_forms.specs.declared.instruction.Instruction.TheVariants.{Lit, Str, LoadL, StoreL, LoadG, StoreG, LoadLX, StoreLX, LoadGX, StoreGX, Index, Add, Sub, Mul, Neg, DivI, ModI, DivC, ModC, Eq, LessI, LessC, Not, CheckI, CheckC, Jump, JumpIf, JumpIfNot, JumpBack, StrLen, StrAt, Call, CallLink, Return, Raise, RaiseLink, RaiseHost, ArmEnd, Resume, Leave, LeaveReturn, Pop, Roll, ZeroL, ZeroG}
-use Rattle.code_forms.specs.Routine.{Routine, Spot, IsStart}
-use Rattle.code_forms.specs.declared.region.Region.{Region}
+use Rattle.code_forms.specs.declared.instruction.Instruction.TheVariants.{Jump, JumpIf, JumpIfNot, JumpBack, Leave, LeaveReturn}
+use Rattle.code_forms.specs.Routine.{Routine, IsStart}
 use Rattle.code_forms.specs.declared.region.Region.TheVariants.{Body}
 use Rattle.code_forms.specs.Regions.{region_at, outward}
 

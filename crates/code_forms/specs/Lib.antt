@@ -1,4 +1,5 @@
 pub mod Around
+pub mod Built
 pub mod Depths
 pub mod Exact
 pub mod Instructions

@@ -1,5 +1,5 @@
 -- Phrases that stand rightly and nest, as the test finds them (rule of this project).
-use Rattle.std.specs.Prelude.{ℕ, ◌+◌, ◌<◌, ◌≤◌, List, take, slice_index_or}
+use Rattle.std.specs.Prelude.{ℕ, ◌<◌, ◌≤◌, List, take, slice_index_or}
 use Rattle.code_forms.specs.declared.module_code.Phrase.{Phrase}
 use Rattle.code_forms.specs.Phrases.{Stands, Nests}
 use Rattle.code_forms.specs.Routine.{Spot}

@@ -1,9 +1,9 @@
 -- Which phrases are right: their ranges, how they nest, and the regions of their arms (rule of this project).
-use Rattle.std.specs.Prelude.{◌≡◌, ℕ, ◌+◌, ◌-◌, ◌<◌, ◌≤◌, ◌⊎◌, List, [], ◌∷◌, Option, Some, None, All, slice_get, take, length}
+use Rattle.std.specs.Prelude.{◌≡◌, ℕ, ◌-◌, ◌<◌, ◌≤◌, ◌⊎◌, List, [], ◌∷◌, Option, Some, None, All, slice_get, take, length}
 use Rattle.std.specs.List.{AllAdjacentBelow}
 use Rattle.code_forms.specs.declared.module_code.Arm.{Arm}
 use Rattle.code_forms.specs.declared.module_code.Phrase.{Phrase}
-use Rattle.code_forms.specs.Routine.{Spot, Routine, IsStart, code_end}
+use Rattle.code_forms.specs.Routine.{Spot, IsStart, code_end}
 use Rattle.code_forms.specs.Regions.{region_at}
 
 abbrev pub arm_start : Option Arm → ℕ

@@ -1,6 +1,8 @@
 -- The ranges that the code of each module keeps, valid or not (rule of this project).
 use Rattle.std.specs.Prelude.{◌≡◌, ℕ, ◌+◌, ◌<◌, ◌≤◌, ◌^◌, List, length, All, Option, Some, None, slice_get}
 use Rattle.std.specs.List.{AllAdjacentBelow, HoldsAt}
+use Rattle.mesa_base.specs.declared.limits.TheConstants.{GLOBAL_WORDS, DISTINCT_STRINGS, STRING_BYTES}
+use Rattle.code_forms.specs.declared.limits.TheConstants.{FRAME_WORDS, STACK_WORDS}
 use Rattle.code_forms.specs.declared.module_code.Arm.{Arm}
 use Rattle.code_forms.specs.declared.module_code.CodeEntry.{CodeEntry}
 use Rattle.code_forms.specs.declared.module_code.CodeKind.{CodeKind}
@@ -60,9 +62,9 @@ pub record InOrder (code : List CodeEntry) : Type 0 where
   pub short : All (λ e. e.at + bytes_of e.instruction < 2 ^ 32) code
 
 pub record ProcedureInRange (signals : List CodeSignal) (links : List CodeLink) (p : CodeProcedure) : Type 0 where
-  pub frame : p.frame ≤ 2048
+  pub frame : p.frame ≤ FRAME_WORDS
   pub words : p.args + p.results ≤ p.frame
-  pub depth : p.depth ≤ 65535
+  pub depth : p.depth ≤ STACK_WORDS
   pub code : InOrder p.code
   pub phrases : All (PhraseInRange signals links) p.phrases
 
@@ -70,7 +72,7 @@ pub record ProcedureInRange (signals : List CodeSignal) (links : List CodeLink) 
 pub record CanBeRead (p : CodeProcedure) : Type 0 where
   pub code : InOrder p.code
   pub armed : All (λ q. 0 < length q.arms) p.phrases
-  pub small : p.depth ≤ 65535
+  pub small : p.depth ≤ STACK_WORDS
 
 -- the first procedure is the body, which takes and gives nothing
 abbrev pub IsBody : Option CodeProcedure → Type 0
@@ -79,10 +81,10 @@ IsBody (Some p) = (p.args ≡ 0) × (p.results ≡ 0)
 
 pub record KeepsRanges (globals : ℕ) (signals : List CodeSignal) (strings : List (List ℕ)) (links : List CodeLink)
     (procedures : List CodeProcedure) : Type 0 where
-  pub few_globals : globals ≤ 16384
+  pub few_globals : globals ≤ GLOBAL_WORDS
   pub each_signal : All SignalInRange signals
-  pub few_strings : length strings ≤ 65535
-  pub each_string : All (λ s. length s ≤ 32767) strings
+  pub few_strings : length strings ≤ DISTINCT_STRINGS
+  pub each_string : All (λ s. length s ≤ STRING_BYTES) strings
   pub each_link : All LinkInRange links
   pub body : IsBody (slice_get procedures 0)
   pub few_procedures : length procedures < 2 ^ 32

@@ -1,5 +1,5 @@
 -- What finding an instruction or a region by halving stands on (rule of this project).
-use Rattle.std.specs.Prelude.{◌≡◌, ℕ, ◌<◌, List, length, All}
+use Rattle.std.specs.Prelude.{◌<◌, List, length, All}
 use Rattle.std.specs.List.Sorted.{IsNonDecreasingBy}
 use Rattle.code_forms.specs.declared.module_code.Arm.{Arm}
 use Rattle.code_forms.specs.declared.module_code.Phrase.{Phrase}

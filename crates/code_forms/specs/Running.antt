@@ -6,7 +6,7 @@ use Rattle.code_forms.specs.declared.module_code.ModuleCode.{ModuleCode}
 use Rattle.code_forms.specs.Depths.{depth_after, forward_target, backward_target, outward_target, is_return, Reaches}
 use Rattle.code_forms.specs.Jumps.{JumpsRightly}
 use Rattle.code_forms.specs.Operands.{OperandsAreRight}
-use Rattle.code_forms.specs.Routine.{Routine, moves, goes_on, routine, spots, spot_of}
+use Rattle.code_forms.specs.Routine.{Routine, moves, goes_on, routine, spot_of}
 use Rattle.code_forms.specs.Valid.{Valid, HasDepths}
 
 -- at the instruction of this number with its depth: the words that it takes are there and there is room for those that it puts; where it

@@ -1,5 +1,5 @@
 -- Which code is valid, and the first fault of code that is not (rule of this project).
-use Rattle.std.specs.Prelude.{◌≡◌, ℕ, ◌+◌, ◌<◌, List, length, map, Option, Some, slice_get, take}
+use Rattle.std.specs.Prelude.{◌≡◌, ℕ, ◌+◌, ◌<◌, List, length, Some, slice_get, take}
 use Rattle.code_forms.specs.declared.bad_code.BadCode.{BadCode}
 use Rattle.code_forms.specs.declared.bad_code.CodeFault.{CodeFault}
 use Rattle.code_forms.specs.declared.bad_code.CodeFault.TheVariants.{BadJump, StackDiffers, BadOperand, CatchRange}

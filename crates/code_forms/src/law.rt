@@ -1,9 +1,14 @@
-ghost use Rattle.code_forms.specs.Exact.{NoFaultOfValid, OneDepth};
+ghost use Rattle.code_forms.specs.Exact.{NoFaultOfValid, OneDepth, OneFirstFault};
 ghost use Rattle.code_forms.specs.Running.{RunsInRange};
 
 /// Valid code has no first fault, so `validate` answers the one exactly where it does not answer the other.
 pub fn no_fault_of_valid()
     ensures { NoFaultOfValid }
+{}
+
+/// Code has one first fault at most, so the one that `validate` answers is the only one.
+pub fn one_first_fault()
+    ensures { OneFirstFault }
 {}
 
 /// The depth before an instruction is the one on every way to it.

@@ -3,11 +3,13 @@
 
 mod around;
 mod bad_code;
+mod building;
 mod catching;
 mod instruction;
 mod judging;
 mod jumps;
 mod law;
+pub mod limits;
 mod lookups;
 mod module_code;
 mod operands;
@@ -20,7 +22,7 @@ mod validation;
 
 pub use bad_code::{BadCode, CodeFault};
 pub use instruction::Instruction;
-pub use law::{no_fault_of_valid, one_depth, runs_in_range};
+pub use law::{no_fault_of_valid, one_depth, one_first_fault, runs_in_range};
 pub use module_code::{
     Arm, Arms, CatchTable, CodeEntries, CodeEntry, CodeKind, CodeLink, CodeLinks, CodeProcedure,
     CodeSignal, CodeSignals, Label, Labels, ModuleCode, Phrase,

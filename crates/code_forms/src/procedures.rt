@@ -71,6 +71,7 @@ impl CodeProcedures {
 
 impl CodeProcedures {
     ghost use Rattle.std.specs.Prelude.{◌≢◌, ℕ, ◌<◌, ◌≤◌, All, slice_index_or, slice_set};
+    ghost use Rattle.code_forms.specs.declared.limits.TheConstants.{STACK_WORDS};
     ghost use Rattle.code_forms.specs.declared.module_code.CodeProcedure.{CodeProcedure};
     ghost use Rattle.code_forms.specs.Depths.{DepthsAreSettled};
     ghost use Rattle.code_forms.specs.Ranges.{CanBeRead, InOrder};
@@ -132,7 +133,7 @@ impl CodeProcedures {
         requires there { number < length self.now }
         requires order { InOrder code.old }
         requires armed { (d : CodeProcedure) → All (λ p. 0 < length p.arms) (slice_index_or self.now number d).phrases }
-        requires small { (d : CodeProcedure) → (slice_index_or self.now number d).depth ≤ 65535 }
+        requires small { (d : CodeProcedure) → (slice_index_or self.now number d).depth ≤ STACK_WORDS }
         ensures same { spots code.new ≡ spots code.old }
         ensures valid { OnOk result ((d : CodeProcedure) → RoutineIsValid (routine_with globals strings signals.now links.now self.now (with_code (slice_index_or self.now number d) code.old))) }
         ensures depths { OnOk result ((d : CodeProcedure) → DepthsAreSettled (routine_with globals strings signals.now links.now self.now (with_code (slice_index_or self.now number d) code.old)) code.new) }

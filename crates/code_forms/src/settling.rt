@@ -1,4 +1,5 @@
 ghost use Rattle.std.specs.Prelude.{◌≡◌, ℕ, ◌+◌, ◌<◌, ◌≤◌, length, All, OnOk, IfErr, Some, slice_get};
+ghost use Rattle.code_forms.specs.declared.limits.TheConstants.{STACK_WORDS};
 ghost use Rattle.code_forms.specs.Around.{routine_around};
 ghost use Rattle.code_forms.specs.Depths.{DepthsAreSettled};
 ghost use Rattle.code_forms.specs.Marks.{unsettled, Marked, settled_at};
@@ -60,7 +61,7 @@ fn settle_one(around: &Around, code: &mut CodeEntries, i: usize) -> Result<(), C
     requires order { InOrder code.old }
     requires rise { RegionsRise around.now.phrases.now }
     requires froms { FromsFirst around.now.phrases.now }
-    requires small { around.now.room ≤ 65535 }
+    requires small { around.now.room ≤ STACK_WORDS }
     requires there { i < length code.old }
     requires marked { Marked (routine_around around.now (spots code.old)) i i code.old }
     ensures same { spots code.new ≡ spots code.old }
@@ -84,7 +85,7 @@ fn settle_all(around: &Around, code: &mut CodeEntries) -> Result<(), CodeFault>
     requires order { InOrder code.old }
     requires rise { RegionsRise around.now.phrases.now }
     requires froms { FromsFirst around.now.phrases.now }
-    requires small { around.now.room ≤ 65535 }
+    requires small { around.now.room ≤ STACK_WORDS }
     requires fill { PhrasesFill (spots code.old) around.now.phrases.now }
     ensures same { spots code.new ≡ spots code.old }
     ensures right { OnOk result (SpotsAreRight (routine_around around.now (spots code.old)) (length code.old)) }
@@ -105,7 +106,7 @@ fn settle_all(around: &Around, code: &mut CodeEntries) -> Result<(), CodeFault>
 pub fn settle_procedure(around: &Around, code: &mut CodeEntries) -> Result<(), CodeFault>
     requires order { InOrder code.old }
     requires armed { All (λ p. 0 < length p.arms) around.now.phrases.now }
-    requires small { around.now.room ≤ 65535 }
+    requires small { around.now.room ≤ STACK_WORDS }
     ensures same { spots code.new ≡ spots code.old }
     ensures valid { OnOk result (RoutineIsValid (routine_around around.now (spots code.old))) }
     ensures depths { OnOk result (DepthsAreSettled (routine_around around.now (spots code.old)) code.new) }

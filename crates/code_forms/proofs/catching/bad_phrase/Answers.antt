@@ -1,4 +1,4 @@
-use Rattle.std.proofs.Common.{◌≡◌, ◌≤◌, length, false, true, refl, arith}
+use Rattle.std.proofs.Common.{◌≡◌, ◌≤◌, false, true, refl, arith}
 use Rattle.std.proofs.lemmas.List.{length-take-le}
 use Rattle.code_forms.specs.Routine.{spots}
 use Rattle.code_forms.proofs.PhraseOrder.{bad_at, bad_end, fill}

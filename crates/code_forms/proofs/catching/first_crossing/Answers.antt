@@ -1,4 +1,3 @@
-use Rattle.std.proofs.Common.{arith}
 use Rattle.code_forms.proofs.PhraseOrder.{crossing_more}
 use Rattle.code_forms.proofs.catching.first_crossing.Goals as goal
 

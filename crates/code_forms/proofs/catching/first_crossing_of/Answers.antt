@@ -1,4 +1,3 @@
-use Rattle.std.proofs.Common.{arith}
 use Rattle.code_forms.proofs.PhraseOrder.{turn, nest_behind}
 use Rattle.code_forms.proofs.catching.first_crossing_of.Goals as goal
 

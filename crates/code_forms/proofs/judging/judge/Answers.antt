@@ -1,4 +1,4 @@
-use Rattle.std.proofs.Common.{◌≡◌, false, true, List, refl, ◌∙◌}
+use Rattle.std.proofs.Common.{◌≡◌, false, true, refl, ◌∙◌}
 use Rattle.code_forms.specs.Around.{routine_around}
 use Rattle.code_forms.specs.Routine.{Routine, spots}
 use Rattle.code_forms.specs.Valid.{bad_jump, stack_differs, bad_operand}

@@ -1,4 +1,4 @@
-use Rattle.std.proofs.Common.{◌≡◌, false, true, List, refl, sym, ap, subst}
+use Rattle.std.proofs.Common.{◌≡◌, false, true, refl, sym, subst}
 use Rattle.std.proofs.lemmas.Option.{slice_get_within}
 use Rattle.code_forms.specs.Around.{routine_around}
 use Rattle.code_forms.specs.Depths.{AgreesOnward, AgreesAt, Reaches, backward_target, outward_target}

@@ -1,7 +1,7 @@
-use Rattle.std.proofs.Common.{◌≡◌, List, length, sym, ap, subst, arith}
+use Rattle.std.proofs.Common.{List, subst, arith}
 use Rattle.code_forms.specs.declared.module_code.CodeEntry.{CodeEntry}
 use Rattle.code_forms.specs.Phrases.{PhrasesFill}
-use Rattle.code_forms.specs.Routine.{Spot, spots}
+use Rattle.code_forms.specs.Routine.{spots}
 use Rattle.code_forms.specs.Valid.{FirstBadPhrase, in_phrases}
 use Rattle.code_forms.proofs.Ordered.{spots_length}
 use Rattle.code_forms.proofs.PhraseOrder.{fill_rise, fill_froms}

@@ -1,5 +1,4 @@
-use Rattle.std.proofs.Common.{◌≡◌, ◌<◌, length, arith}
-use Rattle.code_forms.specs.Routine.{spots}
+use Rattle.std.proofs.Common.{arith}
 use Rattle.code_forms.proofs.Passing.{same_length, unset_more}
 use Rattle.code_forms.proofs.settling.unsettle.Goals as goal
 

@@ -1,4 +1,4 @@
-use Rattle.std.proofs.Common.{◌≡◌, ◌<◌, length, sym, ◌∙◌, arith}
+use Rattle.std.proofs.Common.{◌<◌, length, sym, ◌∙◌, arith}
 use Rattle.code_forms.proofs.Whole.{same_count, all_read, valid_more, valid_at, depths_more, first_fault_of}
 use Rattle.code_forms.proofs.validation.settle_procedures.Goals as goal
 

@@ -1,4 +1,4 @@
-use Rattle.std.proofs.Common.{◌≡◌, ◌<◌, List, length, get_or, Err, Ok, sym, ap, subst, ◌∙◌, arith}
+use Rattle.std.proofs.Common.{List, length, get_or, sym, ap, subst, ◌∙◌, arith}
 use Rattle.std.proofs.lemmas.List.{length-set}
 use Rattle.std.proofs.lemmas.Result.{on_ok_weaker, IfErr-weaker}
 use Rattle.code_forms.specs.declared.module_code.CodeEntry.{CodeEntry}

@@ -1,0 +1,13 @@
+pub mod Decisions
+pub mod Depths
+pub mod Edges
+pub mod InRange
+pub mod Instructions
+pub mod Judging
+pub mod Jumps
+pub mod Operands
+pub mod Orders
+pub mod Phrases
+pub mod Ranges
+pub mod StackDepths
+pub mod Tables
