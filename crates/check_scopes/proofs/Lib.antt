@@ -1,0 +1,4 @@
+pub mod Indexes
+pub mod Innermost
+pub mod Marking
+pub mod Laws
