@@ -1,0 +1,10 @@
+pub mod Copied
+pub mod Fitting
+pub mod Going
+pub mod Parts
+pub mod Pausing
+pub mod Short
+pub mod Showing
+pub mod Stepping
+pub mod Tries
+pub mod WorkShown

@@ -1,0 +1,5 @@
+pub mod Fits
+pub mod Flat
+pub mod Laws
+pub mod Running
+pub mod Shown

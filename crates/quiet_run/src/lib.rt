@@ -1,0 +1,18 @@
+//! The run of the topmost activation alone.
+#![tactic(auto)]
+
+mod indexed;
+mod jumps;
+mod laws;
+mod operate;
+mod operators;
+mod perform;
+mod region;
+mod registers;
+mod runner;
+mod texts;
+mod variables;
+
+pub use laws::works_as_defined;
+pub use registers::{Pause, Registers, Why};
+pub use runner::quiet;
