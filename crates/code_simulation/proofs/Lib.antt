@@ -1,0 +1,9 @@
+pub mod Agreement
+pub mod Arithmetic
+pub mod Intervals
+pub mod Leaves
+pub mod Lifted
+pub mod Memory
+pub mod Rows
+pub mod Stacks
+pub mod Values

@@ -1,0 +1,6 @@
+pub mod Agreement
+pub mod Layout
+pub mod Operators
+pub mod Own
+pub mod Reaches
+pub mod Stands
