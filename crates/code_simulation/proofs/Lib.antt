@@ -1,9 +1,11 @@
 pub mod Agreement
 pub mod Arithmetic
+pub mod Arranged
 pub mod Intervals
 pub mod Leaves
 pub mod Lifted
 pub mod Memory
+pub mod Results
 pub mod Rows
 pub mod Stacks
 pub mod Values

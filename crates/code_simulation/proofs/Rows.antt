@@ -63,7 +63,7 @@ module _ (texts : Strings) (number : ℕ) (vs gs : List ℕ) where
       ∙ drop_works before part ops
 
 module _ (texts : Strings) (number t : ℕ) (vs gs : List ℕ) where
-  comes : (rest ws : List ℕ) (x : Done) → x ≡ Did (work (push ws rest) vs gs) → Comes t rest vs gs (Given ws) x
+  pub comes : (rest ws : List ℕ) (x : Done) → x ≡ Did (work (push ws rest) vs gs) → Comes t rest vs gs (Given ws) x
   unfolding Comes
   comes rest ws x e = subst (λ y. Comes t rest vs gs (Given ws) y) (sym e) (refl, same_kept t vs, refl)
 

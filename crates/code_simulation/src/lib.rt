@@ -3,4 +3,4 @@
 
 mod laws;
 
-pub use laws::operators_agree;
+pub use laws::{operators_agree, results_are_words, values_are_arranged};
