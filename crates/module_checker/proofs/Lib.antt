@@ -8,6 +8,7 @@ pub mod SoundBlocks
 pub mod SoundBodies
 pub mod SoundCalls
 pub mod SoundConstants
+pub mod SoundDeclarations
 pub mod SoundExpressions
 pub mod SoundExtractors
 pub mod SoundHeads
@@ -27,5 +28,6 @@ pub mod SoundTrees
 pub mod SoundTypeRules
 pub mod SoundTypes
 pub mod SoundValues
+pub mod SoundWhole
 pub mod SoundnessStatements
 pub mod Texts

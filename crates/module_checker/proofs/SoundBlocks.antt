@@ -379,17 +379,17 @@ module _ (W : World) where
   }
 
   -- ---- blocks
-  joined_in : (p : Spot) (xs ys : t.Stmts) → sound.StmtsIn (at W p) xs → sound.StmtsIn (at W p) ys → sound.StmtsIn (at W p) (join_stmts xs ys)
+  pub joined_in : (p : Spot) (xs ys : t.Stmts) → sound.StmtsIn (at W p) xs → sound.StmtsIn (at W p) ys → sound.StmtsIn (at W p) (join_stmts xs ys)
   unfolding sound.StmtsIn join_stmts
   joined_in p t.NoStmts ys h i = i
   joined_in p (t.AndStmt x xs) ys h i = (h.0, joined_in p xs ys h.1 i)
 
-  joined_hidden : (xs ys : t.Stmts) → hidden_stmts (join_stmts xs ys) ≡ hidden_stmts xs + hidden_stmts ys
+  pub joined_hidden : (xs ys : t.Stmts) → hidden_stmts (join_stmts xs ys) ≡ hidden_stmts xs + hidden_stmts ys
   unfolding hidden_stmts join_stmts
   joined_hidden t.NoStmts ys = omega arith
   joined_hidden (t.AndStmt x xs) ys = omega (arith, joined_hidden xs ys)
 
-  labelled_phrase : (p : Spot) (a : Around) (xs : List Identifier) → PhraseHere p a
+  pub labelled_phrase : (p : Spot) (a : Around) (xs : List Identifier) → PhraseHere p a
       → PhraseHere (labelled_spot (a.labelled + length xs) (numbers_from a.labelled xs) p) (with_labels xs (inside a))
   unfolding labelled_spot
   labelled_phrase p a xs h = record {
@@ -404,7 +404,7 @@ module _ (W : World) where
     pub statements : sound.StmtsIn (at W p) x.statements
     pub hidden_are : hidden_phrase x.phrase + hidden_stmts x.statements ≤ hid
 
-  block_in : (p : Spot) (n : ℕ) (es : s.Exits) (x : Held) (xs : t.Exits) (c g d h : ℕ) → p.labels ≤ n
+  pub block_in : (p : Spot) (n : ℕ) (es : s.Exits) (x : Held) (xs : t.Exits) (c g d h : ℕ) → p.labels ≤ n
       → HeldIn (labelled_spot (n + length (labels_of_exits es)) (numbers_from n (labels_of_exits es)) p) x c g → ExitsOf W p n es xs d h
       → sound.StmtIn (at W p) (t.Block x.phrase x.statements xs)
   unfolding sound.StmtIn
