@@ -8,7 +8,9 @@ pub mod SoundBlocks
 pub mod SoundBodies
 pub mod SoundCalls
 pub mod SoundConstants
+pub mod SoundCounted
 pub mod SoundDeclarations
+pub mod SoundEnded
 pub mod SoundExpressions
 pub mod SoundExtractors
 pub mod SoundHeads

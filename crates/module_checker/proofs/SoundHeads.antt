@@ -146,8 +146,11 @@ module _ (W : World) where
       (bind W true (under W true (λ pre. (inside_around W true p a pre.0, pre.1)) (parameters_in takes true p (inside a))) (λ fs c g.
       bind W true (under W true (λ pre. (inside_around W true p a pre.0.0, pre.0.2)) (parameters_in gives true p (inside a))) (λ gs d h.
       bind W true {P = λ scope i j. ScopeIn W true scope} coming_seen (λ scope i j.
-      given W true (record { takes = fs; gives = gs; scope = own_scope fs gs scope }) (λ pre. (record {
-        takes = pre.0.0.1.0;
-        gives = pre.0.1.0;
-        scope = λ ks. own_names fs gs scope ks (and_fields W fs gs pre.0.0.1.0 pre.0.1.0) pre.1;
-      }, pre.0.1.1))))))
+      given W true (record { takes = fs; gives = gs; scope = own_scope fs gs scope }) (λ pre. (
+        record {
+          takes = pre.0.0.1.0;
+          gives = pre.0.1.0;
+          scope = λ ks. own_names fs gs scope ks (and_fields W fs gs pre.0.0.1.0 pre.0.1.0) pre.1;
+        },
+        pre.0.1.1,
+      ))))))

@@ -213,12 +213,14 @@ module _ (W : World) (known : Known) (h : KnownIn W known) (xs : List Identifier
         gives = λ pre w names.
             let inside = within_body before r.1 w in
             let start = names_inside before ks pre.0 names in
-            let done' = st.gives pre inside start in
-            (refl, record {
-              variables = (st.keeps pre inside start).variables;
-              does = done'.statement;
-              small = omega (arith, small, field_words_agree i.takes, field_words_agree i.gives, st.hides, done'.hidden_are);
-            });
+            let done' = st.gives pre inside start in (
+              refl,
+              record {
+                variables = (st.keeps pre inside start).variables;
+                does = done'.statement;
+                small = omega (arith, small, field_words_agree i.takes, field_words_agree i.gives, st.hides, done'.hidden_are);
+              },
+            );
       }
 
   abbrev end : t.Stmt × State → Checked (t.Procedure × State)

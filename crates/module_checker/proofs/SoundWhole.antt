@@ -13,7 +13,7 @@ use Rattle.mesa_types.specs.Sound as sound
 use Rattle.mesa_types.specs.Counts.{hidden, hidden_stmts, hidden_phrase, hidden_exits}
 use Rattle.mesa_types.specs.Shapes.{join, words_in_all, AllHaveWords}
 use Rattle.module_checker.specs.Typed as t
-use Rattle.module_checker.specs.PlainTypes.{PlainField, PlainItem, kinds_of, item_of}
+use Rattle.module_checker.specs.PlainTypes.{PlainField, PlainItem, kinds_of, item_of, words_of_fields}
 use Rattle.module_checker.specs.Scopes.{Scope, outer, innermost}
 use Rattle.module_checker.specs.Meanings as m
 use Rattle.module_checker.specs.Meanings.{Meaning}
@@ -21,14 +21,14 @@ use Rattle.module_checker.specs.Steps.{State, Check, Checked, and_then, ◌>>=�
 use Rattle.module_checker.specs.Around.{Around, Known, body_of, in_statement, with_labels}
 use Rattle.module_checker.specs.Parts.{join_stmts}
 use Rattle.module_checker.specs.Phrases.{is_catch}
-use Rattle.module_checker.specs.Statements.{Headed, labels_of_exits, numbers_from}
+use Rattle.module_checker.specs.Statements.{Headed, held, labels_of_exits, numbers_from}
 use Rattle.module_checker.specs.Checking.{phrase, statements, exits, initial}
 use Rattle.module_checker.specs.declared.fault.Cause.{Cause}
 use Rattle.module_checker.specs.declared.fault.Cause.TheVariants.{FrameTooLarge}
 use Rattle.module_checker.specs.Programs.{heads_alone, hidden_unless_head, second, behind_top, heads_are_done, Stated, DataHead, ProcedureHead, SignalHead, Declared, Values, and_statement, and_procedure, value_of, values_of, all_declared, Whole, marked_if, enabled, outermost, body_block, frame, whole_in, program_body}
 use Rattle.module_checker.specs.Written.{PhraseWritten, StatementsWritten, ExitsWritten, DeclaredWritten, DeclarationWritten, InnerWritten}
 use Rattle.module_checker.proofs.SoundTypes.{no_truth, none_is_no}
-use Rattle.module_checker.proofs.SoundSteps.{World, Spot, at, ItemIn, MeaningIn, ScopeIn, ScopesIn, Within, Names, Step, Rule, bind, so, under, given, if_ok, weaker}
+use Rattle.module_checker.proofs.SoundSteps.{World, Spot, at, ItemIn, MeaningIn, ScopeIn, ScopesIn, Within, Names, Step, Rule, bind, so, under, given, unmoved, if_ok, weaker}
 use Rattle.module_checker.proofs.SoundnessStatements.{AroundIn, ArmIn, PhraseHere, Ready}
 use Rattle.module_checker.proofs.SoundScopes.{HeadedIn, inside_scopes, inside_scope, outer_in, innermost_in, done}
 use Rattle.module_checker.proofs.SoundAround.{first_member, marked_spot, labelled_spot, is_marked_spot, in_statement_around, labelled_around, phrase_here}
@@ -134,30 +134,140 @@ module _ (W : World) where
       by (Some m.Headless) d e = later e
       by (Some m.NotImported) d e = later e
 
-  behind_in : (scopes : List (Scope Meaning)) → ScopesIn W true scopes → ScopesIn W true (behind_top scopes)
+  pub behind_in : (scopes : List (Scope Meaning)) → ScopesIn W true scopes → ScopesIn W true (behind_top scopes)
   unfolding ScopesIn
   behind_in [] h = tt
   behind_in (scope ∷ []) h = h
   behind_in (scope ∷ next ∷ scopes) h = (h.0, (alone_in true scope h.0, h.1.1))
 
-  done_heads : {Pre : Type 0} → Rule W true Pre (λ u i j. Unit {0}) heads_are_done
-  done_heads {Pre} = record {
-    by = λ s. record {
-      spent = 0;
-      hid = 0;
-      spends = omega arith;
-      hides = omega arith;
-      under = ?;
-      limit = λ l. l;
-      rows = refl;
-      back = λ w. record { more_globals = w.more_globals; globals = w.globals; more_locals = w.more_locals; locals = w.locals; used = w.used };
-      keeps = λ pre w names. record {
-        scopes = behind_in s.scopes names.scopes;
-        coming = names.coming;
-        rows = names.rows;
-        globals = names.globals;
-        variables = names.variables;
-      };
-      gives = λ pre w names. tt;
-    };
+-- ---- the body of the module: its own ENABLE and initial values see names that mean no local variable
+
+-- a rule from where no name means a local variable
+pub record Turns {A : Type 0} (W : World) (Pre : Type 0) (Post : A → ℕ → ℕ → Type 0) (q : Check A) : Type 0 where
+  pub by : (s : State) → IfOk (q s) (Step W false (Pre × Names W true s) Post s)
+
+module _ (W : World) where
+  pub inside_all : (s : State) → Names W true s → Names W false s
+  inside_all s names = record {
+    scopes = inside_scopes W true s.scopes names.scopes;
+    coming = inside_scope W true s.coming names.coming;
+    rows = names.rows;
+    globals = names.globals;
+    variables = names.variables;
   }
+
+  bind_turns : {A B : Type 0} {Pre : Type 0} {P : A → ℕ → ℕ → Type 0} {Q : B → ℕ → ℕ → Type 0} {q : Check A} {f : A → Check B}
+      → Rule W true Pre P q → ((x : A) (i j : ℕ) → Turns W (Pre × P x i j) (λ y m n. Q y (i + m) (j + n)) (f x)) → Turns W Pre Q (q >>= f)
+  bind_turns {A} {B} {Pre} {P} {Q} {q} {f} one next = record {
+    by = λ s. if_ok (q s) (λ r. f r.0 r.1) (Step W true Pre P s) (Step W false (Pre × Names W true s) Q s) (one.by s) (λ r st.
+        weaker (f r.0 r.1) (Step W false ((Pre × P r.0 st.spent st.hid) × Names W true r.1) (λ y m n. Q y (st.spent + m) (st.hid + n)) r.1)
+        (Step W false (Pre × Names W true s) Q s)
+        (λ u su. record {
+          spent = st.spent + su.spent;
+          hid = st.hid + su.hid;
+          spends = omega (arith, su.spends, st.spends);
+          hides = omega (arith, su.hides, st.hides);
+          under = su.under ∙ st.under;
+          back = λ w. st.back (su.back w);
+          limit = λ l. su.limit (st.limit l);
+          rows = su.rows ∙ st.rows;
+          keeps = λ pre w names. let there = st.keeps pre.0 (su.back w) pre.1 in
+              su.keeps ((pre.0, st.gives pre.0 (su.back w) pre.1), there) w (inside_all r.1 there);
+          gives = λ pre w names. let there = st.keeps pre.0 (su.back w) pre.1 in
+              su.gives ((pre.0, st.gives pre.0 (su.back w) pre.1), there) w (inside_all r.1 there);
+        })
+        ((next r.0 st.spent st.hid).by r.1));
+  }
+
+  turned : {A : Type 0} {Pre : Type 0} {Q : A → ℕ → ℕ → Type 0} {q : Check A} → Rule W false Pre Q q → Turns W Pre Q q
+  turned {A} {Pre} {Q} {q} one = record { by = λ s. (under W false {Pre = Pre × Names W true s} (λ pre. pre.0) one).by s }
+
+  frame_rule : (c : Bool) (Pre : Type 0) (q : Place) (s : State)
+      → IfOk (and_then (only c FrameTooLarge q) (λ x. Ok (s.variables, s))) (Step W false Pre (λ ks i j. Unit {0}) s)
+  frame_rule true Pre q s = unmoved W false Pre (λ ks i j. Unit {0}) s s.variables (λ pre names w. tt)
+  frame_rule false Pre q s = tt
+
+  framed : {Pre : Type 0} (q : Place) → Rule W false Pre (λ ks i j. Unit {0}) (frame [] [] q)
+  framed {Pre} q = record { by = λ s. frame_rule (nat_le (words_of_fields [] + words_of_fields [] + words_in_all s.variables + s.hidden) LOCAL_WORDS) Pre q s }
+
+-- what stands behind the heads
+abbrev pub inner_around : Around → s.Inner → Around
+inner_around a inner = with_labels (labels_of_exits inner.exits) a
+
+abbrev pub inner_spot : Spot → Around → s.Inner → Spot
+inner_spot z a inner = labelled_spot (a.labelled + length (labels_of_exits inner.exits)) (numbers_from a.labelled (labels_of_exits inner.exits)) z
+
+abbrev pub own_body : Around → Place → s.Inner → List Declared → Check Whole
+own_body a p inner ds = do
+  w ← phrase (inner_around a inner) inner.enable
+  vs ← values_of (inner_around a inner) inner.declarations ds
+  ss ← statements (inner_around a inner) inner.statements
+  es ← exits a a.labelled [] inner.exits
+  variables ← frame [] [] p
+  pure (record {
+    declared = ds;
+    procedures = vs.procedures;
+    body = record { variables = variables; does = marked_if (is_catch inner.enable) (body_block w vs.statements ss es) };
+  })
+
+pub record Outset (W : World) (z : Spot) (a : Around) (inner : s.Inner) : Type 0 where
+  pub around : AroundIn W true z a
+  pub phrase : is_catch inner.enable ≡ true → PhraseHere z a
+  pub written : InnerWritten inner
+
+pub record OwnBody (W : World) (z : Spot) (b : Bool) (x : Whole) (spent hid : ℕ) : Type 0 where
+  pub procedures : EachDone W x.procedures
+  pub block : t.Stmt
+  pub is : (x.body).does ≡ marked_if b block
+  pub does : sound.StmtIn (at W z) block
+  pub hidden_are : hidden block ≤ hid
+
+module _ (W : World) (z : Spot) (a : Around) (p : Place) (inner : s.Inner) (known : KnownIn W a.known) where
+  abbrev xs : List Identifier
+  xs = labels_of_exits inner.exits
+
+  abbrev L : Around
+  L = inner_around a inner
+
+  abbrev zl : Spot
+  zl = inner_spot z a inner
+
+  pub around_in : AroundIn W true z a → AroundIn W true zl L
+  around_in h = labelled_around W true z a xs h
+
+  phrase_in : PhraseHere z a → PhraseHere zl L
+  phrase_in h = let r = labelled_phrase W z a xs h in record { start = r.start; after = r.after }
+
+  pub own_in : (ds : List Declared) → Turns W (Outset W z a inner × AllDeclaredIn W zl ds) (OwnBody W z (is_catch inner.enable)) (own_body a p inner ds)
+  unfolding InnerWritten hidden
+  own_in ds =
+      bind_turns W (under W true (λ pre. record {
+        around = around_in (pre.0).around;
+        phrase = λ e. phrase_in ((pre.0).phrase e);
+        written = (pre.0).written.0;
+      }) ((phrase_checks W inner.enable).by true zl L)) (λ w c g.
+      bind_turns W (under W true (λ pre. (around_in (pre.0.0).around, (pre.0.0).written.1, pre.0.1)) (values_in W zl L known inner.declarations ds))
+      (λ vs d h.
+      turned W (bind W false (under W false (λ pre. (inside_flat W true zl L (around_in (pre.0.0.0).around), (pre.0.0.0).written.2))
+      ((statements_check W inner.statements).by zl L)) (λ ss e i.
+      bind W false (under W false (λ pre. (inside_flat W true z a (pre.0.0.0.0).around, (pre.0.0.0.0).written.3))
+      ((exits_check W inner.exits).by z a a.labelled [])) (λ es f j.
+      bind W false (framed W p) (λ ks m n.
+      given W false _ (λ pre. record {
+        procedures = (pre.0.0.0.1).procedures;
+        block = body_block w vs.statements ss es;
+        is = refl;
+        does = block_in W z a.labelled inner.exits (held w vs.statements ss) es 0 (g + (h + i)) f j ((pre.0.0.0.0.0.0).around).labels (record {
+          phrase = (pre.0.0.0.0.1).phrase;
+          statements = joined_in W zl vs.statements ss (pre.0.0.0.1).statements (pre.0.0.1).statements;
+          hidden_are = omega (arith, joined_hidden W vs.statements ss, (pre.0.0.0.0.1).hidden_are, (pre.0.0.0.1).hidden_are, (pre.0.0.1).hidden_are);
+        }) pre.0.1;
+        hidden_are = omega (
+          arith,
+          joined_hidden W vs.statements ss,
+          (pre.0.0.0.0.1).hidden_are,
+          (pre.0.0.0.1).hidden_are,
+          (pre.0.0.1).hidden_are,
+          (pre.0.1).hidden_are,
+        );
+      })))))))
