@@ -7,10 +7,13 @@ pub mod SoundAround
 pub mod SoundBlocks
 pub mod SoundBodies
 pub mod SoundCalls
+pub mod SoundChecked
 pub mod SoundConstants
 pub mod SoundCounted
 pub mod SoundDeclarations
+pub mod SoundDirectory
 pub mod SoundEnded
+pub mod SoundExports
 pub mod SoundExpressions
 pub mod SoundExtractors
 pub mod SoundHeads
@@ -24,8 +27,10 @@ pub mod SoundProcedures
 pub mod SoundReached
 pub mod SoundSame
 pub mod SoundScopes
+pub mod SoundStart
 pub mod SoundStatements
 pub mod SoundSteps
+pub mod SoundTexts
 pub mod SoundTrees
 pub mod SoundTypeRules
 pub mod SoundTypes

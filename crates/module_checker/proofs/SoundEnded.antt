@@ -28,7 +28,7 @@ use Rattle.module_checker.proofs.SoundDeclarations.{AllDeclaredIn, AllDeclaredAt
 use Rattle.module_checker.proofs.SoundWhole.{EachDone, Outset, OwnBody, Turns, inner_around, inner_spot, own_body, own_in, around_in, behind_in, inside_all}
 use Rattle.module_checker.proofs.SoundCounted.{AllFormed, all_formed, Kept, own_kept, heads_of, stated_items, each_declared_at}
 
-both_ok : {A : Type 0} (r : Checked A) (P Q : A → Type 0) → IfOk r P → IfOk r Q → IfOk r (λ x. P x × Q x)
+pub both_ok : {A : Type 0} (r : Checked A) (P Q : A → Type 0) → IfOk r P → IfOk r Q → IfOk r (λ x. P x × Q x)
 both_ok (Ok x) P Q h k = (h, k)
 both_ok (Err e) P Q h k = tt
 
