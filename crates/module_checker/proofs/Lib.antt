@@ -18,6 +18,7 @@ pub mod SoundExpressions
 pub mod SoundExtractors
 pub mod SoundHeads
 pub mod SoundImports
+pub mod SoundLaw
 pub mod SoundLists
 pub mod SoundLoops
 pub mod SoundModules

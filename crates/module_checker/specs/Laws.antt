@@ -5,7 +5,11 @@ use Rattle.mesa_types.specs.declared.faces.Pair.{Pair}
 use Rattle.mesa_types.specs.declared.faces.Import.{Import}
 use Rattle.mesa_types.specs.declared.faces.Export.{Export}
 use Rattle.interface_records.specs.declared.interface.Interface.{Interface}
+use Rattle.mesa_types.specs.Sound.{Sound}
 use Rattle.module_checker.specs.Typed as t
+use Rattle.module_checker.specs.PlainTypes.{plain_interface}
+use Rattle.module_checker.specs.Interfaces.{InterfacesInOrder}
+use Rattle.module_checker.specs.Written.{ModuleWritten}
 use Rattle.module_checker.specs.Steps.{Checked, Fault}
 use Rattle.module_checker.specs.CheckedModule.{checked, checked_definitions}
 
@@ -41,3 +45,7 @@ ExportsInOrder (e ∷ es) = Ascend 0 (length e.face.items) (item_numbers e.given
 pub record ShapesAreInOrder : Type 0 where
   pub imports : (m : s.Module) (is : List Interface) → IfOk (checked m is) (λ (x : t.Module). ImportsInOrder x.imports)
   pub exports : (m : s.Module) (is : List Interface) → IfOk (checked m is) (λ (x : t.Module). ExportsInOrder x.exports)
+
+-- what checking gives of a program is sound: of a tree that is written as a text, with interfaces that are in order
+abbrev pub CheckedModulesAreSound : Type 0
+CheckedModulesAreSound = (m : s.Module) (is : List Interface) → ModuleWritten m.kind → InterfacesInOrder (map plain_interface is) → IfOk (checked m is) Sound
