@@ -1,6 +1,6 @@
 -- What checking gives of a program is sound.
-use Rattle.std.proofs.Common.{◌≡◌, ℕ, zero, suc, ◌+◌, List, [], ◌∷◌, ◌++◌, length, refl, sym, ◌∙◌, ap, subst, arith}
-use Rattle.std.specs.Prelude.{◌≤◌, ◌<◌, Bool, true, false, Option, Some, None, Ok, Err, IfOk, All, map, slice_get, take}
+use Rattle.std.proofs.Common.{◌≡◌, ℕ, zero, suc, List, [], ◌∷◌, ◌++◌, refl, sym, ◌∙◌, ap, subst, arith}
+use Rattle.std.specs.Prelude.{◌≤◌, true, Option, Some, None, Ok, Err, IfOk, All, map, slice_get, take}
 use Rattle.std.proofs.lemmas.List.Elements.{All-nil, All-cons}
 use Rattle.mesa_base.specs.declared.identifier.Identifier.{Identifier}
 use Rattle.mesa_base.specs.declared.limits.TheConstants.{DISTINCT_STRINGS, GLOBAL_WORDS}
@@ -26,13 +26,13 @@ use Rattle.module_checker.specs.Written.{InnerWritten}
 use Rattle.module_checker.specs.Laws.{ExportsInOrder}
 use Rattle.module_checker.proofs.LawProofs.{imported_in_order, exported_in_order}
 use Rattle.module_checker.proofs.SoundTypes.{none_is_no}
-use Rattle.module_checker.proofs.SoundSteps.{World, at, ScopesIn, Within, Names, if_ok, weaker}
+use Rattle.module_checker.proofs.SoundSteps.{World, ScopesIn, Within, Names, if_ok, weaker}
 use Rattle.module_checker.proofs.SoundScopes.{no_names}
 use Rattle.module_checker.proofs.SoundImports.{unused_counts, used_there, each_has_mark, item_there}
 use Rattle.module_checker.proofs.SoundModules.{world_of, body_in, procedure_is, signal_is, literal_number}
 use Rattle.module_checker.proofs.SoundProcedures.{with_body, KnownIn, SoundBody, in_each_world, none_more, no_words}
-use Rattle.module_checker.proofs.SoundDeclarations.{EachSignalGood, GivesItem, EachOffer, AllDeclaredIn, AllDeclaredAt}
-use Rattle.module_checker.proofs.SoundWhole.{ProcedureDone, EachDone}
+use Rattle.module_checker.proofs.SoundDeclarations.{EachSignalGood, GivesItem, EachOffer, AllDeclaredIn}
+use Rattle.module_checker.proofs.SoundWhole.{EachDone}
 use Rattle.module_checker.proofs.SoundCounted.{each_declared_at}
 use Rattle.module_checker.proofs.SoundEnded.{both_ok, Result, Ended, ended}
 use Rattle.module_checker.proofs.SoundDirectory.{Aligned, AllKnown, directory_aligned, listed_known, interface_there}
@@ -143,9 +143,9 @@ module _ (m : s.Module) (is : List PlainInterface) (imports exports opens : List
   known_in aligned names r es = record {
     strings = λ x n e. literal_number x (texts [] (of_kind m.kind)) n e;
     interfaces = offered_in (world r es) imports m.directory is good (λ j d f e g k n i p q.
-    let there = interface_there m.directory is imports 0 k j d f aligned names e g p in
-    let number : there.0 ≡ k = omega (arith, there.1) in
-    subst (λ k. links.imported (imported fs r.1.used) k n ≡ Some (item_of i)) number (item_there fs r.1.used there.0 n f i there.2 q));
+        let there = interface_there m.directory is imports 0 k j d f aligned names e g p in
+        let number : there.0 ≡ k = omega (arith, there.1) in
+        subst (λ k. links.imported (imported fs r.1.used) k n ≡ Some (item_of i)) number (item_there fs r.1.used there.0 n f i there.2 q));
   }
 
   names_in_order : Aligned [] m.directory is → KnownNames → (r : Whole × State) (es : List Export) → Names (world r es) true now
@@ -153,8 +153,20 @@ module _ (m : s.Module) (is : List PlainInterface) (imports exports opens : List
   names_in_order aligned names r es =
       let W = world r es in
       record {
-        scopes = (no_names W true, (ahead_in W inner.declarations, (directory_in W 0 m.directory, (opened_in W m.directory known.interfaces opens
-            (known_in aligned names r es).interfaces, (predeclared_in W, tt)))));
+        scopes = (
+          no_names W true,
+          (
+            ahead_in W inner.declarations,
+            (
+              directory_in W 0 m.directory,
+              (
+                opened_in W m.directory known.interfaces opens
+                    (known_in aligned names r es).interfaces,
+                (predeclared_in W, tt),
+              ),
+            ),
+          ),
+        );
         coming = no_names W true;
         rows = λ k n i e. each_has_mark fs (unused fs) r.1.used k n i (unused_counts fs) e;
         globals = no_words;

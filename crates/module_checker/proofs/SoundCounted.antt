@@ -13,7 +13,7 @@ use Rattle.mesa_types.specs.declared.syntax.Access.{Access}
 use Rattle.mesa_types.specs.Syntax as s
 use Rattle.mesa_types.specs.Shapes.{words_in_all}
 use Rattle.module_checker.specs.Typed as t
-use Rattle.module_checker.specs.PlainTypes.{PlainField, PlainItem, item_of, words_of_fields}
+use Rattle.module_checker.specs.PlainTypes.{PlainItem, item_of, words_of_fields}
 use Rattle.module_checker.specs.Scopes.{Scope}
 use Rattle.module_checker.specs.Meanings.{Meaning}
 use Rattle.module_checker.specs.Meanings as m
@@ -21,12 +21,12 @@ use Rattle.module_checker.specs.Names.{announce, settle}
 use Rattle.module_checker.specs.Steps.{State, Check, Checked, and_then, ◌>>=◌, pure, only, ensure, in_scope, measured, within_operands}
 use Rattle.module_checker.specs.Around.{Around, Known, body_of, with_labels}
 use Rattle.module_checker.specs.Parts.{first_name}
-use Rattle.module_checker.specs.Statements.{Headed, labels_of_exits}
+use Rattle.module_checker.specs.Statements.{labels_of_exits}
 use Rattle.module_checker.specs.Checking.{head, initial, block, phrase, statements, exits}
 use Rattle.module_checker.specs.Phrases.{is_catch}
 use Rattle.module_checker.specs.declared.fault.Cause.TheVariants.{FrameTooLarge}
-use Rattle.module_checker.specs.Programs.{Heading, heading, named_item, first_item, if_public, procedure_offer, signal_offers, signal_meanings, declared_procedure, declared_signals, and_statement, and_procedure, Stated, DataHead, ProcedureHead, SignalHead, Declared, declared, declaration, all_declared, before_others, fresh, as_before, frame, procedure, Values, value_of, values_of, signals_of, marked_if, body_block, Whole}
-use Rattle.module_checker.proofs.SoundSteps.{World, if_ok, weaker}
+use Rattle.module_checker.specs.Programs.{Heading, heading, named_item, first_item, if_public, procedure_offer, signal_offers, signal_meanings, declared_procedure, declared_signals, and_statement, and_procedure, Stated, DataHead, ProcedureHead, SignalHead, Declared, declared, declaration, all_declared, fresh, as_before, frame, procedure, Values, value_of, values_of, signals_of, marked_if, body_block, Whole}
+use Rattle.module_checker.proofs.SoundSteps.{World, if_ok}
 use Rattle.module_checker.proofs.SoundHeads.{told_in}
 use Rattle.module_checker.proofs.SoundDeclarations.{ProcedureAt, SignalsAt, DeclaredAt, AllDeclaredAt}
 use Rattle.module_checker.proofs.SoundWhole.{own_body}

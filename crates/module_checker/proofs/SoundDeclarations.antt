@@ -1,7 +1,7 @@
 -- The declarations of a module: where the heads of its procedures and signals are those that it has in the end, each is there
 -- under its number, and so is what it offers to others.
-use Rattle.std.proofs.Common.{◌≡◌, ℕ, suc, ◌+◌, List, [], ◌∷◌, ◌++◌, length, refl, sym, ◌∙◌, ap, subst, arith}
-use Rattle.std.specs.Prelude.{◌≤◌, ◌<◌, ◌≢◌, Bool, true, false, Option, Some, None, Ok, Err, IfOk, All, map, nat_le, slice_get, if◌then◌else◌}
+use Rattle.std.proofs.Common.{◌≡◌, ℕ, suc, ◌+◌, List, [], ◌∷◌, length, refl, sym, ◌∙◌, subst, arith}
+use Rattle.std.specs.Prelude.{◌≤◌, ◌≢◌, Bool, true, false, Option, Some, None, Ok, IfOk, All, map, nat_le, slice_get, if◌then◌else◌}
 use Rattle.std.proofs.lemmas.Bool.{leb-true}
 use Rattle.std.proofs.lemmas.List.Elements.{All-head, All-tail}
 use Rattle.mesa_base.specs.declared.place.Place.{Place}
@@ -13,26 +13,22 @@ use Rattle.mesa_types.specs.declared.faces.ItemKind.TheVariants as item
 use Rattle.mesa_types.specs.declared.syntax.Access.{Access}
 use Rattle.mesa_types.specs.Syntax as s
 use Rattle.module_checker.specs.Typed as t
-use Rattle.module_checker.specs.PlainTypes.{PlainField, PlainItem, item_of, words_of_fields}
-use Rattle.module_checker.specs.Scopes.{Scope, outer}
+use Rattle.module_checker.specs.PlainTypes.{PlainItem, item_of, words_of_fields}
 use Rattle.module_checker.specs.Meanings as m
 use Rattle.module_checker.specs.Meanings.{Meaning}
-use Rattle.module_checker.specs.Steps.{State, Check, Checked, and_then, ◌>>=◌, pure, only, measured, within_operands}
+use Rattle.module_checker.specs.Steps.{State, Check, and_then, ◌>>=◌, pure, only, measured, within_operands}
 use Rattle.module_checker.specs.Around.{Around}
 use Rattle.module_checker.specs.Parts.{first_name}
-use Rattle.module_checker.specs.Statements.{Headed}
-use Rattle.module_checker.specs.Names.{settle}
-use Rattle.module_checker.specs.Checking.{head}
 use Rattle.module_checker.specs.declared.fault.Cause.{Cause}
 use Rattle.module_checker.specs.declared.fault.Cause.TheVariants.{FrameTooLarge}
 use Rattle.module_checker.specs.Programs.{Heading, named_item, Offer, Stated, DataHead, ProcedureHead, SignalHead, Declared, is_public, if_public, procedure_offer, signal_offers, signal_meanings, first_item, declared_procedure, declared_signals, declared, declaration, all_declared, before_others}
 use Rattle.module_checker.specs.Written.{DeclaredWritten, DeclarationWritten, HeadWritten, MaybeFieldsWritten}
-use Rattle.module_checker.proofs.SoundTypes.{FieldsIn, no_truth}
-use Rattle.module_checker.proofs.SoundSteps.{World, Spot, ItemIn, SignalKind, MeaningIn, ScopeIn, Step, Rule, bind, under, apart, tested, unmoved, if_ok, weaker}
-use Rattle.module_checker.proofs.SoundnessStatements.{Inward, AroundIn}
-use Rattle.module_checker.proofs.SoundScopes.{MeaningsIn, HeadedIn, announced, settled, done}
+use Rattle.module_checker.proofs.SoundTypes.{no_truth}
+use Rattle.module_checker.proofs.SoundSteps.{World, Spot, ItemIn, SignalKind, MeaningIn, Step, Rule, under, apart, tested, unmoved, if_ok, weaker}
+use Rattle.module_checker.proofs.SoundnessStatements.{AroundIn}
+use Rattle.module_checker.proofs.SoundScopes.{MeaningsIn, HeadedIn, announced, settled}
 use Rattle.module_checker.proofs.SoundBodies.{item_checks}
-use Rattle.module_checker.proofs.SoundProcedures.{with_body, ProcedureGood}
+use Rattle.module_checker.proofs.SoundProcedures.{ProcedureGood}
 use Rattle.module_checker.proofs.SoundHeads.{HeadingIn, heading_in, told_in}
 
 -- ---- what the module has in the end

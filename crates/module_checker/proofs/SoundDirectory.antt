@@ -1,6 +1,6 @@
 -- The DIRECTORY: each of its items has its interface at its own number, and a list of its names names their interfaces.
-use Rattle.std.proofs.Common.{◌≡◌, ℕ, zero, suc, ◌+◌, List, [], ◌∷◌, length, refl, sym, ◌∙◌, ap, subst, arith, inl, inr, ◌⊎◌}
-use Rattle.std.specs.Prelude.{Bool, true, false, ◌||◌, not, Option, Some, None, Ok, Err, IfOk, bytes_eq, nat_eq, slice_get, if◌then◌else◌}
+use Rattle.std.proofs.Common.{◌≡◌, ℕ, zero, suc, ◌+◌, List, [], ◌∷◌, refl, sym, ◌∙◌, ap, subst, arith}
+use Rattle.std.specs.Prelude.{Bool, true, false, ◌||◌, not, Some, None, Ok, Err, IfOk, bytes_eq, nat_eq, slice_get, if◌then◌else◌}
 use Rattle.std.specs.Prelude.{T}
 use Rattle.std.proofs.Math.Dec.{eqb_refl}
 use Rattle.mesa_base.specs.declared.place.Place.{Place}
@@ -10,7 +10,7 @@ use Rattle.module_checker.specs.Scopes.{has}
 use Rattle.module_checker.specs.Parts.{names_of}
 use Rattle.module_checker.specs.PlainTypes.{PlainInterface}
 use Rattle.module_checker.specs.Steps.{Checked, and_then, only}
-use Rattle.module_checker.specs.Directory.{place_in, names_in, directory, listed, using, first_entry, entries, interface_at, put_some, those_of}
+use Rattle.module_checker.specs.Directory.{place_in, names_in, directory, listed, using, first_entry, entries, interface_at, those_of}
 use Rattle.module_checker.specs.declared.fault.Cause.{Cause}
 use Rattle.module_checker.proofs.SoundTypes.{no_truth, none_is_no}
 use Rattle.module_checker.proofs.SoundSteps.{weaker}

@@ -1,32 +1,27 @@
 -- A module that is checked whole: what its declarations, its procedures and its body promise, where all that there is in the
 -- end is known.
-use Rattle.std.proofs.Common.{◌≡◌, ℕ, suc, ◌+◌, List, [], ◌∷◌, length, refl, sym, ◌∙◌, ap, subst, arith}
-use Rattle.std.specs.Prelude.{◌≤◌, Bool, true, false, Option, Some, None, Ok, Err, IfOk, All, map, slice_get}
+use Rattle.std.proofs.Common.{◌≡◌, List, [], length, refl, sym, ◌∙◌, ap, subst, arith}
+use Rattle.std.specs.Prelude.{◌≤◌, Bool, true, false, Ok, Err, IfOk, All, map}
 use Rattle.mesa_base.specs.declared.place.Place.{Place}
-use Rattle.mesa_base.specs.declared.limits.TheConstants.{LOCAL_WORDS, GLOBAL_WORDS}
+use Rattle.mesa_base.specs.declared.limits.TheConstants.{GLOBAL_WORDS}
 use Rattle.mesa_types.specs.Syntax as s
 use Rattle.mesa_types.specs.Sound as sound
 use Rattle.mesa_types.specs.Counts.{hidden}
-use Rattle.mesa_types.specs.Shapes.{join, words_in_all, AllHaveWords}
+use Rattle.mesa_types.specs.Shapes.{words_in_all, AllHaveWords}
 use Rattle.module_checker.specs.Typed as t
-use Rattle.module_checker.specs.PlainTypes.{item_of}
-use Rattle.module_checker.specs.Scopes.{Scope}
-use Rattle.module_checker.specs.Meanings.{Meaning}
-use Rattle.module_checker.specs.Steps.{State, Checked, and_then}
-use Rattle.module_checker.specs.Around.{Around, Known, body_of, in_statement, with_labels}
-use Rattle.module_checker.specs.Statements.{labels_of_exits}
+use Rattle.module_checker.specs.Steps.{State, Checked}
+use Rattle.module_checker.specs.Around.{Around, Known, body_of}
 use Rattle.module_checker.specs.Phrases.{is_catch}
-use Rattle.module_checker.specs.Programs.{behind_top, Declared, all_declared, signals_of, Whole, marked_if, enabled, outermost, whole_in, program_body}
+use Rattle.module_checker.specs.Programs.{behind_top, Declared, all_declared, Whole, marked_if, enabled, outermost, whole_in, program_body}
 use Rattle.module_checker.specs.Written.{InnerWritten, DeclarationWritten}
-use Rattle.module_checker.specs.Values.{number_in}
 use Rattle.module_checker.proofs.SoundTypes.{FieldsIn, none_is_no, no_truth}
-use Rattle.module_checker.proofs.SoundSteps.{World, Spot, at, ScopeIn, ScopesIn, Within, Names, Step, if_ok, weaker}
-use Rattle.module_checker.proofs.SoundnessStatements.{AroundIn, ArmIn, PhraseHere}
-use Rattle.module_checker.proofs.SoundAround.{first_member, marked_spot, is_marked_spot, in_statement_around, labelled_around, phrase_here}
-use Rattle.module_checker.proofs.SoundProcedures.{with_body, at_start, KnownIn, SoundBody, none_more}
+use Rattle.module_checker.proofs.SoundSteps.{World, Spot, at, Within, Names, Step, if_ok, weaker}
+use Rattle.module_checker.proofs.SoundnessStatements.{AroundIn, ArmIn}
+use Rattle.module_checker.proofs.SoundAround.{first_member, marked_spot, is_marked_spot, in_statement_around, phrase_here}
+use Rattle.module_checker.proofs.SoundProcedures.{at_start, KnownIn}
 use Rattle.module_checker.proofs.SoundDeclarations.{AllDeclaredIn, AllDeclaredAt, HeadStep, all_declared_in}
-use Rattle.module_checker.proofs.SoundWhole.{EachDone, Outset, OwnBody, Turns, inner_around, inner_spot, own_body, own_in, around_in, behind_in, inside_all}
-use Rattle.module_checker.proofs.SoundCounted.{AllFormed, all_formed, Kept, own_kept, heads_of, stated_items, each_declared_at}
+use Rattle.module_checker.proofs.SoundWhole.{EachDone, Outset, OwnBody, inner_around, inner_spot, own_body, own_in, around_in, behind_in, inside_all}
+use Rattle.module_checker.proofs.SoundCounted.{AllFormed, all_formed, Kept, own_kept}
 
 pub both_ok : {A : Type 0} (r : Checked A) (P Q : A → Type 0) → IfOk r P → IfOk r Q → IfOk r (λ x. P x × Q x)
 both_ok (Ok x) P Q h k = (h, k)

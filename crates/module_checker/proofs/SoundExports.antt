@@ -1,14 +1,12 @@
 -- The faces of a module: of each import the items that are used, and of each export what the module gives for its items.
-use Rattle.std.proofs.Common.{◌≡◌, ℕ, zero, suc, ◌+◌, List, [], ◌∷◌, length, refl, sym, ◌∙◌, ap, subst, arith}
-use Rattle.std.specs.Prelude.{◌≤◌, ◌<◌, Bool, true, false, ◌&&◌, Option, Some, None, Ok, Err, IfOk, All, bytes_eq, map, slice_get, if◌then◌else◌}
-use Rattle.std.proofs.lemmas.List.Elements.{All-nil, All-cons, All-map, All-head, All-tail}
-use Rattle.mesa_types.specs.declared.types.FieldType.{FieldType}
+use Rattle.std.proofs.Common.{◌≡◌, ℕ, zero, suc, ◌+◌, List, [], ◌∷◌, length, refl, ap, subst, arith}
+use Rattle.std.specs.Prelude.{◌<◌, Bool, true, false, Option, Some, None, Ok, Err, IfOk, All, bytes_eq, map, slice_get, if◌then◌else◌}
+use Rattle.std.proofs.lemmas.List.Elements.{All-nil, All-cons}
 use Rattle.mesa_types.specs.declared.faces.Face.{Face}
 use Rattle.mesa_types.specs.declared.faces.Item.{Item}
 use Rattle.mesa_types.specs.declared.faces.ItemKind.{ItemKind}
 use Rattle.mesa_types.specs.declared.faces.ItemKind.TheVariants as item
 use Rattle.mesa_types.specs.declared.faces.Pair.{Pair}
-use Rattle.mesa_types.specs.declared.faces.Import.{Import}
 use Rattle.mesa_types.specs.declared.faces.Export.{Export}
 use Rattle.mesa_types.specs.Sound as sound
 use Rattle.mesa_types.specs.Types.{types_in}
@@ -21,10 +19,10 @@ use Rattle.module_checker.specs.Programs.{Offer, offer_named, same_kind, is_for,
 use Rattle.module_checker.specs.Laws.{Ascend, ImportsInOrder, ExportsInOrder, item_numbers}
 use Rattle.module_checker.proofs.SoundTypes.{no_truth, none_is_no, both_left, both_right}
 use Rattle.module_checker.proofs.SoundSame.{types_same}
-use Rattle.module_checker.proofs.SoundSteps.{World, if_ok, weaker}
+use Rattle.module_checker.proofs.SoundSteps.{World}
 use Rattle.module_checker.proofs.SoundModules.{world_of, head_in}
 use Rattle.module_checker.proofs.SoundDeclarations.{GivesItem, EachOffer}
-use Rattle.module_checker.proofs.SoundStart.{ItemGood, ItemsGood, InterfaceGood, InterfacesGood}
+use Rattle.module_checker.proofs.SoundStart.{ItemsGood, InterfaceGood, InterfacesGood}
 
 -- ---- faces
 heads_good : (is : List PlainItem) → ItemsGood is → All sound.HeadIn (map item_of is)

@@ -1,17 +1,17 @@
 -- The law that checked modules are sound.
 use Rattle.std.proofs.Common.{◌≡◌, List, [], ◌∷◌, refl, sym, subst}
-use Rattle.std.specs.Prelude.{Ok, Err, IfOk, map}
+use Rattle.std.specs.Prelude.{IfOk, map}
 use Rattle.mesa_types.specs.Syntax as s
 use Rattle.mesa_types.specs.Sound.{Sound}
 use Rattle.module_checker.specs.PlainTypes as v
 use Rattle.module_checker.specs.PlainTypes.{PlainType, PlainField, PlainItem, PlainConstant, PlainName, PlainInterface, plain_interface}
-use Rattle.module_checker.specs.Interfaces.{HasPart, TypeInOrder, PartsInOrder, FieldsInOrder, ItemInOrder, ItemsInOrder, ConstantInOrder, ConstantsInOrder, NamesInOrder, InterfaceInOrder, InterfacesInOrder}
+use Rattle.module_checker.specs.Interfaces.{HasPart, TypeInOrder, PartsInOrder, FieldsInOrder, ItemsInOrder, ConstantsInOrder, NamesInOrder, InterfacesInOrder}
 use Rattle.module_checker.specs.Mentions.{of_kind}
 use Rattle.module_checker.specs.Written.{ModuleWritten}
 use Rattle.module_checker.specs.CheckedModule.{checked, program_by}
 use Rattle.module_checker.specs.Laws.{CheckedModulesAreSound}
 use Rattle.module_checker.proofs.SoundTypes.{TypeIn, PartsIn, SomePart, FieldsIn}
-use Rattle.module_checker.proofs.SoundStart.{ItemsGood, ConstantsGood, TypesGood, InterfaceGood, InterfacesGood}
+use Rattle.module_checker.proofs.SoundStart.{ItemsGood, ConstantsGood, TypesGood, InterfacesGood}
 use Rattle.module_checker.proofs.SoundTexts.{EachShort, program_short}
 use Rattle.module_checker.proofs.SoundChecked.{program_sound}
 
@@ -46,10 +46,13 @@ fields_in (f ∷ fs) h = (type_in f.kind h.0, fields_in fs h.1)
 items_in : (is : List PlainItem) → ItemsInOrder is → ItemsGood is
 unfolding ItemsInOrder ItemsGood
 items_in [] h = tt
-items_in (i ∷ is) h = (record {
-  head = record { takes = fields_in i.takes (h.0).takes; gives = fields_in i.gives (h.0).gives };
-  error = (h.0).error;
-}, items_in is h.1)
+items_in (i ∷ is) h = (
+  record {
+    head = record { takes = fields_in i.takes (h.0).takes; gives = fields_in i.gives (h.0).gives };
+    error = (h.0).error;
+  },
+  items_in is h.1,
+)
 
 constants_in : (cs : List PlainConstant) → ConstantsInOrder cs → ConstantsGood cs
 unfolding ConstantsInOrder ConstantsGood
@@ -64,11 +67,14 @@ types_in (x ∷ xs) h = (type_in x.kind h.0, types_in xs h.1)
 interfaces_in : (is : List PlainInterface) → InterfacesInOrder is → InterfacesGood is
 unfolding InterfacesInOrder InterfacesGood
 interfaces_in [] h = tt
-interfaces_in (i ∷ is) h = (record {
-  items = items_in i.items (h.0).items;
-  constants = constants_in i.constants (h.0).constants;
-  types = types_in i.types (h.0).types;
-}, interfaces_in is h.1)
+interfaces_in (i ∷ is) h = (
+  record {
+    items = items_in i.items (h.0).items;
+    constants = constants_in i.constants (h.0).constants;
+    types = types_in i.types (h.0).types;
+  },
+  interfaces_in is h.1,
+)
 
 sound_by : (m : s.Module) (is : List PlainInterface) (k : s.ModuleKind) → m.kind ≡ k → ModuleWritten k → InterfacesGood is → IfOk (program_by m is k) Sound
 unfolding ModuleWritten of_kind

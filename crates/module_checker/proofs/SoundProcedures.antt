@@ -10,7 +10,6 @@ use Rattle.mesa_types.specs.declared.faces.ItemKind.TheVariants as item
 use Rattle.mesa_types.specs.Typed as points
 use Rattle.mesa_types.specs.Syntax as s
 use Rattle.mesa_types.specs.Counts.{hidden}
-use Rattle.mesa_types.specs.Links.{IsUsed}
 use Rattle.mesa_types.specs.Shapes.{join, words_in_all, AllHaveWords}
 use Rattle.module_checker.specs.Typed as t
 use Rattle.module_checker.specs.PlainTypes.{PlainField, PlainItem, kinds_of, item_of, words_of_fields}
@@ -27,7 +26,7 @@ use Rattle.module_checker.specs.Checking.{block}
 use Rattle.module_checker.specs.Programs.{fresh, as_before, procedure}
 use Rattle.module_checker.specs.Written.{BlockWritten}
 use Rattle.module_checker.proofs.SoundTypes.{FieldsIn, no_truth, none_is_no, field_words_agree}
-use Rattle.module_checker.proofs.SoundSteps.{World, Spot, at, ItemIn, MeaningIn, ScopeIn, ScopesIn, mark_at, Within, Names, Step, Rule, under, if_ok}
+use Rattle.module_checker.proofs.SoundSteps.{World, Spot, at, ItemIn, MeaningIn, ScopeIn, ScopesIn, Within, Names, Step, Rule, under, if_ok}
 use Rattle.module_checker.proofs.SoundnessStatements.{AroundIn, ArmIn}
 use Rattle.module_checker.proofs.SoundScopes.{no_names}
 use Rattle.module_checker.proofs.SoundAround.{first_member}

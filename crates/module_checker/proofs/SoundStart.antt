@@ -1,8 +1,7 @@
 -- Where the checking of a module begins: what the names of its DIRECTORY mean, the opened ones and the predeclared ones.
-use Rattle.std.proofs.Common.{◌≡◌, ℕ, zero, suc, ◌+◌, List, [], ◌∷◌, ◌++◌, length, refl, sym, ◌∙◌, ap, subst, arith}
-use Rattle.std.specs.Prelude.{◌≤◌, ◌<◌, Bool, true, false, ◌&&◌, Option, Some, None, bytes_eq, map, slice_get, if◌then◌else◌}
+use Rattle.std.proofs.Common.{◌≡◌, ℕ, zero, suc, ◌+◌, List, [], ◌∷◌, ◌++◌, length, refl, sym, subst, arith}
+use Rattle.std.specs.Prelude.{◌≤◌, ◌<◌, Bool, true, false, Option, Some, None, bytes_eq, map, slice_get, if◌then◌else◌}
 use Rattle.mesa_base.specs.declared.identifier.Identifier.{Identifier}
-use Rattle.mesa_types.specs.declared.faces.Item.{Item}
 use Rattle.mesa_types.specs.declared.faces.ItemKind.{ItemKind}
 use Rattle.mesa_types.specs.declared.faces.ItemKind.TheVariants as item
 use Rattle.mesa_types.specs.declared.syntax.DirectoryItem.{DirectoryItem}
@@ -11,12 +10,12 @@ use Rattle.mesa_types.specs.Links.{imported}
 use Rattle.module_checker.specs.Typed as t
 use Rattle.module_checker.specs.PlainTypes as v
 use Rattle.module_checker.specs.PlainTypes.{PlainType, PlainField, PlainItem, PlainConstant, PlainName, PlainInterface, kind_of, item_of}
-use Rattle.module_checker.specs.Scopes.{Scope, has, nothing, over}
+use Rattle.module_checker.specs.Scopes.{Scope, has}
 use Rattle.module_checker.specs.Meanings as m
 use Rattle.module_checker.specs.Meanings.{Meaning}
 use Rattle.module_checker.specs.Parts.{names_of}
 use Rattle.module_checker.specs.Programs.{also, one_ahead, ahead}
-use Rattle.module_checker.specs.Directory.{Entry, entry, first_entry, elements_from, is_own, elements_in, in_parts, in_fields, in_items, in_constants, in_types, linked, of_import, items_from, constant_entry, type_entry, entries, restricted, place_in, offered, names_in, directory_scope, scope_at, opened, predeclared}
+use Rattle.module_checker.specs.Directory.{Entry, first_entry, elements_from, is_own, elements_in, in_parts, in_fields, in_items, in_constants, in_types, linked, of_import, items_from, constant_entry, type_entry, entries, restricted, place_in, offered, names_in, directory_scope, scope_at, opened, predeclared}
 use Rattle.module_checker.proofs.SoundTypes.{TypeIn, PartsIn, FieldsIn, none_is_no}
 use Rattle.module_checker.proofs.SoundSteps.{World, ItemIn, SignalKind, MeaningIn, ScopeIn}
 use Rattle.module_checker.proofs.SoundScopes.{no_names, over_in}
@@ -153,8 +152,7 @@ module _ (W : World) where
   unfolding EntriesIn items_from ItemsGood
   items_named import all n [] at d h = tt
   items_named import all n (i ∷ is) at d h =
-      let here : n + 0 ≡ n = omega arith in
-      (
+      let here : n + 0 ≡ n = omega arith in (
         import_in import n i (h.0).head (λ k e. d k n i e (subst (λ j. slice_get all j ≡ Some i) here (at 0 i refl))),
         items_named import all (n + 1) is (λ j x e. let number : n + suc j ≡ n + 1 + j = omega arith in
             subst (λ j. slice_get all j ≡ Some x) number (at (suc j) x e)) d h.1,

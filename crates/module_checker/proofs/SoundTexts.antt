@@ -1,12 +1,12 @@
 -- The string literals of a text: no two are equal, and each keeps its limit where the text does.
-use Rattle.std.proofs.Common.{◌≡◌, ℕ, zero, suc, ◌+◌, List, [], ◌∷◌, ◌++◌, length, refl, sym, ◌∙◌, ap, subst, arith, inl, inr, ◌⊎◌}
-use Rattle.std.specs.Prelude.{◌≤◌, ◌<◌, Bool, true, false, ◌||◌, Option, Some, None, All, Contains, bytes_eq, take, if◌then◌else◌}
+use Rattle.std.proofs.Common.{◌≡◌, ℕ, zero, suc, List, [], ◌∷◌, ◌++◌, length, refl, sym, ◌∙◌, subst, arith, inl, inr, ◌⊎◌}
+use Rattle.std.specs.Prelude.{◌≤◌, Bool, true, false, ◌||◌, Option, Some, None, All, Contains, bytes_eq, take, if◌then◌else◌}
 use Rattle.std.proofs.lemmas.List.Elements.{All-nil, All-cons, All-take, All-head, All-tail}
 use Rattle.mesa_base.specs.declared.limits.TheConstants.{DISTINCT_STRINGS, STRING_BYTES}
 use Rattle.mesa_types.specs.Syntax as s
 use Rattle.mesa_types.specs.Sound as sound
 use Rattle.module_checker.specs.Scopes.{has}
-use Rattle.module_checker.specs.Mentions.{Mention, Text, Made, of_type, of_fields, of_named, of_types, of_interval, of_expr, of_steps, of_left, of_suffixes, of_brackets, of_items, of_exprs, of_keyed, of_raise, of_maybe, of_phrase, of_arms, of_stmt, of_other, of_values, of_targets, of_lefts, of_keyed_lefts, of_stmts, of_control, of_count, of_condition, of_cases, of_tests, of_block, of_locals, of_plain, of_exits, of_repeats, of_maybe_fields, of_head, of_declared, of_declarations, of_kind, texts}
+use Rattle.module_checker.specs.Mentions.{Mention, Text, Made, of_type, of_fields, of_named, of_types, of_interval, of_expr, of_steps, of_left, of_suffixes, of_brackets, of_items, of_exprs, of_keyed, of_raise, of_maybe, of_phrase, of_arms, of_stmt, of_other, of_values, of_targets, of_lefts, of_keyed_lefts, of_stmts, of_control, of_count, of_condition, of_cases, of_tests, of_block, of_locals, of_plain, of_exits, of_repeats, of_maybe_fields, of_head, of_declared, of_declarations, texts}
 use Rattle.module_checker.specs.Written.{TypeWritten, FieldsWritten, NamedWritten, TypesWritten, IntervalWritten, ExprWritten, StepsWritten, LeftWritten, SuffixesWritten, BracketsWritten, ItemsWritten, ExprsWritten, KeyedWritten, RaiseWritten, MaybeWritten, PhraseWritten, ArmsWritten, StatementWritten, OtherWritten, ValuesWritten, TargetsWritten, LeftsWritten, KeyedLeftsWritten, StatementsWritten, ControlWritten, CountWritten, ConditionWritten, CasesWritten, TestsWritten, BlockWritten, LocalsWritten, ItemWritten, ExitsWritten, RepeatsWritten, MaybeFieldsWritten, HeadWritten, DeclaredWritten, DeclarationWritten, InnerWritten}
 use Rattle.module_checker.proofs.SoundTypes.{no_truth}
 use Rattle.module_checker.proofs.SoundDirectory.{bytes_itself}

@@ -1,42 +1,37 @@
 -- The whole of a module: its initial values and procedures, its ENABLE, statements and EXITS.
-use Rattle.std.proofs.Common.{◌≡◌, ℕ, suc, ◌+◌, List, [], ◌∷◌, ◌++◌, length, refl, sym, ◌∙◌, ap, subst, arith}
-use Rattle.std.specs.Prelude.{◌≤◌, ◌≢◌, Bool, true, false, Option, Some, None, Ok, Err, IfOk, All, map, nat_le}
-use Rattle.std.proofs.lemmas.Bool.{leb-true}
+use Rattle.std.proofs.Common.{◌≡◌, ℕ, ◌+◌, List, [], ◌∷◌, length, refl, ◌∙◌, subst, arith}
+use Rattle.std.specs.Prelude.{◌≤◌, Bool, true, false, Option, Some, None, Ok, IfOk, All, nat_le}
 use Rattle.std.proofs.lemmas.List.Elements.{All-head, All-tail}
 use Rattle.mesa_base.specs.declared.place.Place.{Place}
 use Rattle.mesa_base.specs.declared.identifier.Identifier.{Identifier}
-use Rattle.mesa_base.specs.declared.limits.TheConstants.{LOCAL_WORDS, GLOBAL_WORDS}
-use Rattle.mesa_types.specs.declared.faces.Item.{Item}
+use Rattle.mesa_base.specs.declared.limits.TheConstants.{LOCAL_WORDS}
 use Rattle.mesa_types.specs.declared.faces.ItemKind.TheVariants as item
 use Rattle.mesa_types.specs.Syntax as s
 use Rattle.mesa_types.specs.Sound as sound
-use Rattle.mesa_types.specs.Counts.{hidden, hidden_stmts, hidden_phrase, hidden_exits}
-use Rattle.mesa_types.specs.Shapes.{join, words_in_all, AllHaveWords}
+use Rattle.mesa_types.specs.Counts.{hidden, hidden_stmts}
+use Rattle.mesa_types.specs.Shapes.{words_in_all}
 use Rattle.module_checker.specs.Typed as t
-use Rattle.module_checker.specs.PlainTypes.{PlainField, PlainItem, kinds_of, item_of, words_of_fields}
-use Rattle.module_checker.specs.Scopes.{Scope, outer, innermost}
+use Rattle.module_checker.specs.PlainTypes.{PlainItem, item_of, words_of_fields}
+use Rattle.module_checker.specs.Scopes.{Scope}
 use Rattle.module_checker.specs.Meanings as m
 use Rattle.module_checker.specs.Meanings.{Meaning}
-use Rattle.module_checker.specs.Steps.{State, Check, Checked, and_then, ◌>>=◌, pure, only}
-use Rattle.module_checker.specs.Around.{Around, Known, body_of, in_statement, with_labels}
-use Rattle.module_checker.specs.Parts.{join_stmts}
+use Rattle.module_checker.specs.Steps.{State, Check, and_then, ◌>>=◌, pure, only}
+use Rattle.module_checker.specs.Around.{Around, with_labels}
 use Rattle.module_checker.specs.Phrases.{is_catch}
-use Rattle.module_checker.specs.Statements.{Headed, held, labels_of_exits, numbers_from}
-use Rattle.module_checker.specs.Checking.{phrase, statements, exits, initial}
-use Rattle.module_checker.specs.declared.fault.Cause.{Cause}
+use Rattle.module_checker.specs.Statements.{held, labels_of_exits, numbers_from}
+use Rattle.module_checker.specs.Checking.{phrase, statements, exits}
 use Rattle.module_checker.specs.declared.fault.Cause.TheVariants.{FrameTooLarge}
-use Rattle.module_checker.specs.Programs.{heads_alone, hidden_unless_head, second, behind_top, heads_are_done, Stated, DataHead, ProcedureHead, SignalHead, Declared, Values, and_statement, and_procedure, value_of, values_of, all_declared, Whole, marked_if, enabled, outermost, body_block, frame, whole_in, program_body}
-use Rattle.module_checker.specs.Written.{PhraseWritten, StatementsWritten, ExitsWritten, DeclaredWritten, DeclarationWritten, InnerWritten}
-use Rattle.module_checker.proofs.SoundTypes.{no_truth, none_is_no}
-use Rattle.module_checker.proofs.SoundSteps.{World, Spot, at, ItemIn, MeaningIn, ScopeIn, ScopesIn, Within, Names, Step, Rule, bind, so, under, given, unmoved, if_ok, weaker}
-use Rattle.module_checker.proofs.SoundnessStatements.{AroundIn, ArmIn, PhraseHere, Ready}
-use Rattle.module_checker.proofs.SoundScopes.{HeadedIn, inside_scopes, inside_scope, outer_in, innermost_in, done}
-use Rattle.module_checker.proofs.SoundAround.{first_member, marked_spot, labelled_spot, is_marked_spot, in_statement_around, labelled_around, phrase_here}
-use Rattle.module_checker.proofs.SoundStatements.{StatementsIn}
-use Rattle.module_checker.proofs.SoundBlocks.{ExitsOf, block_in, joined_in, joined_hidden, labelled_phrase, inside_flat}
+use Rattle.module_checker.specs.Programs.{heads_alone, hidden_unless_head, behind_top, Stated, DataHead, ProcedureHead, SignalHead, Declared, Values, and_statement, and_procedure, value_of, values_of, Whole, marked_if, body_block, frame}
+use Rattle.module_checker.specs.Written.{DeclaredWritten, DeclarationWritten, InnerWritten}
+use Rattle.module_checker.proofs.SoundTypes.{none_is_no}
+use Rattle.module_checker.proofs.SoundSteps.{World, Spot, at, ItemIn, MeaningIn, ScopeIn, ScopesIn, Names, Step, Rule, bind, under, given, unmoved, if_ok, weaker}
+use Rattle.module_checker.proofs.SoundnessStatements.{AroundIn, PhraseHere}
+use Rattle.module_checker.proofs.SoundScopes.{inside_scopes, inside_scope}
+use Rattle.module_checker.proofs.SoundAround.{labelled_spot, labelled_around}
+use Rattle.module_checker.proofs.SoundBlocks.{block_in, joined_in, joined_hidden, labelled_phrase, inside_flat}
 use Rattle.module_checker.proofs.SoundBodies.{item_checks, phrase_checks, statements_check, exits_check}
-use Rattle.module_checker.proofs.SoundProcedures.{with_body, at_start, KnownIn, SoundBody, ProcedureGood, procedure_rule}
-use Rattle.module_checker.proofs.SoundDeclarations.{StatedIn, DeclaredIn, AllDeclaredIn, AllDeclaredAt, Heads, HeadStep, all_declared_in}
+use Rattle.module_checker.proofs.SoundProcedures.{KnownIn, SoundBody, procedure_rule}
+use Rattle.module_checker.proofs.SoundDeclarations.{StatedIn, AllDeclaredIn}
 
 -- a procedure whose head is in order and whose body is sound
 pub record ProcedureDone (W : World) (q : t.Procedure) : Type 0 where
