@@ -18,6 +18,7 @@ rows =
     fine (codes "DIRECTORY I: FROM \"I\", J: FROM \"J\"; M: PROGRAM IMPORTS I, J = BEGIN OPEN I, J; c: Color _ green; i: INTEGER _ Max; Put[c]; J.Put[i]; "
     ++ codes "Put[I.red]; Mode[off]; END.")
     ∷ bad UnknownName (codes "DIRECTORY ^K: FROM \"I\", J: FROM \"J\"; M: PROGRAM = BEGIN END.")
+    ∷ bad UnknownName (codes "DIRECTORY I: FROM \"I\", J: FROM \"J\", ^K: FROM \"K\"; M: PROGRAM = BEGIN END.")
     ∷ bad UnknownName (codes "DIRECTORY I: FROM \"I\" USING [Put, ^Get], J: FROM \"J\"; M: PROGRAM = BEGIN END.")
     ∷ bad TwiceDeclared (codes "DIRECTORY I: FROM \"I\" USING [Put, ^Put], J: FROM \"J\"; M: PROGRAM = BEGIN END.")
     ∷ fine (codes "DIRECTORY I: FROM \"I\" USING [Put, red, on], J: FROM \"J\"; M: PROGRAM IMPORTS I = BEGIN OPEN I; I.Put[red]; END.")

@@ -442,7 +442,7 @@ module _ (Stands : Place → Type 0) where
   unfolding directory places.of_directory
   directory_kept taken [] [] h = all_right tt
   directory_kept taken [] (i ∷ is) h = all_right tt
-  directory_kept taken (d ∷ ds) [] h = all_right tt
+  directory_kept taken (d ∷ ds) [] h = refused h.0
   directory_kept taken (d ∷ ds) (i ∷ is) h =
       and_gives (only_if (bytes_eq d.name.name i.name) UnknownName d.name.place h.0) (λ u w.
       and_gives (only_if (not (has d.name.name taken)) TwiceDeclared d.name.place h.0) (λ u w.

@@ -73,7 +73,7 @@ length_of_map f (x ∷ xs) = ap suc (length_of_map f xs)
 of_face : (i : PlainInterface) (ns : List ℕ) → Ascend 0 (0 + length i.items) ns → Ascend 0 (length (face_of i).items) ns
 of_face i ns a = let e : 0 + length i.items ≡ length (face_of i).items = omega (arith, length_of_map item_of i.items) in subst (λ h. Ascend 0 h ns) e a
 
-imported_in_order : (is : List PlainInterface) (rows : List (List Bool)) → ImportsInOrder (imported is rows)
+pub imported_in_order : (is : List PlainInterface) (rows : List (List Bool)) → ImportsInOrder (imported is rows)
 unfolding ImportsInOrder imported
 imported_in_order [] rows = tt
 imported_in_order (i ∷ is) rows = (of_face i _ (marked_ascend 0 i.items (first_row rows)), imported_in_order is (other_rows rows))
@@ -103,7 +103,7 @@ pairs_ascend os n (i ∷ is) = then_if _ (fits_item i (offer_named i.name os)) _
     pair_ascends n (length is) i (offer_named i.name os) ps
     (one_more n (length is) _ (if_ok (PairsIn (suc n) (suc n + length is)) (pairs os (suc n) is) ps e (pairs_ascend os (suc n) is)))))
 
-exported_in_order : (os : List Offer) (is : List PlainInterface) → IfOk (exported os is) ExportsInOrder
+pub exported_in_order : (os : List Offer) (is : List PlainInterface) → IfOk (exported os is) ExportsInOrder
 unfolding ExportsInOrder exported PairsIn
 exported_in_order os [] = tt
 exported_in_order os (i ∷ is) = then_if _ (pairs os 0 i.items) _ (λ ps e.

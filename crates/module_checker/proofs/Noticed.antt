@@ -3,7 +3,7 @@ use Rattle.std.specs.Prelude.{◌≡◌, List, [], ◌∷◌, ◌++◌, codes}
 use Rattle.std.proofs.Common.{refl}
 use Rattle.module_checker.specs.declared.fault.Cause.TheVariants.{UnknownName, TwiceDeclared, TypeMismatch, NotConstant, BadLabel, WrongCount, NotResumable, UnwindJumps, FrameTooLarge}
 use Rattle.module_checker.specs.PlainTypes.{PlainInterface}
-use Rattle.module_checker.proofs.Texts.{Row, fine, good, wrong, mistakes, interface}
+use Rattle.module_checker.proofs.Texts.{Row, fine, bad, good, wrong, mistakes, interface}
 use Rattle.module_checker.proofs.Everything.{everything}
 
 abbrev rows : List Row
@@ -28,7 +28,7 @@ rows =
     ∷ wrong TypeMismatch (codes "c: INTEGER = F[^TRUE]; F: PROCEDURE [n: INTEGER] RETURNS [INTEGER] = BEGIN RETURN[n] END;")
     ∷ []
 
--- two interfaces with one name, of which the first that is opened gives it
+-- two interfaces with one name, of which the first that is opened gives it; a third is not given
 abbrev given : List PlainInterface
 given = interface 10 (codes "I: DEFINITIONS = BEGIN Put: PROCEDURE [n: INTEGER]; END.")
     ++ interface 11 (codes "J: DEFINITIONS = BEGIN Put: PROCEDURE [c: CHARACTER]; END.")
@@ -37,6 +37,7 @@ abbrev opening : List Row
 opening =
     fine (codes "DIRECTORY I: FROM \"I\", J: FROM \"J\"; M: PROGRAM IMPORTS I, J = BEGIN OPEN I, J; Put[1]; END.")
     ∷ fine (codes "DIRECTORY I: FROM \"I\", J: FROM \"J\"; M: PROGRAM IMPORTS I, J = BEGIN OPEN J, I; Put['a]; END.")
+    ∷ bad UnknownName (codes "DIRECTORY I: FROM \"I\", J: FROM \"J\", ^K: FROM \"K\"; M: PROGRAM = BEGIN END.")
     ∷ []
 
 first_opened : mistakes given 0 opening ≡ []

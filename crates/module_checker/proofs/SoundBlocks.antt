@@ -51,8 +51,8 @@ pub record ChecksItem (W : World) (d : s.PlainItem) : Type 0 where
   pub head : (flat : Bool) (p : Spot) (a : Around) (xs : List Identifier) → Inward flat a
       → Rule W flat (AroundIn W flat p a × (xs ≢ []) × ItemWritten d)
       (λ h i j. HeadedIn W p flat h) (head a xs d)
-  pub initial : (p : Spot) (a : Around) (xs : List Identifier) (h : Headed)
-      → Rule W false (AroundIn W false p a × ItemWritten d × HeadedIn W p false h)
+  pub initial : (flat : Bool) (p : Spot) (a : Around) (xs : List Identifier) (h : Headed)
+      → Rule W flat (AroundIn W flat p a × ItemWritten d × HeadedIn W p flat h)
       (λ f c g. (ss : t.Stmts) → sound.StmtsIn (at W p) ss → sound.StmtsIn (at W p) (f ss) × (hidden_stmts (f ss) ≤ hidden_stmts ss + g))
       (initial a xs d h)
 
@@ -258,11 +258,11 @@ module _ (W : World) where
   unfolding PutsOf sound.StmtsIn hidden_stmts
   puts_one p x g h i ss j = ((h, j), omega (arith, i))
 
-  initial_variable : (p : Spot) (a : Around) (xs : List Identifier) (e : s.TypeExp) (h : Headed)
-      → Rule W false (AroundIn W false p a × ItemWritten (s.Variable e) × HeadedIn W p false h) (λ f c g. PutsOf p f g) (initial a xs (s.Variable e) h)
+  initial_variable : (flat : Bool) (p : Spot) (a : Around) (xs : List Identifier) (e : s.TypeExp) (h : Headed)
+      → Rule W flat (AroundIn W flat p a × ItemWritten (s.Variable e) × HeadedIn W p flat h) (λ f c g. PutsOf p f g) (initial a xs (s.Variable e) h)
   unfolding initial HeadedIn sound.StmtIn hidden
-  initial_variable p a xs e Nothing = given W false (λ ss. ss) (λ pre. puts_none p)
-  initial_variable p a xs e (Variables homes k seen words) = given W false (t.AndStmt (t.Declare homes (kind_of k)))
+  initial_variable flat p a xs e Nothing = given W flat (λ ss. ss) (λ pre. puts_none p)
+  initial_variable flat p a xs e (Variables homes k seen words) = given W flat (t.AndStmt (t.Declare homes (kind_of k)))
       (λ pre. puts_one p (t.Declare homes (kind_of k)) 0 (pre.2.0, pre.2.1) (omega arith))
 
   declare_as : (p : Spot) (homes : List t.Home) (k : PlainType) (y : Typed) (c g : ℕ) → homes ≢ []
@@ -285,45 +285,45 @@ module _ (W : World) where
       moved (t.Global n) h = h
       moved (t.Local n) h = h
 
-  initial_given : (p : Spot) (a : Around) (xs : List Identifier) (e : s.TypeExp) (x : s.Expr) → Checks W x → (h : Headed)
-      → Rule W false (AroundIn W false p a × ItemWritten (s.Initial e x) × HeadedIn W p false h) (λ f c g. PutsOf p f g)
+  initial_given : (flat : Bool) (p : Spot) (a : Around) (xs : List Identifier) (e : s.TypeExp) (x : s.Expr) → Checks W x → (h : Headed)
+      → Rule W flat (AroundIn W flat p a × ItemWritten (s.Initial e x) × HeadedIn W p flat h) (λ f c g. PutsOf p f g)
       (initial a xs (s.Initial e x) h)
   unfolding initial HeadedIn ItemWritten CheckedIn AimIn
-  initial_given p a xs e x l Nothing = given W false (λ ss. ss) (λ pre. puts_none p)
-  initial_given p a xs e x l (Variables homes k seen words) = seen_before W false seen (λ pre. pre.2.3)
-      (bind W false (limited W false words (first_name xs) (under W false (λ pre. (pre.0, (pre.1.1, pre.2)))
-      (numbered_body W (holds x) p a {X = ExprWritten x × HeadedIn W p false (Variables homes k seen words)} _ (λ q b mark.
-      bind W false (under W false (λ pre. (record { around = pre.around; phrase = pre.phrase; written = pre.written.0 }, pre.written.1.2))
-      (l.by false q b (Into k (first x)))) (λ y c g.
-      given W false (t.DeclareAs homes (kind_of k) y.value) (λ pre. declare_as q homes k y c g (pre.0).written.1.0
+  initial_given flat p a xs e x l Nothing = given W flat (λ ss. ss) (λ pre. puts_none p)
+  initial_given flat p a xs e x l (Variables homes k seen words) = seen_before W flat seen (λ pre. pre.2.3)
+      (bind W flat (limited W flat words (first_name xs) (under W flat (λ pre. (pre.0, (pre.1.1, pre.2)))
+      (numbered_body W flat (holds x) p a {X = ExprWritten x × HeadedIn W p flat (Variables homes k seen words)} _ (λ q b mark.
+      bind W flat (under W flat (λ pre. (record { around = pre.around; phrase = pre.phrase; written = pre.written.0 }, pre.written.1.2))
+      (l.by flat q b (Into k (first x)))) (λ y c g.
+      given W flat (t.DeclareAs homes (kind_of k) y.value) (λ pre. declare_as q homes k y c g (pre.0).written.1.0
       (homes_moved p q (kind_of k) homes (pre.0).written.1.1) pre.1.0 pre.1.1))))))
-      (λ z c g. given W false (t.AndStmt z) (λ pre. puts_one p z (g + 0) (((pre.1).2).statement (omega (arith, (pre.1).1, ((pre.1).2).operands_are)))
+      (λ z c g. given W flat (t.AndStmt z) (λ pre. puts_one p z (g + 0) (((pre.1).2).statement (omega (arith, (pre.1).1, ((pre.1).2).operands_are)))
       (omega (arith, ((pre.1).2).hidden_are)))))
 
   pub item_type : (e : s.TypeExp) → ChecksType W e → ChecksItem W (s.TypeIs e)
   unfolding initial PutsOf
-  item_type e k = record { head = head_type e k; initial = λ p a xs h. by p a xs h }
+  item_type e k = record { head = head_type e k; initial = λ flat p a xs h. by flat p a xs h }
     where
-      by : (p : Spot) (a : Around) (xs : List Identifier) (h : Headed) → Rule W false
-          (AroundIn W false p a × ItemWritten (s.TypeIs e) × HeadedIn W p false h)
+      by : (flat : Bool) (p : Spot) (a : Around) (xs : List Identifier) (h : Headed) → Rule W flat
+          (AroundIn W flat p a × ItemWritten (s.TypeIs e) × HeadedIn W p flat h)
           (λ f c g. PutsOf p f g) (initial a xs (s.TypeIs e) h)
-      by p a xs h = given W false (λ ss. ss) (λ pre. puts_none p)
+      by flat p a xs h = given W flat (λ ss. ss) (λ pre. puts_none p)
 
   pub item_variable : (e : s.TypeExp) → ChecksType W e → ChecksItem W (s.Variable e)
   unfolding PutsOf
-  item_variable e k = record { head = head_variable e k; initial = λ p a xs h. initial_variable p a xs e h }
+  item_variable e k = record { head = head_variable e k; initial = λ flat p a xs h. initial_variable flat p a xs e h }
 
   pub item_initial : (e : s.TypeExp) (x : s.Expr) → ChecksType W e → Checks W x → ChecksItem W (s.Initial e x)
   unfolding PutsOf
-  item_initial e x k l = record { head = head_initial e x k; initial = λ p a xs h. initial_given p a xs e x l h }
+  item_initial e x k l = record { head = head_initial e x k; initial = λ flat p a xs h. initial_given flat p a xs e x l h }
 
   pub item_constant : (e : s.TypeExp) (x : s.Expr) → ChecksType W e → Checks W x → ChecksItem W (s.Constant e x)
   unfolding initial PutsOf
-  item_constant e x k l = record { head = head_constant e x k l; initial = λ p a xs h. by p a xs h }
+  item_constant e x k l = record { head = head_constant e x k l; initial = λ flat p a xs h. by flat p a xs h }
     where
-      by : (p : Spot) (a : Around) (xs : List Identifier) (h : Headed) → Rule W false
-          (AroundIn W false p a × ItemWritten (s.Constant e x) × HeadedIn W p false h) (λ f c g. PutsOf p f g) (initial a xs (s.Constant e x) h)
-      by p a xs h = given W false (λ ss. ss) (λ pre. puts_none p)
+      by : (flat : Bool) (p : Spot) (a : Around) (xs : List Identifier) (h : Headed) → Rule W flat
+          (AroundIn W flat p a × ItemWritten (s.Constant e x) × HeadedIn W p flat h) (λ f c g. PutsOf p f g) (initial a xs (s.Constant e x) h)
+      by flat p a xs h = given W flat (λ ss. ss) (λ pre. puts_none p)
 
   -- ---- the declarations of a block
   no_stmts : (p : Spot) (c g : ℕ) → StatementsIn W p t.NoStmts c g
@@ -349,7 +349,7 @@ module _ (W : World) where
           (StatementsIn W p) (initials a (s.AndLocal xs d rest) hs)
       by p a [] = given W false t.NoStmts (λ pre. no_stmts p 0 0)
       by p a (h ∷ hs) =
-          bind W false (under W false (λ pre. (pre.0, pre.1.1, pre.2.0)) (k.initial p a xs h)) (λ f c g.
+          bind W false (under W false (λ pre. (pre.0, pre.1.1, pre.2.0)) (k.initial false p a xs h)) (λ f c g.
           bind W false (under W false (λ pre. (pre.0.0, pre.0.1.2, pre.0.2.1)) (l.initials p a hs)) (λ ss m n.
           given W false (f ss) (λ pre. let r = pre.0.1 ss (pre.1).statements in record
           { statements = r.0; hidden_are = omega (arith, r.1, (pre.1).hidden_are) })))
@@ -379,17 +379,17 @@ module _ (W : World) where
   }
 
   -- ---- blocks
-  joined_in : (p : Spot) (xs ys : t.Stmts) → sound.StmtsIn (at W p) xs → sound.StmtsIn (at W p) ys → sound.StmtsIn (at W p) (join_stmts xs ys)
+  pub joined_in : (p : Spot) (xs ys : t.Stmts) → sound.StmtsIn (at W p) xs → sound.StmtsIn (at W p) ys → sound.StmtsIn (at W p) (join_stmts xs ys)
   unfolding sound.StmtsIn join_stmts
   joined_in p t.NoStmts ys h i = i
   joined_in p (t.AndStmt x xs) ys h i = (h.0, joined_in p xs ys h.1 i)
 
-  joined_hidden : (xs ys : t.Stmts) → hidden_stmts (join_stmts xs ys) ≡ hidden_stmts xs + hidden_stmts ys
+  pub joined_hidden : (xs ys : t.Stmts) → hidden_stmts (join_stmts xs ys) ≡ hidden_stmts xs + hidden_stmts ys
   unfolding hidden_stmts join_stmts
   joined_hidden t.NoStmts ys = omega arith
   joined_hidden (t.AndStmt x xs) ys = omega (arith, joined_hidden xs ys)
 
-  labelled_phrase : (p : Spot) (a : Around) (xs : List Identifier) → PhraseHere p a
+  pub labelled_phrase : (p : Spot) (a : Around) (xs : List Identifier) → PhraseHere p a
       → PhraseHere (labelled_spot (a.labelled + length xs) (numbers_from a.labelled xs) p) (with_labels xs (inside a))
   unfolding labelled_spot
   labelled_phrase p a xs h = record {
@@ -404,7 +404,7 @@ module _ (W : World) where
     pub statements : sound.StmtsIn (at W p) x.statements
     pub hidden_are : hidden_phrase x.phrase + hidden_stmts x.statements ≤ hid
 
-  block_in : (p : Spot) (n : ℕ) (es : s.Exits) (x : Held) (xs : t.Exits) (c g d h : ℕ) → p.labels ≤ n
+  pub block_in : (p : Spot) (n : ℕ) (es : s.Exits) (x : Held) (xs : t.Exits) (c g d h : ℕ) → p.labels ≤ n
       → HeldIn (labelled_spot (n + length (labels_of_exits es)) (numbers_from n (labels_of_exits es)) p) x c g → ExitsOf W p n es xs d h
       → sound.StmtIn (at W p) (t.Block x.phrase x.statements xs)
   unfolding sound.StmtIn

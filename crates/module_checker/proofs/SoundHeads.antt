@@ -14,7 +14,7 @@ use Rattle.module_checker.specs.Parts.{each_of}
 use Rattle.module_checker.specs.Statements.{fields_from}
 use Rattle.module_checker.specs.Programs.{named_parameters, parameters, Heading, own_scope, coming_scope, heading, told, fault_or, before_others}
 use Rattle.module_checker.specs.Written.{NamedWritten, FieldsWritten, MaybeFieldsWritten}
-use Rattle.module_checker.proofs.SoundTypes.{FieldsIn}
+use Rattle.module_checker.proofs.SoundTypes.{FieldsIn, none_is_no}
 use Rattle.module_checker.proofs.SoundSteps.{World, Spot, ScopeIn, ScopesIn, Step, Rule, bind, so, under, given, unmoved, if_ok}
 use Rattle.module_checker.proofs.SoundnessStatements.{AroundIn}
 use Rattle.module_checker.proofs.SoundScopes.{joined_twice, no_names, announced, over_in, fields_from_in, locals_typed}
@@ -24,7 +24,7 @@ use Rattle.module_checker.proofs.SoundBodies.{type_checks, types_check}
 use Rattle.module_checker.proofs.SoundProcedures.{with_body, scope_in_body}
 
 -- heads that stand further on make no declaration good that is not
-told_in : {A : Type 0} (P : A → Type 0) (r : Checked A) (again : Unit {0} → Checked A) → IfOk r P → IfOk (told r again) P
+pub told_in : {A : Type 0} (P : A → Type 0) (r : Checked A) (again : Unit {0} → Checked A) → IfOk r P → IfOk (told r again) P
 told_in {A} P (Ok r) again h = h
 told_in {A} P (Err e) again h = by (again tt)
   where
@@ -115,11 +115,11 @@ module _ (W : World) where
       given W flat (each_of k xs ++ fs) (λ pre. and_fields W (each_of k xs) fs (each_field W k xs pre.0.1) pre.1))))
 
   parameters_in : (fs : Option s.FieldList) (flat : Bool) (p : Spot) (a : Around)
-      → Rule W flat (AroundIn W flat p a × MaybeFieldsWritten fs) (λ x i j. FieldsIn x) (parameters a fs)
+      → Rule W flat (AroundIn W flat p a × MaybeFieldsWritten fs) (λ x i j. FieldsIn x × (fs ≡ None → x ≡ [])) (parameters a fs)
   unfolding MaybeFieldsWritten FieldsWritten FieldsIn
-  parameters_in None flat p a = given W flat [] (λ pre. tt)
-  parameters_in (Some (s.WithNames fs)) flat p a = named_in fs flat p a
-  parameters_in (Some (s.Unnamed es)) flat p a = so W flat (λ x i j pre h. h.0) ((types_check W es).by flat p a)
+  parameters_in None flat p a = given W flat [] (λ pre. (tt, λ e. refl))
+  parameters_in (Some (s.WithNames fs)) flat p a = so W flat (λ x i j pre h. (h, λ e. none_is_no (s.WithNames fs) (sym e))) (named_in fs flat p a)
+  parameters_in (Some (s.Unnamed es)) flat p a = so W flat (λ x i j pre h. (h.0, λ e. none_is_no (s.Unnamed es) (sym e))) ((types_check W es).by flat p a)
 
   coming_seen : {Pre : Type 0} → Rule W true Pre (λ scope i j. ScopeIn W true scope) coming_scope
   coming_seen {Pre} = record { by = λ s. unmoved W true Pre (λ scope i j. ScopeIn W true scope) s s.coming (λ pre names w. names.coming) }
@@ -139,14 +139,18 @@ module _ (W : World) where
       start = record { points = []; statements = 0; labels = 0; depth = 0; arm = []; statement = 0 }
 
   pub heading_in : (takes gives : Option s.FieldList) (p : Spot) (a : Around)
-      → Rule W true (AroundIn W true p a × MaybeFieldsWritten takes × MaybeFieldsWritten gives) (λ h i j. HeadingIn W h) (heading a takes gives)
+      → Rule W true (AroundIn W true p a × MaybeFieldsWritten takes × MaybeFieldsWritten gives) (λ h i j. HeadingIn W h × (gives ≡ None → h.gives ≡ []))
+      (heading a takes gives)
   unfolding heading
   heading_in takes gives p a = scoped_apart
       (bind W true (under W true (λ pre. (inside_around W true p a pre.0, pre.1)) (parameters_in takes true p (inside a))) (λ fs c g.
       bind W true (under W true (λ pre. (inside_around W true p a pre.0.0, pre.0.2)) (parameters_in gives true p (inside a))) (λ gs d h.
       bind W true {P = λ scope i j. ScopeIn W true scope} coming_seen (λ scope i j.
-      given W true (record { takes = fs; gives = gs; scope = own_scope fs gs scope }) (λ pre. record {
-        takes = pre.0.0.1;
-        gives = pre.0.1;
-        scope = λ ks. own_names fs gs scope ks (and_fields W fs gs pre.0.0.1 pre.0.1) pre.1;
-      })))))
+      given W true (record { takes = fs; gives = gs; scope = own_scope fs gs scope }) (λ pre. (
+        record {
+          takes = pre.0.0.1.0;
+          gives = pre.0.1.0;
+          scope = λ ks. own_names fs gs scope ks (and_fields W fs gs pre.0.0.1.0 pre.0.1.0) pre.1;
+        },
+        pre.0.1.1,
+      ))))))

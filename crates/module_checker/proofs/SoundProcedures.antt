@@ -1,23 +1,24 @@
 -- The body of a procedure is sound, where its names are in order and what it marks as used is used.
-use Rattle.std.proofs.Common.{◌≡◌, ℕ, ◌+◌, List, [], ◌∷◌, refl, sym, ap, arith}
+use Rattle.std.proofs.Common.{◌≡◌, ℕ, ◌+◌, List, [], ◌∷◌, refl, sym, ap, subst, arith}
 use Rattle.std.specs.Prelude.{◌≤◌, ◌<◌, Bool, true, false, Some, Ok, Err, IfOk, nat_le, slice_get}
 use Rattle.std.proofs.lemmas.Bool.{leb-true}
 use Rattle.mesa_base.specs.declared.place.Place.{Place}
 use Rattle.mesa_base.specs.declared.identifier.Identifier.{Identifier}
 use Rattle.mesa_base.specs.declared.limits.TheConstants.{LOCAL_WORDS, OPERAND_WORDS}
 use Rattle.mesa_types.specs.Sound as sound
+use Rattle.mesa_types.specs.declared.faces.ItemKind.TheVariants as item
 use Rattle.mesa_types.specs.Typed as points
 use Rattle.mesa_types.specs.Syntax as s
 use Rattle.mesa_types.specs.Counts.{hidden}
-use Rattle.mesa_types.specs.Links.{IsUsed}
 use Rattle.mesa_types.specs.Shapes.{join, words_in_all, AllHaveWords}
 use Rattle.module_checker.specs.Typed as t
 use Rattle.module_checker.specs.PlainTypes.{PlainField, PlainItem, kinds_of, item_of, words_of_fields}
 use Rattle.module_checker.specs.declared.fault.Cause.{Cause}
-use Rattle.module_checker.specs.Scopes.{Scope}
+use Rattle.module_checker.specs.declared.fault.Cause.TheVariants.{FrameTooLarge}
+use Rattle.module_checker.specs.Scopes.{Scope, outer, nothing}
 use Rattle.module_checker.specs.Meanings as m
 use Rattle.module_checker.specs.Meanings.{Meaning}
-use Rattle.module_checker.specs.Steps.{State, Checked, and_then, only, in_scope}
+use Rattle.module_checker.specs.Steps.{State, Checked, and_then, only, back}
 use Rattle.module_checker.specs.Around.{Known, body_of}
 use Rattle.module_checker.specs.Parts.{first_name}
 use Rattle.module_checker.specs.Values.{number_in}
@@ -25,9 +26,9 @@ use Rattle.module_checker.specs.Checking.{block}
 use Rattle.module_checker.specs.Programs.{fresh, as_before, procedure}
 use Rattle.module_checker.specs.Written.{BlockWritten}
 use Rattle.module_checker.proofs.SoundTypes.{FieldsIn, no_truth, none_is_no, field_words_agree}
-use Rattle.module_checker.proofs.SoundSteps.{World, Spot, at, ItemIn, MeaningIn, ScopeIn, ScopesIn, mark_at, Within, Names, Step, Rule, under, if_ok}
+use Rattle.module_checker.proofs.SoundSteps.{World, Spot, at, ItemIn, MeaningIn, ScopeIn, ScopesIn, Within, Names, Step, Rule, under, if_ok}
 use Rattle.module_checker.proofs.SoundnessStatements.{AroundIn, ArmIn}
-use Rattle.module_checker.proofs.SoundScopes.{scoped, done}
+use Rattle.module_checker.proofs.SoundScopes.{no_names}
 use Rattle.module_checker.proofs.SoundAround.{first_member}
 use Rattle.module_checker.proofs.SoundStatements.{StatementIn}
 use Rattle.module_checker.proofs.SoundBodies.{block_checks}
@@ -108,61 +109,44 @@ pub record SoundBody (W : World) (takes gives : List PlainField) (body : t.Body)
   pub does : sound.StmtIn (at (with_body W takes gives body.variables) at_start) body.does
   pub small : words_in_all (kinds_of takes) + words_in_all (kinds_of gives) + words_in_all body.variables + hidden body.does ≤ LOCAL_WORDS
 
--- of the state behind a body: its globals are the first of those in the end, and what it marks as used is used
-pub record Behind (W : World) (s : State) : Type 0 where
-  pub more_globals : t.Kinds
-  pub globals : W.globals ≡ join s.globals more_globals
-  pub used : (k n : ℕ) → mark_at s.used k n ≡ Some true → IsUsed W.imports k n
+-- the head of a procedure, and what its names mean in its body
+pub record ProcedureGood (W : World) (i : PlainItem) (scope : Scope Meaning) : Type 0 where
+  pub head : ItemIn i
+  pub kind : i.kind ≡ item.Procedure
+  pub names : (ks : t.Kinds) → ScopeIn (with_body W i.takes i.gives ks) false scope
 
-in_each_world : {A B : Type 0} (q : Checked B) (P : A → B → Type 0) → ((x : A) → IfOk q (P x)) → IfOk q (λ r. (x : A) → P x r)
+pub in_each_world : {A B : Type 0} (q : Checked B) (P : A → B → Type 0) → ((x : A) → IfOk q (P x)) → IfOk q (λ r. (x : A) → P x r)
 in_each_world (Ok b) P h = h
 in_each_world (Err e) P h = tt
 
-none_more : (ks : t.Kinds) → join ks t.NoKinds ≡ ks
+pub none_more : (ks : t.Kinds) → join ks t.NoKinds ≡ ks
 unfolding join
 none_more t.NoKinds = refl
 none_more (t.AndKind k ks) = ap (t.AndKind k) (none_more ks)
 
-no_words : AllHaveWords t.NoKinds
+pub no_words : AllHaveWords t.NoKinds
 unfolding AllHaveWords
 no_words = tt
 
-module _ (W : World) (known : Known) (xs : List Identifier) (i : PlainItem) (scope : Scope Meaning) (words : ℕ) (b : s.Block) where
+module _ (W : World) (known : Known) (h : KnownIn W known) (xs : List Identifier) (i : PlainItem) (scope : Scope Meaning) (words : ℕ) (b : s.Block) where
   abbrev body_world : t.Kinds → World
   body_world ks = with_body W i.takes i.gives ks
 
-  block_rule : KnownIn W known → ItemIn i → BlockWritten b → ((ks : t.Kinds) → ScopeIn (body_world ks) false scope) → (ks : t.Kinds)
-      → Rule (body_world ks) false (Unit {0}) (StatementIn (body_world ks) at_start) (in_scope scope (block (body_of known i.takes i.gives) b))
-  block_rule h item w sc ks = scoped (body_world ks) false scope (λ u. sc ks) (under (body_world ks) false
-      (λ u. (start_around W known i.takes i.gives ks h item.gives, w)) ((block_checks (body_world ks) b).by at_start (body_of known i.takes i.gives)))
+  abbrev Good : Type 0
+  Good = ProcedureGood W i scope × BlockWritten b
 
-  made_body : (before : State) (r : t.Stmt × State) → ((ks : t.Kinds) → Step (body_world ks) false (Unit {0}) (StatementIn (body_world ks) at_start)
-      (fresh before) r) → Names W true before → Behind W r.1
-      → words_of_fields i.takes + words_of_fields i.gives + words_in_all (r.1).variables + (r.1).hidden ≤ LOCAL_WORDS
-      → SoundBody W i.takes i.gives (record { variables = (r.1).variables; does = r.0 })
-  made_body before r steps names behind small =
-      let ks = (r.1).variables in
-      let st = steps ks in
-      let inside : Within (body_world ks) r.1 = record {
-        more_globals = behind.more_globals;
-        globals = behind.globals;
-        more_locals = t.NoKinds;
-        locals = ap (λ x. join (kinds_of i.takes) (join (kinds_of i.gives) x)) (sym (none_more ks));
-        used = behind.used;
-      } in
-      let start : Names (body_world ks) false (fresh before) = record {
-        scopes = scopes_in_body W i.takes i.gives ks before.scopes names.scopes;
-        coming = scope_in_body W i.takes i.gives ks before.coming names.coming;
-        rows = names.rows;
-        globals = names.globals;
-        variables = no_words;
-      } in
-      let done' = st.gives done inside start in
-      record {
-        variables = (st.keeps done inside start).variables;
-        does = done'.statement;
-        small = omega (arith, small, field_words_agree i.takes, field_words_agree i.gives, st.hides, done'.hidden_are);
-      }
+  abbrev IsSound : t.Procedure → ℕ → ℕ → Type 0
+  IsSound p m n = (p.head ≡ item_of i) × SoundBody W i.takes i.gives p.body
+
+  block_rule : (ks : t.Kinds) → Rule (body_world ks) false Good (StatementIn (body_world ks) at_start) (block (body_of known i.takes i.gives) b)
+  block_rule ks = under (body_world ks) false (λ pre. (start_around W known i.takes i.gives ks h ((pre.0).head).gives, pre.1))
+      ((block_checks (body_world ks) b).by at_start (body_of known i.takes i.gives))
+
+  abbrev inner : State → State
+  inner before = record (fresh before) { scopes = scope ∷ before.scopes; coming = nothing }
+
+  abbrev Steps : State → t.Stmt × State → Type 0
+  Steps before r = (ks : t.Kinds) → Step (body_world ks) false Good (StatementIn (body_world ks) at_start) (inner before) r
 
   abbrev framed : Bool → Cause → Place → State → Checked (t.Kinds × State)
   framed c cause q u = and_then (only c cause q) (λ x. Ok (u.variables, u))
@@ -176,29 +160,95 @@ module _ (W : World) (known : Known) (xs : List Identifier) (i : PlainItem) (sco
   abbrev ended : t.Stmt × State → Bool → Bool → Cause → Cause → Place → Checked (t.Procedure × State)
   ended r c d x y q = and_then (framed c x q r.1) (λ u. and_then (ensured d y q u.1) (λ w. Ok (made u.0 r.0, w.1)))
 
-  abbrev IsSound : t.Procedure × State → Type 0
-  IsSound r = Behind W r.1 → ((r.0).head ≡ item_of i) × SoundBody W i.takes i.gives (r.0).body
+  -- the state outside the scope of the body, and then outside its frame
+  abbrev outside : State → State → State
+  outside before u = record u { scopes = outer u.scopes; coming = before.coming }
 
-  ended_in : (before : State) (r : t.Stmt × State) → ((ks : t.Kinds) → Step (body_world ks) false (Unit {0}) (StatementIn (body_world ks) at_start)
-      (fresh before) r) → Names W true before
-      → (c d : Bool) (x y : Cause) (q : Place) → (c ≡ true → words_of_fields i.takes + words_of_fields i.gives + words_in_all
-      (r.1).variables + (r.1).hidden ≤ LOCAL_WORDS) → IfOk (ended r c d x y q) IsSound
-  ended_in before r steps names true true x y q small = λ behind. (refl, made_body before r steps names behind (small refl))
-  ended_in before r steps names true false x y q small = tt
-  ended_in before r steps names false d x y q small = tt
+  abbrev left : State → State → State
+  left before u = record (outside before u) { variables = before.variables; hidden = before.hidden }
 
-  pub procedure_in : (before : State) → KnownIn W known → ItemIn i → BlockWritten b → ((ks : t.Kinds) → ScopeIn (body_world ks) false scope)
-      → Names W true before
-      → IfOk (procedure known xs i scope words b before) IsSound
+  within_body : (before u : State) → Within W (left before u) → Within (body_world u.variables) u
+  within_body before u w = record {
+    more_globals = w.more_globals;
+    globals = w.globals;
+    more_locals = t.NoKinds;
+    locals = ap (λ x. join (kinds_of i.takes) (join (kinds_of i.gives) x)) (sym (none_more u.variables));
+    used = w.used;
+  }
+
+  names_inside : (before : State) (ks : t.Kinds) → ProcedureGood W i scope → Names W true before → Names (body_world ks) false (inner before)
+  unfolding ScopesIn
+  names_inside before ks good names = record {
+    scopes = (good.names ks, scopes_in_body W i.takes i.gives ks before.scopes names.scopes);
+    coming = no_names (body_world ks) false;
+    rows = names.rows;
+    globals = names.globals;
+    variables = no_words;
+  }
+
+  made_step : (before : State) (r : t.Stmt × State) → Steps before r
+      → words_of_fields i.takes + words_of_fields i.gives + words_in_all (r.1).variables + (r.1).hidden ≤ LOCAL_WORDS
+      → Step W true Good IsSound before (made (r.1).variables r.0, left before r.1)
+  made_step before r steps small =
+      let ks = (r.1).variables in
+      let st = steps ks in
+      record {
+        spent = st.spent;
+        hid = 0;
+        spends = st.spends;
+        hides = omega arith;
+        under = ap outer st.under;
+        back = λ w. let v = st.back (within_body before r.1 w) in record
+            { more_globals = v.more_globals; globals = v.globals; more_locals = w.more_locals; locals = w.locals; used = v.used };
+        limit = st.limit;
+        rows = st.rows;
+        keeps = λ pre w names. let v = st.keeps pre (within_body before r.1 w) (names_inside before ks pre.0 names) in record {
+          scopes = subst (ScopesIn W true) (sym st.under) names.scopes;
+          coming = names.coming;
+          rows = v.rows;
+          globals = v.globals;
+          variables = names.variables;
+        };
+        gives = λ pre w names.
+            let inside = within_body before r.1 w in
+            let start = names_inside before ks pre.0 names in
+            let done' = st.gives pre inside start in (
+              refl,
+              record {
+                variables = (st.keeps pre inside start).variables;
+                does = done'.statement;
+                small = omega (arith, small, field_words_agree i.takes, field_words_agree i.gives, st.hides, done'.hidden_are);
+              },
+            );
+      }
+
+  abbrev end : t.Stmt × State → Checked (t.Procedure × State)
+  end r = ended r (nat_le (words_of_fields i.takes + words_of_fields i.gives + words_in_all (r.1).variables + (r.1).hidden) LOCAL_WORDS)
+      (nat_le words OPERAND_WORDS) FrameTooLarge FrameTooLarge (first_name xs)
+
+  abbrev Left : State → t.Procedure × State → Type 0
+  Left before r = Step W true Good IsSound before (r.0, record r.1 { variables = before.variables; hidden = before.hidden })
+
+  ended_in : (before : State) (r : t.Stmt × State) → Steps before r → (c d : Bool) (x y : Cause) (q : Place)
+      → (c ≡ true → words_of_fields i.takes + words_of_fields i.gives + words_in_all (r.1).variables + (r.1).hidden ≤ LOCAL_WORDS)
+      → IfOk (ended (r.0, outside before r.1) c d x y q) (Left before)
+  ended_in before r steps true true x y q small = made_step before r steps (small refl)
+  ended_in before r steps true false x y q small = tt
+  ended_in before r steps false d x y q small = tt
+
+  pub procedure_rule : Rule W true Good IsSound (procedure known xs i scope words b)
   unfolding procedure
-  procedure_in before h item w sc names =
-      let q = in_scope scope (block (body_of known i.takes i.gives) b) (fresh before) in
-      let steps : IfOk q (λ r. (ks : t.Kinds) → Step (body_world ks) false (Unit {0}) (StatementIn (body_world ks) at_start) (fresh before) r) =
-      in_each_world q (λ ks. Step (body_world ks) false (Unit {0}) (StatementIn (body_world ks) at_start) (fresh before))
-      (λ ks. (block_rule h item w sc ks).by (fresh before)) in
-      if_ok (and_then q _) (as_before before) IsSound IsSound
-      (if_ok q _ (λ r. (ks : t.Kinds) → Step (body_world ks) false (Unit {0}) (StatementIn (body_world ks) at_start) (fresh before) r) IsSound steps (λ r st.
-      ended_in before r st names (nat_le (words_of_fields i.takes + words_of_fields i.gives + words_in_all (r.1).variables + (r.1).hidden) LOCAL_WORDS)
-      (nat_le words OPERAND_WORDS) _ _ (first_name xs)
-      (leb-true (words_of_fields i.takes + words_of_fields i.gives + words_in_all (r.1).variables + (r.1).hidden) LOCAL_WORDS)))
-      (λ r k behind. k (record { more_globals = behind.more_globals; globals = behind.globals; used = behind.used }))
+  procedure_rule = record {
+    by = λ before.
+        let q = block (body_of known i.takes i.gives) b (inner before) in
+        let steps : IfOk q (Steps before) = in_each_world q (λ ks. Step (body_world ks) false Good (StatementIn (body_world ks) at_start) (inner before))
+        (λ ks. (block_rule ks).by (inner before)) in
+        if_ok (and_then (and_then q (back (fresh before))) _) (as_before before) (Left before) (Step W true Good IsSound before)
+        (if_ok (and_then q (back (fresh before))) _ (λ r. IfOk (end r) (Left before)) (Left before)
+        (if_ok q (back (fresh before)) (Steps before) (λ r. IfOk (end r) (Left before)) steps (λ r st.
+        ended_in before r st (nat_le (words_of_fields i.takes + words_of_fields i.gives + words_in_all (r.1).variables + (r.1).hidden) LOCAL_WORDS)
+        (nat_le words OPERAND_WORDS) FrameTooLarge FrameTooLarge (first_name xs)
+        (leb-true (words_of_fields i.takes + words_of_fields i.gives + words_in_all (r.1).variables + (r.1).hidden) LOCAL_WORDS)))
+        (λ r k. k))
+        (λ r k. k);
+  }

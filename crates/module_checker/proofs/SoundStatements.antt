@@ -89,15 +89,15 @@ module _ (W : World) where
     hidden_are = b.hidden_are;
   }
 
-  pub numbered_body : (b : Bool) (p : Spot) (a : Around) {X : Type 0} (rule : Around → Check t.Stmt)
-      → ((q : Spot) (c : Around) → (b ≡ true → c.marked ≡ c.statement + 1) → Rule W false (Ready W false q c b X) (BodyOf W q) (rule c))
-      → Rule W false (AroundIn W false p a × X) (BodyOf W p) (numbered a b rule)
-  numbered_body true p a rule h =
-      bind W false (under W false (λ pre. record { around = in_statement_around W false p a pre.0; phrase = λ e. phrase_here W p a; written = pre.1 })
+  pub numbered_body : (flat b : Bool) (p : Spot) (a : Around) {X : Type 0} (rule : Around → Check t.Stmt)
+      → ((q : Spot) (c : Around) → (b ≡ true → c.marked ≡ c.statement + 1) → Rule W flat (Ready W flat q c b X) (BodyOf W q) (rule c))
+      → Rule W flat (AroundIn W flat p a × X) (BodyOf W p) (numbered a b rule)
+  numbered_body flat true p a rule h =
+      bind W flat (under W flat (λ pre. record { around = in_statement_around W flat p a pre.0; phrase = λ e. phrase_here W p a; written = pre.1 })
       (h (marked_spot a.marked p) (in_statement a) (λ e. refl))) (λ x c g.
-      given W false (t.Marked a.marked x) (λ pre. marks_body p a.marked x (c + 0) (g + 0) (pre.0.0).statements
+      given W flat (t.Marked a.marked x) (λ pre. marks_body p a.marked x (c + 0) (g + 0) (pre.0.0).statements
       (record { statement = (pre.1).statement; operands_are = omega (arith, (pre.1).operands_are); hidden_are = omega (arith, (pre.1).hidden_are) })))
-  numbered_body false p a rule h = under W false (λ pre. record { around = pre.0; phrase = λ e. no_truth e; written = pre.1 }) (h p a (λ e. no_truth e))
+  numbered_body flat false p a rule h = under W flat (λ pre. record { around = pre.0; phrase = λ e. no_truth e; written = pre.1 }) (h p a (λ e. no_truth e))
 
   pub whole_statement : (b : Bool) (p : Spot) (a : Around) (q : Place) {X : Type 0} (rule : Around → Check t.Stmt)
       → ((q : Spot) (c : Around) → (b ≡ true → c.marked ≡ c.statement + 1) → Rule W false (Ready W false q c b X) (BodyOf W q) (rule c))
@@ -105,7 +105,7 @@ module _ (W : World) where
   whole_statement b p a q rule h = so W false (λ x c g pre l. record {
     statement = (l.2).statement (omega (arith, l.1, (l.2).operands_are));
     hidden_are = (l.2).hidden_are;
-  }) (limited W false 0 q (numbered_body b p a rule h))
+  }) (limited W false 0 q (numbered_body false b p a rule h))
 
   -- ---- plain ones
   pub statement_null : (q : Place) → ChecksStatement W (s.Null q)

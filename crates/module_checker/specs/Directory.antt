@@ -12,7 +12,7 @@ use Rattle.module_checker.specs.Scopes.{Scope, nothing, over, has}
 use Rattle.module_checker.specs.Meanings.{Meaning, NotImported}
 use Rattle.module_checker.specs.Meanings as m
 use Rattle.module_checker.specs.Parts.{names_of}
-use Rattle.module_checker.specs.Steps.{Checked, and_then, only}
+use Rattle.module_checker.specs.Steps.{Checked, and_then, only, refuse}
 use Rattle.module_checker.specs.declared.fault.Cause.TheVariants.{UnknownName, TwiceDeclared}
 use Rattle.module_checker.specs.PlainTypes.{PlainConstant, PlainField, PlainInterface, PlainItem, PlainName, PlainType}
 
@@ -149,13 +149,14 @@ abbrev pub using : Scope Meaning → Option (List Identifier) → Checked (Unit 
 using scope None = Ok tt
 using scope (Some xs) = used_names scope [] xs
 
--- each item names its file's interface, and has a name of its own
+-- each item names its file's interface, and has a name of its own; an item whose interface is not given is not known by its name
 unfoldable pub directory : List (List ℕ) → List DirectoryItem → List PlainInterface → Checked (Unit {0})
 directory before (d ∷ ds) (i ∷ is) =
     and_then (only (bytes_eq d.name.name i.name) UnknownName d.name.place) (λ _.
     and_then (only (not (has d.name.name before)) TwiceDeclared d.name.place) (λ _.
     and_then (using (first_entry (entries None i)) d.used) (λ _. directory (d.name.name ∷ before) ds is)))
-directory before _ _ = Ok tt
+directory before (d ∷ ds) [] = refuse UnknownName d.name.place
+directory before [] _ = Ok tt
 
 -- IMPORTS, EXPORTS and OPEN name items of the DIRECTORY, each at most once
 unfoldable pub listed : List (List ℕ) → List (List ℕ) → List Identifier → Checked (Unit {0})

@@ -18,6 +18,9 @@ use Rattle.interface_records.specs.declared.interface.Constant.{Constant}
 use Rattle.interface_records.specs.declared.interface.NamedType.{NamedType}
 use Rattle.module_checker.specs.Typed as t
 use Rattle.module_checker.specs.Scopes.{has}
+use Rattle.mesa_types.specs.Sound.{Sound}
+use Rattle.module_checker.specs.Interfaces.{InterfacesInOrder}
+use Rattle.module_checker.specs.Written.{ModuleWritten}
 use Rattle.module_checker.specs.Steps.{Checked, Fault}
 use Rattle.module_checker.specs.CheckedModule.{checked, checked_definitions}
 use Rattle.module_checker.specs.PlainTypes.{plain_interface}
@@ -163,3 +166,7 @@ HeadsAreInForm = (m : s.Module) (stamp : ℕ) (is : List Interface)
 abbrev pub TypesKeepTheirLimits : Type 0
 TypesKeepTheirLimits = (m : s.Module) (stamp : ℕ) (is : List Interface) → InterfacesKeepLimits (map plain_interface is)
     → IfOk (checked_definitions m stamp is) (λ (i : Interface). InterfaceKeepsLimits (plain_interface i))
+
+-- what checking gives of a program is sound: of a tree that is written as a text, with interfaces that are in order
+abbrev pub CheckedModulesAreSound : Type 0
+CheckedModulesAreSound = (m : s.Module) (is : List Interface) → ModuleWritten m.kind → InterfacesInOrder (map plain_interface is) → IfOk (checked m is) Sound

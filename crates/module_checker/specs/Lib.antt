@@ -3,6 +3,7 @@ pub mod Checking
 pub mod CheckedModule
 pub mod Definitions
 pub mod Directory
+pub mod Interfaces
 pub mod Laws
 pub mod Meanings
 pub mod Limits

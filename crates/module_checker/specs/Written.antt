@@ -215,3 +215,8 @@ DeclarationWritten d = (d.names ≢ []) × DeclaredWritten d.declared
 
 unfoldable pub InnerWritten : s.Inner → Type 0
 InnerWritten inner = PhraseWritten inner.enable × All DeclarationWritten inner.declarations × StatementsWritten inner.statements × ExitsWritten inner.exits
+
+-- of a module of definitions nothing is asked
+unfoldable pub ModuleWritten : s.ModuleKind → Type 0
+ModuleWritten (s.Program p imports exports opens inner) = InnerWritten inner
+ModuleWritten (s.Interface p opens defs) = Unit {0}

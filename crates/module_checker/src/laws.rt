@@ -1,6 +1,6 @@
 //! Laws of checking. No call of the program is here.
 
-ghost use Rattle.module_checker.specs.Laws.{EachTextHasOneResult, FaultsStandInTheText, HeadsAreInForm, InterfacesAreOfTheirText, NamesStandOnce, ShapesAreGiven, ShapesAreInOrder, TypedTreesHaveFewNodes, TypesKeepTheirLimits};
+ghost use Rattle.module_checker.specs.Laws.{CheckedModulesAreSound, EachTextHasOneResult, FaultsStandInTheText, HeadsAreInForm, InterfacesAreOfTheirText, NamesStandOnce, ShapesAreGiven, ShapesAreInOrder, TypedTreesHaveFewNodes, TypesKeepTheirLimits};
 
 /// Each text has exactly one result: a typed module or an interface, or its first fault with its cause and place.
 #[tactic(auto, using(crate::proofs::LawProofs::one_result))]
@@ -56,4 +56,10 @@ pub fn heads_are_in_form()
 #[tactic(auto, using(crate::proofs::FineInterfaces::types_keep_limits))]
 pub fn types_keep_their_limits()
     ensures { TypesKeepTheirLimits }
+{}
+
+/// A typed module that checking gives is sound, where its tree is written as a text and its interfaces are in order.
+#[tactic(auto, using(crate::proofs::SoundLaw::checked_modules_are_sound))]
+pub fn checked_modules_are_sound()
+    ensures { CheckedModulesAreSound }
 {}
