@@ -1,6 +1,7 @@
 mod Causes
 mod Expressions
 mod Generated
+mod InOrder
 mod Interfaces
 mod Limits
 mod LongHeads
