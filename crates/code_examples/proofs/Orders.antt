@@ -85,16 +85,16 @@ jumping = procedure 0 0 0 0 (ZeroL 0 0 ∷ Jump 0 ∷ []) []
 abbrev ranging : CodeProcedure
 ranging = procedure 0 0 0 0 (RaiseHost 0 ∷ ArmEnd ∷ []) (phrase 1 2 (any 2 3 ∷ []) ∷ [])
 
-abbrev row : ℕ → CodeFault → List CodeProcedure → Row
-row number fault procedures = record { parts = holds procedures; fault = Some (record { procedure = number; fault = fault }) }
+abbrev first_fault_in : ℕ → CodeFault → List CodeProcedure → Row
+first_fault_in number fault procedures = record { parts = holds procedures; fault = Some (record { procedure = number; fault = fault }) }
 
 abbrev procedures : List Row
 procedures =
     record { parts = holds (sound ∷ sound ∷ sound ∷ []); fault = None }
-    ∷ row 0 (BadJump 5) (jumping ∷ sound ∷ sound ∷ [])
-    ∷ row 1 (BadJump 5) (sound ∷ jumping ∷ ranging ∷ [])
-    ∷ row 1 (CatchRange 1) (sound ∷ ranging ∷ jumping ∷ [])
-    ∷ row 2 (BadJump 5) (sound ∷ sound ∷ jumping ∷ [])
+    ∷ first_fault_in 0 (BadJump 5) (jumping ∷ sound ∷ sound ∷ [])
+    ∷ first_fault_in 1 (BadJump 5) (sound ∷ jumping ∷ ranging ∷ [])
+    ∷ first_fault_in 1 (CatchRange 1) (sound ∷ ranging ∷ jumping ∷ [])
+    ∷ first_fault_in 2 (BadJump 5) (sound ∷ sound ∷ jumping ∷ [])
     ∷ []
 
 procedures_found : found procedures ≡ wanted procedures
