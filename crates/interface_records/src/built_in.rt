@@ -3,6 +3,7 @@ ghost use Rattle.mesa_base.specs.Name.{IsName};
 ghost use Rattle.interface_records.specs.Faces.{parameter, unnamed, procedure, error, io_items, iodefs as built_in};
 
 use crate::interface::Interface;
+use held_trees::{both, pushed};
 use mesa_base::{List, Name, OutOfMemory, Stamp};
 use mesa_types::{Face, FieldType, Fields, Item, ItemKind, Items, TypeTree};
 use std::alloc::Global;
@@ -21,27 +22,25 @@ fn parameter(alloc: Global, text: &[u8], kind: TypeTree) -> Result<Fields, OutOf
     requires { IsName text.now }
     ensures { IfOk result (λ fields. fields ≡ parameter text.now kind) }
 {
-    let name = Some(name(alloc, text)?);
-    let mut fields = List::new(alloc);
-    fields.push(FieldType { name, kind })?;
-    Ok(fields)
+    let (kind, name) = both(kind, name(alloc, text))?;
+    let name = Some(name);
+    pushed(List::new(alloc), FieldType { name, kind })
 }
 
 fn unnamed(alloc: Global, kind: TypeTree) -> Result<Fields, OutOfMemory>
     ensures { IfOk result (λ fields. fields ≡ unnamed kind) }
 {
-    let mut fields = List::new(alloc);
-    fields.push(FieldType { name: None, kind })?;
-    Ok(fields)
+    pushed(List::new(alloc), FieldType { name: None, kind })
 }
 
 fn procedure(alloc: Global, text: &[u8], takes: Fields, gives: Fields) -> Result<Item, OutOfMemory>
     requires { IsName text.now }
     ensures { IfOk result (λ item. item ≡ procedure text.now takes gives) }
 {
+    let ((takes, gives), name) = both((takes, gives), name(alloc, text))?;
     Ok(Item {
         kind: ItemKind::Procedure,
-        name: name(alloc, text)?,
+        name,
         takes,
         gives,
     })
@@ -79,14 +78,21 @@ fn error(alloc: Global, text: &[u8]) -> Result<Item, OutOfMemory>
 fn items(alloc: Global) -> Result<Items, OutOfMemory>
     ensures { IfOk result (λ items. items ≡ io_items) }
 {
-    let mut items = List::new(alloc);
-    items.push(writer(alloc, b"WriteChar", b"c", TypeTree::Character)?)?;
-    items.push(writer(alloc, b"WriteString", b"s", TypeTree::String)?)?;
-    items.push(writer(alloc, b"WriteDecimal", b"n", TypeTree::Integer)?)?;
-    items.push(reader(alloc, b"ReadChar", TypeTree::Character)?)?;
-    items.push(reader(alloc, b"EndOfInput", TypeTree::Boolean)?)?;
-    items.push(error(alloc, b"NoInput")?)?;
-    Ok(items)
+    let first = writer(alloc, b"WriteChar", b"c", TypeTree::Character)?;
+    let items = pushed(List::new(alloc), first)?;
+    let (items, item) = both(items, writer(alloc, b"WriteString", b"s", TypeTree::String))?;
+    let items = pushed(items, item)?;
+    let (items, item) = both(
+        items,
+        writer(alloc, b"WriteDecimal", b"n", TypeTree::Integer),
+    )?;
+    let items = pushed(items, item)?;
+    let (items, item) = both(items, reader(alloc, b"ReadChar", TypeTree::Character))?;
+    let items = pushed(items, item)?;
+    let (items, item) = both(items, reader(alloc, b"EndOfInput", TypeTree::Boolean))?;
+    let items = pushed(items, item)?;
+    let (items, item) = both(items, error(alloc, b"NoInput"))?;
+    pushed(items, item)
 }
 
 /// What IODefs offers, stamp 000000000001 (rule of this project).

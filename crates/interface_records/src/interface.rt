@@ -1,5 +1,7 @@
+use held_trees::LetGo;
 use mesa_base::{List, Name};
 use mesa_types::{Face, TypeTree};
+use std::mem::drop;
 
 pub type Constants = List<Constant>;
 
@@ -28,4 +30,10 @@ pub struct Interface {
     pub face: Face,
     pub constants: Constants,
     pub types: NamedTypes,
+}
+
+impl LetGo for Interface {
+    fn let_go(self) {
+        drop(self);
+    }
 }

@@ -8,6 +8,7 @@ use crate::relation::Relation;
 use crate::typed_parts::{Base, Bases, Operator, Range};
 
 /// A word as a plain number, plus 32,768.
+#[inline(always)]
 #[tactic(auto, unfolding(crate::specs::Operators::shifted))]
 fn shifted(base: Base, word: u16) -> u32
     ensures value { result ≡ spec.shifted base word }
@@ -20,13 +21,15 @@ fn shifted(base: Base, word: u16) -> u32
 }
 
 /// The word of the number with the other sign.
+#[inline(always)]
 #[tactic(auto, unfolding(crate::specs::Operators::opposite, crate::specs::Operators::wrap))]
-pub(crate) fn opposite(word: u16) -> u16
+pub fn opposite(word: u16) -> u16
     ensures { result ≡ spec.opposite word }
 {
     ((65536 - u32::from(word)) % 65536) as u16
 }
 
+#[inline(always)]
 #[tactic(auto, unfolding(crate::specs::Operators::is_negative))]
 fn is_negative(word: u16) -> bool
     ensures { result ≡ spec.is_negative word }
@@ -34,6 +37,7 @@ fn is_negative(word: u16) -> bool
     32768 <= word
 }
 
+#[inline(always)]
 #[tactic(auto, unfolding(crate::specs::Operators::magnitude, crate::specs::Operators::magnitude_if, crate::specs::Operators::is_negative))]
 fn magnitude(word: u16) -> u16
     ensures value { result ≡ spec.magnitude word }
@@ -46,6 +50,7 @@ fn magnitude(word: u16) -> u16
     }
 }
 
+#[inline(always)]
 #[tactic(auto, unfolding(crate::specs::Operators::with_sign))]
 fn with_sign(has_minus: bool, word: u16) -> u16
     ensures { result ≡ spec.with_sign has_minus word }
@@ -53,6 +58,7 @@ fn with_sign(has_minus: bool, word: u16) -> u16
     if has_minus { opposite(word) } else { word }
 }
 
+#[inline(always)]
 #[tactic(auto, unfolding(crate::specs::Operators::differ))]
 fn differ(left: bool, right: bool) -> bool
     ensures { result ≡ spec.differ left right }
@@ -60,8 +66,10 @@ fn differ(left: bool, right: bool) -> bool
     if left { !right } else { right }
 }
 
+/// The quotient of two words, cut towards zero.
+#[inline(always)]
 #[tactic(auto, unfolding(crate::specs::Operators::quotient))]
-fn quotient(base: Base, left: u16, right: u16) -> u16
+pub fn quotient(base: Base, left: u16, right: u16) -> u16
     requires { 0 < right }
     ensures { result ≡ spec.quotient base left right }
 {
@@ -74,8 +82,10 @@ fn quotient(base: Base, left: u16, right: u16) -> u16
     }
 }
 
+/// The remainder of two words, with the sign of the left one.
+#[inline(always)]
 #[tactic(auto, unfolding(crate::specs::Operators::remainder))]
-fn remainder(base: Base, left: u16, right: u16) -> u16
+pub fn remainder(base: Base, left: u16, right: u16) -> u16
     requires { 0 < right }
     ensures { result ≡ spec.remainder base left right }
 {
@@ -115,8 +125,10 @@ pub(crate) fn tried(operator: Operator, left: u16, right: u16) -> Option<u16>
     }
 }
 
+/// Whether a word is in a range.
+#[inline(always)]
 #[tactic(auto, unfolding(crate::specs::Operators::fits))]
-fn fits(range: Range, word: u16) -> bool
+pub fn fits(range: Range, word: u16) -> bool
     ensures { result ≡ spec.fits range word }
 {
     match range {
@@ -135,8 +147,10 @@ pub(crate) fn checked(range: Range, word: u16) -> Option<u16>
     if fits(range, word) { Some(word) } else { None }
 }
 
+/// Whether a relation holds of two words.
+#[inline(always)]
 #[tactic(auto, unfolding(crate::specs::Operators::related))]
-pub(crate) fn related(relation: Relation, base: Base, left: u16, right: u16) -> bool
+pub fn related(relation: Relation, base: Base, left: u16, right: u16) -> bool
     ensures { result ≡ spec.related relation base left right }
 {
     match relation {
@@ -168,8 +182,10 @@ pub(crate) fn lies_in(bases: Bases, word: u16, bounds: Bounds) -> bool
     first <= number && number < last
 }
 
+/// The word of a truth.
+#[inline(always)]
 #[tactic(auto, unfolding(crate::specs::Operators::truth))]
-pub(crate) fn truth(holds: bool) -> u16
+pub fn truth(holds: bool) -> u16
     ensures { result ≡ spec.truth holds }
 {
     u16::from(holds)

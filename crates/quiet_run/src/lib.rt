@@ -5,7 +5,6 @@ mod indexed;
 mod jumps;
 mod laws;
 mod operate;
-mod operators;
 mod perform;
 mod region;
 mod registers;

@@ -9,12 +9,11 @@ ghost use Rattle.machine_steps.specs.LookUps.{text_of};
 ghost use Rattle.quiet_run.specs.Flat.{FlowsInRegion, behind, operand, over, over_tried, in_bounds, leaves, operates};
 ghost use Rattle.quiet_run.specs.Fits.{Holds, FitsOperator};
 
-use crate::operators::{is_less, lies_within, opposite, quotient, remainder, truth};
 use crate::region::{leave, operand};
 use crate::registers::{Registers, Why};
 use crate::texts::text;
 use code_forms::Instruction;
-use mesa_types::Base;
+use mesa_types::{Base, Range, Relation, fits, opposite, quotient, related, remainder, truth};
 use object_files::Image;
 
 /// The topmost operand, and the one under it.
@@ -98,7 +97,7 @@ fn check(base: Base, least: u16, most: u16, region: &[u16], r: &mut Registers) -
         (λ s. in_bounds (fits (From base least most) (operand 1 s)) (leaves s.region s.registers.sp s))
         result region.now region.now r.old r.new }
 {
-    if !lies_within(base, least, most, first(region, r)) {
+    if !fits(Range::From(base, least, most), first(region, r)) {
         return Some(Why::BoundsFault);
     }
     r.entry += 1;
@@ -143,7 +142,7 @@ fn less(base: Base, region: &mut [u16], r: &mut Registers)
         (spec.truth (related Less base (slice_index region.old (r.old.sp - 2)) (slice_index region.old (r.old.sp - 1)))) }
     ensures registers { r.new ≡ behind (r.old.sp - 2 + 1) r.old }
 {
-    let holds = is_less(base, second(region, r), first(region, r));
+    let holds = related(Relation::Less, base, second(region, r), first(region, r));
     leave(truth(holds), 2, region, r);
 }
 
