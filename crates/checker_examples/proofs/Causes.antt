@@ -1,11 +1,11 @@
 -- Each cause at each kind of place, where no other table has it.
 use Rattle.std.specs.Prelude.{◌≡◌, ℕ, List, [], ◌∷◌, ◌++◌, codes}
 use Rattle.std.proofs.Common.{refl}
-use Rattle.module_checker.specs.PlainTypes.{PlainInterface}
-use Rattle.module_checker.specs.declared.fault.Cause.{Cause}
-use Rattle.module_checker.specs.declared.fault.Cause.TheVariants.{UnknownName, TwiceDeclared, TypeMismatch, NotConstant, BadLabel, WrongCount, ExportDiffers}
-use Rattle.module_checker.proofs.Texts.{Row, fine, bad, good, wrong, mistakes, interface}
-use Rattle.module_checker.proofs.Everything.{everything}
+use Rattle.checking_rules.specs.PlainTypes.{PlainInterface}
+use Rattle.checking_rules.specs.declared.fault.Cause.{Cause}
+use Rattle.checking_rules.specs.declared.fault.Cause.TheVariants.{UnknownName, TwiceDeclared, TypeMismatch, NotConstant, BadLabel, WrongCount, ExportDiffers}
+use Rattle.checking_rules.proofs.Texts.{Row, fine, bad, good, wrong, mistakes, interface}
+use Rattle.checking_rules.proofs.Everything.{everything}
 
 abbrev given : List PlainInterface
 given = interface 10 (codes "I: DEFINITIONS = BEGIN Color: TYPE = {red, green}; Put: PROCEDURE [c: Color]; Full: ERROR; "

@@ -1,9 +1,9 @@
 -- Expressions: operators, relations, records, arrays, calls, raises.
 use Rattle.std.specs.Prelude.{◌≡◌, List, [], ◌∷◌, ◌++◌, codes}
 use Rattle.std.proofs.Common.{refl}
-use Rattle.module_checker.specs.declared.fault.Cause.TheVariants.{UnknownName, TwiceDeclared, TypeMismatch, WrongCount}
-use Rattle.module_checker.proofs.Texts.{Row, good, wrong, mistakes}
-use Rattle.module_checker.proofs.Everything.{everything}
+use Rattle.checking_rules.specs.declared.fault.Cause.TheVariants.{UnknownName, TwiceDeclared, TypeMismatch, WrongCount}
+use Rattle.checking_rules.proofs.Texts.{Row, good, wrong, mistakes}
+use Rattle.checking_rules.proofs.Everything.{everything}
 
 abbrev operators : List Row
 operators =

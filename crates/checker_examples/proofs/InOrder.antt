@@ -10,11 +10,11 @@ use Rattle.mesa_types.specs.declared.types.TypeTree.TheOpen.{TypeTree-F}
 use Rattle.mesa_types.specs.declared.types.TypeTree.TheFolds.{fold-roll-TypeTree, fold-roll-FieldType}
 use Rattle.mesa_types.specs.declared.types.TypeTree.TheVariants as tree
 use Rattle.interface_records.specs.Faces.{iodefs}
-use Rattle.module_checker.specs.CheckedModule.{checked}
-use Rattle.module_checker.specs.PlainTypes.{PlainType, PlainField, plain, plain_field, plain_step, plain_field_step, plain_interface}
-use Rattle.module_checker.specs.Interfaces.{InterfacesInOrder, ItemsInOrder, FieldsInOrder, TypeInOrder, ConstantsInOrder, NamesInOrder}
-use Rattle.module_checker.specs.Written.{ModuleWritten}
-use Rattle.module_checker.proofs.SoundLaw.{checked_modules_are_sound}
+use Rattle.checking_rules.specs.CheckedModule.{checked}
+use Rattle.checking_rules.specs.PlainTypes.{PlainType, PlainField, plain, plain_field, plain_step, plain_field_step, plain_interface}
+use Rattle.checking_rules.specs.Interfaces.{InterfacesInOrder, ItemsInOrder, FieldsInOrder, TypeInOrder, ConstantsInOrder, NamesInOrder}
+use Rattle.checking_rules.specs.Written.{ModuleWritten}
+use Rattle.checking_rules.proofs.SoundLaw.{checked_modules_are_sound}
 
 no_error : item.Procedure ≡ item.Error → ⊥
 no_error e = cc

@@ -1,10 +1,10 @@
 -- Two faults in one text: the first in the order of checking is the one that is told. And the words of operands.
 use Rattle.std.specs.Prelude.{◌≡◌, ℕ, List, [], ◌∷◌, ◌++◌, codes}
 use Rattle.std.proofs.Common.{refl}
-use Rattle.module_checker.specs.declared.fault.Cause.TheVariants.{UnknownName, TwiceDeclared, TypeMismatch, NotConstant, BadLabel, WrongCount, NotResumable, UnwindJumps, FrameTooLarge}
-use Rattle.module_checker.specs.PlainTypes.{PlainInterface}
-use Rattle.module_checker.proofs.Texts.{Row, good, wrong, fine, bad, mistakes, interface}
-use Rattle.module_checker.proofs.Everything.{everything}
+use Rattle.checking_rules.specs.declared.fault.Cause.TheVariants.{UnknownName, TwiceDeclared, TypeMismatch, NotConstant, BadLabel, WrongCount, NotResumable, UnwindJumps, FrameTooLarge}
+use Rattle.checking_rules.specs.PlainTypes.{PlainInterface}
+use Rattle.checking_rules.proofs.Texts.{Row, good, wrong, fine, bad, mistakes, interface}
+use Rattle.checking_rules.proofs.Everything.{everything}
 
 abbrev rows : List Row
 rows =

@@ -7,16 +7,16 @@ use Rattle.mesa_types.specs.declared.faces.Export.{Export}
 use Rattle.mesa_types.specs.declared.faces.ItemKind.TheVariants as item
 use Rattle.mesa_types.specs.declared.types.Origin.{Origin}
 use Rattle.mesa_types.specs.Syntax as s
-use Rattle.module_checker.specs.Typed as t
-use Rattle.module_checker.specs.Steps.{Checked}
-use Rattle.module_checker.specs.CheckedModule.{program_by}
-use Rattle.module_checker.specs.PlainTypes as v
-use Rattle.module_checker.specs.PlainTypes.{PlainInterface, item_of}
-use Rattle.module_checker.specs.declared.fault.Cause.TheVariants.{UnknownName, TwiceDeclared, TypeMismatch, ExportDiffers}
-use Rattle.module_checker.proofs.Lexing.{Token}
-use Rattle.module_checker.proofs.Reading.{read}
-use Rattle.module_checker.proofs.Texts.{Row, fine, bad, good, wrong, in_program, mistakes, mistakes_under, interface}
-use Rattle.module_checker.proofs.Everything.{everything}
+use Rattle.checking_rules.specs.Typed as t
+use Rattle.checking_rules.specs.Steps.{Checked}
+use Rattle.checking_rules.specs.CheckedModule.{program_by}
+use Rattle.checking_rules.specs.PlainTypes as v
+use Rattle.checking_rules.specs.PlainTypes.{PlainInterface, item_of}
+use Rattle.checking_rules.specs.declared.fault.Cause.TheVariants.{UnknownName, TwiceDeclared, TypeMismatch, ExportDiffers}
+use Rattle.checking_rules.proofs.Lexing.{Token}
+use Rattle.checking_rules.proofs.Reading.{read}
+use Rattle.checking_rules.proofs.Texts.{Row, fine, bad, good, wrong, in_program, mistakes, mistakes_under, interface}
+use Rattle.checking_rules.proofs.Everything.{everything}
 
 abbrev names : List Row
 names =

@@ -1,9 +1,9 @@
 -- Statements: tests, loops, labels, jumps, RETURN, SELECT.
 use Rattle.std.specs.Prelude.{◌≡◌, List, [], ◌∷◌, ◌++◌, codes}
 use Rattle.std.proofs.Common.{refl}
-use Rattle.module_checker.specs.declared.fault.Cause.TheVariants.{UnknownName, TwiceDeclared, TypeMismatch, BadLabel, WrongCount, NotResumable, UnwindJumps}
-use Rattle.module_checker.proofs.Texts.{Row, good, wrong, mistakes}
-use Rattle.module_checker.proofs.Everything.{everything}
+use Rattle.checking_rules.specs.declared.fault.Cause.TheVariants.{UnknownName, TwiceDeclared, TypeMismatch, BadLabel, WrongCount, NotResumable, UnwindJumps}
+use Rattle.checking_rules.proofs.Texts.{Row, good, wrong, mistakes}
+use Rattle.checking_rules.proofs.Everything.{everything}
 
 abbrev loops : List Row
 loops =
