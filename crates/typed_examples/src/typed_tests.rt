@@ -1,4 +1,5 @@
-use mesa_base::{Boxed, Bytes, List, Name, Shared};
+use held_trees::{LetGo, both, boxed, boxed_pair, pushed, shared};
+use mesa_base::{Boxed, Bytes, List, Name, Texts};
 use mesa_types::{
     Base, Exprs, Home, Operation, Operator, Range, Relation, TypedBody, TypedExpr, TypedModule,
     TypedStmt, constant,
@@ -8,13 +9,19 @@ use std::process::Abort;
 use std::test::Fail;
 
 fn run(alloc: Global, left: u16, operator: Operator, right: u16) -> Result<TypedExpr, Fail> {
-    let mut rest = List::new(alloc);
-    rest.push(Operation {
+    let operation = Operation {
         check: Range::Every,
         operator,
         right: TypedExpr::Number(right),
-    })?;
-    Ok(TypedExpr::Operate(Boxed::new(alloc, TypedExpr::Number(left))?, rest))
+    };
+    let rest = pushed(List::new(alloc), operation)?;
+    let (rest, left) = both(rest, boxed(alloc, TypedExpr::Number(left)))?;
+    Ok(TypedExpr::Operate(left, rest))
+}
+
+fn check_constant(rt: &impl Abort, whole: TypedExpr, value: Option<u16>) {
+    assert_eq!(rt; constant(&whole), value);
+    whole.let_go();
 }
 
 fn check_run(
@@ -25,8 +32,7 @@ fn check_run(
     right: u16,
     value: Option<u16>,
 ) -> Result<(), Fail> {
-    let whole = run(alloc, left, operator, right)?;
-    assert_eq!(rt; constant(&whole), value);
+    check_constant(rt, run(alloc, left, operator, right)?, value);
     Ok(())
 }
 
@@ -61,7 +67,12 @@ fn constants_by_operators(rt: HostRuntime) -> Result<(), Fail> {
         Some(65535),
     )?;
     check_run(&rt, alloc, 7, Operator::Modulo(Base::Unsigned), 0, None)?;
-    check_run(&rt, alloc, 7, Operator::Divide(Base::Signed), 0, None)?;
+    check_run(&rt, alloc, 7, Operator::Divide(Base::Signed), 0, None)
+}
+
+#[test]
+fn constants_of_characters(rt: HostRuntime) -> Result<(), Fail> {
+    let alloc = rt.alloc();
     check_run(
         &rt,
         alloc,
@@ -88,8 +99,8 @@ fn constants_by_operators(rt: HostRuntime) -> Result<(), Fail> {
     )
 }
 
-fn boxed(alloc: Global, word: u16) -> Result<Boxed<TypedExpr>, Fail> {
-    Ok(Boxed::new(alloc, TypedExpr::Number(word))?)
+fn boxed_number(alloc: Global, word: u16) -> Result<Boxed<TypedExpr>, Fail> {
+    Ok(boxed(alloc, TypedExpr::Number(word))?)
 }
 
 fn related(
@@ -99,21 +110,16 @@ fn related(
     left: u16,
     right: u16,
 ) -> Result<TypedExpr, Fail> {
-    let left = boxed(alloc, left)?;
-    let right = boxed(alloc, right)?;
+    let (left, right) = boxed_pair(alloc, TypedExpr::Number(left), TypedExpr::Number(right))?;
     Ok(TypedExpr::Relate(base, relation, left, right))
 }
 
 fn numbers(alloc: Global, words: &[u16]) -> Result<Exprs, Fail> {
     let mut all = List::new(alloc);
     for word in words {
-        all.push(TypedExpr::Number(*word))?;
+        all = pushed(all, TypedExpr::Number(*word))?;
     }
     Ok(all)
-}
-
-fn check_constant(rt: &impl Abort, whole: TypedExpr, value: Option<u16>) {
-    assert_eq!(rt; constant(&whole), value);
 }
 
 #[test]
@@ -123,8 +129,8 @@ fn constants_by_relations(rt: HostRuntime) -> Result<(), Fail> {
     check_constant(&rt, signed, Some(1));
     let unsigned = related(alloc, Base::Unsigned, Relation::Less, 65535, 1)?;
     check_constant(&rt, unsigned, Some(0));
-    let both = numbers(alloc, &[1, 0])?;
-    check_constant(&rt, TypedExpr::AllOf(both), Some(0));
+    let all = numbers(alloc, &[1, 0])?;
+    check_constant(&rt, TypedExpr::AllOf(all), Some(0));
     let either = numbers(alloc, &[1, 0])?;
     check_constant(&rt, TypedExpr::SomeOf(either), Some(1));
     Ok(())
@@ -133,22 +139,30 @@ fn constants_by_relations(rt: HostRuntime) -> Result<(), Fail> {
 #[test]
 fn what_is_no_constant(rt: HostRuntime) -> Result<(), Fail> {
     let alloc = rt.alloc();
-    assert_eq!(rt; constant(&TypedExpr::Literal(0)), None);
+    check_constant(&rt, TypedExpr::Literal(0), None);
     let variable = TypedExpr::Variable(Home::Global(0), List::new(alloc), 1);
-    assert_eq!(rt; constant(&variable), None);
-    let outside = TypedExpr::Checked(Range::From(Base::Signed, 0, 9), boxed(alloc, 10)?);
-    assert_eq!(rt; constant(&outside), None);
-    let inside = TypedExpr::Checked(Range::From(Base::Signed, 0, 9), boxed(alloc, 9)?);
-    assert_eq!(rt; constant(&inside), Some(9));
+    check_constant(&rt, variable, None);
+    let range = Range::From(Base::Signed, 0, 9);
+    let outside = TypedExpr::Checked(range, boxed_number(alloc, 10)?);
+    check_constant(&rt, outside, None);
+    let inside = TypedExpr::Checked(range, boxed_number(alloc, 9)?);
+    check_constant(&rt, inside, Some(9));
     Ok(())
 }
 
-fn a_module(alloc: Global) -> Result<TypedModule, Fail> {
-    let mut strings = List::new(alloc);
+fn texts(alloc: Global) -> Result<Texts, Fail> {
+    let mut texts = List::new(alloc);
     let text: Bytes = List::from_slice(alloc, b"ab")?;
-    strings.push(text)?;
+    texts.push(text)?;
+    Ok(texts)
+}
+
+fn a_module(alloc: Global) -> Result<TypedModule, Fail> {
+    let name = Name::new(alloc, b"M")?.ok_or("a name")?;
+    let strings = texts(alloc)?;
+    let does = shared(alloc, TypedStmt::Null)?;
     Ok(TypedModule {
-        name: Name::new(alloc, b"M")?.ok_or("a name")?,
+        name,
         imports: List::new(alloc),
         exports: List::new(alloc),
         globals: List::new(alloc),
@@ -157,17 +171,19 @@ fn a_module(alloc: Global) -> Result<TypedModule, Fail> {
         procedures: List::new(alloc),
         body: TypedBody {
             variables: List::new(alloc),
-            does: Shared::new(alloc, TypedStmt::Null)?,
+            does,
         },
     })
 }
 
 #[test]
 fn copies_of_modules(rt: HostRuntime) -> Result<(), Fail> {
-    let alloc = rt.alloc();
-    let copy = a_module(alloc)?.copy(alloc)?;
+    let module = a_module(rt.alloc())?;
+    let copy = module.copy(rt.alloc());
+    let (module, copy) = both(module, copy)?;
     assert_eq!(rt; copy.name.bytes(), b"M".as_slice());
     assert_eq!(rt; copy.strings.len(), 1);
     assert!(rt; matches!(copy.body.does.get(), TypedStmt::Null));
+    (module, copy).let_go();
     Ok(())
 }
