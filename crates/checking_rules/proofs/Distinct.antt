@@ -28,7 +28,8 @@ use Rattle.checking_rules.specs.Programs.{before_others, Heading, heading, named
 use Rattle.checking_rules.specs.Definitions as d
 use Rattle.checking_rules.specs.CheckedModule.{checked_definitions, interface_by, definitions, known_of, start, defined_as, lists}
 use Rattle.checking_rules.specs.declared.fault.Cause.TheVariants.{TwiceDeclared, FrameTooLarge}
-use Rattle.checking_rules.specs.Laws.{NoneTwice, names_of_interface, NamesStandOnce}
+use Rattle.checking_rules.specs.Laws.{names_of_interface, NamesStandOnce}
+use Rattle.checking_rules.specs.Lists.{NoneTwice}
 use Rattle.checking_rules.specs.Places as places
 use Rattle.checking_rules.proofs.Coming.{bit}
 use Rattle.checking_rules.proofs.Keeping.{Kept, Anything, From, Later as LaterState}

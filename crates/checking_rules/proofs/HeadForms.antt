@@ -23,26 +23,14 @@ use Rattle.checking_rules.specs.Meanings as meaning
 use Rattle.checking_rules.specs.Definitions as d
 use Rattle.checking_rules.specs.CheckedModule.{checked_definitions, interface_by, definitions, known_of, start, defined_as, lists}
 use Rattle.checking_rules.specs.declared.fault.Cause.TheVariants.{TwiceDeclared}
-use Rattle.checking_rules.specs.Laws.{AllNamed, NoneNamed, names_of_fields, with_name, GivesNothing, HeadIsInForm, HeadsAreInForm}
+use Rattle.checking_rules.specs.Laws.{AllNamed, NoneNamed, names_of_fields, GivesNothing, HeadIsInForm, HeadsAreInForm}
+use Rattle.checking_rules.specs.Spelled.{EachHasName, NoneHasName, names_among, with_name}
 use Rattle.checking_rules.proofs.Coming.{bit, is_coming, Grown, type_exp_grows, unnamed_fields_grow}
 use Rattle.checking_rules.proofs.Distinct.{times, times_append, none_twice, same_name, turned_false, bit_small}
 use Rattle.checking_rules.proofs.Outcomes.{Gives, then_ok, any_ok, both_ok, Any, any, bind, give, within, told_ok}
 
--- of plain fields
-AllThere : List PlainField → Type 0
-AllThere [] = Unit {0}
-AllThere (f ∷ fs) = (is_some f.name ≡ true) × AllThere fs
-
-NoneThere : List PlainField → Type 0
-NoneThere [] = Unit {0}
-NoneThere (f ∷ fs) = (is_some f.name ≡ false) × NoneThere fs
-
-abbrev field_names : List PlainField → List (List ℕ)
-field_names [] = []
-field_names (f ∷ fs) = with_name f.name (field_names fs)
-
-abbrev AllOrNone : List PlainField → Type 0
-AllOrNone fs = AllThere fs ⊎ NoneThere fs
+abbrev pub AllOrNone : List PlainField → Type 0
+AllOrNone fs = EachHasName fs ⊎ NoneHasName fs
 
 -- announced names are coming from then on, each once
 coming_more : (x n : List ℕ) (σ : State) → is_declared x σ ≡ false → bit (bytes_eq x n) + is_coming σ n ≤ is_coming (coming x Later σ) n
@@ -78,37 +66,37 @@ announced (x ∷ xs) σ = tests (not (is_declared x.name σ)) refl (announced xs
     tests false e h = tt
 
 -- fields of one type under several names
-each_there : (k : PlainType) (xs : List Identifier) (fs : List PlainField) → AllThere fs → AllThere (each_of k xs ++ fs)
-unfolding AllThere
+each_there : (k : PlainType) (xs : List Identifier) (fs : List PlainField) → EachHasName fs → EachHasName (each_of k xs ++ fs)
+unfolding EachHasName
 each_there k [] fs h = h
 each_there k (x ∷ xs) fs h = (refl, each_there k xs fs h)
 
-each_names : (k : PlainType) (xs : List Identifier) (fs : List PlainField) → field_names (each_of k xs ++ fs) ≡ names_of xs ++ field_names fs
+each_names : (k : PlainType) (xs : List Identifier) (fs : List PlainField) → names_among (each_of k xs ++ fs) ≡ names_of xs ++ names_among fs
 each_names k [] fs = refl
 each_names k (x ∷ xs) fs = ap (λ ns. x.name ∷ ns) (each_names k xs fs)
 
 -- what parameters are, and what they declare
 record Form (σ : State) (r : List PlainField × State) : Type 0 where
   all : AllOrNone r.0
-  new : Declares σ (field_names r.0) r.1
+  new : Declares σ (names_among r.0) r.1
 
 NamedForm : State → List PlainField × State → Type 0
-NamedForm σ r = AllThere r.0 × Declares σ (field_names r.0) r.1
+NamedForm σ r = EachHasName r.0 × Declares σ (names_among r.0) r.1
 
 named_form : (a : Around) (fs : s.NamedFields) (σ : State) → IfOk (named_parameters a fs σ) (NamedForm σ)
-unfolding named_parameters NamedForm AllThere Declares
+unfolding named_parameters NamedForm EachHasName Declares
 named_form a s.NoFields σ = (tt, λ n. omega arith)
 named_form a (s.AndFields xs e rest) σ =
     then_ok (λ (r : Unit {0} × State). Declares σ (names_of xs) r.1) (NamedForm σ) (announce xs σ) _ (announced xs σ) (λ u p.
     then_ok (λ (r : PlainType × State). Grown u.1 r.1) (NamedForm σ) (type_exp a e u.1) _ ((type_exp_grows a e).in_state u.1) (λ k q.
     then_ok (NamedForm k.1) (NamedForm σ) (named_parameters a rest k.1) (λ r. Ok (each_of k.0 xs ++ r.0, r.1)) (named_form a rest k.1) (λ r h.
-    (each_there k.0 xs r.0 h.0, λ n. omega (arith, p n, q n, h.1 n, ap (times n) (each_names k.0 xs r.0), times_append n (names_of xs) (field_names r.0))))))
+    (each_there k.0 xs r.0 h.0, λ n. omega (arith, p n, q n, h.1 n, ap (times n) (each_names k.0 xs r.0), times_append n (names_of xs) (names_among r.0))))))
 
 UnnamedForm : List PlainField → Type 0
-UnnamedForm fs = NoneThere fs × (field_names fs ≡ [])
+UnnamedForm fs = NoneHasName fs × (names_among fs ≡ [])
 
 unnamed_form : (a : Around) (ts : s.TypeExps) (σ : State) → IfOk (unnamed_fields a ts σ) (λ (r : List PlainField × State). UnnamedForm r.0)
-unfolding unnamed_fields UnnamedForm NoneThere
+unfolding unnamed_fields UnnamedForm NoneHasName
 unnamed_form a s.NoTypes σ = (tt, refl)
 unnamed_form a (s.AndType e es) σ = then_ok (λ (r : PlainType × State). Unit {0}) (λ (r : List PlainField × State). UnnamedForm r.0) (type_exp a e σ) _
     (any_ok (type_exp a e σ)) (λ k u.
@@ -116,7 +104,7 @@ unnamed_form a (s.AndType e es) σ = then_ok (λ (r : PlainType × State). Unit 
     (unnamed_form a es k.1) (λ r h. ((refl, h.0), h.1)))
 
 parameters_form : (a : Around) (fs : Option s.FieldList) (σ : State) → IfOk (parameters a fs σ) (Form σ)
-unfolding NamedForm UnnamedForm Declares AllThere
+unfolding NamedForm UnnamedForm Declares EachHasName
 parameters_form a None σ = record { all = inl tt; new = λ n. omega arith }
 parameters_form a (Some (s.WithNames fs)) σ =
     both_ok (NamedForm σ) (λ _. Unit {0}) (Form σ) (named_parameters a fs σ) (named_form a fs σ) (any_ok (named_parameters a fs σ))
@@ -138,7 +126,7 @@ nothing_if a (Some (s.Unnamed es)) σ = any_ok (unnamed_fields a es σ)
 record HeadingForm (gives : Option s.FieldList) (h : Heading) : Type 0 where
   takes_all : AllOrNone h.takes
   gives_all : AllOrNone h.gives
-  distinct : (n : List ℕ) → times n (field_names h.takes) + times n (field_names h.gives) ≤ 1
+  distinct : (n : List ℕ) → times n (names_among h.takes) + times n (names_among h.gives) ≤ 1
   none : NothingIf gives h.gives
 
 heading_of : (gives : Option s.FieldList) (τ : State) (f g : List PlainField × State) → Form τ f → Form f.1 g → NothingIf gives g.0
@@ -167,18 +155,18 @@ heading_form a takes gives = record {
 }
 
 -- items with such heads
-abbrev NothingFor : ItemKind → List PlainField → Type 0
+abbrev pub NothingFor : ItemKind → List PlainField → Type 0
 NothingFor item.Error gs = gs ≡ []
 NothingFor item.Procedure gs = Unit {0}
 NothingFor item.Signal gs = Unit {0}
 
-record ItemForm (i : PlainItem) : Type 0 where
-  takes_all : AllOrNone i.takes
-  gives_all : AllOrNone i.gives
-  distinct : (n : List ℕ) → times n (field_names i.takes) + times n (field_names i.gives) ≤ 1
-  none : NothingFor i.kind i.gives
+pub record ItemForm (i : PlainItem) : Type 0 where
+  pub takes_all : AllOrNone i.takes
+  pub gives_all : AllOrNone i.gives
+  pub distinct : (n : List ℕ) → times n (names_among i.takes) + times n (names_among i.gives) ≤ 1
+  pub none : NothingFor i.kind i.gives
 
-ItemsForm : List PlainItem → Type 0
+unfoldable pub ItemsForm : List PlainItem → Type 0
 ItemsForm [] = Unit {0}
 ItemsForm (i ∷ is) = ItemForm i × ItemsForm is
 
@@ -232,13 +220,13 @@ all_form a (x ∷ ds) =
     bind (λ (y : d.Defined). ItemsForm y.items) (d.all_defined a ds) (all_form a ds) (λ z q. give (items_append y.items z.items p q)))
 
 -- of the code's items
-all_named : (fs : List PlainField) → AllThere fs → AllNamed (map field_of fs)
-unfolding AllThere AllNamed
+all_named : (fs : List PlainField) → EachHasName fs → AllNamed (map field_of fs)
+unfolding EachHasName AllNamed
 all_named [] h = tt
 all_named (f ∷ fs) h = (h.0, all_named fs h.1)
 
-none_named : (fs : List PlainField) → NoneThere fs → NoneNamed (map field_of fs)
-unfolding NoneThere NoneNamed
+none_named : (fs : List PlainField) → NoneHasName fs → NoneNamed (map field_of fs)
+unfolding NoneHasName NoneNamed
 none_named [] h = tt
 none_named (f ∷ fs) h = (h.0, none_named fs h.1)
 
@@ -246,7 +234,7 @@ all_or_none : (fs : List PlainField) → AllOrNone fs → AllNamed (map field_of
 all_or_none fs (inl h) = inl (all_named fs h)
 all_or_none fs (inr h) = inr (none_named fs h)
 
-names_back : (fs : List PlainField) → names_of_fields (map field_of fs) ≡ field_names fs
+names_back : (fs : List PlainField) → names_of_fields (map field_of fs) ≡ names_among fs
 unfolding names_of_fields
 names_back [] = refl
 names_back (f ∷ fs) = ap (with_name f.name) (names_back fs)
@@ -286,7 +274,7 @@ module _ (m : s.Module) (stamp : ℕ) (is : List PlainInterface) where
       (d.all_defined (outermost (body_of known [] [])) ds σ) (λ r. Ok (defined_as m stamp r.0))
       ((all_form (outermost (body_of known [] [])) ds).in_state σ) (λ r p. p))
 
-  interface_form : (k : s.ModuleKind) → IfOk (interface_by m stamp is k) (λ (i : PlainInterface). ItemsForm i.items)
+  pub interface_form : (k : s.ModuleKind) → IfOk (interface_by m stamp is k) (λ (i : PlainInterface). ItemsForm i.items)
   interface_form (s.Program p imports exports opens inner) = tt
   interface_form (s.Interface p opens ds) = definitions_form opens ds
 

@@ -10,7 +10,9 @@ use Rattle.checking_rules.specs.Steps.{State, Checked, Fault, and_then}
 use Rattle.checking_rules.specs.Programs.{Offer, Whole, marked_from, imported, first_row, other_rows, pairs, pair_for, offer_named, fits_item, exported, offers_of}
 use Rattle.checking_rules.specs.Directory.{those_of}
 use Rattle.checking_rules.specs.CheckedModule.{checked, checked_definitions, program_by, module_of, lists, whole_of}
-use Rattle.checking_rules.specs.Laws.{ComesToOne, EachTextHasOneResult, Ascend, ImportsInOrder, ExportsInOrder, item_numbers, ShapesAreInOrder}
+use Rattle.checking_rules.specs.Laws.{ComesToOne, EachTextHasOneResult, ImportsInOrder, ExportsInOrder, ShapesAreInOrder}
+use Rattle.checking_rules.specs.Lists.{Ascend}
+use Rattle.checking_rules.specs.Spelled.{item_numbers}
 
 -- One result.
 value_or : {A : Type 0} → A → Checked A → A

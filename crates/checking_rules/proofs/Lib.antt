@@ -2,10 +2,16 @@ mod Coming
 mod DeclaredNames
 mod Distinct
 pub mod Everything
+mod FineConstants
+mod FineDefinitions
 mod FineExpressions
+mod FineFields
 mod FineInterfaces
+mod FineTypeRules
 mod FineTypes
+mod FineValues
 mod GivenFaces
+mod HeadCounts
 mod HeadForms
 pub mod Keeping
 pub mod Kept
@@ -15,7 +21,10 @@ pub mod KeptStatements
 pub mod KeptValues
 mod LawProofs
 pub mod Lexing
+mod LimitsKept
 mod Noticed
+mod OrderKept
+mod OriginCounts
 mod RoundTrip
 mod Outcomes
 pub mod Reading
@@ -54,4 +63,8 @@ pub mod SoundTypes
 pub mod SoundValues
 pub mod SoundWhole
 pub mod SoundnessStatements
+mod SpelledLaw
+mod SpelledShapes
+mod SpelledTypes
 pub mod Texts
+mod TypeLaws

@@ -22,12 +22,12 @@ pub wrapped : (n : ℕ) → wrap n < 65536
 unfolding wrap
 wrapped n = mod-lt n (omega arith)
 
-truth_word : (b : Bool) → truth b < 65536
+pub truth_word : (b : Bool) → truth b < 65536
 unfolding truth
 truth_word true = omega arith
 truth_word false = omega arith
 
-abbrev IsFineWord : Tried → Type 0
+abbrev pub IsFineWord : Tried → Type 0
 IsFineWord (Fine n) = n < 65536
 IsFineWord (Faulty f) = Unit {0}
 
@@ -81,7 +81,7 @@ unfolding character
 character_word n = fine_if_word (nat_le 32768 n && nat_lt n 33024) (n - 32768) (λ e. let small : n < 33024 = leb-true (suc n) 33024
     (both_right (nat_le 32768 n) (nat_lt n 33024) e) in omega (arith, small))
 
-tried_word : (o : Operator) (x y : ℕ) → x < 65536 → IsFineWord (tried o x y)
+pub tried_word : (o : Operator) (x y : ℕ) → x < 65536 → IsFineWord (tried o x y)
 unfolding tried
 tried_word t.Add x y h = wrapped (x + y)
 tried_word t.Subtract x y h = wrapped (x + (65536 - y))

@@ -16,7 +16,9 @@ use Rattle.checking_rules.specs.Parts.{same_types}
 use Rattle.checking_rules.specs.Steps.{Checked, and_then, only}
 use Rattle.checking_rules.specs.declared.fault.Cause.TheVariants.{ExportDiffers}
 use Rattle.checking_rules.specs.Programs.{Offer, offer_named, same_kind, is_for, pair_for, fits_item, pairs, exported, imported}
-use Rattle.checking_rules.specs.Laws.{Ascend, ImportsInOrder, ExportsInOrder, item_numbers}
+use Rattle.checking_rules.specs.Laws.{ImportsInOrder, ExportsInOrder}
+use Rattle.checking_rules.specs.Lists.{Ascend}
+use Rattle.checking_rules.specs.Spelled.{item_numbers}
 use Rattle.checking_rules.proofs.SoundTypes.{no_truth, none_is_no, both_left, both_right}
 use Rattle.checking_rules.proofs.SoundSame.{types_same}
 use Rattle.checking_rules.proofs.SoundSteps.{World}

@@ -23,7 +23,7 @@ some_part (v.AndPart x k ps) h = h
 mutual
   unfolding TypeInOrder TypeIn
 
-  type_in : (k : PlainType) → TypeInOrder k → TypeIn k
+  pub type_in : (k : PlainType) → TypeInOrder k → TypeIn k
   type_in v.Integer h = tt
   type_in v.Cardinal h = tt
   type_in v.Boolean h = tt

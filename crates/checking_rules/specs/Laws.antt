@@ -1,13 +1,14 @@
 -- The laws of checking.
-use Rattle.std.specs.Prelude.{◌≡◌, ℕ, suc, ◌*◌, ◌≤◌, ◌<◌, ◌⊎◌, true, false, is_some, Option, Some, None, List, [], ◌∷◌, ◌++◌, length, map, Ok, Err, IfOk, IfErr}
+use Rattle.std.specs.Prelude.{◌≡◌, ℕ, ◌*◌, ◌≤◌, ◌⊎◌, true, false, is_some, List, [], ◌∷◌, ◌++◌, length, map, Ok, Err, IfOk, IfErr}
 use Rattle.std.specs.List.{All, Contains}
+use Rattle.mesa_base.specs.declared.limits.TheConstants.{TEXT_BYTES}
 use Rattle.mesa_types.specs.Syntax as s
 use Rattle.mesa_types.specs.Nodes.{nodes}
 use Rattle.mesa_types.specs.SyntaxNodes.{module_nodes}
-use Rattle.mesa_types.specs.declared.faces.Pair.{Pair}
 use Rattle.mesa_types.specs.declared.faces.Import.{Import}
 use Rattle.mesa_types.specs.declared.faces.Export.{Export}
 use Rattle.mesa_types.specs.declared.faces.Face.{Face}
+use Rattle.mesa_types.specs.declared.faces.Shape.{Shape}
 use Rattle.mesa_types.specs.declared.faces.Item.{Item}
 use Rattle.mesa_types.specs.declared.faces.ItemKind.{ItemKind}
 use Rattle.mesa_types.specs.declared.faces.ItemKind.TheVariants.{Error}
@@ -17,9 +18,11 @@ use Rattle.interface_records.specs.declared.interface.Interface.{Interface}
 use Rattle.interface_records.specs.declared.interface.Constant.{Constant}
 use Rattle.interface_records.specs.declared.interface.NamedType.{NamedType}
 use Rattle.checking_rules.specs.Typed as t
-use Rattle.checking_rules.specs.Scopes.{has}
 use Rattle.mesa_types.specs.Sound.{Sound}
-use Rattle.checking_rules.specs.Interfaces.{InterfacesInOrder}
+use Rattle.checking_rules.specs.Interfaces.{InterfaceInOrder, InterfacesInOrder}
+use Rattle.checking_rules.specs.Lists.{Ascend, NoneTwice}
+use Rattle.checking_rules.specs.Spelled.{InSixBytes, InterfaceCanBeSpelled, InterfacesCanBeSpelled, ShapeCanBeSpelled, item_numbers, with_name}
+use Rattle.checking_rules.specs.TreeNames.{HasNames}
 use Rattle.checking_rules.specs.Written.{ModuleWritten}
 use Rattle.checking_rules.specs.Steps.{Checked, Fault}
 use Rattle.checking_rules.specs.CheckedModule.{checked, checked_definitions}
@@ -40,17 +43,9 @@ pub record EachTextHasOneResult : Type 0 where
   pub programs : (m : s.Module) (is : List Interface) → ComesToOne (checked m is)
   pub definitions : (m : s.Module) (stamp : ℕ) (is : List Interface) → ComesToOne (checked_definitions m stamp is)
 
--- numbers that ascend, none below the first and all below the last
-unfoldable pub Ascend : ℕ → ℕ → List ℕ → Type 0
-Ascend low high [] = Unit {0}
-Ascend low high (n ∷ ns) = (low ≤ n) × (n < high) × Ascend (suc n) high ns
-
 unfoldable pub ImportsInOrder : List Import → Type 0
 ImportsInOrder [] = Unit {0}
 ImportsInOrder (i ∷ is) = Ascend 0 (length i.face.items) i.used × ImportsInOrder is
-
-abbrev pub item_numbers : List Pair → List ℕ
-item_numbers = map (λ (p : Pair). p.item)
 
 unfoldable pub ExportsInOrder : List Export → Type 0
 ExportsInOrder [] = Unit {0}
@@ -70,11 +65,6 @@ pub record FaultsStandInTheText : Type 0 where
   pub programs : (m : s.Module) (is : List Interface) → IfErr (checked m is) (λ (f : Fault). Contains (places_in m) f.place)
   pub definitions : (m : s.Module) (stamp : ℕ) (is : List Interface)
       → IfErr (checked_definitions m stamp is) (λ (f : Fault). Contains (places_in m) f.place)
-
--- no name stands twice
-unfoldable pub NoneTwice : List (List ℕ) → Type 0
-NoneTwice [] = Unit {0}
-NoneTwice (x ∷ xs) = (has x xs ≡ false) × NoneTwice xs
 
 abbrev pub names_of_interface : Interface → List (List ℕ)
 names_of_interface i =
@@ -139,10 +129,6 @@ unfoldable pub NoneNamed : List FieldType → Type 0
 NoneNamed [] = Unit {0}
 NoneNamed (f ∷ fs) = (is_some f.name ≡ false) × NoneNamed fs
 
-abbrev pub with_name : Option (List ℕ) → List (List ℕ) → List (List ℕ)
-with_name None names = names
-with_name (Some x) names = x ∷ names
-
 unfoldable pub names_of_fields : List FieldType → List (List ℕ)
 names_of_fields [] = []
 names_of_fields (f ∷ fs) = with_name f.name (names_of_fields fs)
@@ -170,3 +156,26 @@ TypesKeepTheirLimits = (m : s.Module) (stamp : ℕ) (is : List Interface) → In
 -- what checking gives of a program is sound: of a tree that is written as a text, with interfaces that are in order
 abbrev pub CheckedModulesAreSound : Type 0
 CheckedModulesAreSound = (m : s.Module) (is : List Interface) → ModuleWritten m.kind → InterfacesInOrder (map plain_interface is) → IfOk (checked m is) Sound
+
+-- an interface that checking gives is in order: of a tree that is written as a text, with interfaces that are
+abbrev pub CheckedInterfacesAreInOrder : Type 0
+CheckedInterfacesAreInOrder = (m : s.Module) (stamp : ℕ) (is : List Interface) → ModuleWritten m.kind → InterfacesInOrder (map plain_interface is)
+    → IfOk (checked_definitions m stamp is) (λ (i : Interface). InterfaceInOrder (plain_interface i))
+
+-- at most two nodes for each byte that a text may have, as each tree of a text
+abbrev pub IsOfTextSize : s.Module → Type 0
+IsOfTextSize m = module_nodes m ≤ 2 * TEXT_BYTES
+
+abbrev pub shape_of : t.Module → Shape
+shape_of x = record { name = x.name; imports = x.imports; exports = x.exports }
+
+-- files can spell the name, imports and exports of a checked module, where they can spell the interfaces given to it
+abbrev pub ModulesCanBeSpelled : Type 0
+ModulesCanBeSpelled = (m : s.Module) (is : List Interface) → HasNames m → IsOfTextSize m → InterfacesCanBeSpelled (map plain_interface is)
+    → IfOk (checked m is) (λ (x : t.Module). ShapeCanBeSpelled (shape_of x))
+
+-- and each interface that checking gives, of a tree that is written as a text
+abbrev pub CheckedInterfacesCanBeSpelled : Type 0
+CheckedInterfacesCanBeSpelled = (m : s.Module) (stamp : ℕ) (is : List Interface) → InSixBytes stamp → HasNames m → ModuleWritten m.kind → IsOfTextSize m
+    → InterfacesCanBeSpelled (map plain_interface is)
+    → IfOk (checked_definitions m stamp is) (λ (i : Interface). InterfaceCanBeSpelled (plain_interface i))

@@ -7,6 +7,7 @@ pub mod Interfaces
 pub mod Laws
 pub mod Meanings
 pub mod Limits
+pub mod Lists
 pub mod Mentions
 pub mod Names
 pub mod Operators
@@ -18,8 +19,10 @@ pub mod Programs
 pub mod Ranges
 pub mod Reached
 pub mod Scopes
+pub mod Spelled
 pub mod Statements
 pub mod Steps
+pub mod TreeNames
 pub mod TypeRules
 pub mod Typed
 pub mod Values

@@ -1,6 +1,6 @@
 //! Laws of checking. No call of the program is here.
 
-ghost use Rattle.checking_rules.specs.Laws.{CheckedModulesAreSound, EachTextHasOneResult, FaultsStandInTheText, HeadsAreInForm, InterfacesAreOfTheirText, NamesStandOnce, ShapesAreGiven, ShapesAreInOrder, TypedTreesHaveFewNodes, TypesKeepTheirLimits};
+ghost use Rattle.checking_rules.specs.Laws.{CheckedInterfacesAreInOrder, CheckedInterfacesCanBeSpelled, CheckedModulesAreSound, EachTextHasOneResult, FaultsStandInTheText, HeadsAreInForm, InterfacesAreOfTheirText, ModulesCanBeSpelled, NamesStandOnce, ShapesAreGiven, ShapesAreInOrder, TypedTreesHaveFewNodes, TypesKeepTheirLimits};
 
 /// Each text has exactly one result: a typed module or an interface, or its first fault with its cause and place.
 #[tactic(auto, using(crate::proofs::LawProofs::one_result))]
@@ -53,7 +53,7 @@ pub fn heads_are_in_form()
 {}
 
 /// The types of a checked interface keep their limits, inside and out, where those of the interfaces given do.
-#[tactic(auto, using(crate::proofs::FineInterfaces::types_keep_limits))]
+#[tactic(auto, using(crate::proofs::LimitsKept::types_keep_limits))]
 pub fn types_keep_their_limits()
     ensures { TypesKeepTheirLimits }
 {}
@@ -62,4 +62,24 @@ pub fn types_keep_their_limits()
 #[tactic(auto, using(crate::proofs::SoundLaw::checked_modules_are_sound))]
 pub fn checked_modules_are_sound()
     ensures { CheckedModulesAreSound }
+{}
+
+/// An interface that checking gives is in order, where its tree is written as a text and the interfaces given are in order: no type
+/// in it is empty or past its limits, each constant is a word of an ordinal type, and an error gives nothing.
+#[tactic(auto, using(crate::proofs::OrderKept::interfaces_in_order))]
+pub fn checked_interfaces_are_in_order()
+    ensures { CheckedInterfacesAreInOrder }
+{}
+
+/// Files can spell the name, imports and exports of a checked module, where they can spell the interfaces given to it, its tree has
+/// names and no more nodes than a tree of a text.
+#[tactic(auto, using(crate::proofs::SpelledShapes::modules_can_be_spelled))]
+pub fn modules_can_be_spelled()
+    ensures { ModulesCanBeSpelled }
+{}
+
+/// Files can spell each interface that checking gives under a stamp of six bytes, where its tree is also written as a text.
+#[tactic(auto, using(crate::proofs::SpelledLaw::interfaces_can_be_spelled))]
+pub fn interfaces_can_be_spelled()
+    ensures { CheckedInterfacesCanBeSpelled }
 {}
