@@ -1,7 +1,6 @@
 mod Causes
 mod Expressions
 mod Generated
-mod InOrder
 mod Interfaces
 mod Limits
 mod LongHeads

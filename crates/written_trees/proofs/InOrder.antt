@@ -1,8 +1,6 @@
--- Interfaces that are in order, as the law asks that what checking gives is sound: the built-in one is.
-use Rattle.std.specs.Prelude.{◌≡◌, ℕ, List, [], ◌∷◌, map, Option, IfOk}
+-- The built-in interface is in order, as the law asks that what checking gives is sound.
+use Rattle.std.specs.Prelude.{◌≡◌, ℕ, List, [], ◌∷◌, map, Option}
 use Rattle.std.proofs.Common.{refl, sym, subst}
-use Rattle.mesa_types.specs.Sound.{Sound}
-use Rattle.mesa_types.specs.Syntax as s
 use Rattle.mesa_types.specs.declared.faces.ItemKind.TheVariants as item
 use Rattle.mesa_types.specs.declared.types.FieldType.{roll-FieldType}
 use Rattle.mesa_types.specs.declared.types.TypeTree.{TypeTree}
@@ -10,11 +8,8 @@ use Rattle.mesa_types.specs.declared.types.TypeTree.TheOpen.{TypeTree-F}
 use Rattle.mesa_types.specs.declared.types.TypeTree.TheFolds.{fold-roll-TypeTree, fold-roll-FieldType}
 use Rattle.mesa_types.specs.declared.types.TypeTree.TheVariants as tree
 use Rattle.interface_records.specs.Faces.{iodefs}
-use Rattle.checking_rules.specs.CheckedModule.{checked}
 use Rattle.checking_rules.specs.PlainTypes.{PlainType, PlainField, plain, plain_field, plain_step, plain_field_step, plain_interface}
 use Rattle.checking_rules.specs.Interfaces.{InterfacesInOrder, ItemsInOrder, FieldsInOrder, TypeInOrder, ConstantsInOrder, NamesInOrder}
-use Rattle.checking_rules.specs.Written.{ModuleWritten}
-use Rattle.checking_rules.proofs.SoundLaw.{checked_modules_are_sound}
 
 no_error : item.Procedure ≡ item.Error → ⊥
 no_error e = cc
@@ -44,7 +39,7 @@ unfolding plain TypeInOrder
 string = subst (λ k. TypeInOrder (plain k)) tree.rolls-String
     (subst TypeInOrder (sym (fold-roll-TypeTree PlainType PlainField plain_step plain_field_step TypeTree-F.String)) tt)
 
-built_in : InterfacesInOrder (map plain_interface (iodefs ∷ []))
+pub built_in : InterfacesInOrder (map plain_interface (iodefs ∷ []))
 unfolding InterfacesInOrder ItemsInOrder FieldsInOrder ConstantsInOrder NamesInOrder
 built_in = (
   record {
@@ -69,11 +64,3 @@ built_in = (
   },
   tt,
 )
-
--- so what is checked of a text whose DIRECTORY names the built-in interface alone is sound, and of one that names none
-with_the_built_in : (m : s.Module) → ModuleWritten m.kind → IfOk (checked m (iodefs ∷ [])) Sound
-with_the_built_in m w = checked_modules_are_sound m (iodefs ∷ []) w built_in
-
-by_itself : (m : s.Module) → ModuleWritten m.kind → IfOk (checked m []) Sound
-unfolding InterfacesInOrder
-by_itself m w = checked_modules_are_sound m [] w tt

@@ -1,0 +1,40 @@
+-- The laws of trees of texts.
+use Rattle.std.specs.Prelude.{ℕ, List, [], ◌∷◌, map, IfOk}
+use Rattle.mesa_lexer.specs.Tokens.{HasTokens}
+use Rattle.mesa_lexer.specs.declared.token.Tokens.{Tokens}
+use Rattle.module_productions.specs.Answer.{Parses}
+use Rattle.mesa_types.specs.declared.syntax.Module.{Module}
+use Rattle.mesa_types.specs.PlainSyntax.{syntax}
+use Rattle.mesa_types.specs.Sound.{Sound}
+use Rattle.interface_records.specs.declared.interface.Interface.{Interface}
+use Rattle.interface_records.specs.Faces.{iodefs}
+use Rattle.checking_rules.specs.Written.{ModuleWritten}
+use Rattle.checking_rules.specs.Interfaces.{InterfacesInOrder}
+use Rattle.checking_rules.specs.PlainTypes.{plain_interface}
+use Rattle.checking_rules.specs.CheckedModule.{checked}
+use Rattle.written_trees.specs.Limits.{AreWithin}
+use Rattle.checking_rules.specs.TreeNames.{HasNames}
+
+-- the tokens of a text are within their limits
+abbrev pub TokensAreWithin : Type 0
+TokensAreWithin = (text : List ℕ) (tokens : Tokens) → HasTokens text tokens → AreWithin tokens.items
+
+-- a tree of a text: that of its tokens
+pub record IsTreeOf (text : List ℕ) (x : Module) : Type 0 where
+  pub tokens : Tokens
+  pub are_its_own : HasTokens text tokens
+  pub parsed : Parses tokens.items x
+
+-- each tree of a text has what the grammar leaves no choice about, and its strings are within their limit
+abbrev pub TreesAreWritten : Type 0
+TreesAreWritten = (text : List ℕ) (x : Module) → IsTreeOf text x → ModuleWritten (syntax x).kind
+
+-- each identifier in a tree of a text is a name
+abbrev pub NamesOfTreesAreNames : Type 0
+NamesOfTreesAreNames = (text : List ℕ) (x : Module) → IsTreeOf text x → HasNames (syntax x)
+
+-- what checking gives of a text is sound: with interfaces that are in order, and with the built-in one alone
+pub record CheckedTextsAreSound : Type 0 where
+  pub with_interfaces : (text : List ℕ) (x : Module) (is : List Interface) → IsTreeOf text x → InterfacesInOrder (map plain_interface is)
+      → IfOk (checked (syntax x) is) Sound
+  pub with_built_in : (text : List ℕ) (x : Module) → IsTreeOf text x → IfOk (checked (syntax x) (iodefs ∷ [])) Sound

@@ -1,0 +1,24 @@
+ghost use Rattle.written_trees.specs.Laws.{CheckedTextsAreSound, NamesOfTreesAreNames, TokensAreWithin, TreesAreWritten};
+
+/// The tokens of a text are within their limits: what is written as a name is one, and strings have at most their bytes.
+#[tactic(auto, using(crate::proofs::Tokens::tokens_are_within))]
+pub fn tokens_are_within()
+    ensures { TokensAreWithin }
+{}
+
+/// Each tree of a text is written as the soundness of checking asks: lists that the grammar leaves no choice about have a part,
+/// and string literals are within their limit.
+pub fn trees_are_written()
+    ensures { TreesAreWritten }
+{}
+
+/// Each identifier anywhere in a tree of a text is a name.
+pub fn names_of_trees_are_names()
+    ensures { NamesOfTreesAreNames }
+{}
+
+/// A typed module that checking gives of a text is sound, where its interfaces are in order; the built-in one is.
+#[tactic(auto, using(crate::proofs::LawProofs::checked_texts_are_sound))]
+pub fn checked_texts_are_sound()
+    ensures { CheckedTextsAreSound }
+{}

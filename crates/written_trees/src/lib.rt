@@ -1,0 +1,8 @@
+//! Trees of texts are written as the soundness of checking asks, so what checking gives of a text is sound. No call of the program is here.
+#![tactic(auto)]
+
+mod laws;
+
+pub use laws::{
+    checked_texts_are_sound, names_of_trees_are_names, tokens_are_within, trees_are_written,
+};
