@@ -3,9 +3,13 @@ use Rattle.std.specs.Prelude.{[], ◌∷◌}
 use Rattle.mesa_types.specs.PlainSyntax.{syntax}
 use Rattle.interface_records.specs.Faces.{iodefs}
 use Rattle.checking_rules.proofs.SoundLaw.{checked_modules_are_sound}
-use Rattle.written_trees.specs.Laws.{TreesAreWritten, NamesOfTreesAreNames, CheckedTextsAreSound}
+use Rattle.checking_rules.proofs.OrderKept.{interfaces_in_order}
+use Rattle.checking_rules.proofs.SpelledShapes.{modules_can_be_spelled}
+use Rattle.checking_rules.proofs.SpelledLaw.{interfaces_can_be_spelled}
+use Rattle.written_trees.specs.Laws.{TreesAreWritten, NamesOfTreesAreNames, CheckedTextsAreSound, CheckedDefinitionsAreInOrder, CheckedTextsCanBeSpelled}
 use Rattle.written_trees.proofs.Tokens.{tokens_are_within}
 use Rattle.written_trees.proofs.Modules.{module_read}
+use Rattle.written_trees.proofs.Sizes.{of_text_size}
 use Rattle.written_trees.proofs.InOrder.{built_in}
 
 pub trees_are_written : TreesAreWritten
@@ -18,4 +22,14 @@ pub checked_texts_are_sound : CheckedTextsAreSound
 checked_texts_are_sound = record {
   with_interfaces = λ text x is h given. checked_modules_are_sound (syntax x) is (trees_are_written text x h) given;
   with_built_in = λ text x h. checked_modules_are_sound (syntax x) (iodefs ∷ []) (trees_are_written text x h) built_in;
+}
+
+pub definitions_in_order : CheckedDefinitionsAreInOrder
+definitions_in_order text x stamp is h given = interfaces_in_order (syntax x) stamp is (trees_are_written text x h) given
+
+pub texts_can_be_spelled : CheckedTextsCanBeSpelled
+texts_can_be_spelled = record {
+  modules = λ text x is h given. modules_can_be_spelled (syntax x) is (names_are_names text x h) (of_text_size text x h) given;
+  interfaces = λ text x stamp is h small given.
+      interfaces_can_be_spelled (syntax x) stamp is small (names_are_names text x h) (trees_are_written text x h) (of_text_size text x h) given;
 }

@@ -5,4 +5,5 @@ mod LawProofs
 mod Lists
 mod Modules
 mod Names
+mod Sizes
 mod Tokens

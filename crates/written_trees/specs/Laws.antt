@@ -9,9 +9,12 @@ use Rattle.mesa_types.specs.Sound.{Sound}
 use Rattle.interface_records.specs.declared.interface.Interface.{Interface}
 use Rattle.interface_records.specs.Faces.{iodefs}
 use Rattle.checking_rules.specs.Written.{ModuleWritten}
-use Rattle.checking_rules.specs.Interfaces.{InterfacesInOrder}
+use Rattle.checking_rules.specs.Interfaces.{InterfaceInOrder, InterfacesInOrder}
+use Rattle.checking_rules.specs.Laws.{shape_of}
+use Rattle.checking_rules.specs.Spelled.{InSixBytes, InterfaceCanBeSpelled, InterfacesCanBeSpelled, ShapeCanBeSpelled}
+use Rattle.checking_rules.specs.Typed as t
 use Rattle.checking_rules.specs.PlainTypes.{plain_interface}
-use Rattle.checking_rules.specs.CheckedModule.{checked}
+use Rattle.checking_rules.specs.CheckedModule.{checked, checked_definitions}
 use Rattle.written_trees.specs.Limits.{AreWithin}
 use Rattle.checking_rules.specs.TreeNames.{HasNames}
 
@@ -38,3 +41,15 @@ pub record CheckedTextsAreSound : Type 0 where
   pub with_interfaces : (text : List ℕ) (x : Module) (is : List Interface) → IsTreeOf text x → InterfacesInOrder (map plain_interface is)
       → IfOk (checked (syntax x) is) Sound
   pub with_built_in : (text : List ℕ) (x : Module) → IsTreeOf text x → IfOk (checked (syntax x) (iodefs ∷ [])) Sound
+
+-- an interface that checking gives of a text is in order, where those given to it are
+abbrev pub CheckedDefinitionsAreInOrder : Type 0
+CheckedDefinitionsAreInOrder = (text : List ℕ) (x : Module) (stamp : ℕ) (is : List Interface) → IsTreeOf text x → InterfacesInOrder (map plain_interface is)
+    → IfOk (checked_definitions (syntax x) stamp is) (λ (i : Interface). InterfaceInOrder (plain_interface i))
+
+-- files can spell what checking gives of a text, where they can spell the interfaces given to it
+pub record CheckedTextsCanBeSpelled : Type 0 where
+  pub modules : (text : List ℕ) (x : Module) (is : List Interface) → IsTreeOf text x → InterfacesCanBeSpelled (map plain_interface is)
+      → IfOk (checked (syntax x) is) (λ (m : t.Module). ShapeCanBeSpelled (shape_of m))
+  pub interfaces : (text : List ℕ) (x : Module) (stamp : ℕ) (is : List Interface) → IsTreeOf text x → InSixBytes stamp
+      → InterfacesCanBeSpelled (map plain_interface is) → IfOk (checked_definitions (syntax x) stamp is) (λ (i : Interface). InterfaceCanBeSpelled (plain_interface i))

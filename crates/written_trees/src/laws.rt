@@ -1,4 +1,4 @@
-ghost use Rattle.written_trees.specs.Laws.{CheckedTextsAreSound, NamesOfTreesAreNames, TokensAreWithin, TreesAreWritten};
+ghost use Rattle.written_trees.specs.Laws.{CheckedDefinitionsAreInOrder, CheckedTextsAreSound, CheckedTextsCanBeSpelled, NamesOfTreesAreNames, TokensAreWithin, TreesAreWritten};
 
 /// The tokens of a text are within their limits: what is written as a name is one, and strings have at most their bytes.
 #[tactic(auto, using(crate::proofs::Tokens::tokens_are_within))]
@@ -21,4 +21,16 @@ pub fn names_of_trees_are_names()
 #[tactic(auto, using(crate::proofs::LawProofs::checked_texts_are_sound))]
 pub fn checked_texts_are_sound()
     ensures { CheckedTextsAreSound }
+{}
+
+/// An interface that checking gives of a text is in order, where those given to it are.
+pub fn checked_definitions_are_in_order()
+    ensures { CheckedDefinitionsAreInOrder }
+{}
+
+/// Files can spell the shape of a module, and the interface under a stamp of six bytes, that checking gives of a text, where they can
+/// spell the interfaces given to it.
+#[tactic(auto, using(crate::proofs::LawProofs::texts_can_be_spelled))]
+pub fn checked_texts_can_be_spelled()
+    ensures { CheckedTextsCanBeSpelled }
 {}

@@ -4,5 +4,6 @@
 mod laws;
 
 pub use laws::{
-    checked_texts_are_sound, names_of_trees_are_names, tokens_are_within, trees_are_written,
+    checked_definitions_are_in_order, checked_texts_are_sound, checked_texts_can_be_spelled,
+    names_of_trees_are_names, tokens_are_within, trees_are_written,
 };
