@@ -23,7 +23,7 @@ mod LawProofs
 pub mod Lexing
 mod LimitsKept
 mod Noticed
-mod OrderKept
+pub mod OrderKept
 mod OriginCounts
 mod RoundTrip
 mod Outcomes
@@ -63,8 +63,8 @@ pub mod SoundTypes
 pub mod SoundValues
 pub mod SoundWhole
 pub mod SoundnessStatements
-mod SpelledLaw
-mod SpelledShapes
+pub mod SpelledLaw
+pub mod SpelledShapes
 mod SpelledTypes
 pub mod Texts
 mod TypeLaws

@@ -64,3 +64,7 @@ built_in = (
   },
   tt,
 )
+
+pub none : InterfacesInOrder (map plain_interface [])
+unfolding InterfacesInOrder
+none = tt

@@ -36,10 +36,11 @@ TreesAreWritten = (text : List ℕ) (x : Module) → IsTreeOf text x → ModuleW
 abbrev pub NamesOfTreesAreNames : Type 0
 NamesOfTreesAreNames = (text : List ℕ) (x : Module) → IsTreeOf text x → HasNames (syntax x)
 
--- what checking gives of a text is sound: with interfaces that are in order, and with the built-in one alone
+-- what checking gives of a text is sound: with interfaces that are in order, without any, and with the built-in one alone
 pub record CheckedTextsAreSound : Type 0 where
   pub with_interfaces : (text : List ℕ) (x : Module) (is : List Interface) → IsTreeOf text x → InterfacesInOrder (map plain_interface is)
       → IfOk (checked (syntax x) is) Sound
+  pub with_none : (text : List ℕ) (x : Module) → IsTreeOf text x → IfOk (checked (syntax x) []) Sound
   pub with_built_in : (text : List ℕ) (x : Module) → IsTreeOf text x → IfOk (checked (syntax x) (iodefs ∷ [])) Sound
 
 -- an interface that checking gives of a text is in order, where those given to it are
