@@ -1,0 +1,58 @@
+-- The law of the code of a module.
+use Rattle.std.specs.Prelude.{◌≡◌, ℕ, ◌*◌, ◌<◌, ◌≤◌, List, length, take, All, Some, slice_get}
+use Rattle.mesa_types.specs.Typed.{Module}
+use Rattle.mesa_types.specs.Nodes.{nodes}
+use Rattle.mesa_types.specs.Sound.{Sound}
+use Rattle.code_forms.specs.declared.module_code.CodeProcedure.{CodeProcedure}
+use Rattle.code_forms.specs.declared.module_code.Phrase.{Phrase}
+use Rattle.code_forms.specs.Phrases.{EndsWithCode, Nests, RegionsFollow, first_start}
+use Rattle.code_forms.specs.Routine.{spots}
+use Rattle.code_forms.specs.Ranges.{KeepsRanges, InOrder}
+use Rattle.code_forms.specs.Valid.{AreValid, HaveDepths}
+use Rattle.code_relation.specs.Modules.{PartsFor}
+use Rattle.code_blocks.specs.Modules.{Parts, module_code}
+use Rattle.code_blocks.specs.Weights.{procedures_bytes}
+
+-- the code of each sound module stands for it
+abbrev pub ModulesAreCoded : Type 0
+ModulesAreCoded = (m : Module) → Sound m
+    → let c : Parts = module_code m in PartsFor m c.name c.globals c.signals c.strings c.links c.procedures
+
+-- its code and its phrases have at most 32 bytes for each node
+abbrev pub ModulesAreShort : Type 0
+ModulesAreShort = (m : Module) → Sound m → procedures_bytes (module_code m).procedures ≤ 32 * nodes m
+
+-- the instructions of each procedure of a sound module of at most so many nodes stand in order, one behind the other and within 32 bits
+abbrev pub ModulesAreInOrder : Type 0
+ModulesAreInOrder = (m : Module) → Sound m → nodes m ≤ 4194304 → All (λ (c : CodeProcedure). InOrder c.code) (module_code m).procedures
+
+-- no range is empty; phrases stand in the order of their ranges, and two ranges lie one behind the other, or the later one in the other
+pub record RangesNest (phrases : List Phrase) : Type 0 where
+  pub filled : (k : ℕ) (p : Phrase) → slice_get phrases k ≡ Some p → p.from < p.to
+  pub listed : (j k : ℕ) (q p : Phrase) → j < k → slice_get phrases j ≡ Some q → slice_get phrases k ≡ Some p → q.from ≤ p.from
+  pub nests : (j k : ℕ) (q p : Phrase) → j < k → slice_get phrases j ≡ Some q → slice_get phrases k ≡ Some p → Nests p q
+
+-- so it is with the phrases of each procedure, also where a module is not sound
+abbrev pub PhrasesNest : Type 0
+PhrasesNest = (m : Module) → All (λ (c : CodeProcedure). RangesNest c.phrases) (module_code m).procedures
+
+-- each phrase's first region begins where the region before it ends, the first phrase's behind the body's; and the last one ends with the code
+pub record RegionsFill (c : CodeProcedure) : Type 0 where
+  pub follow : (n : ℕ) (p : Phrase) → slice_get c.phrases n ≡ Some p → RegionsFollow (take n c.phrases) (first_start p.arms)
+  pub filled : EndsWithCode (spots c.code) c.phrases
+
+-- so it is in each procedure, also where a module is not sound
+abbrev pub RegionsFillTheCode : Type 0
+RegionsFillTheCode = (m : Module) → All RegionsFill (module_code m).procedures
+
+-- these parts of a code stand for the module, are valid with the depths beside the instructions, and are no longer than a file asks
+pub record StandFor (m : Module) (c : Parts) : Type 0 where
+  pub code_for : PartsFor m c.name c.globals c.signals c.strings c.links c.procedures
+  pub ranges : KeepsRanges c.globals c.signals c.strings c.links c.procedures
+  pub valid : AreValid c.globals (length c.strings) c.signals c.links c.procedures (length c.procedures)
+  pub depths : HaveDepths c.globals (length c.strings) c.signals c.links c.procedures (length c.procedures)
+  pub small : procedures_bytes c.procedures ≤ 32 * nodes m
+
+-- the code of each sound module of at most so many nodes stands for it
+abbrev pub ModulesAreTranslated : Type 0
+ModulesAreTranslated = (m : Module) → Sound m → nodes m ≤ 4194304 → StandFor m (module_code m)

@@ -1,0 +1,10 @@
+pub mod Blocks
+pub mod Heaviness
+pub mod Laws
+pub mod Modules
+pub mod Own
+pub mod Regions
+pub mod Sizes
+pub mod Translation
+pub mod Weights
+pub mod Writing
