@@ -10,7 +10,7 @@ use Rattle.written_trees.specs.Laws.{TreesAreWritten, NamesOfTreesAreNames, Chec
 use Rattle.written_trees.proofs.Tokens.{tokens_are_within}
 use Rattle.written_trees.proofs.Modules.{module_read}
 use Rattle.written_trees.proofs.Sizes.{of_text_size}
-use Rattle.written_trees.proofs.InOrder.{built_in}
+use Rattle.written_trees.proofs.InOrder.{built_in, none}
 
 pub trees_are_written : TreesAreWritten
 trees_are_written text x h = (module_read (h.parsed).0 (tokens_are_within text h.tokens h.are_its_own)).0
@@ -21,7 +21,7 @@ names_are_names text x h = (module_read (h.parsed).0 (tokens_are_within text h.t
 pub checked_texts_are_sound : CheckedTextsAreSound
 checked_texts_are_sound = record {
   with_interfaces = λ text x is h given. checked_modules_are_sound (syntax x) is (trees_are_written text x h) given;
-  with_none = λ text x h. checked_modules_are_sound (syntax x) [] (trees_are_written text x h) tt;
+  with_none = λ text x h. checked_modules_are_sound (syntax x) [] (trees_are_written text x h) none;
   with_built_in = λ text x h. checked_modules_are_sound (syntax x) (iodefs ∷ []) (trees_are_written text x h) built_in;
 }
 
