@@ -19,12 +19,7 @@ use Rattle.checking_rules.proofs.SoundDirectory.{bytes_itself}
 use Rattle.checking_rules.proofs.TypeLaws.{TypeLaw, FieldsHave, NamesFine, FieldsMade, Text}
 use Rattle.checking_rules.proofs.FineTypes.{then_fine}
 
--- ---- fields that are taken apart, and fields of one type under several names
-pub parts_have : (P : PlainType → Type 0) (fs gs : List PlainField) → FieldsHave P fs → FieldsHave P gs → FieldsHave P (fs ++ gs)
-unfolding FieldsHave
-parts_have P [] gs h i = i
-parts_have P (f ∷ fs) gs h i = (h.0, parts_have P fs gs h.1 i)
-
+-- ---- fields of one type under several names
 pub each_have : (P : PlainType → Type 0) (k : PlainType) → P k → (xs : List Identifier) (fs : List PlainField) → FieldsHave P fs
     → FieldsHave P (each_of k xs ++ fs)
 unfolding FieldsHave

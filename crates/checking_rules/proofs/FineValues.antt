@@ -19,7 +19,7 @@ use Rattle.checking_rules.specs.Scopes.{Scope, nothing, outer}
 use Rattle.checking_rules.specs.Meanings as m
 use Rattle.checking_rules.specs.Meanings.{Meaning}
 use Rattle.checking_rules.specs.Steps.{State, Check, Checked, and_then, ◌>>=◌, pure, lift, only, in_scope, back, or_refuse, refuse}
-use Rattle.checking_rules.specs.Around.{Around, ArmLabel, in_constant, in_arm}
+use Rattle.checking_rules.specs.Around.{Around, ArmLabel, in_constant}
 use Rattle.checking_rules.specs.Parts.{Found, found, has_name, field_named, kinds, kind_by, places_of, complete}
 use Rattle.checking_rules.specs.Operators.{Sort, Number, Letter, Truth, Other, sort_of, operation, related, turned}
 use Rattle.checking_rules.specs.Ranges.{Typed, typed, Aim, Free, Into, Several, Arguments, finish, fitted_if, range_for, checked}
@@ -364,10 +364,7 @@ module _ (L : TypeLaw) where
       go σ g τ e (Ok x) p = (tt, record { scopes = subst (ScopesFine L) (sym (p.1.around ∙ e)) g.scopes; coming = g.coming })
       go σ g τ e (Err f) p = tt
 
-  -- around an arm, and around a constant
-  pub arm_around : (a : Around) → AroundFine L a → (ls : List ArmLabel) → AroundFine L (in_arm ls a)
-  arm_around a g ls = record { further = g.further; interfaces = g.interfaces; origins = g.origins }
-
+  -- around a constant
   pub constant_around : (a : Around) → AroundFine L a → (p : Place) → AroundFine L (in_constant p a)
   constant_around a g p = record { further = g.further; interfaces = g.interfaces; origins = g.origins }
 

@@ -64,6 +64,7 @@ pub mod SoundValues
 pub mod SoundWhole
 pub mod SoundnessStatements
 pub mod SpelledLaw
+mod SpelledOrder
 pub mod SpelledShapes
 mod SpelledTypes
 pub mod Texts

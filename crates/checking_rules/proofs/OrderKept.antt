@@ -65,7 +65,7 @@ base_is_flat j b e = by j b e
     by (v.Array i k) b e = none_is_no b e
     by (v.Record o ps) b e = none_is_no b e
 
-subrange_order : (k : PlainType) (x y : ℕ) → TypeInOrder k → base_of k ≡ Some k → x < 65536 → y < 65536 → TypeInOrder (v.Subrange k x y)
+pub subrange_order : (k : PlainType) (x y : ℕ) → TypeInOrder k → base_of k ≡ Some k → x < 65536 → y < 65536 → TypeInOrder (v.Subrange k x y)
 unfolding TypeInOrder depth_of
 subrange_order k x y h e m n = (h, m, n, omega (arith, base_is_flat k k e))
 

@@ -270,7 +270,7 @@ unfolding TypeCanBeSpelled
 array_spelled i e h k x w d = (x, h, k, w, d)
 
 -- each type has a word
-index_some : (k : PlainType) → TypeCanBeSpelled k → is_index k ≡ true → 0 < elements_of k
+pub index_some : (k : PlainType) → TypeCanBeSpelled k → is_index k ≡ true → 0 < elements_of k
 unfolding is_index base_of TypeCanBeSpelled
 index_some v.Integer h e = omega arith
 index_some v.Cardinal h e = omega arith

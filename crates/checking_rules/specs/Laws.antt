@@ -26,7 +26,7 @@ use Rattle.checking_rules.specs.TreeNames.{HasNames}
 use Rattle.checking_rules.specs.Written.{ModuleWritten}
 use Rattle.checking_rules.specs.Steps.{Checked, Fault}
 use Rattle.checking_rules.specs.CheckedModule.{checked, checked_definitions}
-use Rattle.checking_rules.specs.PlainTypes.{plain_interface}
+use Rattle.checking_rules.specs.PlainTypes.{PlainInterface, plain_interface}
 use Rattle.checking_rules.specs.Limits.{InterfaceKeepsLimits, InterfacesKeepLimits}
 use Rattle.checking_rules.specs.Parts.{names_of}
 use Rattle.checking_rules.specs.Places.{places_in}
@@ -179,3 +179,7 @@ abbrev pub CheckedInterfacesCanBeSpelled : Type 0
 CheckedInterfacesCanBeSpelled = (m : s.Module) (stamp : ℕ) (is : List Interface) → InSixBytes stamp → HasNames m → ModuleWritten m.kind → IsOfTextSize m
     → InterfacesCanBeSpelled (map plain_interface is)
     → IfOk (checked_definitions m stamp is) (λ (i : Interface). InterfaceCanBeSpelled (plain_interface i))
+
+-- an interface that files can spell, as one that is read, is in order
+abbrev pub SpelledInterfacesAreInOrder : Type 0
+SpelledInterfacesAreInOrder = (i : PlainInterface) → InterfaceCanBeSpelled i → InterfaceInOrder i

@@ -1,6 +1,6 @@
 //! Laws of checking. No call of the program is here.
 
-ghost use Rattle.checking_rules.specs.Laws.{CheckedInterfacesAreInOrder, CheckedInterfacesCanBeSpelled, CheckedModulesAreSound, EachTextHasOneResult, FaultsStandInTheText, HeadsAreInForm, InterfacesAreOfTheirText, ModulesCanBeSpelled, NamesStandOnce, ShapesAreGiven, ShapesAreInOrder, TypedTreesHaveFewNodes, TypesKeepTheirLimits};
+ghost use Rattle.checking_rules.specs.Laws.{CheckedInterfacesAreInOrder, CheckedInterfacesCanBeSpelled, CheckedModulesAreSound, EachTextHasOneResult, FaultsStandInTheText, HeadsAreInForm, InterfacesAreOfTheirText, ModulesCanBeSpelled, NamesStandOnce, ShapesAreGiven, ShapesAreInOrder, SpelledInterfacesAreInOrder, TypedTreesHaveFewNodes, TypesKeepTheirLimits};
 
 /// Each text has exactly one result: a typed module or an interface, or its first fault with its cause and place.
 #[tactic(auto, using(crate::proofs::LawProofs::one_result))]
@@ -82,4 +82,9 @@ pub fn modules_can_be_spelled()
 #[tactic(auto, using(crate::proofs::SpelledLaw::interfaces_can_be_spelled))]
 pub fn interfaces_can_be_spelled()
     ensures { CheckedInterfacesCanBeSpelled }
+{}
+
+/// An interface that files can spell is in order, so that what is checked with interfaces that were read is sound.
+pub fn spelled_interfaces_are_in_order()
+    ensures { SpelledInterfacesAreInOrder }
 {}
