@@ -1,0 +1,57 @@
+-- What calls and returns stand on, and where they lead (rule of this project).
+use Rattle.std.specs.Prelude.{◌≡◌, ℕ, List, [], Some, slice_get}
+use Rattle.code_forms.specs.declared.instruction.Instruction.{Instruction}
+use Rattle.code_forms.specs.declared.module_code.CodeEntry.{CodeEntry}
+use Rattle.code_forms.specs.declared.module_code.CodeProcedure.{CodeProcedure}
+use Rattle.code_forms.specs.declared.module_code.ModuleCode.{ModuleCode}
+use Rattle.object_files.specs.declared.image.Image.{Image}
+use Rattle.machine_steps.specs.State.{Active, Activations, Store, Runs, Ended, Stepped, Goes}
+use Rattle.machine_steps.specs.LookUps.{code_of, instruction_under}
+use Rattle.machine_steps.specs.Moves.{with}
+use Rattle.machine_steps.specs.Calls.{pending}
+use Rattle.machine_steps.specs.Steps.{Ends}
+use Rattle.quiet_run.specs.declared.registers.Registers.{Registers}
+use Rattle.activation_region.specs.declared.calling.Turn.{Turn}
+use Rattle.activation_region.specs.declared.calling.Turn.TheVariants.{Goes as GoesOn, Empty, Pending, Ends as EndsSo}
+use Rattle.activation_region.specs.declared.row.Layout.{Layout}
+use Rattle.activation_region.specs.declared.row.Row.{Row}
+use Rattle.activation_region.specs.Frames.{row_at}
+use Rattle.activation_region.specs.Shows.{IsPrepared, Shows}
+use Rattle.activation_region.specs.Reaching.{Reaches, IsUnstuck, Shown}
+
+-- the code is that of the topmost activation
+abbrev pub IsCodeOf : Image → ModuleCode → List Row → Registers → Type 0
+IsCodeOf image code table r = code_of image (row_at table r.top).instance ≡ Some code
+
+-- some activations of an image are shown, from which it does not get stuck
+pub record Stands (layout : Layout) (code : ModuleCode) (region : List ℕ) (table : List Row) (r : Registers) : Type 0 where
+  pub image : Image
+  pub prepared : IsPrepared image layout
+  pub is : IsCodeOf image code table r
+  pub start : Stepped
+  pub unstuck : IsUnstuck image start
+  pub store : Store
+  pub shown : Shown image layout region table r start store
+
+-- the topmost activation stands at an instruction
+pub record IsAt (code : ModuleCode) (table : List Row) (r : Registers) (i : Instruction) : Type 0 where
+  pub procedure : CodeProcedure
+  pub is : slice_get code.procedures (row_at table r.top).procedure ≡ Some procedure
+  pub entry : CodeEntry
+  pub fetched : slice_get procedure.code r.entry ≡ Some entry
+  pub at : entry.instruction ≡ i
+
+-- the topmost activation does the call that had to start an instance first
+pub record CallsThen (image : Image) (layout : Layout) (region : List ℕ) (table : List Row) (r : Registers) (s : Stepped) (m : Store) : Type 0 where
+  pub top : Active
+  pub rest : Activations
+  pub procedure : CodeProcedure
+  pub shows : Shows image layout region table r procedure top rest
+  pub reaches : Reaches image s (with (instruction_under image top) m λ i. pending image i top rest m)
+
+-- where the machine comes to, with this store
+unfoldable pub LeadsTo : Image → Layout → List ℕ → List Row → Stepped → Store → Turn → Type 0
+LeadsTo image layout region table s m (GoesOn r) = Shown image layout region table r s m
+LeadsTo image layout region table s m Empty = Reaches image s (Goes (Runs [] m))
+LeadsTo image layout region table s m (Pending r) = CallsThen image layout region table r s m
+LeadsTo image layout region table s m (EndsSo end) = Ends image s (Ended end) m

@@ -1,0 +1,9 @@
+pub mod Placed
+pub mod Rows
+pub mod Below
+pub mod Shows
+pub mod Frames
+pub mod Reaching
+pub mod Beginning
+pub mod Calling
+pub mod Laws

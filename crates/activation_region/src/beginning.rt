@@ -1,0 +1,58 @@
+//! The first frame of an instance that is started where no activation stands.
+
+ghost use Rattle.std.specs.Prelude.{◌≡◌, ℕ, ◌≤◌, [], true, Some};
+ghost use Rattle.object_files.specs.declared.image.Image.{Image};
+ghost use Rattle.machine_steps.specs.Calls.{set_of, start};
+ghost use Rattle.machine_steps.specs.LookUps.{code_of};
+ghost use Rattle.machine_steps.specs.State.{Stepped, Store};
+ghost use Rattle.activation_region.specs.Beginning.{IsCodeFor};
+ghost use Rattle.activation_region.specs.Calling.{LeadsTo};
+ghost use Rattle.activation_region.specs.Reaching.{Reaches};
+ghost use Rattle.activation_region.specs.Shows.{IsAmple, IsPrepared};
+
+use crate::calling::Turn;
+use crate::frames::clear;
+use crate::row::{Kind, Layout, Row};
+use code_forms::ModuleCode;
+use machine_steps::End;
+use quiet_run::Registers;
+
+/// Starts an instance, whose code this is, where no activation stands: a turn is spent, and the frame of its body is made
+/// at the lowest place.
+pub fn begin(
+    code: &ModuleCode,
+    instance: u32,
+    region: &mut [u16],
+    table: &mut [Row],
+    layout: Layout,
+    turns: &mut u64,
+) -> Turn
+    requires code { IsCodeFor layout code.now }
+    requires ample { IsAmple layout region.old table.old }
+    ensures ample { IsAmple layout region.new table.new }
+    ensures turns_fall { turns.new ≤ turns.old }
+    ensures leads { (image : Image) → IsPrepared image layout → code_of image instance ≡ Some code.now
+        → (s : Stepped) (m : Store) → m.turns ≡ turns.old → Reaches image s (start image instance [] m)
+        → LeadsTo image layout region.new table.new s (record m { started = set_of m.started instance true; turns = turns.new }) result }
+{
+    if *turns == 0 {
+        return Turn::Ends(End::Spent);
+    }
+    *turns -= 1;
+    let body = &code.procedures.as_slice()[0];
+    let frame = usize::from(body.frame);
+    table[0] = Row {
+        instance,
+        procedure: 0,
+        entry: 0,
+        count: 0,
+        kind: Kind::Frame,
+    };
+    clear(region, 0, frame);
+    Turn::Goes(Registers {
+        top: 0,
+        slots: 0,
+        sp: layout.frame,
+        entry: 0,
+    })
+}

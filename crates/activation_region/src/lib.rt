@@ -1,0 +1,13 @@
+//! The activations of the frame machine in one region of words, with a table of them.
+#![tactic(auto)]
+
+mod beginning;
+mod calling;
+mod frames;
+mod laws;
+mod row;
+
+pub use beginning::begin;
+pub use calling::{Turn, call, give_back};
+pub use laws::runs_as_defined;
+pub use row::{Kind, Layout, Reason, Row, Target};
