@@ -1,0 +1,54 @@
+-- Lists that are made one element after another.
+use Rattle.std.proofs.Common.{◌≡◌, ℕ, zero, suc, ◌+◌, ◌<◌, ◌≤◌, ⊎_elim, List, [], ◌∷◌, ◌++◌, length, take, get_or, Option, Some, None, refl, sym, ap, subst, ◌∙◌, arith}
+use Rattle.std.specs.Prelude.{slice_get, IsSomeAnd}
+use Rattle.std.specs.List.{AllZip}
+use Rattle.std.proofs.lemmas.Bool.{cases_lt}
+use Rattle.std.proofs.lemmas.List.{length_push, take_all, take_more}
+use Rattle.std.proofs.lemmas.Slice.Zip.{all_zipped_more}
+
+got_left : {X : Type 0} (xs : List X) (x : X) (j : ℕ) → j < length xs → slice_get (xs ++ x ∷ []) j ≡ slice_get xs j
+got_left [] x j l = absurd (omega arith)
+got_left (y ∷ xs) x zero l = refl
+got_left (y ∷ xs) x (suc j) l = got_left xs x j (omega arith)
+
+got_last : {X : Type 0} (xs : List X) (x : X) → slice_get (xs ++ x ∷ []) (length xs) ≡ Some x
+got_last [] x = refl
+got_last (y ∷ xs) x = got_last xs x
+
+-- there are so many, and each is one of its number
+pub record EachOf {X : Type 0} (P : ℕ → X → Type 0) (n : ℕ) (xs : List X) : Type 0 where
+  pub many : length xs ≡ n
+  pub each : (j : ℕ) → j < n → IsSomeAnd (slice_get xs j) (P j)
+
+pub each_none : {X : Type 0} (P : ℕ → X → Type 0) (xs : List X) → xs ≡ [] → EachOf P 0 xs
+each_none P xs e = record { many = ap length e; each = λ j l. absurd (omega arith) }
+
+pub each_more : {X : Type 0} (P : ℕ → X → Type 0) (n : ℕ) (xs ys : List X) (x : X) → ys ≡ xs ++ x ∷ [] → P n x → EachOf P n xs → EachOf P (n + 1) ys
+each_more {X} P n xs ys x grown p e = subst (λ (l : List X). EachOf P (n + 1) l) (sym grown) (record {
+  many = (let m = e.many in let k = length_push xs x in omega (arith, m, k));
+  each = λ j l. ⊎_elim
+      (λ (m : j < n). subst (λ (o : Option X). IsSomeAnd o (P j)) (sym (got_left xs x j (let k = e.many in omega (arith, k)))) (e.each j m))
+      (λ (m : n ≤ j).
+      let same : length xs ≡ j = (let k = e.many in omega (arith, k)) in
+      let own : n ≡ j = omega arith in
+      subst (λ (o : Option X). IsSomeAnd o (P j)) (sym (subst (λ k. slice_get (xs ++ x ∷ []) k ≡ Some x) same (got_last xs x))) (subst (λ k. P k x) own p))
+      (cases_lt j n);
+})
+
+-- one stands beside each of the first so many
+pub zip_more : {A B : Type 0} (R : A → B → Type 0) (xs : List A) (ys zs : List B) (i : ℕ) (x : A) (y : B) → i < length xs → x ≡ get_or xs i x
+    → zs ≡ ys ++ y ∷ [] → AllZip R (take i xs) ys → R x y → AllZip R (take (i + 1) xs) zs
+zip_more {A} {B} R xs ys zs i x y less is grown h r =
+    subst (λ (l : List B). AllZip R (take (i + 1) xs) l) (sym grown)
+    (subst (λ (l : List A). AllZip R l (ys ++ y ∷ [])) (ap (λ z. take i xs ++ z ∷ []) is ∙ sym (take_more xs i x less)) (all_zipped_more R (take i xs) ys x y h r))
+
+pub zip_all : {A B : Type 0} (R : A → B → Type 0) (xs : List A) (ys : List B) (i : ℕ) → length xs ≤ i → AllZip R (take i xs) ys → AllZip R xs ys
+zip_all {A} R xs ys i l h = subst (λ (k : List A). AllZip R k ys) (take_all i xs l) h
+
+pub some_and : {X : Type 0} (o : Option X) (P : X → Type 0) → IsSomeAnd o P → (x : X) × (o ≡ Some x) × P x
+some_and None P h = absurd h
+some_and (Some x) P h = (x, refl, h)
+
+pub some_same : {X : Type 0} (o : Option X) (y : X) → IsSomeAnd o (λ x. x ≡ y) → o ≡ Some y
+some_same None y h = absurd h
+some_same (Some x) y h = ap Some h

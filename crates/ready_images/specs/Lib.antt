@@ -1,0 +1,6 @@
+pub mod Hosts
+pub mod Laws
+pub mod Order
+pub mod Ready
+pub mod Sizes
+pub mod Targets

@@ -1,0 +1,52 @@
+-- What a machine has that is ready to run an image, so that the run takes no memory (rule of this project).
+use Rattle.std.specs.Prelude.{◌≡◌, ℕ, ◌+◌, ◌*◌, ◌<◌, ◌≤◌, List, length, All, Some, IsSomeAnd, slice_get, vec_capacity}
+use Rattle.std.specs.List.{AllZip}
+use Rattle.mesa_base.specs.declared.limits.TheConstants.{ACTIVATIONS}
+use Rattle.code_forms.specs.declared.module_code.CodeProcedure.{CodeProcedure}
+use Rattle.code_forms.specs.Valid.{Valid, HasDepths}
+use Rattle.object_files.specs.declared.image.Image.{Image}
+use Rattle.object_files.specs.declared.object.Object.{Object}
+use Rattle.signaller.specs.Index.{Indexes}
+use Rattle.signaller.specs.Tables.{IsCatchTable}
+use Rattle.machine_steps.specs.LookUps.{code_of, links_of}
+use Rattle.machine_steps.specs.Steps.{globals_in}
+use Rattle.quiet_run.specs.Running.{HasTargets}
+use Rattle.code_forms.specs.Ranges.{InOrder}
+use Rattle.ready_images.specs.declared.plan.Plan.{Plan}
+use Rattle.ready_images.specs.declared.prepared.Prepared.{Prepared}
+use Rattle.ready_images.specs.Hosts.{IsHostItem}
+use Rattle.ready_images.specs.Order.{ImageInOrder}
+use Rattle.ready_images.specs.Sizes.{largest}
+use Rattle.ready_images.specs.Targets.{JumpsToStarts}
+
+-- beside each entry stands the number of that to which it jumps, and beside the phrases their index
+pub record IsPlan (p : CodeProcedure) (plan : Plan) : Type 0 where
+  pub targets : HasTargets p.code plan.targets
+  pub index : Indexes p.phrases plan.index
+
+-- what this takes of a procedure, as each of valid code has it
+pub record CanBePlanned (p : CodeProcedure) : Type 0 where
+  pub order : InOrder p.code
+  pub starts : JumpsToStarts p.code
+  pub table : IsCatchTable p.phrases
+
+-- the code of a module is valid, with the depth beside each instruction, and each of its procedures has a plan
+pub record IsPlanned (o : Object) (made : List Plan) : Type 0 where
+  pub valid : Valid o.code
+  pub depths : HasDepths o.code
+  pub plans : AllZip IsPlan o.code.procedures made
+
+pub record IsReady (image : Image) (p : Prepared) : Type 0 where
+  pub order : ImageInOrder image
+  pub host : All IsHostItem image.wanted
+  pub plans : AllZip IsPlanned image.modules p.plans
+  -- how each instance reads the links of labels, its globals, and whether it was started
+  pub links : (j : ℕ) → j < length image.instances → slice_get p.links j ≡ Some (links_of image j)
+  pub globals : (j : ℕ) → j < length image.instances → IsSomeAnd (slice_get p.globals.items j) (λ words. length words.items ≡ globals_in (code_of image j))
+  pub started : length p.started.items ≡ length image.instances
+  -- a part has the largest frame, and behind it room for the operands of any procedure; there is memory for as many parts as there may be
+  -- activations, and a row for each
+  pub frame : p.layout.frame ≡ largest (λ q. q.frame) image.modules
+  pub part : p.layout.part ≡ p.layout.frame + largest (λ q. q.depth) image.modules
+  pub region : ACTIVATIONS * p.layout.part ≤ vec_capacity p.region
+  pub rows : length p.rows.items ≡ ACTIVATIONS

@@ -1,0 +1,22 @@
+//! Images that are ready to run: whether the host has what they want, and all that the run needs beside them.
+#![tactic(auto)]
+
+mod fault;
+mod globals;
+mod hosts;
+mod law;
+mod links;
+mod machine;
+mod plan;
+mod prepared;
+mod sizes;
+mod targets;
+
+pub use fault::ReadyFault;
+pub use law::{
+    none_unresolved, one_unresolved, ordered_can_run, parts_fit, plans_are_there, ready_can_run,
+    ready_has_depths,
+};
+pub use machine::{Machine, ready};
+pub use plan::{Plan, Plans};
+pub use prepared::Prepared;
