@@ -1,5 +1,5 @@
 -- Own code in its place: what its instructions work, the machine does.
-use Rattle.std.proofs.Common.{◌≡◌, ℕ, suc, ◌+◌, List, [], ◌∷◌, Bool, true, false, Some, refl, sym, ap, ◌∙◌, subst}
+use Rattle.std.proofs.Common.{◌≡◌, ℕ, suc, ◌+◌, ◌≤◌, List, [], ◌∷◌, Bool, true, false, Some, refl, sym, ap, ◌∙◌, subst, arith}
 use Rattle.std.specs.Prelude.{nat_eq, option_and_then, unwrap_or, if◌then◌else◌}
 use Rattle.std.proofs.lemmas.Bool.{eqb-true, eq-eqb}
 use Rattle.std.proofs.lemmas.Option.{none-some, same_Some}
@@ -33,7 +33,7 @@ entry_if true e es offset around r h is =
     (ap (λ (x : Read). Some x.instruction) d, ap (λ (x : Read). x.around) d)
 entry_if false e es offset around r h is = h is
 
-found_there : (es : List CodeEntry) (offset : ℕ) (around : List ℕ) (r : Read) → read_of (entry_at es offset) around ≡ Some r
+pub found_there : (es : List CodeEntry) (offset : ℕ) (around : List ℕ) (r : Read) → read_of (entry_at es offset) around ≡ Some r
     → (instruction_at es offset ≡ Some r.instruction) × (around ≡ r.around)
 unfolding instruction_at
 found_there [] offset around r is = absurd (none-some r is)
@@ -67,6 +67,10 @@ reaches_itself image s = record { by = λ end last e. e }
 
 pub reaches_on : (image : Image) (s t u : Stepped) → Reaches image s t → Reaches image t u → Reaches image s u
 reaches_on image s t u h k = record { by = λ end last e. h.by end last (k.by end last e) }
+
+pub in_order : {P : Coded} {w : Place} {is : List Instruction} {from to : ℕ} → Own P w is from to → from ≤ to
+in_order no_more = omega arith
+in_order (one_more r rest) = let o = in_order rest in omega (arith, o)
 
 module _ (image : Image) (P : Coded) (number : ℕ) (a : Active) (S : Activations) (m : Store) (h : Holds image P number a S) where
   abbrev q : ℕ
@@ -128,18 +132,19 @@ module _ (image : Image) (P : Coded) (number : ℕ) (a : Active) (S : Activation
       subst (λ s. After i offset ops vs gs n s (works (text_of image) number i (work ops vs gs))) (sym e) (comes_after i offset ops vs gs n t (works (text_of image) number i (work ops vs gs)))
 
   -- what comes of instructions up to an offset, where these phrases are around
-  Lifts : (around : List ℕ) → (to : ℕ) → Stepped → Done → Type 0
-  Lifts around to s (Did v) = (n : ℕ) × Reaches image s (standing to v.operands v.variables v.globals n)
-  Lifts around to s (FaultAt fault v) =
-      (offset : ℕ) × (n : ℕ) × (phrases_around P.routine.phrases offset ≡ around) × Reaches image s (raising image fault (stack offset v.operands v.variables) (store v.globals n))
-  Lifts around to s Strays = Unit {0}
+  Lifts : (around : List ℕ) → (from to : ℕ) → Stepped → Done → Type 0
+  Lifts around from to s (Did v) = (n : ℕ) × Reaches image s (standing to v.operands v.variables v.globals n)
+  Lifts around from to s (FaultAt fault v) =
+      (offset : ℕ) × (n : ℕ) × (from ≤ offset) × (offset ≤ to) × (phrases_around P.routine.phrases offset ≡ around) × Reaches image s (raising image fault (stack offset v.operands v.variables) (store v.globals n))
+  Lifts around from to s Strays = Unit {0}
 
-  lifts_on : (around : List ℕ) (to : ℕ) (s t : Stepped) (d : Done) → Reaches image s t → Lifts around to t d → Lifts around to s d
+  lifts_on : (around : List ℕ) (from first to : ℕ) (s t : Stepped) (d : Done) → from ≤ first → Reaches image s t → Lifts around first to t d → Lifts around from to s d
   unfolding Lifts
-  lifts_on around to s t (Did v) r l = (l.0, reaches_on image s t (standing to v.operands v.variables v.globals l.0) r l.1)
-  lifts_on around to s t (FaultAt fault v) r l =
-      (l.0, l.1, l.2, reaches_on image s t (raising image fault (stack l.0 v.operands v.variables) (store v.globals l.1)) r l.3)
-  lifts_on around to s t Strays r l = tt
+  lifts_on around from first to s t (Did v) le r l = (l.0, reaches_on image s t (standing to v.operands v.variables v.globals l.0) r l.1)
+  lifts_on around from first to s t (FaultAt fault v) le r l =
+      let lt = l.2 in
+      (l.0, l.1, omega (arith, le, lt), l.3, l.4, reaches_on image s t (raising image fault (stack l.0 v.operands v.variables) (store v.globals l.1)) r l.5)
+  lifts_on around from first to s t Strays le r l = tt
 
   reaches_step : (offset : ℕ) (ops vs gs : List ℕ) (n : ℕ) (t : Stepped) → run image (stack offset ops vs) (store gs n) ≡ t → Reaches image (standing offset ops vs gs n) t
   unfolding step
@@ -148,51 +153,53 @@ module _ (image : Image) (P : Coded) (number : ℕ) (a : Active) (S : Activation
   }
 
   next : (around : List ℕ) (i : Instruction) (is : List Instruction) (offset to : ℕ) (ops vs gs : List ℕ) (n : ℕ) (y : Worked)
-      → phrases_around P.routine.phrases offset ≡ around → After i offset ops vs gs n (run image (stack offset ops vs) (store gs n)) y
-      → ((v : Work) → Lifts around to (standing (offset + bytes_of i) v.operands v.variables v.globals (suc n)) (works_all (text_of image) number is v))
-      → Lifts around to (standing offset ops vs gs n) (go_on (work ops vs gs) y (works_all (text_of image) number is))
+      → offset ≤ to → phrases_around P.routine.phrases offset ≡ around → After i offset ops vs gs n (run image (stack offset ops vs) (store gs n)) y
+      → ((v : Work) → Lifts around (offset + bytes_of i) to (standing (offset + bytes_of i) v.operands v.variables v.globals (suc n)) (works_all (text_of image) number is v))
+      → Lifts around offset to (standing offset ops vs gs n) (go_on (work ops vs gs) y (works_all (text_of image) number is))
   unfolding go_on After Lifts
-  next around i is offset to ops vs gs n (Works v) at e h =
-      lifts_on around to (standing offset ops vs gs n) (standing (offset + bytes_of i) v.operands v.variables v.globals (suc n)) (works_all (text_of image) number is v)
+  next around i is offset to ops vs gs n (Works v) le at e h =
+      lifts_on around offset (offset + bytes_of i) to (standing offset ops vs gs n) (standing (offset + bytes_of i) v.operands v.variables v.globals (suc n)) (works_all (text_of image) number is v)
+      (omega arith)
       (reaches_step offset ops vs gs n (standing (offset + bytes_of i) v.operands v.variables v.globals (suc n)) e) (h v)
-  next around i is offset to ops vs gs n (Faults fault) at e h =
-      (offset, suc n, at, reaches_step offset ops vs gs n (raising image fault (stack offset ops vs) (store gs (suc n))) e)
-  next around i is offset to ops vs gs n Touches at e h = tt
+  next around i is offset to ops vs gs n (Faults fault) le at e h =
+      (offset, suc n, omega arith, le, at, reaches_step offset ops vs gs n (raising image fault (stack offset ops vs) (store gs (suc n))) e)
+  next around i is offset to ops vs gs n Touches le at e h = tt
 
   lift : {w : Place} {is : List Instruction} {from to : ℕ} → Own P w is from to → (ops vs gs : List ℕ) (n : ℕ)
-      → Lifts w.around to (standing from ops vs gs n) (works_all (text_of image) number is (work ops vs gs))
+      → Lifts w.around from to (standing from ops vs gs n) (works_all (text_of image) number is (work ops vs gs))
   unfolding works_all Lifts
   lift (no_more {a = from}) ops vs gs n = (n, reaches_itself image (standing from ops vs gs n))
   lift {w = w} {to = to} (one_more {i = i} {is = is} {a = from} r rest) ops vs gs n =
       let found = found_there P.entries from (phrases_around P.routine.phrases from) (record { instruction = i; depth = w.depth; around = w.around }) r in
-      next w.around i is from to ops vs gs n (works (text_of image) number i (work ops vs gs)) found.1 (one_step w i from ops vs gs n r)
+      next w.around i is from to ops vs gs n (works (text_of image) number i (work ops vs gs)) (let o = in_order rest in omega (arith, o)) found.1 (one_step w i from ops vs gs n r)
       (λ v. lift rest v.operands v.variables v.globals (suc n))
 
   old_store : (gs : List ℕ) (n : ℕ) → gs ≡ m.globals a.instance → store gs n ≡ record m { begun = n }
   old_store gs n e =
       ap (λ g. store g n) e ∙ ap (λ f. record m { begun = n; globals = f }) (λ d x. set_old m.globals a.instance x d)
 
-  finish : (w : Place) (to : ℕ) (rest : List ℕ) (s : Stepped) (out : Outcome) (d : Done) → Lifts w.around to s d
-      → Comes (scratch P) rest (variables a S) (m.globals a.instance) out d → ComesTo image P w a S m to rest out s
+  finish : (w : Place) (from to : ℕ) (rest : List ℕ) (s : Stepped) (out : Outcome) (d : Done) → Lifts w.around from to s d
+      → Comes (scratch P) rest (variables a S) (m.globals a.instance) out d → ComesTo image P w from to a S m rest out s
   unfolding Lifts Comes
-  finish w to rest s (Given ws) (Did v) l c = record {
+  finish w from to rest s (Given ws) (Did v) l c = record {
     now = record { offset = to; operands = v.operands; variables = v.variables; begun = l.0 };
     offset = refl;
     operands = c.0;
     kept = c.1;
     reaches = subst (λ x. Reaches image s (Goes (Runs (stack to v.operands v.variables) x))) (old_store v.globals l.0 c.2) l.1;
   }
-  finish w to rest s (Given ws) (FaultAt fault v) l c = absurd c
-  finish w to rest s (Given ws) Strays l c = absurd c
-  finish w to rest s (Raised fault) (Did v) l c = absurd c
-  finish w to rest s (Raised fault) (FaultAt other v) l c = record {
+  finish w from to rest s (Given ws) (FaultAt fault v) l c = absurd c
+  finish w from to rest s (Given ws) Strays l c = absurd c
+  finish w from to rest s (Raised fault) (Did v) l c = absurd c
+  finish w from to rest s (Raised fault) (FaultAt other v) l c = record {
     now = record { offset = l.0; operands = v.operands; variables = v.variables; begun = l.1 };
-    around = l.2;
+    inside = (l.2, l.3);
+    around = l.4;
     kept = c.1;
     reaches = subst (λ x. Reaches image s (raising image fault (stack l.0 v.operands v.variables) x)) (old_store v.globals l.1 c.2)
-        (subst (λ f. Reaches image s (raising image f (stack l.0 v.operands v.variables) (store v.globals l.1))) c.0 l.3);
+        (subst (λ f. Reaches image s (raising image f (stack l.0 v.operands v.variables) (store v.globals l.1))) c.0 l.5);
   }
-  finish w to rest s (Raised fault) Strays l c = absurd c
+  finish w from to rest s (Raised fault) Strays l c = absurd c
 
   begins_here : (offset : ℕ) (ops : List ℕ) → standing offset ops (variables a S) (m.globals a.instance) m.begun ≡ Goes (Runs (placed a offset ops ∷ S) m)
   begins_here offset ops =
@@ -202,10 +209,10 @@ module _ (image : Image) (P : Coded) (number : ℕ) (a : Active) (S : Activation
 
   pub takes_here : (w : Place) (code : List Instruction) (from to : ℕ) (ins rest : List ℕ) (out : Outcome) → Own P w code from to
       → Does (text_of image) number (scratch P) (variables a S) (m.globals a.instance) code ins out
-      → ComesTo image P w a S m to rest out (Goes (Runs (placed a from (push ins rest) ∷ S) m))
+      → ComesTo image P w from to a S m rest out (Goes (Runs (placed a from (push ins rest) ∷ S) m))
   takes_here w code from to ins rest out own does =
-      subst (λ s. ComesTo image P w a S m to rest out s) (begins_here from (push ins rest))
-      (finish w to rest (standing from (push ins rest) (variables a S) (m.globals a.instance) m.begun) out
+      subst (λ s. ComesTo image P w from to a S m rest out s) (begins_here from (push ins rest))
+      (finish w from to rest (standing from (push ins rest) (variables a S) (m.globals a.instance) m.begun) out
       (works_all (text_of image) number code (work (push ins rest) (variables a S) (m.globals a.instance)))
       (lift own (push ins rest) (variables a S) (m.globals a.instance) m.begun) (does rest))
 

@@ -19,7 +19,7 @@ use Rattle.code_simulation.specs.Layout.{values_at, Strings, slots_of, value_at,
 use Rattle.code_simulation.specs.Own.{Done, Did, go_on, works_all, Given, Comes, Does}
 use Rattle.code_simulation.specs.Operators.{PathAt, VariableOf, value_of, Lies, OwnCodeDoes}
 use Rattle.code_simulation.proofs.Memory.{length_both, take_long, take_slots, drop_slots, push_both, under_all, popped_all}
-use Rattle.code_simulation.proofs.Values.{value_same, small_words, nth_value, path_value, path_within, read_shows, two_show}
+use Rattle.code_simulation.proofs.Values.{value_same, small_words, kind_within, nth_value, path_value, path_within, read_shows, two_show}
 use Rattle.code_simulation.proofs.Leaves.{work, same_kept, operator_does, relation_does}
 use Rattle.code_simulation.proofs.Intervals.{and_then, works_both, within_does, number_does, negation_does, complement_does, length_does, byte_does, check_does, index_does}
 
@@ -113,7 +113,8 @@ part_shows texts ks values words n j k path d lies at leads =
     let e : nth values n ≡ value_at texts (slots_of words) (0 + b) j = ap (λ us. nth us n) lies.worth ∙ nth_value texts (slots_of words) 0 ks n j at in
     let f : part_at path (nth values n) ≡ value_at texts (slots_of words) (b + d) k =
     ap (λ v. part_at path v) e ∙ path_value texts (slots_of words) (0 + b) path j k d leads ∙ ap (λ s. value_at texts (slots_of words) s k) (omega arith) in
-    subst (λ v. Show texts (one k) (value.one v) (words_at words (b + d) (words_in k))) (sym f) (read_shows texts words (b + d) k lies.small)
+    subst (λ v. Show texts (one k) (value.one v) (words_at words (b + d) (words_in k))) (sym f)
+    (read_shows texts words (b + d) k (λ i lt. let x = kind_within ks n j at in let y = path_within path j k d leads in lies.small ((b + d) + i) (omega (arith, lt, x, y))))
 
 part_does : (texts : Strings) (number : ℕ) (P : Coded) (vs gs : List ℕ) (frame instance : Values) (h : Home) (j k : Kind) (path : List ℕ) (d : ℕ)
     → Lies texts P.locals frame vs → Lies texts P.globals instance gs → VariableOf P h j → PathAt path j k d → (ws : List ℕ)

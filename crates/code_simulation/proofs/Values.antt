@@ -108,7 +108,7 @@ small_words [] h (suc n) = omega arith
 small_words (w ∷ ws) h zero = h 0 (omega arith)
 small_words (w ∷ ws) h (suc n) = small_words ws (λ i lt. h (suc i) (omega arith)) n
 
-pub read_shows : (texts : Strings) (words : List ℕ) (s : ℕ) (k : Kind) → Small (slots_of words)
+pub read_shows : (texts : Strings) (words : List ℕ) (s : ℕ) (k : Kind) → ((i : ℕ) → i < words_in k → slots_of words (s + i) < 65536)
     → Show texts (one k) (value.one (value_at texts (slots_of words) s k)) (words_at words s (words_in k))
 unfolding one value.one values_at words_in_all
 read_shows texts words s k small = record {
@@ -118,7 +118,7 @@ read_shows texts words s k small = record {
   small = small_words (words_at words s (words_in k)) (λ i lt.
       let l : i < words_in k = omega (arith, read_long words s (words_in k), lt) in
       let e = read_slots words s (words_in k) i l in
-      let x = small (s + i) in omega (arith, e, x));
+      let x = small i l in omega (arith, e, x));
 }
 
 pub two_show : (texts : Strings) (x y : ℕ) → x < 65536 → y < 65536 → Show texts (one Texts) (value.one (Text (texts x y))) (x ∷ y ∷ [])

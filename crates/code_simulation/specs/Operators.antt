@@ -12,7 +12,7 @@ use Rattle.mesa_types.specs.declared.typed_parts.Range.{Range}
 use Rattle.mesa_types.specs.declared.relation.Relation.{Relation}
 use Rattle.mesa_types.specs.Operators.{Tried, Fine, Faulty, wrap, opposite, related, lies_in, truth, is_true, checked, tried, indexed, byte_at}
 use Rattle.mesa_types.specs.Typed.{Kind, Ordinal, Texts, Array, Record, Kinds, NoKinds, AndKind}
-use Rattle.mesa_types.specs.Shapes.{one, words_in, KindAt, words_before}
+use Rattle.mesa_types.specs.Shapes.{one, words_in, words_in_all, KindAt, words_before}
 use Rattle.mesa_types.specs.Sound.{Arranged}
 use Rattle.source_meaning.specs.Value.{Value, Values, Text, nth, part_at, arrange}
 use Rattle.source_meaning.specs.Value as value
@@ -23,7 +23,7 @@ use Rattle.machine_steps.specs.LookUps.{text_of}
 use Rattle.code_relation.specs.OwnCode.{check_code, field_code, index_code, relation_code, operator_code, within_code, arrange_code}
 use Rattle.code_relation.specs.Reading.{Coded, scratch}
 use Rattle.code_relation.specs.Slots.{load, load_within}
-use Rattle.code_simulation.specs.Layout.{Strings, Small, slots_of, values_at, Show}
+use Rattle.code_simulation.specs.Layout.{Strings, slots_of, values_at, Show}
 use Rattle.code_simulation.specs.Own.{Outcome, Given, Raised, outcome, Does}
 use Rattle.code_simulation.specs.Reaches.{Takes}
 
@@ -49,10 +49,10 @@ abbrev pub value_of : (frame instance : Values) → Home → Value
 value_of frame instance (Local n) = nth frame n
 value_of frame instance (Global n) = nth instance n
 
--- variables lie in their slots
+-- variables lie in their slots; of what lies behind them nothing is said
 pub record Lies (texts : Strings) (ks : Kinds) (vs : Values) (words : List ℕ) : Type 0 where
   pub worth : vs ≡ values_at texts (slots_of words) 0 ks
-  pub small : Small (slots_of words)
+  pub small : (n : ℕ) → n < words_in_all ks → slots_of words n < 65536
 
 -- an element, as the offset of its first word; or the fault
 unfoldable pub offset_of : (offset words : ℕ) → Tried → Outcome

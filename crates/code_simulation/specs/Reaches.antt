@@ -1,5 +1,5 @@
 -- The machine where code of a procedure stands, and where it comes to.
-use Rattle.std.specs.Prelude.{◌≡◌, ℕ, List, [], ◌∷◌, Some}
+use Rattle.std.specs.Prelude.{◌≡◌, ℕ, ◌≤◌, List, [], ◌∷◌, Some}
 use Rattle.mesa_types.specs.Operators.{WordFault}
 use Rattle.code_forms.specs.declared.instruction.Instruction.{Instruction}
 use Rattle.code_forms.specs.declared.module_code.CodeProcedure.{CodeProcedure}
@@ -54,7 +54,7 @@ raising image fault [] m = Stops Stuck m
 raising image fault (a ∷ S) m = raise image (fault_signal fault) [] a S m
 
 -- from s the machine comes to offset b, with the words of the outcome on the rest of the operands; or it comes to raise that fault at an
--- offset where the phrases around are w's. No turn is spent up to there, and but for P's scratch words no variable is changed
+-- offset of this code, where the phrases around are w's. No turn is spent up to there, and but for P's scratch words no variable is changed
 pub record Gives (image : Image) (P : Coded) (a : Active) (S : Activations) (m : Store) (b : ℕ) (rest ws : List ℕ) (s : Stepped) : Type 0 where
   pub now : Touched
   pub offset : now.offset ≡ b
@@ -62,15 +62,16 @@ pub record Gives (image : Image) (P : Coded) (a : Active) (S : Activations) (m :
   pub kept : Kept (scratch P) (variables a S) now.variables
   pub reaches : Reaches image s (running now a S m)
 
-pub record Raises (image : Image) (P : Coded) (w : Place) (a : Active) (S : Activations) (m : Store) (fault : WordFault) (s : Stepped) : Type 0 where
+pub record Raises (image : Image) (P : Coded) (w : Place) (from to : ℕ) (a : Active) (S : Activations) (m : Store) (fault : WordFault) (s : Stepped) : Type 0 where
   pub now : Touched
+  pub inside : (from ≤ now.offset) × (now.offset ≤ to)
   pub around : phrases_around P.routine.phrases now.offset ≡ w.around
   pub kept : Kept (scratch P) (variables a S) now.variables
   pub reaches : Reaches image s (raising image fault (stack_of now a S) (store_of now m))
 
-abbrev pub ComesTo : Image → Coded → Place → Active → Activations → Store → (b : ℕ) → (rest : List ℕ) → Outcome → Stepped → Type 0
-ComesTo image P w a S m b rest (Given ws) s = Gives image P a S m b rest ws s
-ComesTo image P w a S m b rest (Raised fault) s = Raises image P w a S m fault s
+abbrev pub ComesTo : Image → Coded → Place → (from to : ℕ) → Active → Activations → Store → (rest : List ℕ) → Outcome → Stepped → Type 0
+ComesTo image P w from to a S m rest (Given ws) s = Gives image P a S m to rest ws s
+ComesTo image P w from to a S m rest (Raised fault) s = Raises image P w from to a S m fault s
 
 -- where these instructions stand in P's code by themselves, and these are the frame's variables and the instance's globals, the machine
 -- takes the words that were pushed to the outcome
@@ -78,4 +79,4 @@ abbrev pub Takes : Image → Coded → (number : ℕ) → (variables globals : L
 Takes image P number vars globals code ins out =
     (w : Place) (from to : ℕ) (a : Active) (S : Activations) (m : Store) (rest : List ℕ) → Own P w code from to → Holds image P number a S
     → variables a S ≡ vars → m.globals a.instance ≡ globals
-    → ComesTo image P w a S m to rest out (Goes (Runs (placed a from (push ins rest) ∷ S) m))
+    → ComesTo image P w from to a S m rest out (Goes (Runs (placed a from (push ins rest) ∷ S) m))

@@ -1,5 +1,5 @@
 -- Which image stands for a program (rule of this project).
-use Rattle.std.specs.Prelude.{◌≡◌, ℕ, ◌≤◌, length, Option, Some, slice_get, Contains}
+use Rattle.std.specs.Prelude.{◌≡◌, ℕ, ◌<◌, ◌≤◌, List, length, All, Option, Some, slice_get, Contains}
 use Rattle.mesa_types.specs.Links.{imported, IsUsed}
 use Rattle.mesa_types.specs.declared.faces.Import.{Import}
 use Rattle.mesa_types.specs.declared.faces.Item.{Item}
@@ -12,6 +12,7 @@ use Rattle.object_files.specs.declared.image.Instance.{Instance}
 use Rattle.object_files.specs.declared.image.Link.{Link}
 use Rattle.object_files.specs.declared.image.Link.TheVariants.{Wanted, To}
 use Rattle.object_files.specs.declared.object.Object.{Object}
+use Rattle.machine_steps.specs.Laws.{HasValidCode}
 use Rattle.machine_steps.specs.LookUps.{bound_to}
 use Rattle.code_relation.specs.Links.{link_number}
 use Rattle.code_relation.specs.Modules.{CodeFor}
@@ -43,12 +44,23 @@ pub record InstanceStands (image : Image) (j : ℕ) (m : source.Instance) (i : I
   pub links : (k n : ℕ) (import : Import) (item : Item) → slice_get m.code.imports k ≡ Some import → imported m.code.imports k n ≡ Some item
       → IsUsed m.code.imports k n → BoundTo image import item (m.links k n) (bound_to image j (link_number m.code.imports k n))
 
+-- a string is of bytes, and its length is a word
+pub record TextFits (text : List ℕ) : Type 0 where
+  pub bytes : All (λ b. b < 256) text
+  pub short : length text < 65536
+
+abbrev pub TextsFit : Image → Type 0
+TextsFit image = (n : ℕ) (o : Object) → slice_get image.modules n ≡ Some o → All TextFits o.code.strings
+
 pub record Stands (P : Program) (image : Image) : Type 0 where
   pub as_many : length image.instances ≡ length P.instances
   pub instances : (j : ℕ) (m : source.Instance) (i : Instance) → slice_get P.instances j ≡ Some m → slice_get image.instances j ≡ Some i
       → InstanceStands image j m i
   pub control : image.control ≡ P.control
   pub modules : length image.modules ≤ 65534
+  -- what the type of an object says of its code
+  pub valid : HasValidCode image
+  pub texts : TextsFit image
 
 -- each wanted item is one of the built-in interface
 abbrev pub WantsTheHost : Image → Type 0
