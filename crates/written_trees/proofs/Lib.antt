@@ -6,4 +6,8 @@ mod Lists
 mod Modules
 mod Names
 mod Sizes
+mod TokenPlaces
+mod Tokened
+mod TokenedBodies
+mod TokenedModules
 mod Tokens

@@ -1,6 +1,9 @@
 -- The laws of trees of texts.
-use Rattle.std.specs.Prelude.{ℕ, List, [], ◌∷◌, map, IfOk}
+use Rattle.std.specs.Prelude.{ℕ, List, [], ◌∷◌, map, IfOk, IfErr}
+use Rattle.std.specs.List.{All, Contains}
+use Rattle.mesa_base.specs.declared.place.Place.{Place}
 use Rattle.mesa_lexer.specs.Tokens.{HasTokens}
+use Rattle.mesa_lexer.specs.declared.token.Token.{Token}
 use Rattle.mesa_lexer.specs.declared.token.Tokens.{Tokens}
 use Rattle.module_productions.specs.Answer.{Parses}
 use Rattle.mesa_types.specs.declared.syntax.Module.{Module}
@@ -17,6 +20,8 @@ use Rattle.checking_rules.specs.PlainTypes.{plain_interface}
 use Rattle.checking_rules.specs.CheckedModule.{checked, checked_definitions}
 use Rattle.written_trees.specs.Limits.{AreWithin}
 use Rattle.checking_rules.specs.TreeNames.{HasNames}
+use Rattle.checking_rules.specs.Places.{places_in}
+use Rattle.checking_rules.specs.Steps.{Fault}
 
 -- the tokens of a text are within their limits
 abbrev pub TokensAreWithin : Type 0
@@ -35,6 +40,21 @@ TreesAreWritten = (text : List ℕ) (x : Module) → IsTreeOf text x → ModuleW
 -- each identifier in a tree of a text is a name
 abbrev pub NamesOfTreesAreNames : Type 0
 NamesOfTreesAreNames = (text : List ℕ) (x : Module) → IsTreeOf text x → HasNames (syntax x)
+
+-- the place of one of the tokens
+abbrev pub IsOfToken : Tokens → Place → Type 0
+IsOfToken tokens p = Contains (map (λ (t : Token). t.place) tokens.items) p
+
+-- each place in a tree of a text is that of a token of the text
+abbrev pub PlacesAreOfTokens : Type 0
+PlacesAreOfTokens = (text : List ℕ) (x : Module) (h : IsTreeOf text x) → All (IsOfToken h.tokens) (places_in (syntax x))
+
+-- a fault of checking is named at a token of the text
+pub record FaultsStandAtTokens : Type 0 where
+  pub programs : (text : List ℕ) (x : Module) (is : List Interface) (h : IsTreeOf text x)
+      → IfErr (checked (syntax x) is) (λ (f : Fault). IsOfToken h.tokens f.place)
+  pub definitions : (text : List ℕ) (x : Module) (stamp : ℕ) (is : List Interface) (h : IsTreeOf text x)
+      → IfErr (checked_definitions (syntax x) stamp is) (λ (f : Fault). IsOfToken h.tokens f.place)
 
 -- what checking gives of a text is sound: with interfaces that are in order, without any, and with the built-in one alone
 pub record CheckedTextsAreSound : Type 0 where

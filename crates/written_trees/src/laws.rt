@@ -1,4 +1,4 @@
-ghost use Rattle.written_trees.specs.Laws.{CheckedDefinitionsAreInOrder, CheckedTextsAreSound, CheckedTextsCanBeSpelled, NamesOfTreesAreNames, TokensAreWithin, TreesAreWritten};
+ghost use Rattle.written_trees.specs.Laws.{CheckedDefinitionsAreInOrder, CheckedTextsAreSound, CheckedTextsCanBeSpelled, FaultsStandAtTokens, NamesOfTreesAreNames, PlacesAreOfTokens, TokensAreWithin, TreesAreWritten};
 
 /// The tokens of a text are within their limits: what is written as a name is one, and strings have at most their bytes.
 #[tactic(auto, using(crate::proofs::Tokens::tokens_are_within))]
@@ -15,6 +15,18 @@ pub fn trees_are_written()
 /// Each identifier anywhere in a tree of a text is a name.
 pub fn names_of_trees_are_names()
     ensures { NamesOfTreesAreNames }
+{}
+
+/// Each place in a tree of a text is that of a token of the text.
+#[tactic(auto, using(crate::proofs::TokenPlaces::places_of_tokens))]
+pub fn places_are_of_tokens()
+    ensures { PlacesAreOfTokens }
+{}
+
+/// A fault that checking gives of a text is named at a token of the text, of a program and of definitions.
+#[tactic(auto, using(crate::proofs::TokenPlaces::faults_at_tokens))]
+pub fn faults_stand_at_tokens()
+    ensures { FaultsStandAtTokens }
 {}
 
 /// A typed module that checking gives of a text is sound, where its interfaces are in order; the built-in one is.
