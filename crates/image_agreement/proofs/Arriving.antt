@@ -1,5 +1,5 @@
 -- A jump arrives at its target's activation, and goes on there. A numbered statement is run again, or ended, by jumps to its points.
-use Rattle.std.proofs.Common.{◌≡◌, ⊎_elim, inl, inr, ℕ, zero, suc, ◌+◌, ◌<◌, ◌≤◌, List, [], ◌∷◌, length, get_or, Bool, true, false, Option, Some, None, refl, sym, ap, ◌∙◌, subst, arith}
+use Rattle.std.proofs.Common.{◌≡◌, ℕ, suc, ◌<◌, List, [], ◌∷◌, length, get_or, Bool, true, false, Option, Some, refl, sym, ap, ◌∙◌, arith}
 use Rattle.std.specs.Prelude.{◌&&◌, nat_eq, if◌then◌else◌}
 use Rattle.std.proofs.lemmas.Bool.{true≢false, false≢true, eq-eqb}
 use Rattle.std.proofs.lemmas.Option.{same_Some}
@@ -7,8 +7,8 @@ use Rattle.mesa_types.specs.declared.typed_parts.Label.{Label}
 use Rattle.mesa_types.specs.declared.typed_parts.Label.TheVariants.{OnAny, OnUnwind, OnOwn, OnLinked, OnBounds, OnZero}
 use Rattle.mesa_types.specs.Typed.{Kinds, Point, Start, After, At, Leave}
 use Rattle.mesa_types.specs.Sound as sound
-use Rattle.source_meaning.specs.State.{State, Answer, Normal, Gives, Go, Resumed, Rejected, Retried, Continued, Uncaught, Spent, FrameLimit, Broken, Result, Run, give, branch, marked_of}
-use Rattle.machine_steps.specs.State.{Target, Store, Leaves, Stepped, Goes}
+use Rattle.source_meaning.specs.State.{State, Answer, Normal, Gives, Go, Resumed, Rejected, Retried, Continued, Uncaught, Spent, FrameLimit, Broken, Run, give, branch, marked_of}
+use Rattle.machine_steps.specs.State.{Target, Store, Leaves, Stepped}
 use Rattle.machine_steps.specs.Words.{push}
 use Rattle.machine_steps.specs.Moves.{go_to}
 use Rattle.machine_steps.specs.Leaving.{arrived, leave_step}
@@ -20,7 +20,7 @@ use Rattle.image_agreement.specs.Standing.{Frames, at, filled, fill}
 use Rattle.image_agreement.specs.Relation.{Ground, heres, top, Agrees, standing}
 use Rattle.image_agreement.specs.Chains.{Dictionary}
 use Rattle.image_agreement.specs.Contexts.{Site}
-use Rattle.image_agreement.specs.Answers.{Comes, OnItsWay, has_arrived, passes, Jumps, HasSpent, ResumesWith, RejectsAt, GoesBack, Done}
+use Rattle.image_agreement.specs.Answers.{Comes, OnItsWay, has_arrived, passes, Jumps, HasSpent, GoesBack, Done}
 use Rattle.image_agreement.proofs.Going.{reaches_step, reaches_same, done_later}
 use Rattle.image_agreement.proofs.Keeping.{agreed_bound}
 use Rattle.image_agreement.proofs.Marks.{here_to, mark_points, marked_site}

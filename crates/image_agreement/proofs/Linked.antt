@@ -86,13 +86,13 @@ signal_there W ready j k i there = signal_by W ready j k i (slice_get W.program.
 field_kind_is : (f : FieldType) → field_kind f ≡ kind_of f.kind
 field_kind_is f = ap field_kind (sym (roll-out-FieldType f)) ∙ ap (λ k. k) (fold-roll-FieldType Shaped t.Kind shape_step field_kind_step (out-FieldType f))
 
+pub kinds_by_types : (a : List FieldType) → kinds_of a ≡ kinds (map kind_of (types_in a))
+kinds_by_types [] = refl
+kinds_by_types (f ∷ fs) = ap (λ k. t.AndKind k (kinds_of fs)) (field_kind_is f) ∙ ap (λ ks. t.AndKind (kind_of f.kind) ks) (kinds_by_types fs)
+
 -- fields of the same types have the same kinds, and as many
 pub kinds_same : (a b : List FieldType) → types_in a ≡ types_in b → kinds_of a ≡ kinds_of b
-kinds_same a b e = by a ∙ ap (λ l. kinds (map kind_of l)) e ∙ sym (by b)
-  where
-    by : (a : List FieldType) → kinds_of a ≡ kinds (map kind_of (types_in a))
-    by [] = refl
-    by (f ∷ fs) = ap (λ k. t.AndKind k (kinds_of fs)) (field_kind_is f) ∙ ap (λ ks. t.AndKind (kind_of f.kind) ks) (by fs)
+kinds_same a b e = kinds_by_types a ∙ ap (λ l. kinds (map kind_of l)) e ∙ sym (kinds_by_types b)
 
 pub kinds_count : (fields : List FieldType) → count_in (kinds_of fields) ≡ length fields
 unfolding count_in
@@ -162,7 +162,7 @@ link_there (m ∷ ms) (suc k) n i all is used =
     ∙ link_there ms k n i (imports_tail m ms all) is used
 
 -- the import of an item
-import_by : (o : Option Import) (n : ℕ) (i : Item) → item_in o n ≡ Some i → (m : Import) × (o ≡ Some m)
+pub import_by : (o : Option Import) (n : ℕ) (i : Item) → item_in o n ≡ Some i → (m : Import) × (o ≡ Some m)
 unfolding item_in
 import_by None n i e = absurd (none-some i e)
 import_by (Some m) n i e = (m, refl)

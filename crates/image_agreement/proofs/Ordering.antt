@@ -1,6 +1,6 @@
 -- Statements in order: the next follows where one has come to its end.
-use Rattle.std.proofs.Common.{◌≡◌, ℕ, suc, List, []}
-use Rattle.source_meaning.specs.State.{State, Answer, Normal, Gives, Go, Resumed, Rejected, Retried, Continued, Uncaught, Spent, FrameLimit, Broken, Result, Run, give, normal_then}
+use Rattle.std.proofs.Common.{ℕ, List, []}
+use Rattle.source_meaning.specs.State.{State, Answer, Normal, Gives, Go, Resumed, Rejected, Retried, Continued, Uncaught, Spent, FrameLimit, Broken, Run, give, normal_then}
 use Rattle.machine_steps.specs.State.{Store, Stepped}
 use Rattle.image_agreement.specs.World.{World}
 use Rattle.image_agreement.specs.Standing.{Frames}

@@ -53,7 +53,7 @@ module _ (W : World) (K : Site) (w : Place) (hi : ℕ) (ctx : Context W K w.poin
   frame = record { number = K.meant.frame; procedure = K.ground.here.procedure }
 
   -- the stack with other variables
-  stack_is : (bound : ℕ) (μ : Frames) (m : Store) (σ : State) (o o' : ℕ) (operands ops : List ℕ) (new : List ℕ) → Agrees W bound K.ground μ m σ
+  pub stack_is : (bound : ℕ) (μ : Frames) (m : Store) (σ : State) (o o' : ℕ) (operands ops : List ℕ) (new : List ℕ) → Agrees W bound K.ground μ m σ
       → set_variables (fill μ (at K.ground.here o operands ∷ K.ground.below)) (own_frame (filled μ (at K.ground.here o' ops)) (fill μ K.ground.below)) new
       ≡ fill (with_words μ K.meant.frame new) (at K.ground.here o operands ∷ K.ground.below)
   stack_is bound μ m σ o o' operands ops new h =

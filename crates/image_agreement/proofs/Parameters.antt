@@ -23,7 +23,7 @@ unfolding LocalsFrom
 locals_from Γ n NoKinds h = tt
 locals_from Γ n (AndKind k ks) h = (h.0, locals_from Γ (suc n) ks h.1)
 
-from_by : (all js : Kinds) (n : ℕ) → ((i : ℕ) (k : Kind) → KindAt js i k → KindAt all (n + i) k) → AllFrom all n js
+pub from_by : (all js : Kinds) (n : ℕ) → ((i : ℕ) (k : Kind) → KindAt js i k → KindAt all (n + i) k) → AllFrom all n js
 unfolding KindAt
 from_by all NoKinds n h = tt
 from_by all (AndKind k js) n h =
@@ -45,7 +45,7 @@ before_next (AndKind j NoKinds) zero k h = let e = ap words_in h in omega (arith
 before_next (AndKind j (AndKind i ks)) zero k h = let e = ap words_in h in omega (arith, e)
 before_next (AndKind j ks) (suc n) k h = let e = before_next ks n k h in omega (arith, e)
 
-word_count : (all : Kinds) (n : ℕ) (k : Kind) → KindAt all n k → words_at all n ≡ words_in k
+pub word_count : (all : Kinds) (n : ℕ) (k : Kind) → KindAt all n k → words_at all n ≡ words_in k
 unfolding KindAt
 word_count NoKinds n k h = absurd h
 word_count (AndKind j ks) zero k h = ap words_in h
@@ -73,7 +73,7 @@ unfolding how_many values_at count_in
 how_many_values texts m s NoKinds = refl
 how_many_values texts m s (AndKind k ks) = let e = how_many_values texts m (s + words_in k) ks in omega (arith, e)
 
-some_values : (texts : Strings) (m : Slots) (s : ℕ) (all : Kinds) (n : ℕ) (js : Kinds) → AllFrom all n js
+pub some_values : (texts : Strings) (m : Slots) (s : ℕ) (all : Kinds) (n : ℕ) (js : Kinds) → AllFrom all n js
     → some_from (values_at texts m s all) n (count_in js) ≡ values_at texts m (s + words_before all n) js
 unfolding count_in some_from values_at
 some_values texts m s all n NoKinds h = refl
@@ -97,7 +97,7 @@ some_all texts m ks =
     let e : 0 + words_before ks 0 ≡ 0 = omega (arith, b) in
     some_values texts m 0 ks 0 ks (from_first ks) ∙ ap (λ x. values_at texts m x ks) e
 
-with_value : (texts : Strings) (m m' : Slots) (s : ℕ) (all : Kinds) (n : ℕ) (k : Kind) → KindAt all n k
+pub with_value : (texts : Strings) (m m' : Slots) (s : ℕ) (all : Kinds) (n : ℕ) (k : Kind) → KindAt all n k
     → ((i : ℕ) → i < words_in_all all → (i < words_before all n) ⊎ (words_before all n + words_in k ≤ i) → m' (s + i) ≡ m (s + i))
     → with_nth (values_at texts m s all) n (value_at texts m' (s + words_before all n) k) ≡ values_at texts m' s all
 unfolding with_nth values_at KindAt words_before words_in_all

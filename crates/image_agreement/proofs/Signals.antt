@@ -60,7 +60,7 @@ no_words [] e = refl
 no_words (w ∷ ws) e = absurd (omega (arith, e))
 
 -- the words of a raise that takes nothing
-none_shown : (W : World) (takes : Kinds) (vs : Values) (words : List ℕ) → takes ≡ NoKinds → Show (texts_of W) takes vs words → words ≡ []
+pub none_shown : (W : World) (takes : Kinds) (vs : Values) (words : List ℕ) → takes ≡ NoKinds → Show (texts_of W) takes vs words → words ≡ []
 unfolding words_in_all
 none_shown W takes vs words e h = no_words words (h.size ∙ ap words_in_all e)
 

@@ -201,7 +201,7 @@ SequenceFollows W n ss = (K : Site) (w : Place) (a b : ℕ) (μ : Frames) (m : S
 -- the selector x is held in a hidden word of the frame
 abbrev pub CasesFollow : World → ℕ → Cases → Type 0
 CasesFollow W n cs = (K : Site) (w : Place) (z x a b : ℕ) (μ : Frames) (m : Store) (σ : State)
-    → CasesCode K.code w z cs a b → CasesIn K.scope cs → K.ground.hold K.meant.frame z ≡ Some x → InPlace W K w (hidden_cases cs)
+    → CasesCode K.code w z cs a b → CasesIn K.scope cs → K.ground.hold K.meant.frame z ≡ Some x → x < 65536 → InPlace W K w (hidden_cases cs)
     → Inside W K.ground a b → Now W (suc n) K μ m σ
     → Done W (suc n) K w.around b (here K a [] μ m) (cases W.program (next W n) cs K.meant x σ).answer (cases W.program (next W n) cs K.meant x σ).state
 
@@ -213,7 +213,7 @@ pub record Tested (W : World) (bound : ℕ) (G : Ground) (yes no : ℕ) (s : Ste
 
 abbrev pub TestsFollow : World → ℕ → Tests → Type 0
 TestsFollow W n ts = (K : Site) (w : Place) (z x yes no a b : ℕ) (μ : Frames) (m : Store) (σ : State)
-    → TestsCode K.code w z ts yes no a b → TestsIn K.scope ts → K.ground.hold K.meant.frame z ≡ Some x → InPlace W K w (hidden_tests ts)
+    → TestsCode K.code w z ts yes no a b → TestsIn K.scope ts → K.ground.hold K.meant.frame z ≡ Some x → x < 65536 → InPlace W K w (hidden_tests ts)
     → Inside W K.ground a b → Now W (suc n) K μ m σ
     → Answered W (suc n) K w.around (λ s vs σ. Tested W (suc n) K.ground yes no s vs σ) (here K a [] μ m)
     (tests W.program (next W n) ts K.meant x σ).answer (tests W.program (next W n) ts K.meant x σ).state
