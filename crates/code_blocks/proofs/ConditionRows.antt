@@ -18,7 +18,7 @@ use Rattle.code_blocks.specs.Translation.{turned, answer, where_related, forms, 
 use Rattle.code_blocks.specs.Writing.{Env, in_part, end_at}
 use Rattle.code_blocks.proofs.Known.{Known}
 use Rattle.code_blocks.proofs.Lying.{Laid, laid, both_lie, part_lies, own_lies, out_lies, own_join}
-use Rattle.code_blocks.proofs.Own.{comparison_own}
+use Rattle.code_blocks.proofs.Own.{all_fixed, comparison_own}
 use Rattle.code_blocks.proofs.Values.{jump_depth, operands_depth}
 use Rattle.code_blocks.proofs.ExpressionRows.{L, next, Value, Jumped, Operands, past_value}
 
@@ -35,7 +35,7 @@ module _ (S : Laid) where
   own_then_out w is l part target E a b o at h eq =
       let x = both_lie S (Does is) (Out l part) E w.around w.depth a h in
       let c = a + bytes_in is in
-      own_join S w is (leap_to l target ∷ []) a c b o (own_lies S w is E a c o x.0 refl)
+      own_join S w is (leap_to l target ∷ []) a c b (all_fixed is o) (own_lies S w is E a c o x.0 refl)
       (out_lies S (record w { depth = left_of is w.depth }) l part target E c b at x.1 (omega (arith, eq)))
 
   module _ (Γ : Scope) where

@@ -55,11 +55,11 @@ left_arms (AndArmBlock labels slot words b arms) E a =
 
 -- each phrase has arms
 
-abbrev AllArmed : List Pending → Type 0
+abbrev pub AllArmed : List Pending → Type 0
 AllArmed [] = Unit {0}
 AllArmed (q ∷ ps) = HasArms q.arms × AllArmed ps
 
-armed_both : (ps qs : List Pending) → AllArmed ps → AllArmed qs → AllArmed (ps ++ qs)
+pub armed_both : (ps qs : List Pending) → AllArmed ps → AllArmed qs → AllArmed (ps ++ qs)
 armed_both [] qs g h = h
 armed_both (q ∷ ps) qs g h = (g.0, armed_both ps qs g.1 h)
 
@@ -71,7 +71,7 @@ armed_unless : (n : ℕ) (ps : List Pending) → AllArmed ps → AllArmed (unles
 armed_unless zero ps h = tt
 armed_unless (suc n) ps h = h
 
-armed_block : (b : Block) (E : Env) (a : ℕ) → AllArmed (block_phrases b E a)
+pub armed_block : (b : Block) (E : Env) (a : ℕ) → AllArmed (block_phrases b E a)
 armed_block (Does is) E a = tt
 armed_block (Calls call takes puts arms) E a = armed_own arms E a (a + bytes_of call)
 armed_block (Both b c) E a = armed_both (block_phrases b E a) (block_phrases c E (a + size b)) (armed_block b E a) (armed_block c E (a + size b))
@@ -83,7 +83,7 @@ armed_block (Enables arms b) E a =
     armed_unless (size b) (own_phrase arms E a (a + size b) ++ block_phrases b E a)
     (armed_both (own_phrase arms E a (a + size b)) (block_phrases b E a) (armed_own arms E a (a + size b)) (armed_block b E a))
 
-armed_arms : (arms : ArmBlocks) (E : Env) (a : ℕ) → AllArmed (arms_phrases arms E a)
+pub armed_arms : (arms : ArmBlocks) (E : Env) (a : ℕ) → AllArmed (arms_phrases arms E a)
 armed_arms NoArmBlock E a = tt
 armed_arms (AndArmBlock labels slot words b arms) E a =
     armed_both (block_phrases (region b) E a) (arms_phrases arms E (a + size (region b))) (armed_block (region b) E a) (armed_arms arms E (a + size (region b)))

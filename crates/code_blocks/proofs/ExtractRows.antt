@@ -12,11 +12,10 @@ use Rattle.mesa_types.specs.Sound.{Scope, VariableIn, AllDiffer, ExprIn, Suffixe
 use Rattle.mesa_types.proofs.WordSizes.{values_have_words}
 use Rattle.code_relation.specs.CodeFor.{words_taken, words_over}
 use Rattle.code_relation.specs.OwnCode.{pop_code, lift_code, check_code}
-use Rattle.code_blocks.specs.Own.{left_of, IsFixed, AreOwn, bytes_in}
+use Rattle.code_blocks.specs.Own.{left_of, IsOwn, AreOwn, bytes_in}
 use Rattle.mesa_types.specs.declared.typed_parts.Base.TheVariants.{Signed, Unsigned}
 use Rattle.code_forms.specs.declared.instruction.Instruction.{Instruction}
 use Rattle.code_forms.specs.declared.instruction.Instruction.TheVariants as i
-use Rattle.code_forms.specs.Instructions.{effect_of}
 use Rattle.code_relation.specs.CodeFor.{TargetsCode, leaving, extract, no_targets, and_target, and_element}
 use Rattle.code_relation.specs.Reading.{Coded, Place, Own, deeper, beyond}
 use Rattle.code_relation.specs.Slots.{store, store_within, fields_of}
@@ -85,7 +84,7 @@ brought_left n k r x m h some =
     ∙ (ap (left_of (check_code r ++ x ∷ [])) (lift_left n k m h)
     ∙ (left_both (check_code r) (x ∷ []) m ∙ ap (left_of (x ∷ [])) (check_left r m some)))
 
-brought_own : (n k : ℕ) (r : Range) (x : Instruction) → IsFixed (effect_of x) → AreOwn (lift_code n k ++ (check_code r ++ x ∷ []))
+brought_own : (n k : ℕ) (r : Range) (x : Instruction) → IsOwn x → AreOwn (lift_code n k ++ (check_code r ++ x ∷ []))
 brought_own n k r x h = own_both (lift_code n k) _ (lift_own n k) (own_both (check_code r) _ (check_own r) (h, tt))
 
 -- the parts that are taken differ from those before

@@ -17,7 +17,7 @@ ends_with : (phrases : List Phrase) (code : List Spot) (start end : ℕ) → End
 ends_with [] code start end e f = tt
 ends_with (p ∷ ps) code start end e f = e ∙ sym f
 
-regions_fill : (m : Module) (p : Procedure) → RegionsFill (procedure_code m p)
+pub regions_fill : (m : Module) (p : Procedure) → RegionsFill (procedure_code m p)
 regions_fill m p =
     let B = body_block m p in
     let w = written B in

@@ -5,14 +5,18 @@ pub mod Bodies
 pub mod Bytes
 pub mod CallRows
 pub mod CaseRows
+pub mod Clear
+pub mod Closed
 pub mod Coding
 pub mod ConditionRows
 pub mod ControlBlocks
 pub mod Counting
+pub mod Edges
 pub mod ExpressionRows
 pub mod ExtractRows
 pub mod Filling
 pub mod InOrder
+pub mod JumpRules
 pub mod Keeping
 pub mod Kept
 pub mod Known
@@ -27,6 +31,7 @@ pub mod Nesting
 pub mod Own
 pub mod OwnBytes
 pub mod Parts
+pub mod PhraseRules
 pub mod Placed
 pub mod PlainBlocks
 pub mod Reaching
@@ -35,6 +40,7 @@ pub mod SignalBlocks
 pub mod Standing
 pub mod StatementDepths
 pub mod StatementRows
+pub mod Telling
 pub mod TreeWeights
 pub mod Values
 pub mod Written

@@ -27,7 +27,7 @@ use Rattle.code_blocks.proofs.Bytes.{block_bytes}
 use Rattle.code_blocks.proofs.Known.{Known, known_more}
 use Rattle.code_blocks.proofs.Labels.{are_fresh, known_in_labelled}
 use Rattle.code_blocks.proofs.Lying.{Laid, laid, both_lie, part_lies, own_lies, one_stands, own_join, has_parts, inside_block}
-use Rattle.code_blocks.proofs.Own.{give_own, start_own, step_own, left_both}
+use Rattle.code_blocks.proofs.Own.{all_fixed, give_own, start_own, step_own, left_both}
 use Rattle.code_blocks.proofs.StatementDepths.{store_left}
 use Rattle.code_blocks.proofs.Values.{none, word_is, own_left, behind, jump_depth}
 use Rattle.code_blocks.proofs.ExpressionRows.{L, next, Value, Jumped, past_bounds, bounds_row}
@@ -185,7 +185,7 @@ module _ (S : Laid) where
       (n.1 ∙ ap (λ q. Some (entry back q (i.JumpBack a))) (round_depth Γ k cond s asked keeps w.slot w.depth)) n.2 (omega arith) in
       rounds r.offsets c d f done g m.2 (condition_row Γ cond asked E2 w plainly done c d refl y.0 refl)
       (stands E2 (with_labels es r.offsets (beyond (hidden_condition cond) w)) kn d f u.0 refl)
-      (own_join S w (step_code k) (i.JumpBack a ∷ []) f back done (step_own k) steps jump)
+      (own_join S w (step_code k) (i.JumpBack a ∷ []) f back done (all_fixed (step_code k) (step_own k)) steps jump)
       (finish_row Γ k cond es fin doing v.slot before r.inner (beyond (hidden_condition cond + hidden s + hidden_exits es) w) plainly a b done g at_end x.1
       (omega arith) refl eq)
       r.stand

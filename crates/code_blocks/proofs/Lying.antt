@@ -16,7 +16,7 @@ use Rattle.code_blocks.specs.Weights.{entries_bytes}
 use Rattle.code_blocks.specs.Writing.{Env, in_part, end_at, offset_of, entry, entries, block_code, Pending, block_phrases, own_phrase, region}
 use Rattle.code_blocks.proofs.Around.{Inside, inside_both, inside_wider, inside_two, inside_own, inside_unless, AreWritten, Spot, narrow, split, bare}
 use Rattle.code_blocks.proofs.Bytes.{leap_bytes, goes_bytes, block_bytes}
-use Rattle.code_blocks.proofs.Own.{alone_same}
+use Rattle.code_blocks.proofs.Own.{alone_same, AreFixed, own_fixed}
 
 -- the phrases of a block lie in it
 pub inside_block : (b : Block) (E : Env) (a : ℕ) → Inside a (a + size b) (block_phrases b E a)
@@ -104,7 +104,7 @@ module _ (S : Laid) where
   own_stands w (i ∷ is) a b o h f e =
       one_more (ap₂ read_of h.0 (f a (omega arith) (omega (arith, e, some_bytes i))))
       (own_stands (behind P i w) is (a + bytes_of i) b o.1
-      (subst (λ n. Has P.entries (a + bytes_of i) (entries is (a + bytes_of i) n)) (alone_same P.routine i w.depth o.0) h.1)
+      (subst (λ n. Has P.entries (a + bytes_of i) (entries is (a + bytes_of i) n)) (alone_same P.routine i w.depth (own_fixed i o.0)) h.1)
       (λ c x y. f c (omega (arith, x)) y)
       (omega (arith, e)))
 
@@ -137,12 +137,12 @@ module _ (S : Laid) where
 
   -- own code behind own code
 
-  behind_left : (is : List Instruction) (w : Place) → AreOwn is → behind_all P is w ≡ record w { depth = left_of is w.depth }
+  behind_left : (is : List Instruction) (w : Place) → AreFixed is → behind_all P is w ≡ record w { depth = left_of is w.depth }
   behind_left [] w h = refl
   behind_left (i ∷ is) w h =
       behind_left is (behind P i w) h.1 ∙ ap (λ n. record w { depth = left_of is n }) (sym (alone_same P.routine i w.depth h.0))
 
-  pub own_join : (w : Place) (is js : List Instruction) (a c b : ℕ) → AreOwn is → Own P w is a c
+  pub own_join : (w : Place) (is js : List Instruction) (a c b : ℕ) → AreFixed is → Own P w is a c
       → Own P (record w { depth = left_of is w.depth }) js c b → Own P w (is ++ js) a b
   own_join w is js a c b o p q = own_code_joins.joins P w is js a c b p (subst (λ v. Own P v js c b) (sym (behind_left is w o)) q)
 

@@ -89,13 +89,13 @@ pub record Ranged (w : Written) : Type 0 where
   pub inside : Inside 0 w.end w.found
   pub nested : Nested w.found
 
-ranged_first : (b : Block) → Ranged (first_region b)
+pub ranged_first : (b : Block) → Ranged (first_region b)
 ranged_first b = record {
   inside = inside_wider 0 (0 + size b) 0 (size b) (block_phrases b in_procedure 0) (omega arith) (omega arith) (inside_block b in_procedure 0);
   nested = nested_block b in_procedure 0;
 }
 
-ranged_with : (w : Written) (o : Option Pending) → Ranged w → Ranged (with_arms w o)
+pub ranged_with : (w : Written) (o : Option Pending) → Ranged w → Ranged (with_arms w o)
 ranged_with w None h = h
 ranged_with w (Some q) h =
     let new = w.end + arms_size q.arms in
@@ -123,7 +123,7 @@ nested_get (r ∷ ps) h zero (suc k) q p lt e f = let same : r ≡ q = cc in sub
 nested_get (r ∷ ps) h (suc j) (suc k) q p lt e f = nested_get ps h.1 j k q p (omega (arith, lt)) e f
 
 -- the phrase of a number, as it was found
-found_as : (b : Block) (w : Written) → Kept b w → length w.done ≡ length w.found → (k : ℕ) (p : Phrase) → slice_get w.done k ≡ Some p
+pub found_as : (b : Block) (w : Written) → Kept b w → length w.done ≡ length w.found → (k : ℕ) (p : Phrase) → slice_get w.done k ≡ Some p
     → (q : Pending) × (slice_get w.found k ≡ Some q) × (p.from ≡ q.from) × (p.to ≡ q.upto)
 found_as b w kept all k p e =
     let lt = slice_get_within w.done k p e in

@@ -1,4 +1,4 @@
--- Own code calls and raises nothing.
+-- Own code calls and raises nothing, and jumps nowhere.
 use Rattle.std.proofs.Common.{◌≡◌, refl, ap, ◌∙◌, ℕ, zero, suc, ◌+◌, ◌-◌, List, [], ◌∷◌, ◌++◌, length, Bool, true, false, nat_eq, if◌then◌else◌}
 use Rattle.mesa_types.specs.declared.typed_parts.Base.{Base}
 use Rattle.mesa_types.specs.declared.typed_parts.Base.TheVariants.{Signed, Unsigned}
@@ -15,15 +15,16 @@ use Rattle.mesa_types.specs.declared.relation.Relation.{Relation}
 use Rattle.mesa_types.specs.declared.relation.Relation.TheVariants.{Equal, NotEqual, Less, AtMost, Greater, AtLeast}
 use Rattle.code_forms.specs.declared.around.Moved.{Moved}
 use Rattle.code_forms.specs.declared.instruction.Instruction.{Instruction}
+use Rattle.code_forms.specs.declared.instruction.Instruction.TheVariants as i
 use Rattle.code_forms.specs.Instructions.{Effect, Fixed, OfProcedure, OfSignal, OfLink, effect_of}
 use Rattle.code_forms.specs.Depths.{depth_after}
 use Rattle.code_forms.specs.Routine.{Routine, effect_words}
 use Rattle.code_relation.specs.Laws.{left_by}
 use Rattle.code_relation.specs.Loops.{Counter, NoCounter, CountedIn, start_code, some_code, up_code, down_code, when, give_code, step_code}
-use Rattle.code_relation.specs.OwnCode.{pop_code, lift_code, drop_code, field_code, check_code, from_code, index_code, less, comparison, is_opposite, not_if, jump_where, relation_code, operator_code, less_code, bound_code, within_code, size_for, size_after, without, rolls, arrange_from, arrange_code}
+use Rattle.code_relation.specs.OwnCode.{pop_code, lift_code, drop_code, field_code, check_code, from_code, index_code, less, comparison, is_opposite, not_if, relation_code, operator_code, less_code, bound_code, within_code, size_for, size_after, without, rolls, arrange_from, arrange_code}
 use Rattle.code_relation.specs.Reading.{Coded}
 use Rattle.code_relation.specs.Slots.{load, store, load_within, store_within, clear, zero_code, copy_code, spread_code}
-use Rattle.code_blocks.specs.Own.{alone, left_of, IsFixed, AreOwn}
+use Rattle.code_blocks.specs.Own.{alone, left_of, IsFixed, IsOwn, AreOwn}
 
 effect_alone : (r : Routine) (x : Effect) → IsFixed x → effect_words alone x ≡ effect_words r x
 effect_alone r (Fixed takes puts) h = refl
@@ -35,11 +36,68 @@ effect_alone r (OfLink n) h = absurd h
 pub alone_same : (r : Routine) (x : Instruction) (d : ℕ) → IsFixed (effect_of x) → depth_after alone x d ≡ depth_after r x d
 alone_same r x d h = ap (λ (m : Moved). d - m.takes + m.puts) (effect_alone r (effect_of x) h)
 
+-- own code calls and raises nothing, and jumps nowhere
+pub own_fixed : (x : Instruction) → IsOwn x → IsFixed (effect_of x)
+own_fixed (i.Lit word) h = h
+own_fixed (i.Str literal) h = h
+own_fixed (i.LoadL slot words) h = h
+own_fixed (i.StoreL slot words) h = h
+own_fixed (i.LoadG slot words) h = h
+own_fixed (i.StoreG slot words) h = h
+own_fixed (i.LoadLX slot extent words) h = h
+own_fixed (i.StoreLX slot extent words) h = h
+own_fixed (i.LoadGX slot extent words) h = h
+own_fixed (i.StoreGX slot extent words) h = h
+own_fixed (i.Index count size) h = h
+own_fixed i.Add h = h
+own_fixed i.Sub h = h
+own_fixed i.Mul h = h
+own_fixed i.Neg h = h
+own_fixed i.DivI h = h
+own_fixed i.ModI h = h
+own_fixed i.DivC h = h
+own_fixed i.ModC h = h
+own_fixed i.Eq h = h
+own_fixed i.LessI h = h
+own_fixed i.LessC h = h
+own_fixed i.Not h = h
+own_fixed (i.CheckI least most) h = h
+own_fixed (i.CheckC least most) h = h
+own_fixed (i.Jump target) h = absurd h
+own_fixed (i.JumpIf target) h = absurd h
+own_fixed (i.JumpIfNot target) h = absurd h
+own_fixed (i.JumpBack target) h = absurd h
+own_fixed i.StrLen h = h
+own_fixed i.StrAt h = h
+own_fixed (i.Call procedure) h = h
+own_fixed (i.CallLink link) h = h
+own_fixed i.Return h = h
+own_fixed (i.Raise signal) h = h
+own_fixed (i.RaiseLink link) h = h
+own_fixed (i.RaiseHost fault) h = h
+own_fixed i.ArmEnd h = h
+own_fixed (i.Resume words) h = h
+own_fixed (i.Leave arms target) h = absurd h
+own_fixed (i.LeaveReturn arms) h = absurd h
+own_fixed (i.Pop words) h = h
+own_fixed (i.Roll words over) h = h
+own_fixed (i.ZeroL slot words) h = h
+own_fixed (i.ZeroG slot words) h = h
+
+-- jumps take and put the same words in every module too
+abbrev pub AreFixed : List Instruction → Type 0
+AreFixed [] = Unit {0}
+AreFixed (x ∷ is) = IsFixed (effect_of x) × AreFixed is
+
+pub all_fixed : (is : List Instruction) → AreOwn is → AreFixed is
+all_fixed [] h = tt
+all_fixed (x ∷ is) h = (own_fixed x h.0, all_fixed is h.1)
+
 pub own_both : (is js : List Instruction) → AreOwn is → AreOwn js → AreOwn (is ++ js)
 own_both [] js g h = h
 own_both (x ∷ is) js g h = (g.0, own_both is js g.1 h)
 
-pub own_one : (x : Instruction) → IsFixed (effect_of x) → AreOwn (x ∷ [])
+pub own_one : (x : Instruction) → IsOwn x → AreOwn (x ∷ [])
 own_one x h = (h, tt)
 
 pub own_if : (b : Bool) (is js : List Instruction) → AreOwn is → AreOwn js → AreOwn (if b then is else js)
@@ -73,7 +131,7 @@ from_own (suc n) = (tt, (tt, tt))
 pub index_own : (r : Range) (first n words : ℕ) → AreOwn (index_code r first n words)
 index_own r first n words = own_both (check_code r) _ (check_own r) (own_both (from_code first) _ (from_own first) (tt, tt))
 
-less_own : (b : Base) → IsFixed (effect_of (less b))
+less_own : (b : Base) → IsOwn (less b)
 less_own Signed = tt
 less_own Unsigned = tt
 
@@ -91,10 +149,6 @@ not_own false = tt
 
 pub relation_own : (b : Base) (o : Relation) → AreOwn (relation_code b o)
 relation_own b o = own_both (comparison b o) _ (comparison_own b o) (not_own (is_opposite o))
-
-pub where_own : (sense : Bool) (target : ℕ) → IsFixed (effect_of (jump_where sense target))
-where_own true target = tt
-where_own false target = tt
 
 pub operator_own : (t : ℕ) (o : Operator) → AreOwn (operator_code t o)
 operator_own t operator.Add = (tt, tt)
@@ -144,23 +198,23 @@ arrange_own places sizes = arranged_own 0 places sizes
 
 -- variables
 
-pub load_own : (P : Coded) (h : Home) (offset words : ℕ) → IsFixed (effect_of (load P h offset words))
+pub load_own : (P : Coded) (h : Home) (offset words : ℕ) → IsOwn (load P h offset words)
 load_own P (Local n) offset words = tt
 load_own P (Global n) offset words = tt
 
-pub store_own : (P : Coded) (h : Home) (offset words : ℕ) → IsFixed (effect_of (store P h offset words))
+pub store_own : (P : Coded) (h : Home) (offset words : ℕ) → IsOwn (store P h offset words)
 store_own P (Local n) offset words = tt
 store_own P (Global n) offset words = tt
 
-pub load_within_own : (P : Coded) (h : Home) (words : ℕ) → IsFixed (effect_of (load_within P h words))
+pub load_within_own : (P : Coded) (h : Home) (words : ℕ) → IsOwn (load_within P h words)
 load_within_own P (Local n) words = tt
 load_within_own P (Global n) words = tt
 
-pub store_within_own : (P : Coded) (h : Home) (words : ℕ) → IsFixed (effect_of (store_within P h words))
+pub store_within_own : (P : Coded) (h : Home) (words : ℕ) → IsOwn (store_within P h words)
 store_within_own P (Local n) words = tt
 store_within_own P (Global n) words = tt
 
-clear_own : (P : Coded) (h : Home) (words : ℕ) → IsFixed (effect_of (clear P h words))
+clear_own : (P : Coded) (h : Home) (words : ℕ) → IsOwn (clear P h words)
 clear_own P (Local n) words = tt
 clear_own P (Global n) words = tt
 
@@ -211,7 +265,7 @@ step_own (CountedIn z g true) = (tt, (tt, (tt, (tt, (tt, (tt, (tt, (tt, tt))))))
 pub left_same : (P : Coded) (is : List Instruction) (d : ℕ) → AreOwn is → left_of is d ≡ left_by P is d
 left_same P [] d h = refl
 left_same P (x ∷ is) d h =
-    ap (left_of is) (alone_same P.routine x d h.0) ∙ left_same P is (depth_after P.routine x d) h.1
+    ap (left_of is) (alone_same P.routine x d (own_fixed x h.0)) ∙ left_same P is (depth_after P.routine x d) h.1
 
 pub left_both : (is js : List Instruction) (d : ℕ) → left_of (is ++ js) d ≡ left_of js (left_of is d)
 left_both [] js d = refl

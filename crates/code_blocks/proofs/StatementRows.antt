@@ -23,7 +23,7 @@ use Rattle.code_blocks.specs.Translation.{has_index, at_element, past_else, form
 use Rattle.code_blocks.specs.Writing.{Env, in_part, end_at}
 use Rattle.code_blocks.proofs.Known.{Known, way_to, goes_right, known_in_marked}
 use Rattle.code_blocks.proofs.Lying.{Laid, laid, both_lie, part_lies, own_lies, out_lies, goes_lies, own_join}
-use Rattle.code_blocks.proofs.Own.{own_both, pop_own, arrange_own, store_own, store_within_own, zero_own, spread_own}
+use Rattle.code_blocks.proofs.Own.{all_fixed, own_both, pop_own, arrange_own, store_own, store_within_own, zero_own, spread_own}
 use Rattle.code_blocks.proofs.StatementDepths.{zero_left}
 use Rattle.code_blocks.proofs.Values.{path_depth, jump_depth}
 use Rattle.code_blocks.proofs.ExpressionRows.{L, next, indexed, not_indexed, Value, Jumped, Values, Path, value_then, past_values}
@@ -224,7 +224,7 @@ module _ (S : Laid) where
         let g = goes_row arms Leave E v known r d b n.1 (omega (arith, eq)) in
         return_with c g.0 (vs E w known a c m.0 refl) g.1
         (subst (λ js. Own P (past_all es w) js c b) (append_assoc arranges (x0 ∷ []) (jump_to arms g.0 ∷ []))
-        (own_join S (past_all es w) is (jump_to arms g.0 ∷ []) c d b own (own_lies S (past_all es w) is E c d own n.0 refl) g.2))
+        (own_join S (past_all es w) is (jump_to arms g.0 ∷ []) c d b (all_fixed is own) (own_lies S (past_all es w) is E c d own n.0 refl) g.2))
 
     pub no_statements_row : AllStand Γ NoStmts
     no_statements_row E w known a b l eq = subst (λ z. StmtsCode P w NoStmts a z) {x = a} {y = b} (omega (arith, eq)) no_statements

@@ -3,10 +3,17 @@ use Rattle.std.specs.Prelude.{◌≡◌, ℕ, ◌*◌, ◌<◌, ◌≤◌, List,
 use Rattle.mesa_types.specs.Typed.{Module}
 use Rattle.mesa_types.specs.Nodes.{nodes}
 use Rattle.mesa_types.specs.Sound.{Sound}
+use Rattle.code_forms.specs.declared.instruction.Instruction.{Instruction}
+use Rattle.code_forms.specs.declared.instruction.Instruction.TheVariants.{JumpIf, JumpIfNot, JumpBack}
+use Rattle.code_forms.specs.declared.module_code.Arm.{Arm}
+use Rattle.code_forms.specs.declared.module_code.CodeEntry.{CodeEntry}
 use Rattle.code_forms.specs.declared.module_code.CodeProcedure.{CodeProcedure}
 use Rattle.code_forms.specs.declared.module_code.Phrase.{Phrase}
-use Rattle.code_forms.specs.Phrases.{EndsWithCode, Nests, RegionsFollow, first_start}
-use Rattle.code_forms.specs.Routine.{spots}
+use Rattle.code_forms.specs.declared.region.Region.TheVariants.{Body, ArmOf}
+use Rattle.code_forms.specs.Jumps.{JumpsRightly}
+use Rattle.code_forms.specs.Phrases.{EndsWithCode, Nests, PhrasesFill, RegionsFollow, first_start}
+use Rattle.code_forms.specs.Regions.{region_at}
+use Rattle.code_forms.specs.Routine.{Routine, spots}
 use Rattle.code_forms.specs.Ranges.{KeepsRanges, InOrder}
 use Rattle.code_forms.specs.Valid.{AreValid, HaveDepths}
 use Rattle.code_relation.specs.Modules.{PartsFor}
@@ -44,6 +51,36 @@ pub record RegionsFill (c : CodeProcedure) : Type 0 where
 -- so it is in each procedure, also where a module is not sound
 abbrev pub RegionsFillTheCode : Type 0
 RegionsFillTheCode = (m : Module) → All RegionsFill (module_code m).procedures
+
+-- the phrases of each procedure are right, and the regions of their arms fill its code, also where the module is not sound
+abbrev pub PhrasesStand : Type 0
+PhrasesStand = (m : Module) → All (λ (c : CodeProcedure). PhrasesFill (spots c.code) c.phrases) (module_code m).procedures
+
+-- each offset before the first arm is in the body's region, and each from an arm's beginning up to its end in that arm's
+pub record RegionsTell (phrases : List Phrase) : Type 0 where
+  pub body : (o : ℕ) → ((p : Phrase) → slice_get phrases 0 ≡ Some p → o < first_start p.arms) → region_at phrases o ≡ Body
+  pub arms : (k j : ℕ) (p : Phrase) (a : Arm) (o : ℕ) → slice_get phrases k ≡ Some p → slice_get p.arms j ≡ Some a → a.start ≤ o → o < a.end
+      → region_at phrases o ≡ ArmOf k j
+
+-- so it is in each procedure, also where a module is not sound
+abbrev pub RegionsAreTold : Type 0
+RegionsAreTold = (m : Module) → All (λ (c : CodeProcedure). RegionsTell c.phrases) (module_code m).procedures
+
+-- a conditional jump, or a jump back
+abbrev pub JumpsInside : Instruction → Type 0
+JumpsInside (JumpIf target) = Unit {0}
+JumpsInside (JumpIfNot target) = Unit {0}
+JumpsInside (JumpBack target) = Unit {0}
+JumpsInside _ = ⊥
+
+-- those of a procedure lead where they may: to an instruction of their region, forward or back
+abbrev pub InsideJumpsRight : CodeProcedure → Type 0
+InsideJumpsRight c = (r : Routine) → r.code ≡ spots c.code → r.phrases ≡ c.phrases → (k : ℕ) (e : CodeEntry) → slice_get c.code k ≡ Some e
+    → JumpsInside e.instruction → JumpsRightly r e.at e.instruction
+
+-- so it is in each procedure, also where a module is not sound
+abbrev pub JumpsInsideAreRight : Type 0
+JumpsInsideAreRight = (m : Module) → All InsideJumpsRight (module_code m).procedures
 
 -- these parts of a code stand for the module, are valid with the depths beside the instructions, and are no longer than a file asks
 pub record StandFor (m : Module) (c : Parts) : Type 0 where

@@ -1,6 +1,7 @@
 -- Own code by itself: its bytes, and the words on the operand stack behind it, where it calls and raises nothing (rule of this project).
 use Rattle.std.specs.Prelude.{ℕ, ◌+◌, List, [], ◌∷◌}
 use Rattle.code_forms.specs.declared.instruction.Instruction.{Instruction}
+use Rattle.code_forms.specs.declared.instruction.Instruction.TheVariants.{Jump, JumpIf, JumpIfNot, JumpBack, Leave, LeaveReturn}
 use Rattle.code_forms.specs.Instructions.{Effect, Fixed, OfProcedure, OfSignal, OfLink, effect_of, bytes_of}
 use Rattle.code_forms.specs.Depths.{depth_after}
 use Rattle.code_forms.specs.Routine.{Routine}
@@ -25,6 +26,16 @@ IsFixed (OfProcedure n) = ⊥
 IsFixed (OfSignal n) = ⊥
 IsFixed (OfLink n) = ⊥
 
+-- and that jumps nowhere
+abbrev pub IsOwn : Instruction → Type 0
+IsOwn (Jump target) = ⊥
+IsOwn (JumpIf target) = ⊥
+IsOwn (JumpIfNot target) = ⊥
+IsOwn (JumpBack target) = ⊥
+IsOwn (Leave arms target) = ⊥
+IsOwn (LeaveReturn arms) = ⊥
+IsOwn i = IsFixed (effect_of i)
+
 abbrev pub AreOwn : List Instruction → Type 0
 AreOwn [] = Unit {0}
-AreOwn (i ∷ is) = IsFixed (effect_of i) × AreOwn is
+AreOwn (i ∷ is) = IsOwn i × AreOwn is

@@ -1,4 +1,4 @@
-ghost use Rattle.code_blocks.specs.Laws.{ModulesAreCoded, ModulesAreInOrder, ModulesAreShort, PhrasesNest, RegionsFillTheCode};
+ghost use Rattle.code_blocks.specs.Laws.{JumpsInsideAreRight, ModulesAreCoded, ModulesAreInOrder, ModulesAreShort, PhrasesNest, PhrasesStand, RegionsAreTold, RegionsFillTheCode};
 
 /// The code of each sound module stands for it.
 #[tactic(auto, using(crate::proofs::Coding::modules_are_coded))]
@@ -29,4 +29,23 @@ pub fn phrases_nest()
 #[tactic(auto, using(crate::proofs::Filling::regions_fill_the_code))]
 pub fn regions_fill_the_code()
     ensures { RegionsFillTheCode }
+{}
+
+/// Each procedure's phrases are right, as valid code asks: their ranges begin and end at instructions, each lies in one region
+/// and before those of its arms, which begin at instructions and follow each other.
+#[tactic(auto, using(crate::proofs::PhraseRules::phrases_stand))]
+pub fn phrases_stand()
+    ensures { PhrasesStand }
+{}
+
+/// Each offset before the first arm is in the body's region, and each from an arm's beginning up to its end in that arm's.
+#[tactic(auto, using(crate::proofs::Telling::regions_are_told))]
+pub fn regions_are_told()
+    ensures { RegionsAreTold }
+{}
+
+/// Conditional jumps and jumps back lead to an instruction of their region, forward or back.
+#[tactic(auto, using(crate::proofs::JumpRules::jumps_inside_are_right))]
+pub fn jumps_inside_are_right()
+    ensures { JumpsInsideAreRight }
 {}
