@@ -138,9 +138,11 @@ module _ (W : World) (bound : ℕ) (K : Site) (around : List ℕ) (past : ℕ) (
         → (f ≡ g) → Did W bound K around b s (k l σ)
     unfolding give
     here_label l g None e z h same =
-        subst (λ r. Did W bound K around b s r) (sym (none l e))
-        (tt, subst (λ q. Jumps W bound K.ground K.points around s q (At l) σ) (sym same)
-        (jumps_found W bound K.ground K.points E around s g (At l) σ (λ t d. none_by (nat_eq f g) (label_at es offsets l) (K.points g (At l)) t e d) h))
+        subst (λ r. Did W bound K around b s r) (sym (none l e)) (
+          tt,
+          subst (λ q. Jumps W bound K.ground K.points around s q (At l) σ) (sym same)
+              (jumps_found W bound K.ground K.points E around s g (At l) σ (λ t d. none_by (nat_eq f g) (label_at es offsets l) (K.points g (At l)) t e d) h),
+        )
     here_label l g (Some to) e z h same =
         let x = all l to e in
         let is = e ∙ ap Some x.1 in

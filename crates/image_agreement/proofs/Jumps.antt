@@ -136,8 +136,7 @@ module _ (W : World) (bound : ℕ) (K : Site) (w : Place) (hi : ℕ) (ctx : Cont
       let t = l.target in
       let x = ctx.targets K.meant.frame p t l.found in
       let found = found_there K.code.entries a (phrases_around K.code.routine.phrases a) (record { instruction = jump_to (suc k) to; depth = d; around = w.around }) r in
-      let nested = ctx.nested in
-      (
+      let nested = ctx.nested in (
         record {
           target = t;
           found = l.found;

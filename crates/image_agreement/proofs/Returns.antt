@@ -159,6 +159,8 @@ module _ (W : World) (n : ℕ) (K : Site) (w : Place) (hi : ℕ) (ctx : Context 
       (works_here W (suc n) K w hi ctx μ m σ d p.depth (push words []) j (record { operands = []; variables = new; globals = gs }) p.first
       (λ number. store_l_works (texts_of W) number (μ f) gs words [] (local_slot K.code first) (words_given es)
       (given_size es places js gives sound arranged ∙ sym shown.size)) h) in
-      did_later W (suc n) K w.around b (standing G d (push words []) μ m) (standing G (d + bytes_of j) [] (with_words μ f new) (begun_more m)) (record { answer = Go f Leave; state = τ }) goes
-      (tt, jumps_from W (suc n) K w hi ctx Leave arms (d + bytes_of j) p.other to (with_words μ f new) (begun_more m) τ leads p.second
-      (let y = p.within in inside (d + bytes_of j) (omega (arith, low)) y) agrees))
+      did_later W (suc n) K w.around b (standing G d (push words []) μ m) (standing G (d + bytes_of j) [] (with_words μ f new) (begun_more m)) (record { answer = Go f Leave; state = τ }) goes (
+        tt,
+        jumps_from W (suc n) K w hi ctx Leave arms (d + bytes_of j) p.other to (with_words μ f new) (begun_more m) τ leads p.second
+            (let y = p.within in inside (d + bytes_of j) (omega (arith, low)) y) agrees,
+      ))
