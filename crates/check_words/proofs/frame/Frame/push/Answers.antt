@@ -1,0 +1,14 @@
+use Rattle.std.proofs.Common.{ap, arith}
+use Rattle.mesa_types.specs.Plain.{kinds_of}
+use Rattle.mesa_types.specs.Shapes.{words_in_all}
+use Rattle.checking_rules.specs.PlainTypes.{plain}
+use Rattle.check_words.proofs.KindLaws.{pushed, words_more}
+use Rattle.check_words.proofs.frame.Frame.push.Goals as goal
+
+pub returns-in-Ok : goal.returns-in-Ok
+returns-in-Ok c = pushed c.args.self.now.fields c.push.new.self c.args.kind.now c.in_ok-kind.kind c.in-Ok.ensures.ok c.in_ok-kind.ensures
+
+pub invariant_of-self : goal.invariant_of-self
+invariant_of-self c =
+    let shape = pushed c.args.self.now.fields c.push.new.self c.args.kind.now c.in_ok-kind.kind c.in-Ok.ensures.ok c.in_ok-kind.ensures in
+    record { words_are = omega (arith, c.in_ok-words.ensures, c.in_ok-size.ensures, c.args.self.now.words_are, ap words_in_all shape, words_more (kinds_of c.args.self.now.fields) (plain c.args.kind.now)) }
