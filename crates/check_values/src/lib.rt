@@ -1,0 +1,14 @@
+//! Rules of values that look at no part of the text again: operators, literals, checks of what is given to a target, names with
+//! what follows them.
+#![tactic(auto)]
+
+mod operators;
+mod targets;
+mod values;
+
+pub use operators::{Applied, Meeting, Sort, operation, related, sort_of, turned};
+pub use targets::{checked, finish, range_for};
+pub use values::{
+    Done, Ends, compared, is_truth, letter, not_of, number, signed, step, string, truth,
+    truth_operand, within,
+};
