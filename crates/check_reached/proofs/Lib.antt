@@ -1,0 +1,3 @@
+pub mod FieldLoop
+pub mod ReachedLaws
+pub mod SuffixLaws
