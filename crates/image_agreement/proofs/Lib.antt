@@ -12,6 +12,8 @@ pub mod Chained
 pub mod Codes
 pub mod Control
 pub mod Counted
+pub mod Counters
+pub mod Counting
 pub mod Declares
 pub mod Doing
 pub mod Entering
@@ -55,6 +57,7 @@ pub mod Spending
 pub mod Stacks
 pub mod Starting
 pub mod Statements
+pub mod Stepping
 pub mod Stored
 pub mod Stores
 pub mod Storing
