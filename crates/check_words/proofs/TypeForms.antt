@@ -1,9 +1,9 @@
 -- What each form of a type of the code is as a plain one.
-use Rattle.std.proofs.Common.{◌≡◌, ℕ, List, [], ◌∷◌, map, Option, Some, None, refl, sym, ap, ◌∙◌}
+use Rattle.std.proofs.Common.{◌≡◌, ℕ, List, [], ◌∷◌, map, Some, refl, sym, ap, ◌∙◌}
 use Rattle.mesa_types.specs.declared.types.TypeTree.{TypeTree, roll-TypeTree}
 use Rattle.mesa_types.specs.declared.types.TypeTree.TheVariants as tree
 use Rattle.mesa_types.specs.declared.types.TypeTree.TheOpen.{TypeTree-F, FieldType-F}
-use Rattle.mesa_types.specs.declared.types.TypeTree.TheFolds.{fold-roll-TypeTree, fold-roll-FieldType, map-TypeTree, map-FieldType}
+use Rattle.mesa_types.specs.declared.types.TypeTree.TheFolds.{fold-roll-TypeTree, fold-roll-FieldType, map-TypeTree}
 use Rattle.mesa_types.specs.declared.types.FieldType.{FieldType, roll-FieldType, out-FieldType, roll-out-FieldType}
 use Rattle.mesa_types.specs.declared.types.Origin.{Origin}
 use Rattle.checking_rules.specs.PlainTypes as v

@@ -1,11 +1,11 @@
 -- What the code finds of a type is what is said of the plain one: sameness, elements, bases.
-use Rattle.std.proofs.Common.{◌≡◌, ◌↔◌, IsTrue, ℕ, Bool, true, false, List, [], ◌∷◌, map, refl, sym, ap, ◌∙◌, arith}
+use Rattle.std.proofs.Common.{◌≡◌, ◌↔◌, IsTrue, ℕ, Bool, true, false, List, [], ◌∷◌, refl, sym, ap, ◌∙◌, arith}
 use Rattle.std.specs.Prelude.{◌&&◌, Option, Some, None, option_map, nat_eq, bytes_eq}
 use Rattle.mesa_types.specs.Types as c
 use Rattle.mesa_types.specs.Types.{Measure, measure_of, measure_step, field_step, base_step}
 use Rattle.mesa_types.specs.declared.types.TypeTree.{TypeTree, roll-TypeTree, out-TypeTree, roll-out-TypeTree}
 use Rattle.mesa_types.specs.declared.types.TypeTree.TheVariants as tree
-use Rattle.mesa_types.specs.declared.types.TypeTree.TheOpen.{TypeTree-F, FieldType-F}
+use Rattle.mesa_types.specs.declared.types.TypeTree.TheOpen.{TypeTree-F}
 use Rattle.mesa_types.specs.declared.types.TypeTree.TheFolds.{fold-FieldType, fold-roll-TypeTree, map-TypeTree}
 use Rattle.mesa_types.specs.declared.types.FieldType.{FieldType}
 use Rattle.mesa_types.specs.declared.types.Origin.{Origin}

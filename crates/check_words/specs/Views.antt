@@ -1,10 +1,9 @@
 -- What the code's values stand for.
-use Rattle.std.specs.Prelude.{ℕ, List, [], map, Option, Some, None, option_map}
+use Rattle.std.specs.Prelude.{List, [], map, Option, Some, None, option_map}
 use Rattle.std.specs.Option.{option_copied}
 use denote.Ref.{Bor}
-use Rattle.mesa_types.specs.Plain.{expr, exprs, kinds_of}
+use Rattle.mesa_types.specs.Plain.{expr, kinds_of}
 use Rattle.mesa_types.specs.declared.types.FieldType.{FieldType}
-use Rattle.mesa_types.specs.declared.faces.Item.{Item}
 use Rattle.check_scopes.specs.Scopes.{Scope, nothing, over}
 use Rattle.check_scopes.specs.Shows.{means, shows}
 use Rattle.check_scopes.specs.declared.names.Names.{Names}

@@ -1,5 +1,5 @@
 -- The three words that count are held while a round runs.
-use Rattle.std.proofs.Common.{◌≡◌, ℕ, suc, ◌+◌, ◌<◌, ◌≤◌, List, refl, ap, subst, arith}
+use Rattle.std.proofs.Common.{ℕ, ◌+◌, ◌<◌, ◌≤◌, List, refl, ap, subst, arith}
 use Rattle.source_meaning.specs.State.{State}
 use Rattle.machine_steps.specs.State.{Store}
 use Rattle.code_relation.specs.Points.{Points}
@@ -7,7 +7,7 @@ use Rattle.code_relation.specs.Reading.{Destination}
 use Rattle.code_simulation.specs.Layout.{slots_of}
 use Rattle.image_agreement.specs.World.{World, hidden_of}
 use Rattle.image_agreement.specs.Standing.{Frames}
-use Rattle.image_agreement.specs.Relation.{Hold, heres, Agrees}
+use Rattle.image_agreement.specs.Relation.{heres, Agrees}
 use Rattle.image_agreement.specs.Contexts.{Site, Context}
 use Rattle.image_agreement.proofs.Chained.{holding_site, context_holding}
 use Rattle.image_agreement.proofs.Codes.{made_here, named_here}

@@ -1,10 +1,7 @@
 -- The end of a counted round: what its instructions make of the three words that count.
-use Rattle.std.proofs.Common.{◌≡◌, ℕ, zero, suc, ◌+◌, ◌<◌, List, [], ◌∷◌, length, true, false, Some, refl, sym, ap, ◌∙◌, arith}
+use Rattle.std.proofs.Common.{◌≡◌, ℕ, zero, suc, ◌+◌, ◌<◌, List, [], ◌∷◌, length, true, false, Some, ap, ◌∙◌, arith}
 use Rattle.mesa_types.specs.declared.typed_parts.Given.{Given}
-use Rattle.mesa_types.specs.Shapes.{words_in_all}
 use Rattle.mesa_types.specs.Operators.{wrap}
-use Rattle.mesa_types.specs.Operators as operator
-use Rattle.code_forms.specs.declared.instruction.Instruction.{Instruction}
 use Rattle.code_forms.specs.declared.instruction.Instruction.TheVariants as i
 use Rattle.source_meaning.specs.State.{State}
 use Rattle.machine_steps.specs.State.{Store}

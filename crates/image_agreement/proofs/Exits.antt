@@ -1,5 +1,5 @@
 -- Labels: a jump to one of them comes to its statement; jumps to others go further out.
-use Rattle.std.proofs.Common.{◌≡◌, ℕ, zero, suc, ◌+◌, List, [], ◌∷◌, get_or, Bool, true, false, Option, Some, None, refl, sym, ap, ◌∙◌, subst, arith}
+use Rattle.std.proofs.Common.{◌≡◌, ℕ, suc, ◌+◌, List, [], ◌∷◌, get_or, Bool, true, false, Option, Some, None, refl, sym, ap, ◌∙◌, subst, arith}
 use Rattle.std.specs.Prelude.{◌||◌, nat_eq, if◌then◌else◌}
 use Rattle.std.proofs.lemmas.Bool.{true≢false, false≢true, eqb-true}
 use Rattle.std.proofs.lemmas.Option.{none-some, same_Some}
@@ -9,7 +9,7 @@ use Rattle.mesa_types.specs.Typed.{Kinds, Point, Start, After, At, Leave, Stmt, 
 use Rattle.mesa_types.specs.Counts.{hidden, hidden_exits}
 use Rattle.mesa_types.specs.Sound as sound
 use Rattle.mesa_types.specs.Sound.{ExitsIn}
-use Rattle.source_meaning.specs.State.{State, Answer, Normal, Gives, Go, Resumed, Rejected, Retried, Continued, Uncaught, Spent, FrameLimit, Broken, Result, Run, give, branch, labelled_of}
+use Rattle.source_meaning.specs.State.{State, Answer, Normal, Gives, Go, Resumed, Rejected, Retried, Continued, Uncaught, Spent, FrameLimit, Broken, Run, give, branch, labelled_of}
 use Rattle.source_meaning.specs.Meaning.{does, exits, has_label}
 use Rattle.machine_steps.specs.State.{Target, Store, Stepped}
 use Rattle.code_relation.specs.CodeFor as row
@@ -26,7 +26,7 @@ use Rattle.image_agreement.specs.Answers.{Jumps, Done}
 use Rattle.image_agreement.specs.Promises.{next, here, Now, StatementFollows}
 use Rattle.image_agreement.proofs.Arriving.{comes_there}
 use Rattle.image_agreement.proofs.Doing.{Did, did_later, onward_done}
-use Rattle.image_agreement.proofs.Labels.{or_else, target_to, label_points, found_label, labelled_site, label_there}
+use Rattle.image_agreement.proofs.Labels.{or_else, target_to, label_points, found_label, labelled_site}
 use Rattle.image_agreement.proofs.Marks.{here_to}
 use Rattle.image_agreement.proofs.Moving.{place_part, place_first, run_order, onward_run, inside_part}
 

@@ -1,15 +1,14 @@
 -- Loops by rounds: the condition, the body, the jump back with its turn, what is done at the end.
-use Rattle.std.proofs.Common.{◌≡◌, ℕ, zero, suc, ◌+◌, ◌<◌, ◌≤◌, List, [], ◌∷◌, Bool, true, false, not, Option, Some, None, refl, sym, ap, ◌∙◌, subst, arith}
-use Rattle.std.specs.Prelude.{if◌then◌else◌}
+use Rattle.std.proofs.Common.{◌≡◌, ℕ, suc, ◌≤◌, [], ◌∷◌, Bool, true, false, not, refl, arith}
 use Rattle.std.proofs.lemmas.Bool.{true≢false, false≢true}
-use Rattle.mesa_types.specs.Typed.{At, Count, Endless, Counting, Expr, Stmt, Repeat, Exits, Loop, LoopOf, Finish, NoFinish, Finished, Condition, Always, While, Until}
-use Rattle.mesa_types.specs.Counts.{hidden, hidden_expr, hidden_exits, hidden_loop, hidden_finish, hidden_condition}
+use Rattle.mesa_types.specs.Typed.{Stmt, Finish, NoFinish, Finished, Condition, Always, While, Until}
+use Rattle.mesa_types.specs.Counts.{hidden_condition}
 use Rattle.mesa_types.specs.Operators.{differ, truth, is_true}
-use Rattle.mesa_types.specs.Sound.{LabelsIn, ConditionIn, FinishIn, LoopIn, StmtIn, in_labelled}
+use Rattle.mesa_types.specs.Sound.{ConditionIn}
 use Rattle.code_forms.specs.declared.instruction.Instruction.TheVariants as i
 use Rattle.source_meaning.specs.Value.{Word, Values, nth, word}
 use Rattle.source_meaning.specs.Value as value
-use Rattle.source_meaning.specs.State.{State, Answer, Normal, Gives, Go, Resumed, Rejected, Retried, Continued, Uncaught, Spent, FrameLimit, Broken, Result, Run, carry, after, give, give_value, give_word, branch, value_then, on_values, on_word, on_normal, normal_then, labelled, labelled_of, spend}
+use Rattle.source_meaning.specs.State.{State, Answer, Normal, Gives, Go, Resumed, Rejected, Retried, Continued, Uncaught, Spent, FrameLimit, Broken, Result, Run, carry, after, give, give_value, give_word, branch, value_then, on_values, on_word, spend}
 use Rattle.source_meaning.specs.Meaning as meaning
 use Rattle.source_meaning.specs.Meaning.{does, exits, condition, finish, loop, counted, one_round_less}
 use Rattle.machine_steps.specs.State.{Store, Stepped}
@@ -19,17 +18,17 @@ use Rattle.machine_steps.specs.Working.{works}
 use Rattle.code_relation.specs.CodeFor as row
 use Rattle.code_relation.specs.CodeFor.{LoopCode, ConditionCode, FinishCode, ExitsCode, label_at, with_labels}
 use Rattle.code_relation.specs.Loops.{Counter, NoCounter, CountedIn}
-use Rattle.code_relation.specs.Reading.{Destination, Offset, Place, Own, no_more, one_more, beyond}
+use Rattle.code_relation.specs.Reading.{Place, Own, no_more, one_more}
 use Rattle.code_simulation.specs.Reaches.{Reaches}
 use Rattle.image_agreement.specs.World.{World}
-use Rattle.image_agreement.specs.Standing.{Frames, at, fill}
+use Rattle.image_agreement.specs.Standing.{Frames}
 use Rattle.image_agreement.specs.Relation.{heres, Agrees, standing}
 use Rattle.image_agreement.specs.Contexts.{Site, Context, InPlace, Inside}
-use Rattle.image_agreement.specs.Answers.{Ended, Passed, Done}
-use Rattle.image_agreement.specs.Promises.{next, Now, ExpressionsFollow, StatementFollows, LoopFollows}
+use Rattle.image_agreement.specs.Answers.{Ended, Passed}
+use Rattle.image_agreement.specs.Promises.{next, Now, ExpressionsFollow}
 use Rattle.image_agreement.proofs.Branches.{led_on}
 use Rattle.image_agreement.proofs.Control.{IsControl, begun_more, agreed_begun, reaches_performed}
-use Rattle.image_agreement.proofs.Doing.{Did, did_later, null_row, onward_done}
+use Rattle.image_agreement.proofs.Doing.{Did, null_row, onward_done}
 use Rattle.image_agreement.proofs.Moving.{run_order, onward_run}
 use Rattle.image_agreement.proofs.Spending.{spend_on}
 

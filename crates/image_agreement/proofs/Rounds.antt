@@ -1,6 +1,6 @@
 -- A round of a loop behind its count: the condition, the body where the labels are visible, the next round by the jump back, and the end.
-use Rattle.std.proofs.Common.{◌≡◌, ℕ, suc, ◌+◌, ◌<◌, ◌≤◌, List, [], ◌∷◌, Option, Some, None, refl, sym, ap, ◌∙◌, subst, arith}
-use Rattle.mesa_types.specs.Typed.{At, Count, Endless, Counting, Stmt, Repeat, Exits, Loop, LoopOf, Finish, NoFinish, Finished, Condition}
+use Rattle.std.proofs.Common.{◌≡◌, ℕ, suc, ◌+◌, ◌<◌, ◌≤◌, List, [], ◌∷◌, Some, None, ap, subst, arith}
+use Rattle.mesa_types.specs.Typed.{At, Count, Endless, Stmt, Repeat, Exits, Loop, LoopOf, Finish, NoFinish, Finished, Condition}
 use Rattle.mesa_types.specs.Counts.{hidden, hidden_exits, hidden_loop, hidden_finish, hidden_condition}
 use Rattle.mesa_types.specs.Operators.{is_true}
 use Rattle.mesa_types.specs.Sound.{LabelsIn, FinishIn, ConditionIn, ExitsIn, LoopIn, StmtIn, in_labelled}

@@ -1,21 +1,21 @@
 -- SELECT: the selector is held in its hidden word, and control comes to the statement of the first case with a test that fits.
-use Rattle.std.proofs.Common.{◌≡◌, ℕ, zero, suc, ◌+◌, ◌<◌, ◌≤◌, List, [], ◌∷◌, length, ⊎_elim, Bool, true, false, Some, refl, sym, ap, ◌∙◌, subst, arith}
+use Rattle.std.proofs.Common.{◌≡◌, ℕ, suc, ◌+◌, ◌<◌, ◌≤◌, List, [], ◌∷◌, length, ⊎_elim, Bool, true, false, refl, sym, ap, ◌∙◌, subst, arith}
 use Rattle.std.specs.Prelude.{if◌then◌else◌}
 use Rattle.std.proofs.lemmas.Bool.{cases_lt}
-use Rattle.mesa_types.specs.Typed.{Kinds, Expr, Stmt, Select, Cases, Otherwise, AndCase, Tests}
-use Rattle.mesa_types.specs.Shapes.{one, words_in_all}
-use Rattle.mesa_types.specs.Counts.{hidden, hidden_expr, hidden_cases, hidden_tests, words_of}
+use Rattle.mesa_types.specs.Typed.{Expr, Stmt, Select, Cases, Otherwise, AndCase, Tests}
+use Rattle.mesa_types.specs.Shapes.{one}
+use Rattle.mesa_types.specs.Counts.{hidden, hidden_expr, hidden_cases, hidden_tests}
 use Rattle.mesa_types.specs.Operators.{truth, is_true}
 use Rattle.mesa_types.specs.Sound.{Selects, a_word, ExprIn, StmtIn, CasesIn}
 use Rattle.mesa_types.proofs.WordSizes.{sizes_agree}
 use Rattle.code_forms.specs.declared.instruction.Instruction.TheVariants as i
 use Rattle.source_meaning.specs.Value.{Word, Values, nth, word}
 use Rattle.source_meaning.specs.Value as value
-use Rattle.source_meaning.specs.State.{State, Answer, Result, Run, carry, after, branch, value_then, on_values, on_word}
+use Rattle.source_meaning.specs.State.{State, Run, carry, after, branch, on_values, on_word}
 use Rattle.source_meaning.specs.Meaning as meaning
 use Rattle.source_meaning.specs.Meaning.{does, cases}
 use Rattle.machine_steps.specs.State.{Store, Stepped}
-use Rattle.machine_steps.specs.Words.{put_words, push, popped, under}
+use Rattle.machine_steps.specs.Words.{put_words, push}
 use Rattle.machine_steps.specs.Working.{works, stores_local}
 use Rattle.code_relation.specs.CodeFor as row
 use Rattle.code_relation.specs.OwnCode.{pop_code}
@@ -28,7 +28,7 @@ use Rattle.code_simulation.proofs.Memory.{put_here, put_below, put_beyond}
 use Rattle.image_agreement.specs.World.{World, hidden_of}
 use Rattle.image_agreement.specs.Standing.{Frames}
 use Rattle.image_agreement.specs.Relation.{heres, Agrees, standing}
-use Rattle.image_agreement.specs.Contexts.{Site, Context, InPlace, Inside}
+use Rattle.image_agreement.specs.Contexts.{Site, Context}
 use Rattle.image_agreement.specs.Answers.{Comes}
 use Rattle.image_agreement.specs.Promises.{next, ExpressionsFollow, RaiseFollows, StatementFollows, CasesFollow, Tested}
 use Rattle.image_agreement.proofs.Chained.{held_there, hold_more, held_ground, holding_site, context_holding}

@@ -1,5 +1,5 @@
 -- At the end of a counted round the three words say one round less.
-use Rattle.std.proofs.Common.{◌≡◌, ℕ, suc, ◌+◌, ◌<◌, ◌≤◌, List, [], ◌∷◌, Bool, true, false, Some, None, refl, sym, ap, ◌∙◌, subst, arith}
+use Rattle.std.proofs.Common.{◌≡◌, ℕ, suc, ◌+◌, ◌<◌, ◌≤◌, List, [], ◌∷◌, Bool, true, false, Some, refl, sym, ap, ◌∙◌, subst, arith}
 use Rattle.std.proofs.lemmas.Option.{none-some}
 use Rattle.mesa_types.specs.declared.typed_parts.Given.{Given}
 use Rattle.mesa_types.specs.Typed.{Counting}
@@ -19,7 +19,7 @@ use Rattle.image_agreement.specs.Contexts.{Site, Context}
 use Rattle.image_agreement.specs.Rounds.{WordsLeft}
 use Rattle.image_agreement.proofs.Codes.{made_here, named_here}
 use Rattle.image_agreement.proofs.Counted.{flag_of, up_left, down_left}
-use Rattle.image_agreement.proofs.Counting.{flagged, up_works, down_works, agreed_free}
+use Rattle.image_agreement.proofs.Counting.{up_works, down_works, agreed_free}
 use Rattle.image_agreement.proofs.Holding.{HoldsLess, with_hold, agreed_less}
 use Rattle.image_agreement.proofs.Rounds.{AtBack}
 use Rattle.image_agreement.proofs.Selects.{others_same, put_there}

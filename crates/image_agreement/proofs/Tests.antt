@@ -1,5 +1,5 @@
 -- The tests of a SELECT, in order, over the hidden word that holds the selector.
-use Rattle.std.proofs.Common.{◌≡◌, ℕ, zero, suc, ◌+◌, ◌<◌, List, [], ◌∷◌, length, Bool, true, false, not, Some, refl, sym, ap, ◌∙◌, subst, arith}
+use Rattle.std.proofs.Common.{◌≡◌, ℕ, zero, suc, ◌+◌, ◌<◌, List, [], ◌∷◌, length, Bool, true, false, Some, refl, ap, ◌∙◌, subst, arith}
 use Rattle.std.specs.Prelude.{if◌then◌else◌}
 use Rattle.mesa_types.specs.declared.typed_parts.Base.{Base}
 use Rattle.mesa_types.specs.declared.typed_parts.Bases.{Bases}
@@ -10,9 +10,7 @@ use Rattle.mesa_types.specs.Counts.{hidden_expr, hidden_tests, hidden_interval}
 use Rattle.mesa_types.specs.Operators.{differ, related, lies_in, truth, is_true, checked}
 use Rattle.mesa_types.specs.Sound.{a_word, ExprIn, TestsIn, IntervalIn}
 use Rattle.code_forms.specs.declared.instruction.Instruction.TheVariants as i
-use Rattle.source_meaning.specs.Value.{Word, Values, nth, word}
-use Rattle.source_meaning.specs.Value as value
-use Rattle.source_meaning.specs.State.{State, Answer, Result, Run, carry, after, give, give_value, give_word, branch, value_then, on_values, on_word}
+use Rattle.source_meaning.specs.State.{State, Answer, Result, Run, carry, after, give, give_value, give_word, branch, on_values, on_word}
 use Rattle.source_meaning.specs.Signals.{on_tried}
 use Rattle.source_meaning.specs.Meaning as meaning
 use Rattle.source_meaning.specs.Meaning.{tests}
@@ -23,7 +21,7 @@ use Rattle.code_relation.specs.CodeFor as row
 use Rattle.code_relation.specs.CodeFor.{RelatedCode, LiesCode}
 use Rattle.code_relation.specs.Laws.{behind_all}
 use Rattle.code_relation.specs.OwnCode.{check_code, within_code, jump_where}
-use Rattle.code_relation.specs.Reading.{Place, Own, scratch, past, deeper, beyond}
+use Rattle.code_relation.specs.Reading.{Place, scratch, past, deeper, beyond}
 use Rattle.code_relation.proofs.Whole.{expr_run, tests_run, related_run, lies_run, own_code_joins}
 use Rattle.code_simulation.specs.Layout.{slots_of}
 use Rattle.code_simulation.specs.Own as own
@@ -33,14 +31,14 @@ use Rattle.code_simulation.proofs.Lifted.{lifted, in_order, reaches_itself}
 use Rattle.code_simulation.proofs.Memory.{same_list, read_long, read_slots}
 use Rattle.image_agreement.specs.World.{World}
 use Rattle.image_agreement.specs.Standing.{Frames}
-use Rattle.image_agreement.specs.Relation.{Ground, Agrees, standing}
+use Rattle.image_agreement.specs.Relation.{Agrees, standing}
 use Rattle.image_agreement.specs.Contexts.{Site, Context, InPlace, Inside}
 use Rattle.image_agreement.specs.Answers.{Comes, Answered, Passed}
 use Rattle.image_agreement.specs.Promises.{next, Now, ExpressionsFollow, RaiseFollows, Tested, TestsFollow}
 use Rattle.image_agreement.proofs.Branches.{related_goes}
 use Rattle.image_agreement.proofs.Control.{jump_goes, branch_goes}
 use Rattle.image_agreement.proofs.Following.{word_on}
-use Rattle.image_agreement.proofs.Going.{comes_later, Keeps, answered_later, passed_answered, answered_on}
+use Rattle.image_agreement.proofs.Going.{comes_later, Keeps, answered_later, passed_answered}
 use Rattle.image_agreement.proofs.Moving.{place_part, place_first, run_order, inside_part}
 use Rattle.image_agreement.proofs.Owning.{Leads, law, own_gives, outcome_on}
 

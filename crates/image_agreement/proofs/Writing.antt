@@ -1,7 +1,7 @@
 -- Own code that writes words of its frame: what its instructions make of the operands and of the words, the machine makes of them where
 -- it stands.
-use Rattle.std.proofs.Common.{◌≡◌, ℕ, zero, suc, ◌+◌, ◌<◌, ◌≤◌, List, [], ◌∷◌, Bool, true, false, Some, refl, sym, ap, ◌∙◌, subst, arith}
-use Rattle.std.specs.Prelude.{option_and_then, unwrap_or, nat_eq, if◌then◌else◌}
+use Rattle.std.proofs.Common.{◌≡◌, ℕ, suc, ◌+◌, List, ◌∷◌, Bool, true, false, Some, refl, sym, ap, ◌∙◌, subst}
+use Rattle.std.specs.Prelude.{unwrap_or, nat_eq, if◌then◌else◌}
 use Rattle.std.proofs.lemmas.Bool.{eq-eqb, eqb-true}
 use Rattle.code_forms.specs.declared.instruction.Instruction.{Instruction}
 use Rattle.code_forms.specs.Instructions.{bytes_of}
@@ -9,7 +9,6 @@ use Rattle.source_meaning.specs.State.{State}
 use Rattle.machine_steps.specs.State.{Store, Runs, Stepped, Goes}
 use Rattle.machine_steps.specs.Activations.{own_frame, set_variables, variables}
 use Rattle.machine_steps.specs.Calls.{set_of}
-use Rattle.machine_steps.specs.LookUps.{module_number}
 use Rattle.machine_steps.specs.Moves.{with}
 use Rattle.machine_steps.specs.Working.{Work, Worked, Works, Faults, Touches, works}
 use Rattle.machine_steps.specs.Steps.{work_of, worked, works_in, begin, run, step}
@@ -19,7 +18,7 @@ use Rattle.code_simulation.specs.Own.{Done, Did, FaultAt, Strays, go_on, works_a
 use Rattle.code_simulation.specs.Reaches.{Reaches}
 use Rattle.code_simulation.proofs.Lifted.{reaches_itself, reaches_on}
 use Rattle.image_agreement.specs.World.{World, texts_of}
-use Rattle.image_agreement.specs.Standing.{Frames, at, filled, fill, Numbered}
+use Rattle.image_agreement.specs.Standing.{Frames, at, filled, fill}
 use Rattle.image_agreement.specs.Relation.{Agrees, own, standing}
 use Rattle.image_agreement.specs.Contexts.{Site, Context}
 use Rattle.image_agreement.proofs.Codes.{own_here, variables_here}
