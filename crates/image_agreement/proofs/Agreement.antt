@@ -1,15 +1,17 @@
--- An image does what its source means, where statements go on with what they are made of.
+-- An image does what its source means, and the source means what its image does.
 use Rattle.std.specs.Prelude.{◌-◌, length}
 use Rattle.std.proofs.Common.{refl, ap, ◌∙◌, subst}
 use Rattle.code_simulation.specs.Agreement.{EndsAs, ImagesRunAsTheirSource}
+use Rattle.image_agreement.specs.Laws.{SourcesMeanWhatTheirImagesDo, ImagesOfSourcesAreNeverStuck}
 use Rattle.image_agreement.specs.World.{World, Ready}
-use Rattle.image_agreement.proofs.Main.{StatementsGoOn, whole_run}
+use Rattle.image_agreement.proofs.Converse.{means_alike, not_stuck}
+use Rattle.image_agreement.proofs.Main.{whole_run}
 
-pub images_run : ((W : World) → Ready W → StatementsGoOn W) → ImagesRunAsTheirSource
-images_run statements P image lawful stands wants input ending turns bytes output answer left taken means =
+pub images_run : ImagesRunAsTheirSource
+images_run P image lawful stands wants input ending turns bytes output answer left taken means =
     let W : World = record { program = P; image = image } in
     let ready : Ready W = record { lawful = lawful; stands = stands; host = wants } in
-    let e = whole_run W ready (statements W ready) input ending turns bytes in
+    let e = whole_run W ready input ending turns bytes in
     record {
       ends = e.end;
       alike = subst (λ a. EndsAs a e.end) means.its_end e.alike;
@@ -23,3 +25,9 @@ images_run statements P image lawful stands wants input ending turns bytes outpu
         its_count = refl;
       };
     }
+
+pub sources_mean : SourcesMeanWhatTheirImagesDo
+sources_mean = means_alike images_run
+
+pub never_stuck : ImagesOfSourcesAreNeverStuck
+never_stuck = not_stuck sources_mean

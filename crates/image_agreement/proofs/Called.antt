@@ -48,7 +48,8 @@ use Rattle.image_agreement.proofs.Control.{begun_more, agreed_begun, reaches_per
 use Rattle.image_agreement.proofs.HostItems.{host_there, takes_kinds, gives_kinds}
 use Rattle.image_agreement.proofs.Hosts.{host_follows}
 use Rattle.image_agreement.proofs.Keeping.{agreed_bound}
-use Rattle.image_agreement.proofs.Linked.{instance_there, import_by, kinds_same}
+use Rattle.image_agreement.proofs.Instances.{instance_there}
+use Rattle.image_agreement.proofs.Linked.{import_by, kinds_same}
 use Rattle.image_agreement.proofs.Procedures.{procedure_stands}
 use Rattle.image_agreement.proofs.Searching.{link_here}
 use Rattle.image_agreement.proofs.Spending.{spend_on}

@@ -23,7 +23,7 @@ use Rattle.image_agreement.specs.Relation.{Ground, Agrees, standing}
 use Rattle.image_agreement.specs.Chains.{Dictionary}
 use Rattle.image_agreement.specs.Contexts.{Site, InPlace, Inside}
 use Rattle.image_agreement.specs.Answers.{Jumps, Done}
-use Rattle.image_agreement.specs.Promises.{next, here, Now, StatementFollows}
+use Rattle.image_agreement.specs.Promises.{next, here, Now, Follows}
 use Rattle.image_agreement.proofs.Arriving.{comes_there}
 use Rattle.image_agreement.proofs.Doing.{Did, did_later, onward_done}
 use Rattle.image_agreement.proofs.Labels.{or_else, target_to, label_points, found_label, labelled_site}
@@ -62,7 +62,7 @@ module _ (W : World) (n : ℕ) where
   pub no_exits_follow : ExitsFollow W n NoExits
   no_exits_follow K w offsets end a b l x μ m σ row.no_exits sound e place inside now = absurd (none-some (Offset x) e)
 
-  pub exits_follow : (ls : List ℕ) (s : Stmt) (es : Exits) → StatementFollows W (suc n) (does W.program (next W n)) s → ExitsFollow W n es → ExitsFollow W n (AndExit ls s es)
+  pub exits_follow : (ls : List ℕ) (s : Stmt) (es : Exits) → Follows W n s → ExitsFollow W n es → ExitsFollow W n (AndExit ls s es)
   unfolding exits hidden_exits ExitsIn branch
   exits_follow ls s es follows others K w offsets end a b l x μ m σ (row.and_exit {offsets = more} c d code onward rest) sound e place inside now =
       let P = W.program in

@@ -1,8 +1,10 @@
 pub mod Agreement
+pub mod AllStatements
 pub mod Arms
 pub mod Arriving
 pub mod Assigns
 pub mod Blocks
+pub mod Bounds
 pub mod Branches
 pub mod Called
 pub mod Callees
@@ -11,14 +13,18 @@ pub mod Calls
 pub mod Chained
 pub mod Codes
 pub mod Control
+pub mod Converse
 pub mod Counted
+pub mod CountedLoops
 pub mod Counters
 pub mod Counting
+pub mod Declared
 pub mod Declares
 pub mod Doing
 pub mod Entering
 pub mod Exits
 pub mod Expressions
+pub mod Extracts
 pub mod Fields
 pub mod Following
 pub mod Frames
@@ -27,6 +33,7 @@ pub mod Holding
 pub mod HostItems
 pub mod Hosts
 pub mod Ifs
+pub mod Instances
 pub mod Jumps
 pub mod Keeping
 pub mod Labels
@@ -36,10 +43,12 @@ pub mod Loops
 pub mod Main
 pub mod Marks
 pub mod Moving
+pub mod Nothing
 pub mod Opening
 pub mod Ordering
 pub mod Owning
 pub mod Parameters
+pub mod Parts
 pub mod Phrases
 pub mod Places
 pub mod Procedures
@@ -54,6 +63,7 @@ pub mod Selects
 pub mod Shown
 pub mod Signals
 pub mod Spending
+pub mod Spread
 pub mod Stacks
 pub mod Starting
 pub mod Statements
@@ -62,6 +72,7 @@ pub mod Stored
 pub mod Stores
 pub mod Storing
 pub mod Suffixed
+pub mod Taking
 pub mod Tests
 pub mod Texts
 pub mod Unwinding

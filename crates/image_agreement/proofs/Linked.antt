@@ -1,8 +1,8 @@
--- An instance with its code; its signals, and what a used item of a signal or error is bound to.
+-- The signals of an instance, and what a used item of a signal or error is bound to.
 use Rattle.std.proofs.Common.{◌≡◌, ⊎_elim, ℕ, zero, suc, ◌+◌, ◌<◌, ◌⊎◌, List, [], ◌∷◌, ◌++◌, length, map, Bool, true, false, Option, Some, None, refl, sym, ap, ◌∙◌, subst, get_or, arith}
 use Rattle.std.specs.Prelude.{All, Contains, nat_eq, slice_get, option_map, option_and_then, if◌then◌else◌}
 use Rattle.std.proofs.lemmas.Bool.{eq-eqb, eqb-true, false≢true}
-use Rattle.std.proofs.lemmas.Option.{none-some, same_Some, slice_get-map, slice_get_within, get_or_from_slice_get, slice_get_cases}
+use Rattle.std.proofs.lemmas.Option.{none-some, same_Some, slice_get-map, slice_get_cases}
 use Rattle.mesa_types.specs.declared.faces.Import.{Import}
 use Rattle.mesa_types.specs.declared.faces.Item.{Item}
 use Rattle.mesa_types.specs.declared.faces.ItemKind.{ItemKind}
@@ -10,62 +10,27 @@ use Rattle.mesa_types.specs.declared.faces.ItemKind.TheVariants as item
 use Rattle.mesa_types.specs.declared.types.FieldType.{FieldType, out-FieldType, roll-out-FieldType}
 use Rattle.mesa_types.specs.declared.types.TypeTree.TheFolds.{fold-roll-FieldType}
 use Rattle.mesa_types.specs.Typed as t
-use Rattle.mesa_types.specs.Typed.{Kinds, NoKinds}
+use Rattle.mesa_types.specs.Typed.{Kinds}
 use Rattle.mesa_types.specs.Links.{item_in, imported, UsedIn, IsUsed, items_used, links_of}
 use Rattle.mesa_types.specs.Plain.{Shaped, shape_step, field_kind_step, field_kind, kinds, kind_of, kinds_of}
 use Rattle.mesa_types.specs.Shapes.{count_in}
 use Rattle.mesa_types.specs.Sound.{ImportIn, IsGiven, IsSignal}
 use Rattle.mesa_types.specs.Types.{types_in}
 use Rattle.code_forms.specs.declared.module_code.ModuleCode.{ModuleCode}
-use Rattle.object_files.specs.declared.image.Instance.{Instance}
 use Rattle.object_files.specs.declared.image.Link.{Link}
 use Rattle.object_files.specs.declared.image.Link.TheVariants.{Wanted, To}
-use Rattle.object_files.specs.declared.object.Object.{Object}
 use Rattle.signaller.specs.declared.signal_id.SignalId.TheVariants as id
 use Rattle.source_meaning.specs.Program as source
-use Rattle.source_meaning.specs.Program.{Signal, SignalOf, BoundsFault, ZeroDivisor, NoInput, Unnamed, Target, ToProcedure, ToHost, ToSignal, Program, module_of, instance_of, or_else, no_instance, no_module, signal_in, linked_signal}
-use Rattle.source_meaning.specs.Lawful.{LawfulInstance, StandsFor}
-use Rattle.machine_steps.specs.LookUps.{module_number, code_in, code_of, signal_of, link_of, bound_to, signal_bound}
+use Rattle.source_meaning.specs.Program.{Signal, SignalOf, BoundsFault, ZeroDivisor, NoInput, Unnamed, Target, ToProcedure, ToHost, ToSignal, module_of, instance_of, or_else, no_instance, no_module, signal_in, linked_signal}
+use Rattle.source_meaning.specs.Lawful.{StandsFor}
+use Rattle.machine_steps.specs.LookUps.{signal_of, link_of, bound_to, signal_bound}
 use Rattle.code_relation.specs.Links.{rank, link_number}
 use Rattle.code_relation.specs.Modules.{signal_code, link_code, kind_code}
 use Rattle.code_simulation.specs.Agreement.{id_of}
-use Rattle.code_simulation.specs.Stands.{InstanceStands, BoundTo}
+use Rattle.code_simulation.specs.Stands.{BoundTo}
 use Rattle.image_agreement.specs.World.{World, Ready}
 use Rattle.image_agreement.specs.Promises.{SignalHas}
-
--- An instance.
-
-pub record InstanceThere (W : World) (j : ℕ) (m : source.Instance) : Type 0 where
-  pub module_is : module_of W.program j ≡ m.code
-  pub links_are : (instance_of W.program j).links ≡ m.links
-  pub instance : Instance
-  pub stands : InstanceStands W.image j m instance
-  pub is_code : code_of W.image j ≡ Some stands.object.code
-  pub lawful : LawfulInstance W.program m
-
-instance_by : (W : World) → Ready W → (j : ℕ) (m : source.Instance) → slice_get W.program.instances j ≡ Some m → (i : Instance)
-    → slice_get W.image.instances j ≡ Some i
-    → InstanceThere W j m
-unfolding module_of instance_of or_else code_of module_number code_in
-instance_by W ready j m is i there =
-    let s = ready.stands.instances j m i is there in
-    record {
-      module_is = ap (λ o. (or_else no_instance o).code) is;
-      links_are = ap (λ o. (or_else no_instance o).links) is;
-      instance = i;
-      stands = s;
-      is_code =
-          ap (λ o. option_and_then (code_in W.image) (option_map (λ (x : Instance). x.module) o)) there
-          ∙ ap (λ o. option_map (λ (x : Object). x.code) o) s.is_there;
-      lawful = subst (λ x. LawfulInstance W.program x) (get_or_from_slice_get W.program.instances j m m is)
-          (ready.lawful.instances j m (slice_get_within W.program.instances j m is));
-    }
-
-pub instance_there : (W : World) → Ready W → (j : ℕ) (m : source.Instance) → slice_get W.program.instances j ≡ Some m → InstanceThere W j m
-instance_there W ready j m is = ⊎_elim
-    (λ x. instance_by W ready j m is x.0 x.2)
-    (λ x. let l = slice_get_within W.program.instances j m is in let n = ready.stands.as_many in let g = x.0 in absurd (omega (arith, l, n, g)))
-    (slice_get_cases W.image.instances j).1
+use Rattle.image_agreement.proofs.Instances.{InstanceThere, instance_there}
 
 -- Its signals.
 

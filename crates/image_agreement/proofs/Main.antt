@@ -2,16 +2,15 @@
 use Rattle.std.proofs.Common.{◌≡◌, ⊎_elim, ℕ, zero, suc, ◌-◌, ◌<◌, List, [], ◌∷◌, length, Bool, true, false, Some, None, All, refl, ap, subst, arith}
 use Rattle.std.specs.Prelude.{slice_get, if◌then◌else◌}
 use Rattle.std.proofs.lemmas.Option.{none-some, slice_get_cases}
-use Rattle.source_meaning.specs.Program.{Program, module_of}
 use Rattle.source_meaning.specs.Program as source
 use Rattle.source_meaning.specs.State.{State, Ending, Answer, Normal, Gives, Go, Resumed, Rejected, Retried, Continued, Uncaught, Spent, FrameLimit, Broken, Result, give, look, branch, after, carry, leave, on_normal, normal_then}
 use Rattle.source_meaning.specs.Calls.{start}
-use Rattle.source_meaning.specs.Meaning.{does, meaning}
+use Rattle.source_meaning.specs.Meaning.{meaning}
 use Rattle.source_meaning.specs.Means.{control, first_state, outcome}
 use Rattle.source_meaning.specs.Variables.{put_at}
 use Rattle.machine_steps.specs.declared.end.End.TheVariants as end
 use Rattle.machine_steps.specs.State as machine
-use Rattle.machine_steps.specs.State.{Store, Runs, Stepped, Goes, Stops}
+use Rattle.machine_steps.specs.State.{Store, Runs, Stepped, Goes}
 use Rattle.machine_steps.specs.LookUps.{code_of}
 use Rattle.machine_steps.specs.Calls as calls
 use Rattle.machine_steps.specs.Calls.{returned, start_next}
@@ -24,7 +23,8 @@ use Rattle.image_agreement.specs.Standing.{Here, Frames}
 use Rattle.image_agreement.specs.Relation.{Hold, Agreed}
 use Rattle.image_agreement.specs.Chains.{Dictionary, Floor, asks_end}
 use Rattle.image_agreement.specs.Answers.{Ended}
-use Rattle.image_agreement.specs.Promises.{next, ExpressionsFollow, SignalsFollow, NextFollows, StatementsFollow}
+use Rattle.image_agreement.specs.Promises.{next, NextFollows}
+use Rattle.image_agreement.proofs.AllStatements.{statements_follow}
 use Rattle.image_agreement.proofs.Called.{call_follows}
 use Rattle.image_agreement.proofs.Expressions.{expressions_follow}
 use Rattle.image_agreement.proofs.Frames.{zeros_lie}
@@ -37,20 +37,16 @@ use Rattle.image_agreement.proofs.Spending.{ended_there}
 use Rattle.image_agreement.proofs.Stacks.{here_top}
 use Rattle.image_agreement.proofs.Starting.{body_of, start_runs}
 
--- the step of the induction, for statements
-abbrev pub StatementsGoOn : World → Type 1
-StatementsGoOn W = (n : ℕ) → NextFollows W n → SignalsFollow W n → ExpressionsFollow W n → StatementsFollow W (suc n) (does W.program (next W n))
-
-pub next_follows : (W : World) → Ready W → StatementsGoOn W → (n : ℕ) → NextFollows W n
+pub next_follows : (W : World) → Ready W → (n : ℕ) → NextFollows W n
 unfolding meaning
-next_follows W ready statements zero = record {
+next_follows W ready zero = record {
   statement = λ s K w a b μ m σ code sound ctx inside h. absurd (let lt = h.enough in omega (arith, lt));
   loop = λ c l K w k a b μ m σ code sound lies ctx inside left h. absurd (let lt = h.enough in omega (arith, lt));
 }
-next_follows W ready statements (suc n) =
-    let ih = next_follows W ready statements n in
+next_follows W ready (suc n) =
+    let ih = next_follows W ready n in
     let signals = signals_follow W ready n ih in
-    statements n ih signals (expressions_follow W ready n signals (call_follows W ready n ih signals))
+    statements_follow W n ih signals (expressions_follow W ready n signals (call_follows W ready n ih signals))
 
 -- Under the lowest frame is nothing.
 
@@ -187,10 +183,10 @@ first_agrees W ready input ending turns bytes = record {
   enough = omega arith;
 }
 
-pub whole_run : (W : World) → Ready W → StatementsGoOn W → (input : List ℕ) (ending : Ending) (turns : ℕ) → All (λ byte. byte < 256) input
+pub whole_run : (W : World) → Ready W → (input : List ℕ) (ending : Ending) (turns : ℕ) → All (λ byte. byte < 256) input
     → Ended W (outcome W.program input ending turns).answer (begins W.image input (is_faulty ending) turns) (outcome W.program input ending turns).state
 unfolding outcome begins
-whole_run W ready statements input ending turns bytes =
-    control_follows W ready (suc turns) (next_follows W ready statements (suc turns)) W.program.control ready.lawful.control
+whole_run W ready input ending turns bytes =
+    control_follows W ready (suc turns) (next_follows W ready (suc turns)) W.program.control ready.lawful.control
     (begins W.image input (is_faulty ending) turns) (λ f. []) (fresh W.image input (is_faulty ending) turns) (first_state W.program input ending turns)
     (first_agrees W ready input ending turns bytes) (reaches_itself W.image (begins W.image input (is_faulty ending) turns))

@@ -1,7 +1,7 @@
 -- Each procedure of a program has its code in an image that stands for it.
-use Rattle.std.proofs.Common.{◌≡◌, ℕ, zero, suc, ◌<◌, List, [], ◌∷◌, length, get_or, Option, Some, None, refl, sym, ap, ◌∙◌, subst, arith}
-use Rattle.std.specs.Prelude.{slice_get, option_map, option_and_then}
-use Rattle.std.proofs.lemmas.Option.{none-some, same_Some, slice_get_within, slice_get-get_or, get_or_from_slice_get}
+use Rattle.std.proofs.Common.{◌≡◌, ℕ, zero, suc, ◌<◌, List, [], ◌∷◌, length, get_or, Some, refl, sym, ap, ◌∙◌, subst, arith}
+use Rattle.std.specs.Prelude.{slice_get, option_and_then}
+use Rattle.std.proofs.lemmas.Option.{none-some, same_Some, slice_get_within, slice_get-get_or}
 use Rattle.mesa_types.specs.Typed.{Kinds, NoKinds, AndKind, Procedure, Module}
 use Rattle.mesa_types.specs.Shapes.{HasWords, AllHaveWords, join}
 use Rattle.mesa_types.specs.Plain.{kinds_of}
@@ -9,16 +9,15 @@ use Rattle.mesa_types.specs.Sound.{Sound, BodyIn, HeadIn, ProcedureIn, FieldsWit
 use Rattle.code_forms.specs.declared.module_code.CodeProcedure.{CodeProcedure}
 use Rattle.code_forms.specs.declared.module_code.ModuleCode.{ModuleCode}
 use Rattle.code_forms.specs.Routine.{Routine, routine}
-use Rattle.object_files.specs.declared.image.Instance.{Instance}
-use Rattle.object_files.specs.declared.object.Object.{Object}
 use Rattle.source_meaning.specs.Program as source
-use Rattle.source_meaning.specs.Program.{or_else, no_instance, instance_of, module_of, no_procedure, procedure_in, procedure_of, main_of, head_named}
+use Rattle.source_meaning.specs.Program.{or_else, module_of, no_procedure, procedure_in, procedure_of, main_of, head_named}
 use Rattle.source_meaning.specs.State.{ProcedureId}
 use Rattle.machine_steps.specs.LookUps as machine
-use Rattle.machine_steps.specs.LookUps.{module_number, code_in, code_of}
+use Rattle.machine_steps.specs.LookUps.{code_in, code_of}
 use Rattle.code_relation.specs.Modules.{CodeFor, ProcedureCode, ProceduresCode, procedures_of, coded}
 use Rattle.code_relation.specs.Reading.{Coded}
 use Rattle.image_agreement.specs.World.{World, Ready, meant_procedure, locals_of, CodeOf}
+use Rattle.image_agreement.proofs.Instances.{instance_there}
 
 -- the procedure is there
 abbrev pub IsThere : Module → (number : ℕ) → Type 0
@@ -70,47 +69,6 @@ locals_have_words : (W : World) (p : ProcedureId) → Known (module_of W.program
 unfolding scope_of
 locals_have_words W p k = join_has_words _ _ k.takes (join_has_words _ _ k.gives k.body.variables)
 
--- the instance of the image, with its object
-pub record InstanceAt (W : World) (j : ℕ) (m : source.Instance) : Type 0 where
-  pub object : Object
-  pub number : ℕ
-  pub number_of : module_number W.image j ≡ Some number
-  pub is_object : slice_get W.image.modules number ≡ Some object
-  pub code : CodeFor m.code object.code
-
-pub instance_at : (W : World) → Ready W → (j : ℕ) (m : source.Instance) → slice_get W.program.instances j ≡ Some m → InstanceAt W j m
-unfolding module_number
-instance_at W ready j m e =
-    let lt = slice_get_within W.program.instances j m e in
-    let many = ready.stands.as_many in
-    at (slice_get W.image.instances j) refl (omega (arith, lt, many))
-  where
-    at : (o : Option Instance) → slice_get W.image.instances j ≡ o → j < length W.image.instances → InstanceAt W j m
-    at None f lt = absurd (none_there W.image.instances j lt f)
-      where
-        none_there : (xs : List Instance) (n : ℕ) → n < length xs → slice_get xs n ≡ None → ⊥
-        none_there [] n lt f = absurd (omega (arith, lt))
-        none_there (x ∷ xs) zero lt f = none-some x (sym f)
-        none_there (x ∷ xs) (suc n) lt f = none_there xs n (omega (arith, lt)) f
-    at (Some i) f lt =
-        let s = ready.stands.instances j m i e f in
-        record {
-          object = s.object;
-          number = i.module;
-          number_of = ap (λ o. option_map (λ (x : Instance). x.module) o) f;
-          is_object = s.is_there;
-          code = s.code;
-        }
-
-pub module_is : (W : World) (j : ℕ) (m : source.Instance) → slice_get W.program.instances j ≡ Some m → module_of W.program j ≡ m.code
-unfolding module_of instance_of or_else
-module_is W j m e = ap (λ o. (or_else no_instance o).code) e
-
-pub sound_at : (W : World) → Ready W → (j : ℕ) (m : source.Instance) → slice_get W.program.instances j ≡ Some m → Sound m.code
-sound_at W ready j m e =
-    let lt = slice_get_within W.program.instances j m e in
-    subst (λ (x : source.Instance). Sound x.code) (get_or_from_slice_get W.program.instances j m m e) (ready.lawful.instances j m lt).sound
-
 pub record HasCode (W : World) (p : ProcedureId) : Type 0 where
   pub code : Coded
   pub code_of : CodeOf W p code
@@ -119,36 +77,34 @@ pub procedure_stands : (W : World) → Ready W → (p : ProcedureId) (m : source
     → IsThere (module_of W.program p.instance) p.number → HasCode W p
 unfolding code_of code_in machine.procedure_of procedure_of
 procedure_stands W ready p m e there =
-    let x = instance_at W ready p.instance m e in
-    let is = module_is W p.instance m e in
+    let x = instance_there W ready p.instance m e in
     let m1 = module_of W.program p.instance in
-    let sound : Sound m1 = subst Sound (sym is) (sound_at W ready p.instance m e) in
-    let object = x.object.code in
-    let code : CodeFor m1 object = subst (λ z. CodeFor z object) (sym is) x.code in
+    let sound : Sound m1 = subst Sound (sym x.module_is) x.lawful.sound in
+    let object = x.stands.object.code in
+    let code : CodeFor m1 object = subst (λ z. CodeFor z object) (sym x.module_is) x.stands.code in
     let k = known m1 sound p.number there in
     let c = coded_at m1 (routine object) (procedures_of m1) object.procedures p.number (meant_procedure W p) code.each_procedure (there_at m1 p.number there) in
-    let is_object : code_of W.image p.instance ≡ Some object =
-    ap (λ o. option_and_then (code_in W.image) o) x.number_of ∙ ap (λ o. option_map (λ (y : Object). y.code) o) x.is_object in
-    let lt = slice_get_within W.image.modules x.number x.object x.is_object in
+    let number = x.instance.module in
+    let lt = slice_get_within W.image.modules number x.stands.object x.stands.is_there in
     let most = ready.stands.modules in
     record {
       code = coded m1 (meant_procedure W p) (routine object c.procedure) c.procedure;
       code_of = record {
         instance = m;
         is_instance = e;
-        number = x.number;
+        number = number;
         number_of = x.number_of;
         few = omega (arith, lt, most);
         object = object;
-        is_object = is_object;
+        is_object = x.is_code;
         procedure = c.procedure;
-        is_there = ap (λ o. option_and_then (λ (y : ModuleCode). slice_get y.procedures p.number) o) is_object ∙ c.is;
+        is_there = ap (λ o. option_and_then (λ (y : ModuleCode). slice_get y.procedures p.number) o) x.is_code ∙ c.is;
         is = refl;
         sound = sound;
         body = k.body;
         have_words = locals_have_words W p k;
         code_for = code;
         its_code = c.code;
-        fills = (ready.stands.valid x.number x.object x.is_object p.number c.procedure (slice_get_within object.procedures p.number c.procedure c.is) c.is).phrases;
+        fills = (ready.stands.valid number x.stands.object x.stands.is_there p.number c.procedure (slice_get_within object.procedures p.number c.procedure c.is) c.is).phrases;
       };
     }

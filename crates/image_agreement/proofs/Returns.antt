@@ -73,7 +73,7 @@ results_from W K code scope first e =
 
 -- Instructions behind own code have the same phrases around.
 
-behind_around : (P : Coded) (is : List Instruction) (w : Place) → (behind_all P is w).around ≡ w.around
+pub behind_around : (P : Coded) (is : List Instruction) (w : Place) → (behind_all P is w).around ≡ w.around
 behind_around P [] w = refl
 behind_around P (j ∷ is) w = behind_around P is (behind P j w)
 

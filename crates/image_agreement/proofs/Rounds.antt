@@ -22,7 +22,7 @@ use Rattle.image_agreement.specs.Standing.{Frames}
 use Rattle.image_agreement.specs.Relation.{Hold, Agrees, standing}
 use Rattle.image_agreement.specs.Contexts.{Site, Context, InPlace, Inside}
 use Rattle.image_agreement.specs.Answers.{Passed, Done}
-use Rattle.image_agreement.specs.Promises.{next, ExpressionsFollow, StatementFollows, LoopFollows, NextFollows}
+use Rattle.image_agreement.specs.Promises.{next, ExpressionsFollow, StatementFollows, Follows, LoopFollows, NextFollows}
 use Rattle.image_agreement.specs.Rounds.{RoundsLeft}
 use Rattle.image_agreement.proofs.Arriving.{done_bound}
 use Rattle.image_agreement.proofs.Doing.{Did, did_later}
@@ -35,7 +35,7 @@ use Rattle.image_agreement.proofs.Moving.{place_part, place_first, run_order, in
 
 -- what a loop does at its end follows
 abbrev pub FinishFollows : World → (n : ℕ) → Finish → Type 0
-FinishFollows W n fin = (s : Stmt) → fin ≡ Finished s → StatementFollows W (suc n) (does W.program (next W n)) s
+FinishFollows W n fin = (s : Stmt) → fin ≡ Finished s → Follows W n s
 
 abbrev IsNone : Finish → Type 0
 IsNone NoFinish = Unit {0}
@@ -44,9 +44,9 @@ IsNone (Finished s) = ⊥
 pub no_finish_follows : (W : World) (n : ℕ) → FinishFollows W n NoFinish
 no_finish_follows W n s e = absurd (subst (λ f. IsNone f) e tt)
 
-pub finished_follows : (W : World) (n : ℕ) (s : Stmt) → StatementFollows W (suc n) (does W.program (next W n)) s → FinishFollows W n (Finished s)
+pub finished_follows : (W : World) (n : ℕ) (s : Stmt) → Follows W n s → FinishFollows W n (Finished s)
 finished_follows W n s follows t e =
-    subst (λ x. StatementFollows W (suc n) (does W.program (next W n)) x) (ap (λ f. elim f [ NoFinish ↦ s | Finished x ↦ x ]) e) follows
+    subst (λ x. Follows W n x) (ap (λ f. elim f [ NoFinish ↦ s | Finished x ↦ x ]) e) follows
 
 -- the end of a round: the words that count say what is left, and the machine stands at the jump back
 pub record AtBack (W : World) (n : ℕ) (K : Site) (k : Counter) (left : Count) (h : ℕ) (s : Stepped) (σ : State) : Type 0 where
@@ -163,7 +163,7 @@ module _ (W : World) (n : ℕ) (exprs : ExpressionsFollow W n) (K : Site) (I : H
         (again : (μ : Frames) (m : Store) (σ : State) → Agrees W n K.ground μ m σ → RoundsLeft k (one_round_less left) (slots_of (μ K.meant.frame))
         → Done W n K w.around b (standing K.ground a [] μ m) (next W n (Repeat (one_round_less left) (LoopOf cond s es fin)) K.meant σ).answer
         (next W n (Repeat (one_round_less left) (LoopOf cond s es fin)) K.meant σ).state)
-        (follows : StatementFollows W (suc n) (does W.program (next W n)) s) where
+        (follows : Follows W n s) where
       -- the jump back
       turn : (x : Stepped) (σ : State) → AtBack W n K k left h x σ → Round x (spend go σ)
       unfolding labelled_of give
@@ -214,7 +214,7 @@ module _ (W : World) (n : ℕ) (exprs : ExpressionsFollow W n) (K : Site) (I : H
 
 -- A loop without a count.
 pub endless_follows : (W : World) (n : ℕ) (exprs : ExpressionsFollow W n) (before : NextFollows W n) (cond : Condition) (s : Stmt) (es : Exits) (fin : Finish)
-    → StatementFollows W (suc n) (does W.program (next W n)) s → ExitsFollow W n es → FinishFollows W n fin
+    → Follows W n s → ExitsFollow W n es → FinishFollows W n fin
     → LoopFollows W (suc n) (does W.program (next W n)) Endless (LoopOf cond s es fin)
 unfolding does loop labelled counted after carry one_round_less LoopIn
 endless_follows W n exprs before cond s es fin follows exits_promise finishes K w (CountedIn z g down) a b μ m σ code sound lies place inside left now = absurd left

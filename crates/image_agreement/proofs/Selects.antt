@@ -9,7 +9,7 @@ use Rattle.mesa_types.specs.Operators.{truth, is_true}
 use Rattle.mesa_types.specs.Sound.{Selects, a_word, ExprIn, StmtIn, CasesIn}
 use Rattle.mesa_types.proofs.WordSizes.{sizes_agree}
 use Rattle.code_forms.specs.declared.instruction.Instruction.TheVariants as i
-use Rattle.source_meaning.specs.Value.{Word, Values, nth, word}
+use Rattle.source_meaning.specs.Value.{nth, word}
 use Rattle.source_meaning.specs.Value as value
 use Rattle.source_meaning.specs.State.{State, Run, carry, after, branch, on_values, on_word}
 use Rattle.source_meaning.specs.Meaning as meaning
@@ -30,7 +30,7 @@ use Rattle.image_agreement.specs.Standing.{Frames}
 use Rattle.image_agreement.specs.Relation.{heres, Agrees, standing}
 use Rattle.image_agreement.specs.Contexts.{Site, Context}
 use Rattle.image_agreement.specs.Answers.{Comes}
-use Rattle.image_agreement.specs.Promises.{next, ExpressionsFollow, RaiseFollows, StatementFollows, CasesFollow, Tested}
+use Rattle.image_agreement.specs.Promises.{next, ExpressionsFollow, RaiseFollows, Follows, CasesFollow, Tested}
 use Rattle.image_agreement.proofs.Chained.{held_there, hold_more, held_ground, holding_site, context_holding}
 use Rattle.image_agreement.proofs.Codes.{made_here, named_here}
 use Rattle.image_agreement.proofs.Doing.{Did, did_later, did_out, onward_done}
@@ -86,16 +86,13 @@ holds_on W K w to ctx bound v x a b μ m σ lt code agrees =
       reaches = wrote.reaches;
     }
 
-abbrev DoesFollow : World → (n : ℕ) → Stmt → Type 0
-DoesFollow W n s = StatementFollows W (suc n) (does W.program (next W n)) s
-
 module _ (W : World) (n : ℕ) where
-  pub otherwise_follows : (s : Stmt) → DoesFollow W n s → CasesFollow W n (Otherwise s)
+  pub otherwise_follows : (s : Stmt) → Follows W n s → CasesFollow W n (Otherwise s)
   unfolding cases hidden CasesIn
   otherwise_follows s follows K w z x a b μ m σ (row.otherwise code) sound held small place inside now = follows K w a b μ m σ code sound place inside now
 
   module _ (exprs : ExpressionsFollow W n) where
-    pub case_follows : RaiseFollows W n → (ts : Tests) (s : Stmt) (cs : Cases) → DoesFollow W n s → CasesFollow W n cs → CasesFollow W n (AndCase ts s cs)
+    pub case_follows : RaiseFollows W n → (ts : Tests) (s : Stmt) (cs : Cases) → Follows W n s → CasesFollow W n cs → CasesFollow W n (AndCase ts s cs)
     unfolding cases does hidden CasesIn carry after on_values on_word nth word value.one branch truth is_true
     case_follows raises ts s cs follows others K w z x a b μ m σ (row.and_case c d away code first onward rest) sound held small place inside now =
         let P = W.program in
@@ -126,7 +123,7 @@ module _ (W : World) (n : ℕ) where
         by false s σ one two h here there = did_later W (suc n) K w.around b s (standing K.ground away [] h.frames h.store) (two σ) h.reaches (there h.frames h.store h.agrees)
 
     -- the row of a SELECT with tests
-    pub select_follows : (e : Expr) (ts : Tests) (s : Stmt) (cs : Cases) → CasesFollow W n (AndCase ts s cs) → DoesFollow W n (Select e (AndCase ts s cs))
+    pub select_follows : (e : Expr) (ts : Tests) (s : Stmt) (cs : Cases) → CasesFollow W n (AndCase ts s cs) → Follows W n (Select e (AndCase ts s cs))
     unfolding does hidden StmtIn Selects a_word carry after on_values on_word
     select_follows e ts s cs follows K w a b μ m σ (row.select c d code store rest) sound place inside now =
         let P = W.program in
@@ -155,7 +152,7 @@ module _ (W : World) (n : ℕ) where
         (done_less W (suc n) K H (holds_less K.ground.hold K.meant.frame w.slot x free) w.around b (standing K.ground d [] h.frames h.store) y.answer y.state done))
 
     -- and of one with none, whose selector may be of any kind
-    pub select_none_follows : (e : Expr) (s : Stmt) → DoesFollow W n s → DoesFollow W n (Select e (Otherwise s))
+    pub select_none_follows : (e : Expr) (s : Stmt) → Follows W n s → Follows W n (Select e (Otherwise s))
     unfolding does cases hidden StmtIn CasesIn carry after on_values on_word
     select_none_follows e s follows K w a b μ m σ (row.select_none c d code drop rest) sound place inside now =
         let P = W.program in

@@ -17,13 +17,14 @@ use Rattle.code_relation.specs.Slots.{fields_of}
 use Rattle.code_relation.proofs.Whole.{expr_run, exprs_run, path_run, branch_run, stmt_run, stmts_run}
 use Rattle.code_simulation.specs.Reaches.{Reaches}
 use Rattle.code_simulation.proofs.Lifted.{in_order}
-use Rattle.image_agreement.specs.World.{World, texts_of}
+use Rattle.image_agreement.specs.World.{World}
 use Rattle.image_agreement.specs.Relation.{standing}
 use Rattle.image_agreement.specs.Promises as promise
-use Rattle.image_agreement.specs.Promises.{next, ExpressionsFollow, StatementFollows, NextFollows, SequenceFollows}
+use Rattle.image_agreement.specs.Promises.{next, ExpressionsFollow, Follows, NextFollows, SequenceFollows}
 use Rattle.image_agreement.proofs.Arriving.{marked_row}
 use Rattle.image_agreement.proofs.Assigns.{assign_row, assign_element_row, puts}
-use Rattle.image_agreement.proofs.Declares.{ZerosShow, declared_comes}
+use Rattle.image_agreement.proofs.Declared.{zeros_show}
+use Rattle.image_agreement.proofs.Declares.{declared_comes}
 use Rattle.image_agreement.proofs.Doing.{Did, did_later, null_row}
 use Rattle.image_agreement.proofs.Fields.{variable_small}
 use Rattle.image_agreement.proofs.Ifs.{if_row, dropped_row}
@@ -41,14 +42,11 @@ unfolding words_in_all one
 one_words k = omega arith
 
 module _ (W : World) (n : ℕ) where
-  abbrev pub Follows : Stmt → Type 0
-  Follows s = StatementFollows W (suc n) (does W.program (next W n)) s
-
-  pub null_follows : Follows Null
+  pub null_follows : Follows W n Null
   unfolding does
   null_follows K w a b μ m σ row.null sound place inside now = null_row W (suc n) K w.around b μ m σ now
 
-  pub marked_follows : NextFollows W n → (k : ℕ) (s : Stmt) → Follows s → Follows (Marked k s)
+  pub marked_follows : NextFollows W n → (k : ℕ) (s : Stmt) → Follows W n s → Follows W n (Marked k s)
   unfolding does hidden StmtIn marked after carry
   marked_follows again k s follows K w a b μ m σ (row.marked code) sound place inside now =
       let le = run_order (stmt_run code) in
@@ -58,31 +56,30 @@ module _ (W : World) (n : ℕ) where
       (follows (marked_site K k a b) (row.with_mark k a b w) a b μ m σ code sound.1
       (context_marked W K w.points w.around w.slot (w.slot + hidden s) k a b sound.0 (inside a (le_refl a) le) (inside b le (le_refl b)) place) inside now)
 
-  pub jump_follows : (arms : ℕ) (goal : Goal) → Follows (Jump arms goal)
+  pub jump_follows : (arms : ℕ) (goal : Goal) → Follows W n (Jump arms goal)
   unfolding does
   jump_follows arms goal K w a b μ m σ (row.jump to e own) sound place inside now =
       jump_row W (suc n) K w (w.slot + hidden (Jump arms goal)) place goal arms a b to μ m σ e own (inside a (le_refl a) (in_order own)) now
 
-  pub retry_follows : (k : ℕ) → Follows (Retry k)
+  pub retry_follows : (k : ℕ) → Follows W n (Retry k)
   unfolding does StmtIn
   retry_follows k K w a b μ m σ (row.retry to e own) sound place inside now =
       retry_row W (suc n) K w (w.slot + hidden (Retry k)) place k a b to μ m σ sound.0 e own (inside a (le_refl a) (in_order own)) now
 
-  pub continue_follows : (k : ℕ) → Follows (Continue k)
+  pub continue_follows : (k : ℕ) → Follows W n (Continue k)
   unfolding does StmtIn
   continue_follows k K w a b μ m σ (row.continue to e own) sound place inside now =
       continue_row W (suc n) K w (w.slot + hidden (Continue k)) place k a b to μ m σ sound.0 e own (inside a (le_refl a) (in_order own)) now
 
-  pub reject_follows : Follows Reject
+  pub reject_follows : Follows W n Reject
   unfolding does StmtIn
   reject_follows K w a b μ m σ (row.reject own) sound place inside now =
       reject_row W (suc n) K w (w.slot + hidden Reject) place a b μ m σ sound own now
 
-  -- where zeros are the words of the zero of a kind
-  pub declare_follows : ((k : Kind) → ZerosShow (texts_of W) k) → (hs : List Home) (k : Kind) → Follows (Declare hs k)
+  pub declare_follows : (hs : List Home) (k : Kind) → Follows W n (Declare hs k)
   unfolding does StmtIn change give
-  declare_follows zeros hs k K w a b μ m σ (row.declare own) sound place inside now =
-      declared_comes W (suc n) K w (w.slot + hidden (Declare hs k)) place hs k w a b μ m σ (zeros k) refl sound.1 own now
+  declare_follows hs k K w a b μ m σ (row.declare own) sound place inside now =
+      declared_comes W (suc n) K w (w.slot + hidden (Declare hs k)) place hs k w a b μ m σ (zeros_show W k) refl sound.1 own now
 
   -- Statements in order.
 
@@ -90,7 +87,7 @@ module _ (W : World) (n : ℕ) where
   unfolding sequence
   sequence_none K w a b μ m σ row.no_statements sound place inside now = null_row W (suc n) K w.around b μ m σ now
 
-  pub sequence_more : (s : Stmt) (ss : Stmts) → Follows s → SequenceFollows W n ss → SequenceFollows W n (AndStmt s ss)
+  pub sequence_more : (s : Stmt) (ss : Stmts) → Follows W n s → SequenceFollows W n ss → SequenceFollows W n (AndStmt s ss)
   unfolding sequence on_normal after carry hidden_stmts StmtsIn
   sequence_more s ss follows others K w a b μ m σ (row.and_statement c code more) sound place inside now =
       let low = run_order (stmt_run code) in let high = run_order (stmts_run more) in
@@ -102,7 +99,7 @@ module _ (W : World) (n : ℕ) where
       (place_part W K w words (hidden s) (hidden_stmts ss) (omega arith) place) (inside_part W K.ground a b c b low (omega arith) inside) agrees)
 
   module _ (expressions : ExpressionsFollow W n) where
-    pub perform_follows : (e : Expr) → Follows (Perform e)
+    pub perform_follows : (e : Expr) → Follows W n (Perform e)
     unfolding does hidden StmtIn dropped after carry
     perform_follows e K w a b μ m σ (row.perform c code own) sound place inside now =
         let high = in_order own in
@@ -112,7 +109,7 @@ module _ (W : World) (n : ℕ) where
         (expressions.value e K w ks a c [] μ m σ code sound.3 place (inside_part W K.ground a b a c (omega arith) high inside) now)
         (sym (sizes_agree.of_expression K.scope e ks sound.3)) own
 
-    pub if_follows : (e : Expr) (s t : Stmt) → Follows s → Follows t → Follows (If e s t)
+    pub if_follows : (e : Expr) (s t : Stmt) → Follows W n s → Follows W n t → Follows W n (If e s t)
     unfolding does hidden StmtIn on_word on_values after carry
     if_follows e s t first other K w a b μ m σ (row.if_else c d elsewhere code then on last) sound place inside now =
         let one = run_order (branch_run code) in let two = run_order (stmt_run then) in let three = run_order (onward_run on) in let four = run_order (stmt_run last) in
@@ -129,7 +126,7 @@ module _ (W : World) (n : ℕ) where
         (place_part W K w words (hidden_expr e + hidden s) (hidden t) (omega arith) place)
         (inside_part W K.ground a b elsewhere b (omega (arith, one, two, three)) (omega arith) inside) agrees)
 
-    pub assign_follows : (h : Home) (s : Suffixes) (e : Expr) → Follows (Assign h s e)
+    pub assign_follows : (h : Home) (s : Suffixes) (e : Expr) → Follows W n (Assign h s e)
     unfolding does hidden StmtIn on_value on_values after carry value_then
     assign_follows h s e K w a b μ m σ (row.assign c static_s code own) sound place inside now =
         let j = sound.1 in let k = sound.2 in
@@ -162,7 +159,7 @@ module _ (W : World) (n : ℕ) where
         (λ o ν l agrees. expressions.value e K (deeper 1 (beyond (hidden_suffixes s) w)) (one k) d f (o ∷ []) ν l r.state second sound.5
         (place_part W K w words (hidden_suffixes s) (hidden_expr e) (omega arith) place) (inside_part W K.ground a b d f (omega (arith, low, two)) four inside) agrees))
 
-    pub return_follows : (arms first : ℕ) (places : List ℕ) (es : Exprs) → Follows (ReturnWith arms first places es)
+    pub return_follows : (arms first : ℕ) (places : List ℕ) (es : Exprs) → Follows W n (ReturnWith arms first places es)
     unfolding does hidden StmtIn on_values after carry
     return_follows arms first places es K w a b μ m σ (row.return_with c to code leads own) sound place inside now =
         let js = sound.2 in
@@ -172,7 +169,7 @@ module _ (W : World) (n : ℕ) where
         (inside_part W K.ground a b c b low (omega arith) inside)
         (expressions.values es K w js a c [] μ m σ code sound.5 place (inside_part W K.ground a b a c (omega arith) high inside) now)
 
-    pub resume_follows : (places : List ℕ) (es : Exprs) → Follows (Resume places es)
+    pub resume_follows : (places : List ℕ) (es : Exprs) → Follows W n (Resume places es)
     unfolding does hidden StmtIn on_values after carry
     resume_follows places es K w a b μ m σ (row.resume c code own) sound place inside now =
         let js = sound.1 in

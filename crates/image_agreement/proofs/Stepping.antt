@@ -26,7 +26,7 @@ use Rattle.image_agreement.proofs.Selects.{others_same, put_there}
 use Rattle.image_agreement.proofs.Stacks.{with_words, words_here}
 use Rattle.image_agreement.proofs.Writing.{code_writes}
 
-left_same : (down : Bool) (left number a b c x y u : ℕ) → a ≡ x → b ≡ y → c ≡ u → WordsLeft down left number x y u → WordsLeft down left number a b c
+pub left_same : (down : Bool) (left number a b c x y u : ℕ) → a ≡ x → b ≡ y → c ≡ u → WordsLeft down left number x y u → WordsLeft down left number a b c
 left_same down left number a b c x y u e1 e2 e3 h =
     subst (λ q. WordsLeft down left number q b c) (sym e1) (subst (λ q. WordsLeft down left number x q c) (sym e2) (subst (λ q. WordsLeft down left number x y q) (sym e3) h))
 

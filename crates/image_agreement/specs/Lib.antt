@@ -1,6 +1,7 @@
 pub mod Answers
 pub mod Chains
 pub mod Contexts
+pub mod Laws
 pub mod Promises
 pub mod Relation
 pub mod Rounds

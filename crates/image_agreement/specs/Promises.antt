@@ -16,7 +16,7 @@ use Rattle.source_meaning.specs.Program.{Signal, SignalOf, BoundsFault, ZeroDivi
 use Rattle.source_meaning.specs.State.{State, Result}
 use Rattle.source_meaning.specs.Signals.{Next, catching, raise, through_of}
 use Rattle.source_meaning.specs.Calls.{call}
-use Rattle.source_meaning.specs.Meaning.{value, values, path, operations, tests, cases, sequence, meaning}
+use Rattle.source_meaning.specs.Meaning.{value, values, path, operations, tests, cases, does, sequence, meaning}
 use Rattle.machine_steps.specs.State.{Store, Stepped}
 use Rattle.machine_steps.specs.Words.{push}
 use Rattle.machine_steps.specs.Moves as moves
@@ -176,6 +176,10 @@ abbrev pub StatementFollows : World → (bound : ℕ) → Next → Stmt → Type
 StatementFollows W bound run s = (K : Site) (w : Place) (a b : ℕ) (μ : Frames) (m : Store) (σ : State)
     → StmtCode K.code w s a b → StmtIn K.scope s → InPlace W K w (hidden s) → Inside W K.ground a b → Now W bound K μ m σ
     → Done W bound K w.around b (here K a [] μ m) (run s K.meant σ).answer (run s K.meant σ).state
+
+-- one that is run itself, and its parts through `meaning P n`
+abbrev pub Follows : World → ℕ → Stmt → Type 0
+Follows W n s = StatementFollows W (suc n) (does W.program (next W n)) s
 
 -- a round of a loop begins, with so many rounds left; its hidden words lie before those of its body
 abbrev pub LoopFollows : World → (bound : ℕ) → Next → Count → Loop → Type 0
