@@ -38,7 +38,7 @@ none_have : AllHaveWords (kinds_of [])
 unfolding AllHaveWords
 none_have = tt
 
-main_fine : (m : Module) → Sound m → BodyFine m (main_of m)
+pub main_fine : (m : Module) → Sound m → BodyFine m (main_of m)
 main_fine m s = record { sound = s.body; words = all_have m [] [] m.body s.have_words none_have none_have (s.body).variables }
 
 procedure_fine : (m : Module) → Sound m → (p : Procedure) → ProcedureIn m p → BodyFine m p
@@ -48,11 +48,11 @@ procedure_fine m s p h = record {
   words = all_have m p.head.takes p.head.gives p.body s.have_words ((h.1).0).1 ((h.1).1).1 (h.2).variables;
 }
 
-abbrev AllFine : Module → List Procedure → Type 0
+abbrev pub AllFine : Module → List Procedure → Type 0
 AllFine m [] = Unit {0}
 AllFine m (p ∷ ps) = BodyFine m p × AllFine m ps
 
-all_fine : (m : Module) → Sound m → (ps : List Procedure) → All (ProcedureIn m) ps → AllFine m ps
+pub all_fine : (m : Module) → Sound m → (ps : List Procedure) → All (ProcedureIn m) ps → AllFine m ps
 all_fine m s [] h = tt
 all_fine m s (p ∷ ps) h =
     (procedure_fine m s p (h 0 p (omega arith)), all_fine m s ps (λ k d lt. h (suc k) d (omega (arith, lt))))

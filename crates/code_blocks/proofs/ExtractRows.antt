@@ -40,23 +40,23 @@ use Rattle.code_blocks.proofs.StatementRows.{Stands, store_same, store_within_sa
 abbrev pub HaveWords : Scope → Type 0
 HaveWords Γ = AllHaveWords Γ.globals × AllHaveWords Γ.locals
 
-kind_has : (ks : Kinds) (n : ℕ) (k : Kind) → AllHaveWords ks → KindAt ks n k → HasWords k
+pub kind_has : (ks : Kinds) (n : ℕ) (k : Kind) → AllHaveWords ks → KindAt ks n k → HasWords k
 unfolding AllHaveWords KindAt
 kind_has NoKinds n k h at = absurd at
 kind_has (AndKind j ks) zero k h at = subst HasWords at h.0
 kind_has (AndKind j ks) (suc n) k h at = kind_has ks n k h.1 at
 
-variable_has : (Γ : Scope) (h : Home) (k : Kind) → HaveWords Γ → VariableIn Γ h k → HasWords k
+pub variable_has : (Γ : Scope) (h : Home) (k : Kind) → HaveWords Γ → VariableIn Γ h k → HasWords k
 unfolding VariableIn
 variable_has Γ (Global n) k words at = kind_has Γ.globals n k words.0 at
 variable_has Γ (Local n) k words at = kind_has Γ.locals n k words.1 at
 
-fields_have : (ks : Kinds) → HasWords (Record ks) → AllHaveWords ks
+pub fields_have : (ks : Kinds) → HasWords (Record ks) → AllHaveWords ks
 unfolding HasWords AllHaveWords
 fields_have NoKinds h = tt
 fields_have (AndKind k ks) h = h
 
-part_has : (Γ : Scope) (s : Suffixes) (j k : Kind) → HasWords j → SuffixesIn Γ s j k → HasWords k
+pub part_has : (Γ : Scope) (s : Suffixes) (j k : Kind) → HasWords j → SuffixesIn Γ s j k → HasWords k
 unfolding SuffixesIn HasWords
 part_has Γ NoSuffix j k h e = subst HasWords e h
 part_has Γ (Field n offset s) j k h e =
@@ -68,11 +68,11 @@ part_has Γ (Index r first n words x s) j k h e = part_has Γ s e.0 k (array_has
 
 -- What a target does to the operand stack.
 
-lift_left : (n k m : ℕ) → n + k ≤ m → left_of (lift_code n k) m ≡ m
+pub lift_left : (n k m : ℕ) → n + k ≤ m → left_of (lift_code n k) m ≡ m
 lift_left n zero m h = refl
 lift_left n (suc k) m h = omega (arith, h)
 
-check_left : (r : Range) (m : ℕ) → 0 < m → left_of (check_code r) m ≡ m
+pub check_left : (r : Range) (m : ℕ) → 0 < m → left_of (check_code r) m ≡ m
 check_left Every m h = refl
 check_left (From Signed first last) m h = omega (arith, h)
 check_left (From Unsigned first last) m h = omega (arith, h)
@@ -88,7 +88,7 @@ brought_own : (n k : ℕ) (r : Range) (x : Instruction) → IsOwn x → AreOwn (
 brought_own n k r x h = own_both (lift_code n k) _ (lift_own n k) (own_both (check_code r) _ (check_own r) (h, tt))
 
 -- the parts that are taken differ from those before
-abbrev NoneTaken : List Part → Targets → Type 0
+abbrev pub NoneTaken : List Part → Targets → Type 0
 NoneTaken parts NoTargets = Unit {0}
 NoneTaken parts (AndTarget p h s r ts) = NotAmong p.field parts × NoneTaken (p ∷ parts) ts
 
@@ -107,7 +107,7 @@ module _ (S : Laid) (Γ : Scope) (words : HaveWords Γ) (ks : Kinds) where
   Paths (AndTarget p h s r ts) = Path S Γ s × Paths ts
 
   -- a target's part, and what is there of it
-  target_part : (p : Part) (h : Home) (s : Suffixes) (r : Range) (ts : Targets) → TargetsIn Γ (AndTarget p h s r ts) ks → IsPart ks p × (0 < p.words)
+  pub target_part : (p : Part) (h : Home) (s : Suffixes) (r : Range) (ts : Targets) → TargetsIn Γ (AndTarget p h s r ts) ks → IsPart ks p × (0 < p.words)
   unfolding TargetsIn
   target_part p h s r ts t = (
     is_part ks p t.0 (t.2).is_there (t.2).lies t.3,
@@ -115,23 +115,23 @@ module _ (S : Laid) (Γ : Scope) (words : HaveWords Γ) (ks : Kinds) where
   )
 
   -- own code of a target, after the path to an element and without one
-  abbrev plain_own : Part → List Part → Home → Suffixes → Range → List Instruction
+  abbrev pub plain_own : Part → List Part → Home → Suffixes → Range → List Instruction
   plain_own p parts h s r = lift_code p.words (words_over all parts p) ++ (check_code r ++ store U h (fields_of s) p.words ∷ [])
 
-  abbrev element_own : Part → List Part → Home → Range → List Instruction
+  abbrev pub element_own : Part → List Part → Home → Range → List Instruction
   element_own p parts h r = lift_code p.words (suc (words_over all parts p)) ++ (check_code r ++ store_within U h p.words ∷ [])
 
-  abbrev left_over : List Part → ℕ
+  abbrev pub left_over : List Part → ℕ
   left_over parts = all - words_taken parts
 
-  plain_left : (p : Part) (parts : List Part) (h : Home) (s : Suffixes) (r : Range) (d : ℕ) → p.words + words_over all parts p ≤ left_over parts → 0 < p.words
+  pub plain_left : (p : Part) (parts : List Part) (h : Home) (s : Suffixes) (r : Range) (d : ℕ) → p.words + words_over all parts p ≤ left_over parts → 0 < p.words
       → left_of (plain_own p parts h s r) (d + left_over parts) ≡ d + left_over (p ∷ parts)
   plain_left p parts h s r d fits some =
       brought_left p.words (words_over all parts p) r (store U h (fields_of s) p.words) (d + left_over parts) (omega (arith, fits)) (omega (arith, fits, some))
       ∙ (ap (left_of (store U h (fields_of s) p.words ∷ [])) {x = d + left_over parts} {y = d + left_over (p ∷ parts) + p.words} (omega (arith, fits))
       ∙ store_left U h (fields_of s) p.words (d + left_over (p ∷ parts)))
 
-  element_left : (p : Part) (parts : List Part) (h : Home) (r : Range) (d : ℕ) → p.words + words_over all parts p ≤ left_over parts → 0 < p.words
+  pub element_left : (p : Part) (parts : List Part) (h : Home) (r : Range) (d : ℕ) → p.words + words_over all parts p ≤ left_over parts → 0 < p.words
       → left_of (element_own p parts h r) (d + left_over parts + 1) ≡ d + left_over (p ∷ parts)
   element_left p parts h r d fits some =
       brought_left p.words (suc (words_over all parts p)) r (store_within U h p.words) (d + left_over parts + 1) (omega (arith, fits)) (omega (arith, fits, some))

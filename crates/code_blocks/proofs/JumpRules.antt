@@ -29,7 +29,7 @@ use Rattle.code_blocks.proofs.Lists.{get_front, get_seam}
 use Rattle.code_blocks.proofs.PhraseRules.{is_start}
 use Rattle.code_blocks.proofs.Telling.{all_from, arm_told, body_told}
 
-own_right : (r : Routine) (at : ℕ) (x : Instruction) → IsOwn x → JumpsRightly r at x
+pub own_right : (r : Routine) (at : ℕ) (x : Instruction) → IsOwn x → JumpsRightly r at x
 own_right r at (i.Lit word) h = tt
 own_right r at (i.Str literal) h = tt
 own_right r at (i.LoadL slot words) h = tt
@@ -88,16 +88,16 @@ goes_not arms (Start n) target h = jump_not arms (Offset target) h
 goes_not arms (After n) target h = jump_not arms (Offset target) h
 goes_not arms (At l) target h = jump_not arms (Offset target) h
 
-leap_right : (r : Routine) (l : Leap) (at target : ℕ) → GoesForward r at target → JumpsRightly r at (leap_to l target)
+pub leap_right : (r : Routine) (l : Leap) (at target : ℕ) → GoesForward r at target → JumpsRightly r at (leap_to l target)
 leap_right r Anyhow at target g = g
 leap_right r (Where true) at target g = g
 leap_right r (Where false) at target g = g
 
 -- the offsets in an interval are in one region
-abbrev Stays : Routine → (lo hi : ℕ) → Type 0
+abbrev pub Stays : Routine → (lo hi : ℕ) → Type 0
 Stays r lo hi = (x y : ℕ) → lo ≤ x → x < hi → lo ≤ y → y < hi → region_at r.phrases x ≡ region_at r.phrases y
 
-abbrev AllRight : Routine → List CodeEntry → Type 0
+abbrev pub AllRight : Routine → List CodeEntry → Type 0
 AllRight r [] = Unit {0}
 AllRight r (e ∷ es) = (JumpsInside e.instruction → JumpsRightly r e.at e.instruction) × AllRight r es
 
@@ -111,15 +111,15 @@ own_all_right r (x ∷ is) a d h = (λ j. own_right r a x h.0, own_all_right r i
 
 module _ (r : Routine) (lo hi : ℕ) (stay : Stays r lo hi) where
   -- the ends of the parts around lie ahead, in the region
-  abbrev AllEnds : List ℕ → (from : ℕ) → Type 0
+  abbrev pub AllEnds : List ℕ → (from : ℕ) → Type 0
   AllEnds [] from = Unit {0}
   AllEnds (o ∷ os) from = (IsStart r.code o × (from ≤ o) × (o < hi)) × AllEnds os from
 
-  ends_from : (os : List ℕ) (a b : ℕ) → a ≤ b → AllEnds os b → AllEnds os a
+  pub ends_from : (os : List ℕ) (a b : ℕ) → a ≤ b → AllEnds os b → AllEnds os a
   ends_from [] a b le h = tt
   ends_from (o ∷ os) a b le h = (((h.0).0, omega (arith, le, (h.0).1), (h.0).2), ends_from os a b le h.1)
 
-  end_there : (os : List ℕ) (part a : ℕ) → part < length os → AllEnds os a → IsStart r.code (end_at os part) × (a ≤ end_at os part) × (end_at os part < hi)
+  pub end_there : (os : List ℕ) (part a : ℕ) → part < length os → AllEnds os a → IsStart r.code (end_at os part) × (a ≤ end_at os part) × (end_at os part < hi)
   end_there [] part a lt h = absurd (omega (arith, lt))
   end_there (o ∷ os) zero a lt h = h.0
   end_there (o ∷ os) (suc part) a lt h = end_there os part a (omega (arith, lt)) h.1
@@ -198,7 +198,7 @@ arms_right r (AndArmBlock labels slot words b arms) E at c none stay starts =
 
 -- the arms of all phrases that are found are closed
 
-abbrev AllClosed : List Pending → Type 0
+abbrev pub AllClosed : List Pending → Type 0
 AllClosed [] = Unit {0}
 AllClosed (q ∷ ps) = ArmsClosed q.arms × AllClosed ps
 
@@ -235,24 +235,24 @@ closed_arms (AndArmBlock labels slot words b arms) E a h =
     closed_both (block_phrases (region b) E a) (arms_phrases arms E (a + size (region b))) (closed_block (region b) E a 0 (h.0, (tt, tt)))
     (closed_arms arms E (a + size (region b)) h.1)
 
-closed_get : (ps : List Pending) → AllClosed ps → (k : ℕ) (q : Pending) → slice_get ps k ≡ Some q → ArmsClosed q.arms
+pub closed_get : (ps : List Pending) → AllClosed ps → (k : ℕ) (q : Pending) → slice_get ps k ≡ Some q → ArmsClosed q.arms
 closed_get [] h k q e = cc
 closed_get (p ∷ ps) h zero q e = let same : p ≡ q = cc in subst (λ (x : Pending). ArmsClosed x.arms) same h.0
 closed_get (p ∷ ps) h (suc k) q e = closed_get ps h.1 k q e
 
 -- What each step of writing keeps: where the instructions written so far are in the whole code, and each region is one of it, they jump rightly.
-record Led (start : ℕ) (w : Written) : Type 0 where
-  closed : AllClosed w.found
-  right : (r : Routine) → ((o : ℕ) → Started w.code o → IsStart r.code o) → Stays r 0 start
+pub record Led (start : ℕ) (w : Written) : Type 0 where
+  pub closed : AllClosed w.found
+  pub right : (r : Routine) → ((o : ℕ) → Started w.code o → IsStart r.code o) → Stays r 0 start
       → ((k j : ℕ) (p : Phrase) (x : Arm) → slice_get w.done k ≡ Some p → slice_get p.arms j ≡ Some x → Stays r x.start x.end) → AllRight r w.code
 
-led_first : (b : Block) → Closed b 0 → Led (size (returning b)) (first_region (returning b))
+pub led_first : (b : Block) → Closed b 0 → Led (size (returning b)) (first_region (returning b))
 led_first b c = record {
   closed = closed_block (returning b) in_procedure 0 0 (c, (tt, tt));
   right = λ r starts body arms. region_right r b i.Return in_procedure 0 0 (size (returning b)) (omega arith) body refl c tt starts;
 }
 
-led_with : (start : ℕ) (w : Written) (o : Option Pending) → slice_get w.found (length w.done) ≡ o → Led start w → Led start (with_arms w o)
+pub led_with : (start : ℕ) (w : Written) (o : Option Pending) → slice_get w.found (length w.done) ≡ o → Led start w → Led start (with_arms w o)
 led_with start w None e h = h
 led_with start w (Some q) e h =
     let E = in_arms q.env in

@@ -37,7 +37,7 @@ module _ (U : Coded) where
   unfolding words_in
   record_words Γ e ks h = one_is Γ e (Record ks) h
 
-  ordinal_word : (Γ : Scope) (e : Expr) (k : Kind) → ExprIn Γ e (one k) → k ≡ Ordinal → words_of e ≡ 1
+  pub ordinal_word : (Γ : Scope) (e : Expr) (k : Kind) → ExprIn Γ e (one k) → k ≡ Ordinal → words_of e ≡ 1
   unfolding words_in
   ordinal_word Γ e k h is = one_is Γ e k h ∙ ap words_in is
 

@@ -43,7 +43,7 @@ pub way_to : (Γ : Scope) (around points : Points Destination) (arms : ℕ) (p :
 unfolding Reaches
 way_to Γ around points arms p known r = way_out arms (points p) ((known.agrees).ways p r.0 arms r.1 r.2)
 
-goes_there : (arms : ℕ) (p : Point) (to : Destination) → Lands p to → goes_to arms p (offset_of (OutOf arms to)) ≡ jump_to arms to
+pub goes_there : (arms : ℕ) (p : Point) (to : Destination) → Lands p to → goes_to arms p (offset_of (OutOf arms to)) ≡ jump_to arms to
 goes_there arms Leave Caller h = refl
 goes_there arms Leave (Offset o) h = absurd h
 goes_there arms (Start n) Caller h = absurd h

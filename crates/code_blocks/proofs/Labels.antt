@@ -14,12 +14,12 @@ or_true : (b : Bool) → b || true ≡ true
 or_true true = refl
 or_true false = refl
 
-among : (l : ℕ) (ls : List ℕ) → Contains ls l → is_among l ls ≡ true
+pub among : (l : ℕ) (ls : List ℕ) → Contains ls l → is_among l ls ≡ true
 among l [] (k, h, e) = absurd (omega (h, arith))
 among l (k ∷ ks) (zero, h, e) = ap (λ b. b || is_among l ks) (eq-eqb l k (sym e))
 among l (k ∷ ks) (suc n, h, e) = ap (λ b. nat_eq l k || b) (among l ks (n, omega (h, arith), e)) ∙ or_true (nat_eq l k)
 
-not_among : (l : ℕ) (ls : List ℕ) → ((k : ℕ) → Contains ls k → l ≡ k → ⊥) → is_among l ls ≡ false
+pub not_among : (l : ℕ) (ls : List ℕ) → ((k : ℕ) → Contains ls k → l ≡ k → ⊥) → is_among l ls ≡ false
 not_among l [] f = refl
 not_among l (k ∷ ks) f =
     ap (λ b. b || is_among l ks) (ne_eqb l k (λ e. f k (0, omega arith, refl) e)) ∙ not_among l ks (λ m c. f m (suc c.0, omega (c.1, arith), c.2))

@@ -1,5 +1,6 @@
 -- Facts about the elements of a list, from a number on.
-use Rattle.std.proofs.Common.{◌≡◌, refl, sym, ap, ◌∙◌, subst, ℕ, zero, suc, ◌+◌, ◌<◌, ◌⊎◌, inl, inr, ⊎_elim, List, [], ◌∷◌, ◌++◌, length, Some, append_assoc, length-append, arith}
+use Rattle.std.proofs.Common.{◌≡◌, refl, sym, ap, ◌∙◌, subst, ℕ, zero, suc, ◌+◌, ◌<◌, ◌⊎◌, inl, inr, ⊎_elim, List, [], ◌∷◌, ◌++◌, length, All, Some, get_or, append_assoc, length-append, arith}
+use Rattle.std.proofs.lemmas.Option.{slice_get-get_or}
 use Rattle.std.specs.Prelude.{slice_get}
 
 -- each element and its number have it
@@ -53,3 +54,12 @@ pub get_there : {X : Type 0} (xs : List X) (k : ℕ) → k < length xs → (x : 
 get_there [] k lt = absurd (omega (arith, lt))
 get_there (x ∷ xs) zero lt = (x, refl)
 get_there (x ∷ xs) (suc k) lt = get_there xs k (omega (arith, lt))
+
+-- what each element has
+pub all_get : {X : Type 0} (P : X → Type 0) (xs : List X) (k : ℕ) (x : X) → slice_get xs k ≡ Some x → All P xs → P x
+all_get P [] k x e h = cc
+all_get P (y ∷ xs) zero x e h = let same : y ≡ x = cc in subst P same (h 0 y (omega arith))
+all_get P (y ∷ xs) (suc k) x e h = all_get P xs k x e (λ n d lt. h (suc n) d (omega (arith, lt)))
+
+pub all_from_get : {X : Type 0} (P : X → Type 0) (xs : List X) → ((k : ℕ) (x : X) → slice_get xs k ≡ Some x → P x) → All P xs
+all_from_get P xs f k d lt = f k (get_or xs k d) (slice_get-get_or xs k d lt)

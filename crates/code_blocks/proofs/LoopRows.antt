@@ -35,7 +35,7 @@ use Rattle.code_blocks.proofs.ConditionRows.{own_then_out}
 use Rattle.code_blocks.proofs.StatementRows.{Stands, Keeps}
 use Rattle.code_blocks.proofs.LabelRows.{ExitsStand, exits_row, past_exits_row}
 
-step_left : (k : Counter) (d : ℕ) → left_of (step_code k) d ≡ d
+pub step_left : (k : Counter) (d : ℕ) → left_of (step_code k) d ≡ d
 step_left k d = own_left (step_code k) refl (own_code_keeps_words.stepped none k d)
 
 module _ (S : Laid) where
@@ -68,7 +68,7 @@ module _ (S : Laid) where
   give_same (GivenTo (Local n) r) slot = refl
   give_same (GivenTo (Global n) r) slot = refl
 
-  give_left : (g : Given) (slot d : ℕ) → left_of (give_code U g slot) d ≡ d
+  pub give_left : (g : Given) (slot d : ℕ) → left_of (give_code U g slot) d ≡ d
   give_left NoVariable slot d = refl
   give_left (GivenTo h r) slot d =
       left_both (check_code r) (store U h 0 1 ∷ []) (d - 0 + 1)

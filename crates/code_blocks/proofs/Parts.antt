@@ -7,18 +7,18 @@ use Rattle.mesa_types.specs.Shapes.{words_in, words_in_all, words_before, count_
 use Rattle.code_relation.specs.CodeFor.{words_taken, taken_behind, words_over}
 use Rattle.code_relation.specs.Slots.{words_at}
 
-before_none : (ks : Kinds) → words_before ks 0 ≡ 0
+pub before_none : (ks : Kinds) → words_before ks 0 ≡ 0
 unfolding words_before
 before_none NoKinds = refl
 before_none (AndKind k ks) = refl
 
-before_next : (ks : Kinds) (n : ℕ) → words_before ks (suc n) ≡ words_before ks n + words_at ks n
+pub before_next : (ks : Kinds) (n : ℕ) → words_before ks (suc n) ≡ words_before ks n + words_at ks n
 unfolding words_before
 before_next NoKinds n = refl
 before_next (AndKind k ks) zero = omega (arith, before_none ks)
 before_next (AndKind k ks) (suc n) = omega (arith, before_next ks n)
 
-before_all : (ks : Kinds) (n : ℕ) → words_before ks n ≤ words_in_all ks
+pub before_all : (ks : Kinds) (n : ℕ) → words_before ks n ≤ words_in_all ks
 unfolding words_before words_in_all
 before_all NoKinds n = omega arith
 before_all (AndKind k ks) zero = omega arith

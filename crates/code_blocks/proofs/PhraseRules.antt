@@ -199,7 +199,7 @@ phrase_right m c n p e =
       nests = all_before (Nests p) w.done n lt (λ k r less there. nest.nests k n r p less there e);
     }
 
-procedure_fills : (m : Module) (c : Procedure) → PhrasesFill (spots (procedure_code m c).code) (procedure_code m c).phrases
+pub procedure_fills : (m : Module) (c : Procedure) → PhrasesFill (spots (procedure_code m c).code) (procedure_code m c).phrases
 procedure_fills m c = record {
   right = λ n p lt e. phrase_right m c n p e;
   filled = (regions_fill m c).filled;

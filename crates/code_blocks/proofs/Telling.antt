@@ -61,6 +61,19 @@ arm_before [] a b k x h e = cc
 arm_before (y ∷ more) a b zero x h e = let same : y ≡ x = cc in subst (λ (z : Arm). z.end ≤ b) same (arms_up more y.end b h.2)
 arm_before (y ∷ more) a b (suc k) x h e = arm_before more y.end b k x h.2 e
 
+pub phrases_up : (done : List Phrase) (a b : ℕ) → PhrasesFrom done a b → a ≤ b
+phrases_up [] a b h = omega (arith, h)
+phrases_up (p ∷ done) a b h = omega (arith, arms_up p.arms a h.0 h.1, phrases_up done h.0 b h.2)
+
+-- and each arm ends there or before
+pub arms_end : (done : List Phrase) (a b k j : ℕ) (p : Phrase) (x : Arm) → PhrasesFrom done a b → slice_get done k ≡ Some p → slice_get p.arms j ≡ Some x
+    → x.end ≤ b
+arms_end [] a b k j p x h e f = cc
+arms_end (q ∷ done) a b zero j p x h e f =
+    let same : q ≡ p = cc in
+    omega (arith, arm_before q.arms a h.0 j x h.1 (ap (λ (y : Phrase). slice_get y.arms j) same ∙ f), phrases_up done h.0 b h.2)
+arms_end (q ∷ done) a b (suc k) j p x h e f = arms_end done h.0 b k j p x h.2 e f
+
 -- An offset before them is in none.
 
 no_arm : (p n : ℕ) (more : List Arm) (a b o : ℕ) (r : Region) → ArmsFrom more a b → o < a → later_arm p n more o r ≡ r

@@ -101,7 +101,7 @@ module _ (U : Coded) where
       let after = words_of e - (before + words) in
       own_left (field_code before words after) {n = d + before + words + after} (p ∙ omega (arith, fits)) (own_code_keeps_words.field none before words after d)
 
-  within_left : (bases : Bases) (range : Interval) (m d : ℕ) → m ≡ d + 3 → left_of (within_of (scratch U) bases range) m ≡ d + 1
+  pub within_left : (bases : Bases) (range : Interval) (m d : ℕ) → m ≡ d + 3 → left_of (within_of (scratch U) bases range) m ≡ d + 1
   within_left bases (Between x p y q) m d e = own_left (within_code (scratch U) bases p q) e (own_code_keeps_words.within none (scratch U) bases p q d)
 
   pub comparison_left : (b : Base) (o : Relation) (d : ℕ) → left_of (comparison b o) (d + 2) ≡ d + 1

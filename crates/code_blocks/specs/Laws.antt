@@ -13,7 +13,9 @@ use Rattle.code_forms.specs.declared.region.Region.TheVariants.{Body, ArmOf}
 use Rattle.code_forms.specs.Jumps.{JumpsRightly}
 use Rattle.code_forms.specs.Phrases.{EndsWithCode, Nests, PhrasesFill, RegionsFollow, first_start}
 use Rattle.code_forms.specs.Regions.{region_at}
-use Rattle.code_forms.specs.Routine.{Routine, spots}
+use Rattle.code_forms.specs.Depths.{StackIsRight, DepthsAreSettled}
+use Rattle.code_forms.specs.Operands.{OperandsAreRight}
+use Rattle.code_forms.specs.Routine.{Routine, routine_with, spot_of, spots}
 use Rattle.code_forms.specs.Ranges.{KeepsRanges, InOrder}
 use Rattle.code_forms.specs.Valid.{AreValid, HaveDepths}
 use Rattle.code_relation.specs.Modules.{PartsFor}
@@ -81,6 +83,43 @@ InsideJumpsRight c = (r : Routine) → r.code ≡ spots c.code → r.phrases ≡
 -- so it is in each procedure, also where a module is not sound
 abbrev pub JumpsInsideAreRight : Type 0
 JumpsInsideAreRight = (m : Module) → All InsideJumpsRight (module_code m).procedures
+
+-- a procedure of a module's code, with what its code may name
+abbrev pub routine_in : Parts → CodeProcedure → Routine
+routine_in c p = routine_with c.globals (length c.strings) c.signals c.links c.procedures p
+
+-- each jump leads where it may: a plain one forward and a jump back back in their region, a jump out of arms outward of them
+abbrev pub JumpsRight : Routine → List CodeEntry → Type 0
+JumpsRight r code = (k : ℕ) (e : CodeEntry) → slice_get code k ≡ Some e → JumpsRightly r e.at e.instruction
+
+-- so it is in each procedure of a sound module
+abbrev pub JumpsAreRight : Type 0
+JumpsAreRight = (m : Module) → Sound m
+    → let c : Parts = module_code m in All (λ (p : CodeProcedure). JumpsRight (routine_in c p) p.code) c.procedures
+
+-- each instruction has operands in range and stands where it may, and so are the words of each arm
+abbrev pub OperandsRight : Routine → List CodeEntry → Type 0
+OperandsRight r code = (k : ℕ) (e : CodeEntry) → slice_get code k ≡ Some e → OperandsAreRight r (spot_of e)
+
+-- so it is in each procedure of a sound module
+abbrev pub OperandsAreInRange : Type 0
+OperandsAreInRange = (m : Module) → Sound m
+    → let c : Parts = module_code m in All (λ (p : CodeProcedure). OperandsRight (routine_in c p) p.code) c.procedures
+
+-- the depths beside the instructions of a procedure are settled, and the rules on the operand stack hold with them
+pub record StackStands (r : Routine) (code : List CodeEntry) : Type 0 where
+  pub settled : DepthsAreSettled r code
+  pub right : (k : ℕ) (e : CodeEntry) → slice_get code k ≡ Some e → StackIsRight r k (spot_of e) e.depth
+
+-- so it is in each procedure of a sound module
+abbrev pub StacksStand : Type 0
+StacksStand = (m : Module) → Sound m
+    → let c : Parts = module_code m in All (λ (p : CodeProcedure). StackStands (routine_in c p) p.code) c.procedures
+
+-- the code of each sound module of at most so many nodes keeps the counts and sizes that the code of each module keeps, valid or not
+abbrev pub RangesAreKept : Type 0
+RangesAreKept = (m : Module) → Sound m → nodes m ≤ 4194304
+    → let c : Parts = module_code m in KeepsRanges c.globals c.signals c.strings c.links c.procedures
 
 -- these parts of a code stand for the module, are valid with the depths beside the instructions, and are no longer than a file asks
 pub record StandFor (m : Module) (c : Parts) : Type 0 where

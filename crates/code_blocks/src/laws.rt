@@ -1,4 +1,4 @@
-ghost use Rattle.code_blocks.specs.Laws.{JumpsInsideAreRight, ModulesAreCoded, ModulesAreInOrder, ModulesAreShort, PhrasesNest, PhrasesStand, RegionsAreTold, RegionsFillTheCode};
+ghost use Rattle.code_blocks.specs.Laws.{JumpsAreRight, JumpsInsideAreRight, ModulesAreCoded, ModulesAreInOrder, ModulesAreShort, ModulesAreTranslated, OperandsAreInRange, PhrasesNest, PhrasesStand, RangesAreKept, RegionsAreTold, RegionsFillTheCode, StacksStand};
 
 /// The code of each sound module stands for it.
 #[tactic(auto, using(crate::proofs::Coding::modules_are_coded))]
@@ -48,4 +48,38 @@ pub fn regions_are_told()
 #[tactic(auto, using(crate::proofs::JumpRules::jumps_inside_are_right))]
 pub fn jumps_inside_are_right()
     ensures { JumpsInsideAreRight }
+{}
+
+/// Each jump of a sound module leads where valid code asks: a plain one forward and a jump back back in their region, a jump out of arms
+/// to the region outward of them.
+#[tactic(auto, using(crate::proofs::SpotRules::jumps_are_right))]
+pub fn jumps_are_right()
+    ensures { JumpsAreRight }
+{}
+
+/// Each instruction of a sound module has operands in range and stands where it may, and so are the words of each arm.
+#[tactic(auto, using(crate::proofs::SpotRules::operands_are_in_range))]
+pub fn operands_are_in_range()
+    ensures { OperandsAreInRange }
+{}
+
+/// The code of a sound module keeps the counts and sizes that the code of each module keeps.
+#[tactic(auto, using(crate::proofs::RangeRules::ranges_are_kept))]
+pub fn ranges_are_kept()
+    ensures { RangesAreKept }
+{}
+
+/// The depths beside the instructions of each procedure of a sound module are settled, and the rules on the operand stack hold with them:
+/// each instruction finds the words that it takes and has room for those that it puts, each way to an instruction brings the depth
+/// that stands beside it, jumps out of arms and returns find no words, and no code runs out of its region.
+#[tactic(auto, using(crate::proofs::StackRules::stacks_stand))]
+pub fn stacks_stand()
+    ensures { StacksStand }
+{}
+
+/// The code of each sound module of at most 4,194,304 nodes stands for the module, is valid with the depths beside its instructions, keeps
+/// the ranges of each module's code, and has at most 32 bytes for each node.
+#[tactic(auto, using(crate::proofs::Translated::modules_are_translated))]
+pub fn modules_are_translated()
+    ensures { ModulesAreTranslated }
 {}

@@ -4,5 +4,7 @@
 mod laws;
 
 pub use laws::{
-    modules_are_coded, modules_are_in_order, modules_are_short, phrases_nest, regions_fill_the_code,
+    jumps_are_right, jumps_inside_are_right, modules_are_coded, modules_are_in_order,
+    modules_are_short, modules_are_translated, operands_are_in_range, phrases_nest, phrases_stand,
+    ranges_are_kept, regions_are_told, regions_fill_the_code, stacks_stand,
 };
