@@ -27,7 +27,7 @@ pub record BackRuns (layout : Layout) (region : List ℕ) (table : List Row) (r 
   pub started : number ≡ 0 → HasRoom layout region (back_row table r) (r.top - 1) 0
 
 module _ (image : Image) (layout : Layout) (prepared : IsPrepared image layout) (region : List ℕ) (table : List Row) (r : Registers) (p : CodeProcedure) (a : Active)
-    (ample : IsAmple layout region table) (code : ModuleCode) (is : IsCodeOf image code table r) (at : IsAt code table r Return)
+    (ample : IsAmple layout region table r.top) (code : ModuleCode) (is : IsCodeOf image code table r) (at : IsAt code table r Return)
     (s : Stepped) (unstuck : IsUnstuck image s) (m : Store) where
   frame_of : (S : Activations) (shows : Shows image layout region table r p a S) → Reaches image s (Goes (Runs (a ∷ S) m)) → (variables : List ℕ) × (a.role ≡ Frame variables)
   frame_of S shows reaches =
@@ -77,7 +77,7 @@ module _ (image : Image) (layout : Layout) (prepared : IsPrepared image layout) 
 -- With the values of the code.
 
 module _ (image : Image) (layout : Layout) (prepared : IsPrepared image layout) (region : List ℕ) (table : List Row) (r : Registers)
-    (ample : IsAmple layout region table) (code : ModuleCode) (is : IsCodeOf image code table r) (at : IsAt code table r Return)
+    (ample : IsAmple layout region table r.top) (code : ModuleCode) (is : IsCodeOf image code table r) (at : IsAt code table r Return)
     (s : Stepped) (unstuck : IsUnstuck image s) (m : Store) (shown : Shown image layout region table r s m) where
   abbrev a : Active
   a = shown.top

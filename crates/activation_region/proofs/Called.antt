@@ -1,10 +1,9 @@
 -- A call over the region is a call of the machine.
 use Rattle.std.proofs.Common.{◌≡◌, ℕ, zero, suc, ◌+◌, ◌-◌, ◌<◌, ◌≤◌, List, ◌∷◌, length, false, get_or, Some, refl, sym, ap, subst, ◌∙◌, arith, nat_eq}
-use Rattle.std.specs.Prelude.{slice_get, option_map, if◌then◌else◌}
+use Rattle.std.specs.Prelude.{slice_get, option_map}
 use Rattle.std.proofs.Math.Logic.{∥∥₁_elim}
 use Rattle.std.proofs.Math.Bridge.{le_prop}
 use Rattle.std.proofs.Math.ListN.{length-map}
-use Rattle.std.proofs.lemmas.Bool.{lt-ltb, le-ltb}
 use Rattle.std.proofs.lemmas.Option.{same_Some, slice_get-map, slice_get-get_or, slice_get_within, get_or_from_slice_get}
 use Rattle.code_forms.specs.declared.instruction.Instruction.{Instruction}
 use Rattle.code_forms.specs.declared.instruction.Instruction.TheVariants.{Call}
@@ -16,11 +15,11 @@ use Rattle.code_forms.specs.Regions.{region_at}
 use Rattle.code_forms.specs.Routine.{routine, moves, words_of, words_there, goes_on}
 use Rattle.code_forms.specs.Running.{EntryRuns}
 use Rattle.object_files.specs.declared.image.Image.{Image}
-use Rattle.machine_steps.specs.declared.end.End.TheVariants.{Spent, FrameLimit}
-use Rattle.machine_steps.specs.State.{Active, Activations, Store, Runs, Ended, Stepped, Goes, Stops}
+use Rattle.machine_steps.specs.declared.end.End.TheVariants.{Spent}
+use Rattle.machine_steps.specs.State.{Active, Activations, Store, Runs, Ended, Stepped, Stops}
 use Rattle.machine_steps.specs.LookUps.{code_of, procedure_of, called as called_procedure}
-use Rattle.machine_steps.specs.Moves.{with, spend_of, spend, enter}
-use Rattle.machine_steps.specs.Calls.{enter_frame, call}
+use Rattle.machine_steps.specs.Moves.{with, spend_of, spend}
+use Rattle.machine_steps.specs.Calls.{call}
 use Rattle.machine_steps.specs.Steps.{perform, worked, works_in, begin, run, step}
 use Rattle.machine_steps.specs.Working.{works}
 use Rattle.quiet_run.specs.declared.registers.Registers.{Registers}
@@ -31,7 +30,6 @@ use Rattle.activation_region.specs.Below.{Called, GoesOn, Waits}
 use Rattle.activation_region.specs.Shows.{IsPrepared, Shows}
 use Rattle.activation_region.proofs.Located.{InCode, in_code, stands_at}
 use Rattle.activation_region.proofs.Following.{began, spent_by}
-use Rattle.activation_region.proofs.Entering.{made, without_args}
 use Rattle.activation_region.proofs.Standing.{procedure_there}
 
 -- arguments and results are words of the frame
@@ -103,15 +101,15 @@ module _ (image : Image) (layout : Layout) (prepared : IsPrepared image layout) 
   step_here = ap (λ o. with o m (λ (i : Instruction). worked image i (works_in image i a S m) a S (began m))) (stands_at image layout prepared a p shows.is r.entry e fetched shows.begins)
 
   module _ (number : ℕ) (calls : e.instruction ≡ Call number) (some : 0 < number) (called : CodeProcedure) (is : procedure_of image a.instance number ≡ Some called) where
-    abbrev then_entered : Store → Stepped
-    then_entered m1 = enter (made a.instance number called a) (without_args called a ∷ S) m1
+    abbrev then_called : Store → Stepped
+    then_called m1 = call a.instance number called a S m1
 
-    pub call_step : step image (Runs (a ∷ S) m) ≡ spend_of m.turns (began m) then_entered
-    unfolding worked works_in works perform with spend call enter_frame
+    call_step : step image (Runs (a ∷ S) m) ≡ spend_of m.turns (began m) then_called
+    unfolding worked works_in works perform with spend
     call_step =
         step_here
         ∙ ap (λ i. worked image i (works_in image i a S m) a S (began m)) calls
-        ∙ ap (λ o. with o (began m) (λ (q : CodeProcedure). spend_of m.turns (began m) (λ m1. enter (made a.instance number q a) (without_args q a ∷ S) m1))) (called_by image a.instance number some ∙ is)
+        ∙ ap (λ o. with o (began m) (λ (q : CodeProcedure). spend_of m.turns (began m) (λ m1. call a.instance number q a S m1))) (called_by image a.instance number some ∙ is)
 
     -- no turn is left
     none_left : (n : ℕ) (k : Store → Stepped) → n ≡ 0 → spend_of n (began m) k ≡ Stops (Ended Spent) (began m)
@@ -120,22 +118,7 @@ module _ (image : Image) (layout : Layout) (prepared : IsPrepared image layout) 
     none_left (suc n) k none = absurd (omega (arith, none))
 
     pub spent_step : m.turns ≡ 0 → step image (Runs (a ∷ S) m) ≡ Stops (Ended Spent) (record m { begun = suc m.begun })
-    spent_step none = call_step ∙ none_left m.turns then_entered none
+    spent_step none = call_step ∙ none_left m.turns then_called none
 
-    abbrev spent : Store
-    spent = record m { begun = suc m.begun; turns = m.turns - 1 }
-
-    turn_step : nat_eq m.turns 0 ≡ false → step image (Runs (a ∷ S) m) ≡ then_entered spent
-    turn_step left = call_step ∙ spent_by m.turns (began m) then_entered left
-
-    pub full_step : nat_eq m.turns 0 ≡ false → 8192 ≤ length S + 1 → step image (Runs (a ∷ S) m) ≡ Stops (Ended FrameLimit) spent
-    unfolding enter
-    full_step left full =
-        turn_step left
-        ∙ ap (λ b. if b then Goes (Runs (made a.instance number called a ∷ without_args called a ∷ S) spent) else Stops (Ended FrameLimit) spent) (le-ltb (suc (length S)) 8192 (omega (arith, full)))
-
-    pub entered_step : nat_eq m.turns 0 ≡ false → length S + 1 < 8192 → step image (Runs (a ∷ S) m) ≡ Goes (Runs (made a.instance number called a ∷ without_args called a ∷ S) spent)
-    unfolding enter
-    entered_step left room =
-        turn_step left
-        ∙ ap (λ b. if b then Goes (Runs (made a.instance number called a ∷ without_args called a ∷ S) spent) else Stops (Ended FrameLimit) spent) (lt-ltb (suc (length S)) 8192 (omega (arith, room)))
+    pub turn_step : nat_eq m.turns 0 ≡ false → step image (Runs (a ∷ S) m) ≡ call a.instance number called a S (record m { begun = suc m.begun; turns = m.turns - 1 })
+    turn_step left = call_step ∙ spent_by m.turns (began m) then_called left

@@ -6,7 +6,7 @@ use Rattle.activation_region.proofs.Quiet.{comes_to_pause}
 use Rattle.activation_region.proofs.Standing.{of_code, standing}
 
 pub runs_as_defined : RunsAsDefined
-runs_as_defined image layout prepared region table ample r p a S shows code number is numbered targets leads m all begun why u pauses =
+runs_as_defined image layout prepared region table r ample p a S shows code number is numbered targets leads m all begun why u pauses =
     let v = valid_code image layout prepared a.instance code is in
     comes_to_pause image layout prepared table code p v.valid v.depths (of_code image layout prepared region table r p a S shows ample code is (length (m.globals a.instance)) all) targets leads number
     (record { region = region; globals = m.globals a.instance; registers = r; turns = m.turns }) a S shows numbered

@@ -70,7 +70,7 @@ module _ (image : Image) (layout : Layout) (prepared : IsPrepared image layout) 
     words : p.args + p.results ≤ p.frame
     words = let c = in_code image layout prepared a.instance a.procedure p shows.is in words_fit c.code a.procedure p c.there
 
-    module _ (ample : IsAmple layout region table) where
+    module _ (ample : IsAmple layout region table r.top) where
       frame_within_region : length S * layout.part + layout.part ≤ length region
       frame_within_region = let w = part_within image layout prepared region table r p a S shows ample in let t = top_part image layout prepared region table r p a S shows ample in omega (arith, w, t)
 
@@ -164,7 +164,7 @@ pub record HasRoom (layout : Layout) (region : List ℕ) (row : Row) (place coun
   pub owner_fits : owner_place row.kind place * layout.part ≤ length region
 
 module _ (image : Image) (layout : Layout) (prepared : IsPrepared image layout) (region : List ℕ) (table : List Row) (r : Registers) (p : CodeProcedure) (a : Active)
-    (ample : IsAmple layout region table) (variables : List ℕ) (is_frame_here : a.role ≡ Frame variables) (b : Active) (T : Activations)
+    (ample : IsAmple layout region table r.top) (variables : List ℕ) (is_frame_here : a.role ≡ Frame variables) (b : Active) (T : Activations)
     (shows : Shows image layout region table r p a (b ∷ T)) (w : Waiting image layout region table (over a) (length T) b) (owned : Owned b T) (lower : Below image layout region table (over b) T) where
   abbrev row : Row
   row = row_at table (length T)

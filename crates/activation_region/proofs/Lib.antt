@@ -10,6 +10,8 @@ pub mod Entering
 pub mod Returning
 pub mod Standing
 pub mod Called
+pub mod Grown
+pub mod NewFrame
 pub mod GivingBack
 pub mod Defined
 pub mod Placing

@@ -33,20 +33,16 @@ unfolding procedure_of
 procedure_here image j n p code is h = ap (λ o. option_and_then (λ (m : ModuleCode). slice_get m.procedures n) o) is ∙ h
 
 module _ (image : Image) (layout : Layout) (prepared : IsPrepared image layout) (region : List ℕ) (table : List Row) (r : Registers) (p : CodeProcedure) (a : Active) (S : Activations)
-    (shows : Shows image layout region table r p a S) (ample : IsAmple layout region table) where
+    (shows : Shows image layout region table r p a S) (ample : IsAmple layout region table r.top) where
   pub low : r.top < 8192
   low = let l = slice_get_within table (length S) shows.rowed.row shows.rowed.there in let t = shows.top in let k = ample.long in omega (arith, l, t, k)
 
   -- its part is in the region
   pub part_within : r.top * layout.part + layout.part ≤ length region
-  part_within = let n = next_part r.top 8192 layout.part low in let w = ample.wide in omega (arith, n, w)
+  part_within = let w = ample.wide in omega (arith, w)
 
   pub top_part : r.top * layout.part ≡ length S * layout.part
   top_part = ap (λ q. q * layout.part) shows.top
-
-  -- and so is the next one, where one more may stand
-  pub next_within : r.top + 1 < 8192 → (r.top + 1) * layout.part + layout.part ≤ length region
-  next_within more = let n = next_part (r.top + 1) 8192 layout.part more in let w = ample.wide in omega (arith, n, w)
 
   apart_by : (role : Role (List ℕ)) → OwnedBy role a.instance a.procedure S → slots_from layout (owner role (length S)) + p.frame ≤ floor_at layout (length S)
   unfolding owner OwnedBy

@@ -69,7 +69,7 @@ module _ (image : Image) (j : ℕ) (p : CodeProcedure) (is : procedure_of image 
   pub begin_spent : m.turns ≡ 0 → Ends image s (Ended Spent) marked
   begin_spent none = reaches.by (Ended Spent) marked (subst (λ x. Ends image x (Ended Spent) marked) (sym (begins_so ∙ none_left m.turns _ none)) (stops (Ended Spent) marked))
 
-module _ (image : Image) (layout : Layout) (prepared : IsPrepared image layout) (region : List ℕ) (table : List Row) (ample : IsAmple layout region table) (j : ℕ) (p : CodeProcedure)
+module _ (image : Image) (layout : Layout) (prepared : IsPrepared image layout) (region : List ℕ) (table : List Row) (ample : IsAmple layout region table 0) (j : ℕ) (p : CodeProcedure)
     (is : procedure_of image j 0 ≡ Some p) where
   many : length {A = ℕ} (replicate p.frame 0) ≡ p.frame
   many = length-replicate p.frame 0
@@ -126,7 +126,7 @@ body_of (p ∷ rest) some = (p, refl)
 body_there : (m : ModuleCode) (d : CodeProcedure) → slice_get m.procedures 0 ≡ Some (get_or m.procedures 0 d)
 body_there m d = slice_get-get_or m.procedures 0 d (has_body m)
 
-pub first_runs : (layout : Layout) (code : ModuleCode) (region : List ℕ) (table : List Row) → IsCodeFor layout code → IsAmple layout region table
+pub first_runs : (layout : Layout) (code : ModuleCode) (region : List ℕ) (table : List Row) → IsCodeFor layout code → IsAmple layout region table 0
     → (xs : List CodeProcedure) (x : CodeProcedure) → xs ≡ code.procedures → x ≡ get_or xs 0 x → x.frame ≤ length region
 first_runs layout code region table for ample xs x same is =
     let there = body_there code x in
@@ -144,7 +144,7 @@ module _ (image : Image) (layout : Layout) (prepared : IsPrepared image layout) 
       subst (λ t. Ends image s (Ended Spent) (record m { started = set_of m.started j true; turns = t })) turns_are
       (let b = body_of code.procedures (has_body code) in begin_spent image j b.0 (procedure_here image j 0 b.0 code is b.1) s m reaches (turns_are ∙ none))
 
-  pub begin_goes : (region : List ℕ) (table : List Row) → IsAmple layout region table → (s : Stepped) (m : Store) → Reaches image s (start image j [] m) → (turns : ℕ) → m.turns ≡ turns → (turns ≡ 0 → ⊥)
+  pub begin_goes : (region : List ℕ) (table : List Row) → IsAmple layout region table 0 → (s : Stepped) (m : Store) → Reaches image s (start image j [] m) → (turns : ℕ) → m.turns ≡ turns → (turns ≡ 0 → ⊥)
       → (xs : List CodeProcedure) (x : CodeProcedure) (frame : ℕ) → xs ≡ code.procedures → x ≡ get_or xs 0 x → frame ≡ x.frame → (region' : List ℕ) → region' ≡ with_part region 0 (replicate frame 0)
       → Shown image layout region' (slice_set table 0 (frame_row j 0)) (first_registers layout) s (record m { started = set_of m.started j true; turns = turns - 1 })
   begin_goes region table ample s m reaches turns turns_are some xs x frame same is_x frame_is region' region_is =

@@ -18,8 +18,8 @@ use Rattle.activation_region.specs.Reaching.{Comes}
 -- activations are shown, with these turns and globals, and does there what the pause says
 abbrev pub RunsAsDefined : Type 0
 RunsAsDefined = (image : Image) (layout : Layout) → IsPrepared image layout
-    → (region : List ℕ) (table : List Row) → IsAmple layout region table
-    → (r : Registers) (p : CodeProcedure) (a : Active) (S : Activations) → Shows image layout region table r p a S
+    → (region : List ℕ) (table : List Row) (r : Registers) → IsAmple layout region table r.top
+    → (p : CodeProcedure) (a : Active) (S : Activations) → Shows image layout region table r p a S
     → (code : ModuleCode) (number : ℕ) → code_of image a.instance ≡ Some code → module_number image a.instance ≡ Some number
     → (targets : List ℕ) → HasTargets p.code targets
     → (m : Store) → length (m.globals a.instance) ≡ code.global_words

@@ -1,3 +1,4 @@
+pub mod Links
 pub mod Placed
 pub mod Rows
 pub mod Below

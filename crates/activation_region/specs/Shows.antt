@@ -1,5 +1,5 @@
 -- What the registers, the region, the table, the globals and the marks of what was started show of the machine (rule of this project).
-use Rattle.std.specs.Prelude.{◌≡◌, ℕ, ◌+◌, ◌*◌, ◌≤◌, List, length, Bool, Some, slice_get}
+use Rattle.std.specs.Prelude.{◌≡◌, ℕ, ◌+◌, ◌-◌, ◌*◌, ◌≤◌, List, ◌++◌, length, replicate, Bool, Some, slice_get}
 use Rattle.code_forms.specs.declared.module_code.CodeEntry.{CodeEntry}
 use Rattle.code_forms.specs.declared.module_code.CodeProcedure.{CodeProcedure}
 use Rattle.code_forms.specs.Routine.{Begins, spots}
@@ -14,19 +14,32 @@ use Rattle.machine_steps.specs.Laws.{HasValidCode}
 use Rattle.quiet_run.specs.declared.registers.Registers.{Registers}
 use Rattle.activation_region.specs.declared.row.Layout.{Layout}
 use Rattle.activation_region.specs.declared.row.Row.{Row}
+use Rattle.activation_region.specs.Links.{BindsLinks}
 use Rattle.activation_region.specs.Placed.{slots_from, floor_at, IsLaidOut, Placed}
 use Rattle.activation_region.specs.Rows.{Rowed}
 use Rattle.activation_region.specs.Below.{over, Owned, Below}
 
--- an image whose code is valid, with the depth beside each instruction, and a layout with room for it
+-- an image whose code is valid, with the depth beside each instruction, and whose links are bound to what is like them; and a layout with
+-- room for it
 pub record IsPrepared (image : Image) (layout : Layout) : Type 0 where
   pub valid : HasValidCode image
   pub depths : (n : ℕ) (o : Object) → slice_get image.modules n ≡ Some o → HasDepths o.code
   pub laid : IsLaidOut image layout
+  pub links : BindsLinks image
 
--- there is a part and a row for as many activations as may be
-pub record IsAmple (layout : Layout) (region : List ℕ) (table : List Row) : Type 0 where
-  pub wide : limit * layout.part ≤ length region
+-- The region grows as deeper places are used, in memory that is kept for it.
+
+-- there is memory for a part for as many activations as may be
+abbrev pub IsReserved : Layout → (capacity : ℕ) → Type 0
+IsReserved layout capacity = limit * layout.part ≤ capacity
+
+-- a region with the parts of all places up to one; words that it had not are 0
+abbrev pub with_places : List ℕ → Layout → (place : ℕ) → List ℕ
+with_places region layout q = region ++ replicate ((q + 1) * layout.part - length region) 0
+
+-- it has the parts of the places up to the topmost one, and there is a row for as many activations as may be
+pub record IsAmple (layout : Layout) (region : List ℕ) (table : List Row) (top : ℕ) : Type 0 where
+  pub wide : (top + 1) * layout.part ≤ length region
   pub long : length table ≡ limit
 
 -- the topmost activation, of this procedure, by the registers, and the others by their rows

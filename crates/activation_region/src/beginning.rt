@@ -1,17 +1,19 @@
 //! The first frame of an instance that is started where no activation stands.
 
-ghost use Rattle.std.specs.Prelude.{◌≡◌, ℕ, ◌≤◌, [], true, Some};
+ghost use Rattle.std.specs.Prelude.{◌≡◌, ℕ, ◌≤◌, [], length, true, Some, vec_capacity};
 ghost use Rattle.object_files.specs.declared.image.Image.{Image};
 ghost use Rattle.machine_steps.specs.Calls.{set_of, start};
 ghost use Rattle.machine_steps.specs.LookUps.{code_of};
+ghost use Rattle.machine_steps.specs.Moves.{limit};
 ghost use Rattle.machine_steps.specs.State.{Stepped, Store};
 ghost use Rattle.activation_region.specs.Beginning.{IsCodeFor};
-ghost use Rattle.activation_region.specs.Calling.{LeadsTo};
+ghost use Rattle.activation_region.specs.Calling.{AddsFirst, IsAmpleFor, LeadsTo};
 ghost use Rattle.activation_region.specs.Reaching.{Reaches};
-ghost use Rattle.activation_region.specs.Shows.{IsAmple, IsPrepared};
+ghost use Rattle.activation_region.specs.Shows.{IsPrepared, IsReserved};
 
 use crate::calling::Turn;
 use crate::frames::clear;
+use crate::growing::make_room;
 use crate::row::{Kind, Layout, Row};
 use code_forms::ModuleCode;
 use machine_steps::End;
@@ -22,18 +24,21 @@ use quiet_run::Registers;
 pub fn begin(
     code: &ModuleCode,
     instance: u32,
-    region: &mut [u16],
+    region: &mut Vec<u16>,
     table: &mut [Row],
     layout: Layout,
     turns: &mut u64,
 ) -> Turn
     requires code { IsCodeFor layout code.now }
-    requires ample { IsAmple layout region.old table.old }
-    ensures ample { IsAmple layout region.new table.new }
+    requires rows { length table.old ≡ limit }
+    requires reserved { IsReserved layout (vec_capacity region.old) }
+    ensures ample { IsAmpleFor layout region.new.items table.new result }
+    ensures reserved { vec_capacity region.old ≤ vec_capacity region.new }
+    ensures adds { AddsFirst table.old table.new result }
     ensures turns_fall { turns.new ≤ turns.old }
     ensures leads { (image : Image) → IsPrepared image layout → code_of image instance ≡ Some code.now
         → (s : Stepped) (m : Store) → m.turns ≡ turns.old → Reaches image s (start image instance [] m)
-        → LeadsTo image layout region.new table.new s (record m { started = set_of m.started instance true; turns = turns.new }) result }
+        → LeadsTo image layout region.new.items table.new s (record m { started = set_of m.started instance true; turns = turns.new }) result }
 {
     if *turns == 0 {
         return Turn::Ends(End::Spent);
@@ -48,7 +53,8 @@ pub fn begin(
         count: 0,
         kind: Kind::Frame,
     };
-    clear(region, 0, frame);
+    make_room(region, layout, 0);
+    clear(region.as_mut_slice(), 0, frame);
     Turn::Goes(Registers {
         top: 0,
         slots: 0,

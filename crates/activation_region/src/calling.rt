@@ -1,18 +1,18 @@
 //! Calls within an instance, and returns.
 
-ghost use Rattle.std.specs.Prelude.{◌≡◌, ℕ, suc, ◌≤◌};
+ghost use Rattle.std.specs.Prelude.{◌≡◌, ℕ, suc, ◌≤◌, vec_capacity};
 ghost use Rattle.code_forms.specs.declared.instruction.Instruction.TheVariants.{Call, Return};
 ghost use Rattle.object_files.specs.declared.image.Image.{Image};
 ghost use Rattle.machine_steps.specs.State.{Stepped, Store};
-ghost use Rattle.activation_region.specs.Calling.{IsAt, IsCodeOf, LeadsTo, Stands};
+ghost use Rattle.activation_region.specs.Calling.{AddsFrame, IsAmpleFor, IsAt, IsCodeOf, LeadsTo, Stands};
 ghost use Rattle.activation_region.specs.Reaching.{IsUnstuck, Shown};
-ghost use Rattle.activation_region.specs.Shows.{IsAmple, IsPrepared};
+ghost use Rattle.activation_region.specs.Shows.{IsAmple, IsPrepared, IsReserved};
 
-use crate::frames::{enter, give, row_of};
+use crate::frames::{give, row_of};
+use crate::framing::add_frame;
 use crate::row::{Layout, Row};
 use code_forms::ModuleCode;
 use machine_steps::End;
-use mesa_base::limits::ACTIVATIONS;
 use quiet_run::Registers;
 
 /// What an instruction that touches more than the topmost activation leads to.
@@ -33,33 +33,31 @@ pub enum Turn {
 pub fn call(
     code: &ModuleCode,
     number: u32,
-    region: &mut [u16],
+    region: &mut Vec<u16>,
     table: &mut [Row],
     r: Registers,
     layout: Layout,
     turns: &mut u64,
 ) -> Turn
-    requires stands { Stands layout code.now region.old table.old r }
-    requires ample { IsAmple layout region.old table.old }
+    requires stands { Stands layout code.now region.old.items table.old r }
+    requires ample { IsAmple layout region.old.items table.old r.top }
+    requires reserved { IsReserved layout (vec_capacity region.old) }
     requires at { IsAt code.now table.old r (Call number) }
-    ensures ample { IsAmple layout region.new table.new }
+    ensures ample { IsAmpleFor layout region.new.items table.new result }
+    ensures reserved { vec_capacity region.old ≤ vec_capacity region.new }
+    ensures adds { AddsFrame layout table.old r table.new result }
     ensures turns_fall { turns.new ≤ turns.old }
     ensures leads { (image : Image) → IsPrepared image layout → IsCodeOf image code.now table.old r
-        → (s : Stepped) (m : Store) → m.turns ≡ turns.old → Shown image layout region.old table.old r s m
-        → LeadsTo image layout region.new table.new s (record m { turns = turns.new; begun = suc m.begun }) result }
+        → (s : Stepped) (m : Store) → m.turns ≡ turns.old → Shown image layout region.old.items table.old r s m
+        → LeadsTo image layout region.new.items table.new s (record m { turns = turns.new; begun = suc m.begun }) result }
 {
     if *turns == 0 {
         return Turn::Ends(End::Spent);
     }
     *turns -= 1;
-    if r.top + 1 >= ACTIVATIONS {
-        return Turn::Ends(End::FrameLimit);
-    }
     let called = &code.procedures.as_slice()[number as usize];
-    let args = usize::from(called.args);
-    let frame = usize::from(called.frame);
     let instance = row_of(table, r.top).instance;
-    Turn::Goes(enter(region, table, r, layout, args, frame, instance, number))
+    add_frame(called, instance, number, region, table, r, layout)
 }
 
 /// Returns from the topmost activation, a frame, whose code this is: the activation below is given the results and goes
@@ -72,9 +70,9 @@ pub fn give_back(
     layout: Layout,
 ) -> Turn
     requires stands { Stands layout code.now region.old table.now r }
-    requires ample { IsAmple layout region.old table.now }
+    requires ample { IsAmple layout region.old table.now r.top }
     requires at { IsAt code.now table.now r Return }
-    ensures ample { IsAmple layout region.new table.now }
+    ensures ample { IsAmpleFor layout region.new table.now result }
     ensures leads { (image : Image) → IsPrepared image layout → IsCodeOf image code.now table.now r
         → (s : Stepped) (m : Store) → IsUnstuck image s → Shown image layout region.old table.now r s m
         → LeadsTo image layout region.new table.now s (record m { begun = suc m.begun }) result }

@@ -36,6 +36,37 @@ pub(crate) fn clear(region: &mut [u16], at: usize, count: usize)
     region[at..at + count].fill(0);
 }
 
+/// Adds the row of a frame on top; the activation below waits, without the operands that are the frame's arguments.
+#[inline(always)]
+fn add_row(
+    table: &mut [Row],
+    r: Registers,
+    layout: Layout,
+    args: usize,
+    instance: u32,
+    procedure: u32,
+)
+    requires rows { r.top + 1 < length table.old }
+    requires operands { r.top * layout.part + layout.frame + args ≤ r.sp }
+    ensures { table.new ≡ with_frame table.old r layout args instance procedure }
+{
+    let row = row_of(table, r.top);
+    table[r.top] = Row {
+        instance: row.instance,
+        procedure: row.procedure,
+        entry: r.entry,
+        count: r.sp - args - (r.top * layout.part + layout.frame),
+        kind: row.kind,
+    };
+    table[r.top + 1] = Row {
+        instance,
+        procedure,
+        entry: 0,
+        count: 0,
+        kind: Kind::Frame,
+    };
+}
+
 /// Makes a frame on top, with the last operands of the activation below as its arguments, and its other variables 0.
 #[inline(never)]
 pub(crate) fn enter(
@@ -59,25 +90,10 @@ pub(crate) fn enter(
     ensures table { table.new ≡ with_frame table.old r layout args instance procedure }
     ensures registers { result ≡ frame_registers r layout }
 {
-    let row = row_of(table, r.top);
-    let from = r.sp - args;
-    table[r.top] = Row {
-        instance: row.instance,
-        procedure: row.procedure,
-        entry: r.entry,
-        count: from - (r.top * layout.part + layout.frame),
-        kind: row.kind,
-    };
+    add_row(table, r, layout, args, instance, procedure);
     let top = r.top + 1;
-    table[top] = Row {
-        instance,
-        procedure,
-        entry: 0,
-        count: 0,
-        kind: Kind::Frame,
-    };
     let slots = top * layout.part;
-    region.copy_within(from..r.sp, slots);
+    region.copy_within(r.sp - args..r.sp, slots);
     clear(region, slots + args, frame - args);
     Registers {
         top,

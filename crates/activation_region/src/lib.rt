@@ -4,10 +4,14 @@
 mod beginning;
 mod calling;
 mod frames;
+mod framing;
+mod growing;
 mod laws;
 mod row;
 
 pub use beginning::begin;
 pub use calling::{Turn, call, give_back};
+pub use framing::add_frame;
+pub use growing::make_room;
 pub use laws::runs_as_defined;
 pub use row::{Kind, Layout, Reason, Row, Target};

@@ -1,8 +1,10 @@
 pub mod Each
+pub mod HostWords
 pub mod Jumping
 pub mod Largest
 pub mod Linked
 pub mod Offered
 pub mod Planned
+pub mod Preparing
 pub mod Reading
 pub mod Running

@@ -1,6 +1,6 @@
 -- An image in order, whose wanted items are the host's, can be run.
-use Rattle.std.proofs.Common.{◌≡◌, ℕ, zero, suc, ◌<◌, length, Option, Some, None, refl, sym, ap, subst, ◌∙◌, arith}
-use Rattle.std.specs.Prelude.{slice_get, All, Any, IsSomeAnd, option_and_then}
+use Rattle.std.proofs.Common.{◌≡◌, ℕ, ◌<◌, length, Option, Some, None, refl, sym, ap, subst, ◌∙◌, arith}
+use Rattle.std.specs.Prelude.{slice_get, All, IsSomeAnd, option_and_then}
 use Rattle.std.proofs.lemmas.Option.{MatchOption-at_some, slice_get_within, get_or_from_slice_get, option_and_then_some}
 use Rattle.mesa_types.specs.declared.faces.ItemKind.{ItemKind}
 use Rattle.mesa_types.specs.declared.faces.ItemKind.TheVariants as item
@@ -9,42 +9,31 @@ use Rattle.code_forms.specs.declared.module_code.CodeKind.TheVariants.{Procedure
 use Rattle.code_forms.specs.declared.module_code.CodeLink.{CodeLink}
 use Rattle.code_forms.specs.declared.module_code.ModuleCode.{ModuleCode}
 use Rattle.interface_records.specs.declared.wanted.Wanted.{Wanted as WantedEntry}
-use Rattle.interface_records.specs.Faces.{iodefs}
 use Rattle.object_files.specs.declared.image.Image.{Image}
 use Rattle.object_files.specs.declared.image.Instance.{Instance}
 use Rattle.object_files.specs.declared.image.Link.{Link}
 use Rattle.object_files.specs.declared.image.Link.TheVariants.{Wanted, To}
-use Rattle.machine_steps.specs.LookUps.{code_of, procedure_of, called, signal_of, bound_to, Host, WriteChar, WriteString, WriteDecimal, ReadChar, EndOfInput, host_named, host_of}
+use Rattle.machine_steps.specs.LookUps.{code_of, procedure_of, called, signal_of, bound_to, Host, host_named, host_of}
 use Rattle.machine_steps.specs.Laws.{IsBound}
-use Rattle.ready_images.specs.Hosts.{SameItem, IsHostItem}
+use Rattle.activation_region.specs.Links.{IsOfInstance}
+use Rattle.ready_images.specs.Hosts.{IsHostItem}
 use Rattle.ready_images.specs.Laws.{OrderedCanRun, ReadyCanRun, PartsFit}
-use Rattle.ready_images.specs.Order.{code_kind, IsOfInstance, IsBoundAlike}
+use Rattle.ready_images.specs.Order.{code_kind, IsBoundAlike}
 use Rattle.ready_images.proofs.Each.{some_and}
+use Rattle.ready_images.proofs.HostWords.{host_procedure}
 use Rattle.ready_images.proofs.Largest.{largest_bounds}
 use Rattle.ready_images.proofs.Planned.{planned_valid}
 use Rattle.ready_images.proofs.Reading.{code_at}
 
 -- Wanted items.
 
-is_procedure : (k : ItemKind) → code_kind k ≡ Procedure → k ≡ item.Procedure
+pub is_procedure : (k : ItemKind) → code_kind k ≡ Procedure → k ≡ item.Procedure
 is_procedure item.Procedure e = refl
 is_procedure item.Signal e = cc
 is_procedure item.Error e = cc
 
--- a procedure of the built-in interface is one of the host's
-host_procedure : (w : WantedEntry) → Any (SameItem w.item) iodefs.face.items → w.item.kind ≡ item.Procedure → (h : Host) × (host_named w.item.name ≡ Some h)
-unfolding host_named
-host_procedure w (zero, x, l, is, same) kind = (WriteChar, rw (same.0 ∙ sym (ap (λ i. i.name) is)) refl)
-host_procedure w (suc zero, x, l, is, same) kind = (WriteString, rw (same.0 ∙ sym (ap (λ i. i.name) is)) refl)
-host_procedure w (suc (suc zero), x, l, is, same) kind = (WriteDecimal, rw (same.0 ∙ sym (ap (λ i. i.name) is)) refl)
-host_procedure w (suc (suc (suc zero)), x, l, is, same) kind = (ReadChar, rw (same.0 ∙ sym (ap (λ i. i.name) is)) refl)
-host_procedure w (suc (suc (suc (suc zero))), x, l, is, same) kind = (EndOfInput, rw (same.0 ∙ sym (ap (λ i. i.name) is)) refl)
-host_procedure w (suc (suc (suc (suc (suc zero)))), x, l, is, same) kind =
-    absurd (let e : item.Error ≡ item.Procedure = ap (λ i. i.kind) is ∙ sym same.1.0 ∙ kind in cc)
-host_procedure w (suc (suc (suc (suc (suc (suc k))))), x, l, is, same) kind = absurd (omega arith)
-
 module _ (image : Image) (hosts : All IsHostItem image.wanted) where
-  host_item : (n : ℕ) (w : WantedEntry) → slice_get image.wanted n ≡ Some w → IsHostItem w
+  pub host_item : (n : ℕ) (w : WantedEntry) → slice_get image.wanted n ≡ Some w → IsHostItem w
   host_item n w is = subst IsHostItem (get_or_from_slice_get image.wanted n w w is) (hosts n w (slice_get_within image.wanted n w is))
 
   wanted_procedure : (l : CodeLink) (n : ℕ) → l.kind ≡ Procedure → IsBoundAlike image l (Wanted n) → (h : Host) × (host_of image n ≡ Some h)
@@ -53,7 +42,7 @@ module _ (image : Image) (hosts : All IsHostItem image.wanted) where
       let s = some_and (slice_get image.wanted n) _ b in
       let w : WantedEntry = s.0 in
       let h = host_procedure w (host_item n w s.1).2 (is_procedure w.item.kind (sym s.2.0 ∙ kind)) in
-      (h.0, ap (option_and_then (λ (x : WantedEntry). host_named x.item.name)) s.1 ∙ h.1)
+      (h.host, ap (option_and_then (λ (x : WantedEntry). host_named x.item.name)) s.1 ∙ h.named)
 
   -- a link of a kind
 

@@ -8,6 +8,7 @@ use Rattle.object_files.specs.declared.image.Image.{Image}
 use Rattle.object_files.specs.declared.object.Object.{Object}
 use Rattle.machine_steps.specs.LookUps.{procedure_of}
 use Rattle.machine_steps.specs.Laws.{HasValidCode, CanRun}
+use Rattle.activation_region.specs.Shows.{IsPrepared}
 use Rattle.ready_images.specs.declared.prepared.Prepared.{Prepared}
 use Rattle.ready_images.specs.Hosts.{IsHostItem, IsFirstUnresolved}
 use Rattle.ready_images.specs.Order.{ImageInOrder}
@@ -33,6 +34,10 @@ PlansAreThere = (image : Image) (p : Prepared) → IsReady image p → (n k : �
 abbrev pub PartsFit : Type 0
 PartsFit = (image : Image) (p : Prepared) → IsReady image p → (j n : ℕ) (q : CodeProcedure) → procedure_of image j n ≡ Some q
     → (q.frame ≤ p.layout.frame) × (p.layout.frame + q.depth ≤ p.layout.part)
+
+-- it is prepared for the run over its region: besides the above, what each link is bound to takes and gives as many words as the link
+abbrev pub ReadyIsPrepared : Type 0
+ReadyIsPrepared = (image : Image) (p : Prepared) → IsReady image p → IsPrepared image p.layout
 
 -- there is one first wanted item at most that is none of the host's, and none where all are the host's
 abbrev pub OneUnresolved : Type 0

@@ -8,29 +8,18 @@ use Rattle.mesa_types.specs.Types.{words_of_fields}
 use Rattle.code_forms.specs.declared.module_code.CodeKind.{CodeKind}
 use Rattle.code_forms.specs.declared.module_code.CodeKind.TheVariants.{Procedure, Signal, Error}
 use Rattle.code_forms.specs.declared.module_code.CodeLink.{CodeLink}
-use Rattle.code_forms.specs.declared.module_code.CodeProcedure.{CodeProcedure}
-use Rattle.code_forms.specs.declared.module_code.CodeSignal.{CodeSignal}
 use Rattle.interface_records.specs.declared.wanted.Wanted.{Wanted as WantedEntry}
 use Rattle.object_files.specs.declared.image.Image.{Image}
 use Rattle.object_files.specs.declared.image.Instance.{Instance}
 use Rattle.object_files.specs.declared.image.Link.{Link}
 use Rattle.object_files.specs.declared.image.Link.TheVariants.{Wanted, To}
-use Rattle.machine_steps.specs.LookUps.{called, signal_of, link_of, bound_to}
+use Rattle.machine_steps.specs.LookUps.{link_of, bound_to}
+use Rattle.activation_region.specs.Links.{IsLike, IsOfInstance}
 
 abbrev pub code_kind : ItemKind → CodeKind
 code_kind item.Procedure = Procedure
 code_kind item.Signal = Signal
 code_kind item.Error = Error
-
--- the link has this kind, and so many words of arguments and results
-abbrev pub IsLike : CodeLink → CodeKind → (args results : ℕ) → Type 0
-IsLike l kind args results = (l.kind ≡ kind) × (l.args ≡ args) × (l.results ≡ results)
-
--- a procedure above 0, or a signal or error, of an instance is like a link of this kind
-abbrev pub IsOfInstance : Image → CodeLink → CodeKind → (instance number : ℕ) → Type 0
-IsOfInstance image l Procedure j p = IsSomeAnd (called image j p) (λ (procedure : CodeProcedure). IsLike l Procedure procedure.args procedure.results)
-IsOfInstance image l Signal j k = IsSomeAnd (signal_of image j k) (λ (s : CodeSignal). IsLike l s.kind s.args s.results)
-IsOfInstance image l Error j k = IsSomeAnd (signal_of image j k) (λ (s : CodeSignal). IsLike l s.kind s.args s.results)
 
 -- what a link is bound to, a wanted item or something of an instance, is like the link
 abbrev pub IsBoundAlike : Image → CodeLink → Link → Type 0

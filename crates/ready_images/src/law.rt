@@ -1,4 +1,4 @@
-ghost use Rattle.ready_images.specs.Laws.{OrderedCanRun, ReadyCanRun, ReadyHasDepths, PlansAreThere, PartsFit, OneUnresolved, NoneUnresolved};
+ghost use Rattle.ready_images.specs.Laws.{OrderedCanRun, ReadyCanRun, ReadyHasDepths, PlansAreThere, PartsFit, ReadyIsPrepared, OneUnresolved, NoneUnresolved};
 
 /// An image in order with valid code, whose wanted items are the host's, can be run: no run of it is ever stuck.
 pub fn ordered_can_run()
@@ -23,6 +23,11 @@ pub fn plans_are_there()
 /// The frame of each procedure fits before the operands of a part of the region, and the operands behind it.
 pub fn parts_fit()
     ensures { PartsFit }
+{}
+
+/// The image of a machine that is ready is prepared for the run over its region.
+pub fn ready_is_prepared()
+    ensures { ReadyIsPrepared }
 {}
 
 /// Of the wanted items one at most is the first that is none of the host's.

@@ -15,7 +15,7 @@ mod targets;
 pub use fault::ReadyFault;
 pub use law::{
     none_unresolved, one_unresolved, ordered_can_run, parts_fit, plans_are_there, ready_can_run,
-    ready_has_depths,
+    ready_has_depths, ready_is_prepared,
 };
 pub use machine::{Machine, ready};
 pub use plan::{Plan, Plans};

@@ -1,0 +1,4 @@
+pub mod Started
+pub mod Hosts
+pub mod Linking
+pub mod Hosting

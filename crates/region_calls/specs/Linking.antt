@@ -1,0 +1,76 @@
+-- What a call through a link stands on, and where it leads (rule of this project).
+use Rattle.std.specs.Prelude.{◌≡◌, ℕ, List, Bool, Some, slice_get}
+use Rattle.code_forms.specs.declared.instruction.Instruction.{Instruction}
+use Rattle.code_forms.specs.declared.instruction.Instruction.TheVariants.{CallLink}
+use Rattle.code_forms.specs.declared.module_code.CodeEntry.{CodeEntry}
+use Rattle.code_forms.specs.declared.module_code.CodeProcedure.{CodeProcedure}
+use Rattle.code_forms.specs.declared.module_code.ModuleCode.{ModuleCode}
+use Rattle.object_files.specs.declared.image.Image.{Image}
+use Rattle.object_files.specs.declared.image.Link.{Link}
+use Rattle.machine_steps.specs.State.{Active, Activations, Store, Stepped}
+use Rattle.machine_steps.specs.LookUps.{bound_to}
+use Rattle.machine_steps.specs.Calls.{host}
+use Rattle.quiet_run.specs.declared.registers.Registers.{Registers}
+use Rattle.activation_region.specs.declared.row.Layout.{Layout}
+use Rattle.activation_region.specs.declared.row.Row.{Row}
+use Rattle.activation_region.specs.Calling.{IsCodeOf, IsAt, IsAmpleFor, AddsFrame, Enters, CallsThen, LeadsTo}
+use Rattle.activation_region.specs.Reaching.{Reaches, IsUnstuck}
+use Rattle.activation_region.specs.Shows.{IsAmple, Shows}
+use Rattle.region_calls.specs.declared.linking.LinkTurn.{LinkTurn}
+use Rattle.region_calls.specs.declared.linking.LinkTurn.TheVariants.{Done, Host}
+use Rattle.region_calls.specs.Hosts.{host_is, CallsHost}
+use Rattle.region_calls.specs.Started.{ShowsStarted}
+
+-- the topmost activation stands at an instruction of its code
+pub record StandsAt (image : Image) (table : List Row) (r : Registers) (i : Instruction) : Type 0 where
+  pub code : ModuleCode
+  pub is_code : IsCodeOf image code table r
+  pub at : IsAt code table r i
+
+-- a call, for which an instance was started first, is done now, and the machine is not stuck
+pub record WaitsToCall (image : Image) (layout : Layout) (region : List ℕ) (table : List Row) (r : Registers) : Type 0 where
+  pub start : Stepped
+  pub unstuck : IsUnstuck image start
+  pub store : Store
+  pub then : CallsThen image layout region table r start store
+
+-- the topmost activation stands at the call of a link that is bound to something
+pub record CallsLink (image : Image) (layout : Layout) (region : List ℕ) (table : List Row) (r : Registers) (number : ℕ) : Type 0 where
+  pub top : Active
+  pub rest : Activations
+  pub procedure : CodeProcedure
+  pub shows : Shows image layout region table r procedure top rest
+  pub entry : CodeEntry
+  pub fetched : slice_get procedure.code r.entry ≡ Some entry
+  pub calls : entry.instruction ≡ CallLink number
+  pub bound : Link
+  pub is_bound : bound_to image top.instance number ≡ Some bound
+
+-- the body of an instance can be entered on top
+pub record EntersBody (image : Image) (layout : Layout) (region : List ℕ) (table : List Row) (r : Registers) (instance : ℕ) : Type 0 where
+  pub body : CodeProcedure
+  pub none : body.args ≡ 0
+  pub enters : Enters image layout region table r body instance 0
+
+-- the region has the parts of the activations that stand then
+abbrev pub IsAmpleForLink : Layout → List ℕ → List Row → Registers → LinkTurn → Type 0
+IsAmpleForLink layout region table r (Done turn) = IsAmpleFor layout region table turn
+IsAmpleForLink layout region table r (Host h) = IsAmple layout region table r.top
+
+-- a frame stands on top then, or the rows are as they were
+abbrev pub AddsFrameForLink : Layout → (table : List Row) → Registers → (table' : List Row) → LinkTurn → Type 0
+AddsFrameForLink layout table r table' (Done turn) = AddsFrame layout table r table' turn
+AddsFrameForLink layout table r table' (Host h) = table' ≡ table
+
+-- where the machine comes to: where a turn leads, or to the call of the host's procedure
+unfoldable pub LinkLeads : Image → Layout → List ℕ → List Row → Registers → Stepped → Store → LinkTurn → Type 0
+LinkLeads image layout region table r s m (Done turn) = LeadsTo image layout region table s m turn
+LinkLeads image layout region table r s m (Host h) =
+    (e : CallsHost image layout region table r (host_is h)) × Reaches image s (host image (host_is h) e.top e.rest m)
+
+-- and some instances were started, as the marks show
+pub record LinkedTo (image : Image) (layout : Layout) (region : List ℕ) (table : List Row) (r : Registers) (marks : List Bool)
+    (s : Stepped) (m : Store) (turn : LinkTurn) : Type 0 where
+  pub started : ℕ → Bool
+  pub shown : ShowsStarted marks started
+  pub leads : LinkLeads image layout region table r s (record m { started = started }) turn

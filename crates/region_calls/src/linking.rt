@@ -1,0 +1,164 @@
+//! Calls through links.
+
+ghost use Rattle.std.specs.Prelude.{◌≡◌, ℕ, suc, ◌≤◌, length, vec_capacity};
+ghost use Rattle.code_forms.specs.declared.instruction.Instruction.TheVariants.{CallLink};
+ghost use Rattle.machine_steps.specs.Calls.{call as called_with, call_bound as bound_call};
+ghost use Rattle.machine_steps.specs.Moves.{spend};
+ghost use Rattle.machine_steps.specs.State.{Stepped, Store};
+ghost use Rattle.activation_region.specs.Calling.{AddsFrame, CallsThen, IsAmpleFor, LeadsTo, StandsIn};
+ghost use Rattle.activation_region.specs.Reaching.{IsUnstuck, Reaches, Shown};
+ghost use Rattle.activation_region.specs.Shows.{IsAmple, IsPrepared, IsReserved};
+ghost use Rattle.region_calls.specs.Linking.{AddsFrameForLink, CallsLink, EntersBody, IsAmpleForLink, LinkedTo, StandsAt, WaitsToCall};
+ghost use Rattle.region_calls.specs.Started.{ShowsStarted};
+
+use crate::host::{HostProcedure, host_of};
+use crate::look_ups::{bound_to, is_started, link_called, procedure_of, row_of};
+use activation_region::{Layout, Row, Turn, add_frame};
+use machine_steps::End;
+use object_files::{Image, Link};
+use quiet_run::Registers;
+
+/// What a call through a link leads to.
+#[derive(Clone, Copy)]
+pub enum LinkTurn {
+    /// What other instructions lead to.
+    Done(Turn),
+    /// The topmost activation calls this procedure of the host; the turn for that is spent.
+    Host(HostProcedure),
+}
+
+// Starts an instance for a call of the topmost activation: a turn is spent, and the frame of its body is made.
+fn start_first(
+    image: &Image,
+    instance: u32,
+    region: &mut Vec<u16>,
+    table: &mut [Row],
+    r: Registers,
+    layout: Layout,
+    turns: &mut u64,
+) -> Turn
+    requires prepared { IsPrepared image.now layout }
+    requires enters { EntersBody image.now layout region.old.items table.old r instance }
+    requires ample { IsAmple layout region.old.items table.old r.top }
+    requires reserved { IsReserved layout (vec_capacity region.old) }
+    ensures ample { IsAmpleFor layout region.new.items table.new result }
+    ensures reserved { vec_capacity region.old ≤ vec_capacity region.new }
+    ensures adds { AddsFrame layout table.old r table.new result }
+    ensures turns_fall { turns.new ≤ turns.old }
+    ensures leads { (b : EntersBody image.now layout region.old.items table.old r instance) (s : Stepped) (m : Store) → m.turns ≡ turns.old
+        → Reaches image.now s (spend m (λ m1. called_with instance 0 b.body b.enters.top b.enters.rest m1))
+        → LeadsTo image.now layout region.new.items table.new s (record m { turns = turns.new }) result }
+{
+    if *turns == 0 {
+        return Turn::Ends(End::Spent);
+    }
+    *turns -= 1;
+    let body = procedure_of(image, instance, 0);
+    add_frame(body, instance, 0, region, table, r, layout)
+}
+
+// Calls what the link of this number of the topmost activation's instance is bound to; the turn is spent.
+fn call_bound(
+    image: &Image,
+    number: u32,
+    started: &mut [bool],
+    region: &mut Vec<u16>,
+    table: &mut [Row],
+    r: Registers,
+    layout: Layout,
+    turns: &mut u64,
+) -> LinkTurn
+    requires prepared { IsPrepared image.now layout }
+    requires calls { CallsLink image.now layout region.old.items table.old r number }
+    requires marks { length started.old ≡ length image.now.instances }
+    requires ample { IsAmple layout region.old.items table.old r.top }
+    requires reserved { IsReserved layout (vec_capacity region.old) }
+    ensures marks { length started.new ≡ length started.old }
+    ensures ample { IsAmpleForLink layout region.new.items table.new r result }
+    ensures reserved { vec_capacity region.old ≤ vec_capacity region.new }
+    ensures adds { AddsFrameForLink layout table.old r table.new result }
+    ensures turns_fall { turns.new ≤ turns.old }
+    ensures leads { (e : CallsLink image.now layout region.old.items table.old r number) (s : Stepped) (m : Store) → m.turns ≡ turns.old
+        → ShowsStarted started.old m.started → Reaches image.now s (bound_call image.now e.bound e.top e.rest m)
+        → LinkedTo image.now layout region.new.items table.new r started.new s (record m { turns = turns.new }) result }
+{
+    let caller = row_of(table, r.top).instance;
+    match bound_to(image, caller, number) {
+        Link::Wanted(wanted) => LinkTurn::Host(host_of(image, wanted)),
+        Link::To { instance, number } => {
+            if is_started(started, caller, instance) {
+                let called = procedure_of(image, instance, number);
+                return LinkTurn::Done(add_frame(
+                    called, instance, number, region, table, r, layout,
+                ));
+            }
+            started[instance as usize] = true;
+            LinkTurn::Done(start_first(image, instance, region, table, r, layout, turns))
+        }
+    }
+}
+
+/// Calls what the link of this number of the topmost activation's instance is bound to. A turn is spent. A procedure of
+/// another instance that was not started is not called yet: that instance is started above the call, which costs another
+/// turn and marks it; when its body returns, the call is done again (`call_again`). A procedure of the host is told.
+pub fn call_link(
+    image: &Image,
+    number: u32,
+    started: &mut [bool],
+    region: &mut Vec<u16>,
+    table: &mut [Row],
+    r: Registers,
+    layout: Layout,
+    turns: &mut u64,
+) -> LinkTurn
+    requires prepared { IsPrepared image.now layout }
+    requires stands { StandsIn image.now layout region.old.items table.old r }
+    requires at { StandsAt image.now table.old r (CallLink number) }
+    requires marks { length started.old ≡ length image.now.instances }
+    requires ample { IsAmple layout region.old.items table.old r.top }
+    requires reserved { IsReserved layout (vec_capacity region.old) }
+    ensures marks { length started.new ≡ length started.old }
+    ensures ample { IsAmpleForLink layout region.new.items table.new r result }
+    ensures reserved { vec_capacity region.old ≤ vec_capacity region.new }
+    ensures adds { AddsFrameForLink layout table.old r table.new result }
+    ensures turns_fall { turns.new ≤ turns.old }
+    ensures leads { (s : Stepped) (m : Store) → m.turns ≡ turns.old → ShowsStarted started.old m.started
+        → Shown image.now layout region.old.items table.old r s m
+        → LinkedTo image.now layout region.new.items table.new r started.new s (record m { turns = turns.new; begun = suc m.begun }) result }
+{
+    if *turns == 0 {
+        return LinkTurn::Done(Turn::Ends(End::Spent));
+    }
+    *turns -= 1;
+    call_bound(image, number, started, region, table, r, layout, turns)
+}
+
+/// Does the call for which an instance was started first; no turn is spent for it.
+pub fn call_again(
+    image: &Image,
+    started: &mut [bool],
+    region: &mut Vec<u16>,
+    table: &mut [Row],
+    r: Registers,
+    layout: Layout,
+    turns: &mut u64,
+) -> LinkTurn
+    requires prepared { IsPrepared image.now layout }
+    requires waits { WaitsToCall image.now layout region.old.items table.old r }
+    requires marks { length started.old ≡ length image.now.instances }
+    requires ample { IsAmple layout region.old.items table.old r.top }
+    requires reserved { IsReserved layout (vec_capacity region.old) }
+    ensures marks { length started.new ≡ length started.old }
+    ensures ample { IsAmpleForLink layout region.new.items table.new r result }
+    ensures reserved { vec_capacity region.old ≤ vec_capacity region.new }
+    ensures adds { AddsFrameForLink layout table.old r table.new result }
+    ensures turns_fall { turns.new ≤ turns.old }
+    ensures leads { (s : Stepped) (m : Store) → m.turns ≡ turns.old → ShowsStarted started.old m.started → IsUnstuck image.now s
+        → CallsThen image.now layout region.old.items table.old r s m
+        → LinkedTo image.now layout region.new.items table.new r started.new s (record m { turns = turns.new }) result }
+{
+    let row = row_of(table, r.top);
+    let procedure = procedure_of(image, row.instance, row.procedure);
+    let number = link_called(procedure, r.entry);
+    call_bound(image, number, started, region, table, r, layout, turns)
+}
