@@ -1,0 +1,151 @@
+-- The call that runs an arm: what it finds, and where it leads, with the values of the code.
+use Rattle.std.proofs.Common.{◌≡◌, ℕ, ◌+◌, ◌-◌, ◌*◌, ◌<◌, ◌≤◌, List, length, replicate, Some, refl, sym, ap, subst, ◌∙◌, arith}
+use Rattle.std.specs.Prelude.{slice_get, slice_set, IsSome}
+use Rattle.std.proofs.lemmas.Option.{same_Some, slice_get_within}
+use Rattle.code_forms.specs.declared.module_code.CodeEntry.{CodeEntry}
+use Rattle.code_forms.specs.declared.module_code.CodeProcedure.{CodeProcedure}
+use Rattle.code_forms.specs.declared.module_code.Phrase.{Phrase}
+use Rattle.code_forms.specs.Ranges.{InOrder}
+use Rattle.code_forms.specs.Routine.{Begins, IsStart, spots}
+use Rattle.object_files.specs.declared.image.Image.{Image}
+use Rattle.machine_steps.specs.State.{InArm, Store, Stepped}
+use Rattle.machine_steps.specs.LookUps.{procedure_of}
+use Rattle.machine_steps.specs.Activations.{owner}
+use Rattle.quiet_run.specs.declared.registers.Registers.{Registers}
+use Rattle.quiet_run.specs.Flat.{part}
+use Rattle.activation_region.specs.declared.row.Layout.{Layout}
+use Rattle.activation_region.specs.declared.row.Reason.{Reason}
+use Rattle.activation_region.specs.declared.row.Row.{Row}
+use Rattle.activation_region.specs.Below.{over_by}
+use Rattle.activation_region.specs.Frames.{row_at, owner_place}
+use Rattle.activation_region.specs.Reaching.{Shown}
+use Rattle.activation_region.specs.Shows.{IsPrepared, IsAmple, with_places}
+use Rattle.activation_region.proofs.Grown.{grown_part, grown_more}
+use Rattle.activation_region.proofs.Keeping.{below_same}
+use Rattle.region_signals.specs.declared.arms.Span.{Span}
+use Rattle.region_signals.specs.Arms.{arms_in, span_of, span_in, taken, arm_row, with_arm, with_params, arm_registers, Awaits}
+use Rattle.region_signals.proofs.Places.{place_at}
+use Rattle.region_signals.proofs.ArmLeads.{a, own, holder_code, holder_owner, in_order, arm_begins, arm_there, params_room, arm_shown}
+
+module _ (image : Image) (layout : Layout) (prepared : IsPrepared image layout) (region : List ℕ) (table : List Row) (top place number : ℕ) (reason : Reason) (from count : ℕ)
+    (ample : IsAmple layout region table top) where
+  abbrev grown : List ℕ
+  grown = with_places region layout (top + 1)
+
+  module _ (s : Stepped) (m : Store) (w : Awaits image layout region table top place number reason from count s m) where
+    -- the region may have grown
+    pub awaits_grown : Awaits image layout grown table top place number reason from count s m
+    awaits_grown =
+        let more : List ℕ = replicate ((top + 1 + 1) * layout.part - length region) 0 in
+        let wide = ample.wide in
+        let up : length w.activations * layout.part ≡ (top + 1) * layout.part = ap (λ q. q * layout.part) w.high in
+        record {
+          activations = w.activations;
+          holder = w.holder;
+          why = w.why;
+          words = w.words;
+          below = below_same image layout prepared.laid table region grown (over_by w.holder.instance w.holder.procedure (InArm (owner w.holder.role place) number w.why)) w.activations
+              (λ k n l. grown_part region more k n (omega (arith, l, up, wide))) w.below;
+          high = w.high;
+          low = w.low;
+          there = w.there;
+          procedure = w.procedure;
+          is = w.is;
+          has = w.has;
+          same_why = w.same_why;
+          source = grown_part region more from count w.inside ∙ w.source;
+          inside = (let g = grown_more region layout (top + 1) in let i = w.inside in omega (arith, g, i));
+          reaches = w.reaches;
+        }
+
+    abbrev g : Awaits image layout grown table top place number reason from count s m
+    g = awaits_grown
+
+    room : (top + 1) * layout.part ≤ length grown
+    room = let m = grown_more region layout (top + 1) in let wide = ample.wide in omega (arith, m, wide)
+
+    -- what the code reads
+    module _ (holder : Row) (holder_is : holder ≡ row_at table place) where
+      code_is : procedure_of image holder.instance holder.procedure ≡ Some g.procedure
+      code_is = ap (λ (x : Row). procedure_of image x.instance x.procedure) holder_is ∙ holder_code image layout prepared grown table top place number reason from count s m g
+
+      pub procedure_there : IsSome (procedure_of image holder.instance holder.procedure)
+      procedure_there = subst (λ o. IsSome o) (sym code_is) refl
+
+      module _ (p : CodeProcedure) (read : procedure_of image holder.instance holder.procedure ≡ Some p) (code : List CodeEntry) (own_code : code ≡ p.code) where
+        procedure_same : g.procedure ≡ p
+        procedure_same = same_Some g.procedure p (sym code_is ∙ read)
+
+        code_same : code ≡ (g.procedure).code
+        code_same = own_code ∙ sym (ap (λ (x : CodeProcedure). x.code) procedure_same)
+
+        pub code_in_order : InOrder code
+        code_in_order = subst (λ (l : List CodeEntry). InOrder l) (sym code_same) (in_order image layout prepared grown table top place number reason from count s m g)
+
+        module _ (phrases : List Phrase) (own_phrases : phrases ≡ p.phrases) (span : Span) (span_is : span ≡ span_in (slice_get (arms_in phrases) number))
+            (owner_read slot words : ℕ) (owner_is : owner_read ≡ owner_place holder.kind place) (slot_is : slot ≡ span.slot) (words_is : words ≡ taken count span.words) where
+          span_same : span ≡ span_of (a image layout prepared grown table top place number reason from count s m g)
+          span_same =
+              span_is ∙ ap (λ (l : List Phrase). span_in (slice_get (arms_in l) number)) (own_phrases ∙ sym (ap (λ (x : CodeProcedure). x.phrases) procedure_same))
+              ∙ ap span_in (arm_there image layout prepared grown table top place number reason from count s m g)
+
+          slot_same : slot ≡ (a image layout prepared grown table top place number reason from count s m g).slot
+          slot_same = slot_is ∙ ap (λ (x : Span). x.slot) span_same
+
+          words_same : words ≡ taken count (a image layout prepared grown table top place number reason from count s m g).words
+          words_same = words_is ∙ ap (λ (x : Span). taken count x.words) span_same
+
+          owner_same : owner_read ≡ own image layout prepared grown table top place number reason from count s m g
+          owner_same = owner_is ∙ ap (λ (x : Row). owner_place x.kind place) holder_is ∙ holder_owner image layout prepared grown table top place number reason from count s m g
+
+          pub params_there : (region' : List ℕ) → region' ≡ grown → owner_read * layout.part + slot + words ≤ length region'
+          params_there region' region_is =
+              let r = params_room image layout prepared grown table top place number reason from count s m g room in
+              let o = ap (λ q. q * layout.part) owner_same in
+              let l = ap length region_is in
+              let e = slot_same in let f = words_same in omega (arith, r, o, l, e, f)
+
+          module _ (entry : ℕ) (entry_is : IsStart (spots code) span.start → Begins (spots code) entry span.start) (base region' : List ℕ) (base_is : base ≡ grown)
+              (table' : List Row) (r' : Registers) (region_is : region' ≡ with_params base layout owner_read slot (part base from words))
+              (table_is : table' ≡ slice_set table (top + 1) (arm_row holder.instance holder.procedure owner_read number reason))
+              (registers_is : r' ≡ arm_registers layout (top + 1) owner_read entry) where
+            abbrev x : ℕ
+            x = own image layout prepared grown table top place number reason from count s m g
+
+            begins_there : Begins (spots (g.procedure).code) entry (a image layout prepared grown table top place number reason from count s m g).start
+            begins_there =
+                let start = ap (λ (y : Span). y.start) span_same in
+                let b = arm_begins image layout prepared grown table top place number reason from count s m g in
+                subst (λ (l : List CodeEntry). Begins (spots l) entry (a image layout prepared grown table top place number reason from count s m g).start) code_same
+                (subst (λ k. Begins (spots code) entry k) start
+                (entry_is (subst (λ k. IsStart (spots code) k) (sym start) (subst (λ (l : List CodeEntry). IsStart (spots l) (a image layout prepared grown table top place number reason from count s m g).start) (sym code_same) b))))
+
+            pub arm_goes : (turns : ℕ) → m.turns ≡ turns → (turns ≡ 0 → ⊥) → top + 1 < 8192
+                → Shown image layout region' table' r' s (record m { turns = turns - 1 })
+            arm_goes turns turns_are some less =
+                let y = a image layout prepared grown table top place number reason from count s m g in
+                let e1 : region' ≡ with_params grown layout x y.slot (part grown from (taken count y.words)) =
+                region_is ∙ ap (λ (b : List ℕ). with_params b layout owner_read slot (part b from words)) base_is
+                ∙ ap (λ o. with_params grown layout o slot (part grown from words)) owner_same
+                ∙ ap (λ o. with_params grown layout x o (part grown from words)) slot_same
+                ∙ ap (λ o. with_params grown layout x y.slot (part grown from o)) words_same in
+                let e2 : table' ≡ with_arm table (top + 1) (row_at table place) x number reason =
+                table_is ∙ ap (λ (h : Row). slice_set table (top + 1) (arm_row h.instance h.procedure owner_read number reason)) holder_is
+                ∙ ap (λ o. with_arm table (top + 1) (row_at table place) o number reason) owner_same in
+                let e3 : r' ≡ arm_registers layout (top + 1) x entry = registers_is ∙ ap (λ o. arm_registers layout (top + 1) o entry) owner_same in
+                let long = ample.long in
+                let shown = arm_shown image layout prepared grown table top place number reason from count s m g (λ none. some (sym turns_are ∙ none)) less room
+                (omega (arith, long, less)) entry begins_there in
+                subst (λ t. Shown image layout region' table' r' s (record m { turns = t - 1 })) turns_are
+                (subst (λ (k : Registers). Shown image layout region' table' k s (record m { turns = m.turns - 1 })) (sym e3)
+                (subst (λ (t : List Row). Shown image layout region' t (arm_registers layout (top + 1) x entry) s (record m { turns = m.turns - 1 })) (sym e2)
+                (subst (λ (l : List ℕ). Shown image layout l (with_arm table (top + 1) (row_at table place) x number reason) (arm_registers layout (top + 1) x entry) s (record m { turns = m.turns - 1 })) (sym e1) shown)))
+
+-- the topmost one has a row
+pub place_small : (image : Image) (layout : Layout) (region : List ℕ) (table : List Row) (top place number : ℕ) (reason : Reason) (from count : ℕ) → IsAmple layout region table top
+    → (s : Stepped) (m : Store) → Awaits image layout region table top place number reason from count s m → top < 8192
+place_small image layout region table top place number reason from count ample s m w =
+    let h = w.high in
+    let below = place_at image layout region table _ w.activations top w.below (omega (arith, h)) in
+    let l = slice_get_within table top below.waiting.rowed.row below.waiting.rowed.there in
+    let long = ample.long in omega (arith, l, long)

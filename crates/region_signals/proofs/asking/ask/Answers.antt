@@ -1,0 +1,16 @@
+use Rattle.region_signals.proofs.Asks.{table_there, links_within, answer_is}
+use Rattle.region_signals.proofs.asking.ask.Goals as goal
+
+pub bounds-as_slice-row : goal.bounds-as_slice-row
+bounds-as_slice-row c =
+    links_within c.args.image.now c.args.layout c.requires.prepared c.args.row c.requires.read c.procedure_at-procedure.result.now c.procedure_at-procedure.ensures
+    c.args.links.now c.requires.links c.as_slice.result.now c.as_slice.ensures
+
+pub next_arm-requires-clause-table : goal.next_arm-requires-clause-table
+next_arm-requires-clause-table c =
+    table_there c.args.image.now c.args.layout c.requires.prepared c.args.row c.requires.read c.procedure_at-procedure.result.now c.procedure_at-procedure.ensures
+
+pub returns : goal.returns
+returns c =
+    answer_is c.args.image.now c.args.layout c.requires.prepared c.args.row c.requires.read c.procedure_at-procedure.result.now c.procedure_at-procedure.ensures
+    c.args.links.now c.requires.links c.as_slice.result.now c.as_slice.ensures c.index-as_slice-row.result c.index-as_slice-row.is c.args.search c.args.signal c.next_arm.result c.next_arm.ensures

@@ -1,0 +1,20 @@
+//! Raises, the arms that they run, and jumps out of arms, over the activations in one region of words.
+#![tactic(auto)]
+
+mod arms;
+mod arriving;
+mod asking;
+mod entering;
+mod jumping;
+mod leaving;
+mod lookups;
+mod raising;
+mod rejecting;
+mod resuming;
+mod rows;
+mod seeking;
+
+pub use jumping::{leave, leave_return};
+pub use raising::{raise, raise_host, raise_linked, raise_own};
+pub use rejecting::arm_end;
+pub use resuming::resume;
