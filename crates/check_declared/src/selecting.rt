@@ -1,0 +1,108 @@
+//! Tests of a SELECT.
+ghost use Rattle.std.specs.Prelude.{◌≡◌, IfOk};
+ghost use Rattle.mesa_types.specs.Plain.{expr, interval, test};
+ghost use Rattle.mesa_types.specs.Typed as t;
+ghost use Rattle.checking_rules.specs.PlainTypes.{plain};
+ghost use Rattle.checking_rules.specs.Ranges as ranges;
+ghost use Rattle.checking_rules.specs.Statements as spec;
+ghost use Rattle.check_words.specs.Gives.{GivesOnly};
+ghost use Rattle.check_words.specs.Views.{typed};
+ghost use Rattle.check_values.specs.Views as view;
+
+use check_values::{Ends, Meeting, checked, related, turned};
+use check_words::{Typed, sign_of};
+use checking_rules::{Cause, CheckFault};
+use held_trees::LetGo;
+use mesa_base::{OutOfMemory, Place};
+use mesa_types::{Base, Bases, Interval, Relation, Test, TypeTree, TypedExpr};
+use std::alloc::Global;
+
+fn related_test(meeting: Meeting, relation: Relation, value: TypedExpr) -> Test
+    ensures { test result ≡ t.IfRelated meeting.left meeting.base relation (expr value) }
+{
+    Test::IfRelated(meeting.left, meeting.base, relation, value)
+}
+
+fn test_by(
+    relation: Relation,
+    alloc: Global,
+    meeting: Meeting,
+    value: TypedExpr,
+) -> Result<Test, OutOfMemory>
+    ensures { IfOk result (λ made. test made ≡ t.IfRelated meeting.left meeting.base relation (ranges.checked meeting.right (expr value))) }
+{
+    let value = checked(alloc, meeting.right, value)?;
+    Ok(related_test(meeting, relation, value))
+}
+
+/// A test of the selector against a value.
+#[tactic(auto, unfolding(checking_rules::specs::Statements::tested))]
+pub fn tested(
+    is_negated: bool,
+    relation: Relation,
+    place: Place,
+    alloc: Global,
+    selector: &Typed,
+    value: Typed,
+) -> Result<Test, CheckFault>
+    ensures { GivesOnly test (spec.tested is_negated relation place (typed selector.now) (typed value)) result }
+{
+    let meeting = related(&selector.kind, selector.literal, &value.kind, value.literal);
+    let value = value.into_value();
+    match meeting {
+        None => {
+            value.let_go();
+            Err(CheckFault::At(Cause::TypeMismatch, place))
+        }
+        Some(meeting) => Ok(test_by(turned(is_negated, relation), alloc, meeting, value)?),
+    }
+}
+
+fn are_related(a: &Typed, b: &Typed) -> bool
+    ensures { result ≡ spec.are_related (typed a.now) (typed b.now) }
+{
+    match related(&a.kind, a.literal, &b.kind, b.literal) {
+        Some(_) => true,
+        None => false,
+    }
+}
+
+fn lies_in(a: &Typed, ends: &Ends) -> bool
+    ensures { result ≡ spec.lies_in (typed a.now) (view.ends ends.now) }
+{
+    are_related(a, &ends.low) && are_related(a, &ends.high)
+}
+
+fn bases(kind: &TypeTree, ends: &Ends) -> Bases
+    ensures { result ≡ spec.bases (plain kind.now) (view.ends ends.now) }
+{
+    Bases {
+        number: sign_of(kind),
+        first: sign_of(&ends.low.kind),
+        last: sign_of(&ends.high.kind),
+    }
+}
+
+fn inside_test(is_negated: bool, bases: Bases, between: Interval) -> Test
+    ensures { test result ≡ t.IfWithin is_negated bases (interval between) }
+{
+    Test::IfWithin(is_negated, bases, between)
+}
+
+/// A test whether the selector lies in an interval.
+#[tactic(auto, unfolding(checking_rules::specs::Statements::tested_inside))]
+pub fn tested_inside(
+    is_negated: bool,
+    place: Place,
+    selector: &Typed,
+    ends: Ends,
+) -> Result<Test, CheckFault>
+    ensures { GivesOnly test (spec.tested_inside is_negated place (typed selector.now) (view.ends ends)) result }
+{
+    if !lies_in(selector, &ends) {
+        ends.let_go();
+        return Err(CheckFault::At(Cause::TypeMismatch, place));
+    }
+    let bases = bases(&selector.kind, &ends);
+    Ok(inside_test(is_negated, bases, ends.into_interval()))
+}

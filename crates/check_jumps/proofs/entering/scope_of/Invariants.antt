@@ -1,0 +1,8 @@
+use Rattle.std.proofs.Common.{◌≡◌, drop}
+use Rattle.checking_rules.specs.Scopes.{nothing}
+use Rattle.checking_rules.specs.Statements.{fields_from}
+use Rattle.check_words.specs.Views.{fields, names}
+use Rattle.check_jumps.proofs.entering.scope_of.Given as goal
+
+abbrev pub invariant-loop-field : goal.invariant-loop-field
+invariant-loop-field l = fields_from l.first (fields l.fields) nothing ≡ fields_from l.number (fields (drop l.field-index l.fields)) (names l.scope)
