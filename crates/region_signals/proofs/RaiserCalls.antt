@@ -25,8 +25,9 @@ use Rattle.activation_region.specs.Frames.{row_at}
 use Rattle.activation_region.specs.Reaching.{Shown}
 use Rattle.activation_region.specs.Shows.{IsPrepared}
 use Rattle.activation_region.proofs.Placing.{row_instance}
+use Rattle.region_signals.specs.Laws.{is_own}
 use Rattle.region_signals.specs.Raising.{Raises, raised_by}
-use Rattle.region_signals.proofs.Raisers.{own, own_there, own_raises, linked, found, bound, linked_raises, is_own, host_raises, fault_low}
+use Rattle.region_signals.proofs.Raisers.{own, own_there, own_raises, linked, found, bound, linked_raises, host_raises, fault_low}
 
 bound_signal : (kind : CodeKind) (b : Link) → IsRaised kind → signal_bound kind b ≡ Some (raised_by b)
 unfolding signal_bound

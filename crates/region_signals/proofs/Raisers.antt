@@ -1,5 +1,5 @@
 -- The instructions that raise signals, and faults, raise them over the region.
-use Rattle.std.proofs.Common.{◌≡◌, ℕ, zero, suc, ◌+◌, ◌-◌, ◌<◌, ◌≤◌, List, [], ◌∷◌, length, Bool, true, false, not, Option, Some, None, refl, sym, ap, subst, ◌∙◌, arith}
+use Rattle.std.proofs.Common.{◌≡◌, ℕ, zero, suc, ◌+◌, ◌-◌, ◌<◌, ◌≤◌, List, [], ◌∷◌, length, true, false, not, Option, Some, None, refl, sym, ap, subst, ◌∙◌, arith}
 use Rattle.std.specs.Prelude.{slice_get, option_and_then, IsSomeAnd}
 use Rattle.std.proofs.lemmas.Bool.{false≢true, eqb-true}
 use Rattle.std.proofs.lemmas.Option.{none-some, same_Some}
@@ -38,6 +38,7 @@ use Rattle.activation_region.proofs.Called.{runs_here, step_here}
 use Rattle.activation_region.proofs.Following.{began}
 use Rattle.activation_region.proofs.Placing.{code_here, fetched_here}
 use Rattle.activation_region.proofs.Quiet.{one_step, two_ways}
+use Rattle.region_signals.specs.Laws.{is_own}
 use Rattle.region_signals.specs.Raising.{Raises}
 
 pub some_at : {X : Type 0} (xs : List X) (n : ℕ) → n < length xs → (x : X) × (slice_get xs n ≡ Some x)
@@ -62,13 +63,6 @@ unfolding takes_back
 takes_own image j k s n is e = takes_there (signal_of image j k) s n is e
 
 -- a predeclared one takes none
-abbrev pub is_own : SignalId → Bool
-is_own (Own j k) = true
-is_own BoundsFault = false
-is_own ZeroDivisor = false
-is_own NoInput = false
-is_own Unnamed = false
-
 pub takes_none : (image : Image) (signal : SignalId) (n : ℕ) → is_own signal ≡ false → takes_back image signal n ≡ true → ⊥
 unfolding takes_back
 takes_none image (Own j k) n own e = false≢true (sym own)

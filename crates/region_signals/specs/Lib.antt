@@ -4,3 +4,4 @@ pub mod Seeking
 pub mod Raising
 pub mod Leaving
 pub mod Jumping
+pub mod Laws

@@ -6,6 +6,7 @@ mod arriving;
 mod asking;
 mod entering;
 mod jumping;
+mod laws;
 mod leaving;
 mod lookups;
 mod raising;
@@ -15,6 +16,7 @@ mod rows;
 mod seeking;
 
 pub use jumping::{leave, leave_return};
+pub use laws::{faults_raise, frames_keep_arms, predeclared_raise};
 pub use raising::{raise, raise_host, raise_linked, raise_own};
 pub use rejecting::arm_end;
 pub use resuming::resume;
