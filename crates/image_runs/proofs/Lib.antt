@@ -1,0 +1,10 @@
+pub mod Going
+pub mod Happening
+pub mod Instructions
+pub mod Pausing
+pub mod Plans
+pub mod Reach
+pub mod Reading
+pub mod Told
+pub mod Walk
+pub mod Whole

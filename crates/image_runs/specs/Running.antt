@@ -1,0 +1,67 @@
+-- What a run over a source and a sink tells its caller (rule of this project).
+use Rattle.std.specs.Prelude.{◌≡◌, ◌⊎◌, ℕ, ◌+◌, ◌≤◌, List, ◌++◌, length, drop, Option, Some, IsSome, IfSome, true, false}
+use Rattle.mesa_base.specs.Outside.{AppendsPrefix}
+use Rattle.object_files.specs.declared.image.Image.{Image}
+use Rattle.signaller.specs.declared.signal_id.SignalId.{SignalId}
+use Rattle.signaller.specs.declared.signal_id.SignalId.TheVariants.{Own, BoundsFault, ZeroDivisor, NoInput, Unnamed}
+use Rattle.machine_steps.specs.declared.end.End.{End}
+use Rattle.machine_steps.specs.declared.end.End.TheVariants.{Done, Uncaught, Spent, FrameLimit}
+use Rattle.machine_steps.specs.LookUps.{signal_of}
+use Rattle.machine_steps.specs.State.{Ending, Ended, Broken}
+use Rattle.machine_steps.specs.Steps.{Steps}
+use Rattle.image_runs.specs.declared.outcome.Outcome.{Outcome}
+
+-- the input of a run is that which the source tells, where it does
+pub record IsInput (told : Option (List ℕ)) (input : List ℕ) : Type 0 where
+  pub same : IfSome told (λ all. all ≡ input)
+
+-- a source has all but so many of its bytes, or one byte fewer
+abbrev pub HasRest : (taken : ℕ) → List ℕ → Option (List ℕ) → Type 0
+HasRest taken all left = (left ≡ Some (drop taken all)) ⊎ (left ≡ Some (drop (taken + 1) all))
+
+-- the machine's run comes to this end with so many turns left and so many instructions begun. A source that tells its bytes has what the
+-- program did not take, or one byte fewer; a sink that tells its bytes holds what it held and the whole output
+pub record Completes (image : Image) (turns : ℕ) (outcome : Outcome) (count : ℕ) (told left held holds : Option (List ℕ)) : Type 0 where
+  pub input : List ℕ
+  pub output : List ℕ
+  pub taken : ℕ
+  pub is_input : IsInput told input
+  pub runs : Steps image input false turns output (Ended outcome.end) outcome.left taken count
+  pub rest : IfSome told (λ all. HasRest taken all left)
+  pub appends : IfSome held (λ bytes. holds ≡ Some (bytes ++ output))
+
+-- the machine's run over the bytes that were taken, after which a fault follows, breaks there; the sink holds its whole output more
+pub record BreaksAtInput (image : Image) (turns count : ℕ) (told left held holds : Option (List ℕ)) : Type 0 where
+  pub input : List ℕ
+  pub output : List ℕ
+  pub turns_left : ℕ
+  pub runs : Steps image input true turns output Broken turns_left (length input) count
+  pub rest : IfSome told (λ all. (more : List ℕ) × (all ≡ input ++ more) × (left ≡ Some more))
+  pub appends : IfSome held (λ bytes. holds ≡ Some (bytes ++ output))
+
+-- the machine has a run, and the sink holds a prefix of its output more; the source has some of its bytes no more
+pub record BreaksAtOutput (image : Image) (turns : ℕ) (told left held holds : Option (List ℕ)) : Type 0 where
+  pub input : List ℕ
+  pub output : List ℕ
+  pub end : Ending
+  pub turns_left : ℕ
+  pub taken : ℕ
+  pub count : ℕ
+  pub is_input : IsInput told input
+  pub runs : Steps image input false turns output end turns_left taken count
+  pub rest : IfSome told (λ all. (n : ℕ) × (n ≤ taken + 1) × (left ≡ Some (drop n all)))
+  pub appends : IfSome held (λ bytes. AppendsPrefix bytes output holds)
+
+-- a signal of an instance is one that its module has
+abbrev pub SignalIsInRange : Image → SignalId → Type 0
+SignalIsInRange image (Own j k) = IsSome (signal_of image j k)
+SignalIsInRange image BoundsFault = Unit {0}
+SignalIsInRange image ZeroDivisor = Unit {0}
+SignalIsInRange image NoInput = Unit {0}
+SignalIsInRange image Unnamed = Unit {0}
+
+abbrev pub EndIsInRange : Image → End → Type 0
+EndIsInRange image Done = Unit {0}
+EndIsInRange image (Uncaught signal) = SignalIsInRange image signal
+EndIsInRange image Spent = Unit {0}
+EndIsInRange image FrameLimit = Unit {0}
