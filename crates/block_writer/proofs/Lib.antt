@@ -1,0 +1,14 @@
+pub mod Arena
+pub mod Bounded
+pub mod Deep
+pub mod Forms
+pub mod Held
+pub mod Jumping
+pub mod Own
+pub mod Queue
+pub mod Regions
+pub mod Same
+pub mod Shapes
+pub mod Smaller
+pub mod Steps
+pub mod Whole
