@@ -1,0 +1,4 @@
+pub mod Folds
+pub mod Lists
+pub mod Runs
+pub mod Views

@@ -1,0 +1,5 @@
+pub mod ComponentLaws
+pub mod FieldLoop
+pub mod KeyLaws
+pub mod ReachedLaws
+pub mod SuffixLaws
