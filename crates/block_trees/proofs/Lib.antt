@@ -1,0 +1,3 @@
+pub mod OwnCode
+pub mod RowLaws
+pub mod VariableStarts
