@@ -1,0 +1,4 @@
+pub mod Bound
+pub mod Hosted
+pub mod Ordered
+pub mod Using
