@@ -1,0 +1,9 @@
+use Rattle.std.proofs.Common.{◌≡◌, drop}
+use Rattle.check_scopes.specs.Scopes.{over}
+use Rattle.checking_rules.specs.Directory.{first_entry}
+use Rattle.check_words.specs.Views.{names}
+use Rattle.check_directory.proofs.EntryLaws as laws
+use Rattle.check_directory.proofs.interface_names.items.Given as goal
+
+abbrev pub invariant-loop-item : goal.invariant-loop-item
+invariant-loop-item l = (l.number ≡ l.item-index) × (over (names l.fn.names) (first_entry (laws.flat_from (laws.item_at l.import) 0 l.items)) ≡ over (names l.names) (first_entry (laws.flat_from (laws.item_at l.import) l.item-index (drop l.item-index l.items))))
