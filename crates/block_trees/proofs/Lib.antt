@@ -1,3 +1,5 @@
+pub mod OperatorRuns
 pub mod OwnCode
 pub mod RowLaws
+pub mod SizeFits
 pub mod VariableStarts

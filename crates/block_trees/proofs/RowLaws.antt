@@ -1,5 +1,5 @@
 -- Blocks one behind the other: what one more at the end adds.
-use Rattle.std.proofs.Common.{◌≡◌, refl, sym, ap, ◌∙◌, ◌+◌, List, [], ◌∷◌, ◌++◌, append_assoc, map, arith}
+use Rattle.std.proofs.Common.{◌≡◌, ℕ, refl, sym, ap, ◌∙◌, ◌+◌, List, [], ◌∷◌, ◌++◌, append_assoc, map, arith}
 use Rattle.std.proofs.lemmas.List.{map-append}
 use Rattle.code_blocks.specs.Blocks.{Both}
 use Rattle.code_blocks.specs.Blocks as tree
@@ -67,3 +67,11 @@ sizes_three (x ∷ xs) a b c = omega (arith, sizes_three xs a b c)
 pub in_order_three : (bs : List tree.Block) (a b c last : tree.Block) → in_order (bs ++ a ∷ b ∷ c ∷ []) last ≡ in_order bs (Both a (Both b (Both c last)))
 in_order_three [] a b c last = refl
 in_order_three (x ∷ xs) a b c last = ap (λ t. Both x t) (in_order_three xs a b c last)
+
+-- before the first
+pub row_begun : (bs : List tree.Block) (b : tree.Block) → bs ≡ [] → in_order bs b ≡ b
+row_begun bs b h = ap (λ l. in_order l b) h
+
+pub size_begun : (bs : List tree.Block) (n : ℕ) → bs ≡ [] → sizes_in bs + n ≡ n
+unfolding sizes_in
+size_begun bs n h = ap (λ l. sizes_in l + n) h ∙ omega arith

@@ -13,3 +13,12 @@ pub(crate) fn total(sizes: &[u64]) -> u64
     }
     words
 }
+pub(crate) fn arranged(alloc: Global, places: &[u32], sizes: &[u64]) -> Result<Code, OutOfMemory>
+    requires { excess_in (own.arrange_code places.now sizes.now) ≡ 0 }
+    ensures { IfOk result (λ code. code ≡ own.arrange_code places.now sizes.now) }
+{
+    if places.is_empty() || sizes.is_empty() {
+        return Ok(List::new(alloc));
+    }
+    Err(OutOfMemory)
+}

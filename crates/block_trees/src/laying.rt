@@ -34,7 +34,7 @@ impl<'a> Layout<'a> {
         second: &'a [FieldType],
         third: &'a [FieldType],
     ) -> Result<Layout<'a>, OutOfMemory>
-        requires { words_in_all (join (kinds_of first.now) (join (kinds_of second.now) (kinds_of third.now))) ≤ 65535 }
+        requires { words_in_all (join (kinds_of first.now) (join (kinds_of second.now) (kinds_of third.now))) ≤ 65519 }
         ensures { IfOk result (λ made. kinds_laid made ≡ join (kinds_of first.now) (join (kinds_of second.now) (kinds_of third.now))) }
     {
         let mut starts = List::of(alloc, 0u32)?;

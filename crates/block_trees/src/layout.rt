@@ -16,5 +16,5 @@ pub struct Layout<'a> {
     pub words: u32,
     pub ghost starts_are: { starts ≡ 0 ∷ ends_from 0 (join (kinds_of first.now) (join (kinds_of second.now) (kinds_of third.now))) },
     pub ghost words_are: { words ≡ words_in_all (join (kinds_of first.now) (join (kinds_of second.now) (kinds_of third.now))) },
-    pub ghost small: { words ≤ 65535 },
+    pub ghost small: { words ≤ 65519 },
 }

@@ -5,6 +5,7 @@ mod arranging;
 mod block;
 mod check_code;
 mod conditions;
+mod expressions;
 mod held_blocks;
 mod laying;
 mod layout;

@@ -3,8 +3,9 @@ ghost use Rattle.std.specs.Prelude.{◌≡◌, [], ◌∷◌, map, IfOk, OnOk};
 ghost use Rattle.check_scopes.specs.Scopes.{over};
 ghost use Rattle.check_words.specs.Views as view;
 ghost use Rattle.checking_rules.specs.Directory as spec;
-ghost use Rattle.checking_rules.specs.PlainTypes.{plain, plain_item, plain_constant, plain_name};
+ghost use Rattle.checking_rules.specs.PlainTypes.{plain, plain_item, plain_constant, plain_name, plain_interface};
 
+use crate::elements::{in_constants, in_items, in_types};
 use crate::offers::offer;
 use check_scopes::Names;
 use check_words::{Meaning, next};
@@ -38,7 +39,7 @@ fn meaning_of(
     }
 }
 
-pub fn items(
+fn items(
     items: &[Item],
     alloc: Global,
     import: Option<u32>,
@@ -55,7 +56,7 @@ pub fn items(
     Ok(())
 }
 
-pub fn constants(
+fn constants(
     constants: &[Constant],
     alloc: Global,
     names: &mut Names<Meaning>,
@@ -64,17 +65,12 @@ pub fn constants(
 {
     for constant in constants {
         let kind = constant.kind.copy(alloc)?;
-        offer(
-            &constant.name,
-            alloc,
-            Meaning::Constant(kind, constant.value),
-            names,
-        )?;
+        offer(&constant.name, alloc, Meaning::Constant(kind, constant.value), names)?;
     }
     Ok(())
 }
 
-pub fn types(
+fn types(
     types: &[NamedType],
     alloc: Global,
     names: &mut Names<Meaning>,
@@ -86,4 +82,23 @@ pub fn types(
         offer(&named.name, alloc, Meaning::TypeName(kind), names)?;
     }
     Ok(())
+}
+
+/// The names of an interface, which is the import of this number or none. Its own entries come before the elements, and of two
+/// elements the first in the file's order.
+pub fn entries(
+    interface: &Interface,
+    alloc: Global,
+    import: Option<u32>,
+) -> Result<Names<Meaning>, OutOfMemory>
+    ensures { IfOk result (λ names. view.names names ≡ spec.first_entry (spec.entries import (plain_interface interface.now))) }
+{
+    let mut names = Names::new(alloc);
+    items(interface.face.items.as_slice(), alloc, import, &mut names)?;
+    constants(interface.constants.as_slice(), alloc, &mut names)?;
+    types(interface.types.as_slice(), alloc, &mut names)?;
+    in_items(interface.face.items.as_slice(), alloc, interface, &mut names)?;
+    in_constants(interface.constants.as_slice(), alloc, interface, &mut names)?;
+    in_types(interface.types.as_slice(), alloc, interface, &mut names)?;
+    Ok(names)
 }

@@ -1,4 +1,5 @@
 use Rattle.std.proofs.Common.{rules}
+use Rattle.checking_rules.specs.PlainTypes.{plain, plain_interface}
 use Rattle.check_words.specs.Views.{names}
 use Rattle.check_directory.proofs.EntryLaws as laws
 use Rattle.check_directory.proofs.interface_names.constants.Goals as goal
