@@ -1,5 +1,6 @@
 -- By how much the numbers in a block are above what the types of the code hold, together; 0 where each of them fits. Words have 16 bits,
--- and so have slots; the numbers of links, the words of calls and the bytes of each part have 32 (rule of this project).
+-- and so have slots; the words of calls and the bytes of each part have 32. The arms that a jump leaves and the numbers of links are not
+-- counted: no rule of soundness limits them, so where they don't fit that is want of memory (rule of this project).
 use Rattle.std.specs.Prelude.{ℕ, ◌+◌, ◌-◌, List, [], ◌∷◌}
 use Rattle.code_forms.specs.declared.instruction.Instruction.{Instruction}
 use Rattle.code_forms.specs.declared.instruction.Instruction.TheVariants as i
@@ -30,9 +31,9 @@ excess_of (i.Index count size) = above_word count + above_word size
 excess_of (i.CheckI least most) = above_word least + above_word most
 excess_of (i.CheckC least most) = above_word least + above_word most
 excess_of (i.Call procedure) = above_number procedure
-excess_of (i.CallLink link) = above_number link
+excess_of (i.CallLink link) = 0
 excess_of (i.Raise signal) = above_number signal
-excess_of (i.RaiseLink link) = above_number link
+excess_of (i.RaiseLink link) = 0
 excess_of (i.Resume words) = above_word words
 excess_of (i.Pop words) = above_word words
 excess_of (i.Roll words over) = above_word words + above_word over
@@ -48,7 +49,7 @@ unfoldable pub excess_of_label : Label → ℕ
 excess_of_label Any = 0
 excess_of_label Unwind = 0
 excess_of_label (Own n) = above_number n
-excess_of_label (Link k) = above_number k
+excess_of_label (Link k) = 0
 excess_of_label BoundsFault = 0
 excess_of_label ZeroDivisor = 0
 
@@ -63,7 +64,7 @@ unfoldable mutual
   excess (Both b c) = above_number (size b + size c) + excess b + excess c
   excess (Ends mark b) = excess b
   excess (Out leap part) = above_number part
-  excess (Goes arms p) = above_word arms
+  excess (Goes arms p) = 0
   excess (Rounds b) = above_number (size b + 5) + excess b
   excess (Enables arms b) = excess_in_arms arms + excess b
 
