@@ -1,0 +1,5 @@
+pub mod Low
+pub mod Narrow
+pub mod OwnLow
+pub mod TreeLow
+pub mod Whole
