@@ -1,0 +1,3 @@
+pub mod FieldWords
+pub mod Linked
+pub mod Placing

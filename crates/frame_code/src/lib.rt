@@ -1,0 +1,14 @@
+//! The code of a checked module.
+#![tactic(auto)]
+
+mod heads;
+mod links;
+mod signals;
+mod strings;
+mod words;
+
+pub use heads::{Placed, procedure_at};
+pub use links::links_of;
+pub use signals::signals_of;
+pub use strings::copied;
+pub use words::{all_words, few_words};
