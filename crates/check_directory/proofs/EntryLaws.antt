@@ -158,3 +158,8 @@ six_together start s t u v w whole ps qs cs ds es fs none a b c d e f = sym (
     ∙ more u v ds (es ++ fs) d
     ∙ more v w es fs e
     ∙ sym f)
+
+pub two_together : (start s t : Scope m.Meaning) (d e : Entry) → start ≡ nothing → s ≡ over start (first_entry (d ∷ [])) → t ≡ over s (first_entry (e ∷ []))
+    → t ≡ first_entry (d ∷ e ∷ [])
+two_together start s t d e none a b =
+    b ∙ ap (λ u. over u (first_entry (e ∷ []))) a ∙ sym (over_entries start (d ∷ []) (e ∷ [])) ∙ ap (λ u. over u (first_entry (d ∷ e ∷ []))) none

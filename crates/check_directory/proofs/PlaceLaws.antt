@@ -36,12 +36,12 @@ or_none (Some x) = refl
 pub over_nothing : {T : Type 0} (scope : Scope T) → over scope nothing ≡ scope
 over_nothing scope = λ i y. or_none (scope y) i
 
-place_more : (scope : Scope ℕ) (n : ℕ) (x : Identifier) (xs : List Identifier)
+pub place_more : (scope : Scope ℕ) (n : ℕ) (x : Identifier) (xs : List Identifier)
     → over scope (place_in n (x ∷ xs)) ≡ over (over scope (with_name x.name n nothing)) (place_in (n + 1) xs)
 unfolding place_in
 place_more scope n x xs = name_then scope x.name n (place_in (n + 1) xs)
 
-place_none : (scope : Scope ℕ) (n : ℕ) → over scope (place_in n []) ≡ scope
+pub place_none : (scope : Scope ℕ) (n : ℕ) → over scope (place_in n []) ≡ scope
 unfolding place_in
 place_none scope n = over_nothing scope
 

@@ -1,1 +1,4 @@
+pub mod Interfaces
+pub mod Items
+pub mod Kept
 pub mod Lists

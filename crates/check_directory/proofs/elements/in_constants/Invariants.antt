@@ -1,0 +1,10 @@
+use Rattle.std.proofs.Common.{◌≡◌, drop}
+use Rattle.check_scopes.specs.Scopes.{over}
+use Rattle.checking_rules.specs.Directory.{first_entry}
+use Rattle.checking_rules.specs.PlainTypes.{plain_interface}
+use Rattle.check_words.specs.Views.{names}
+use Rattle.check_directory.proofs.EntryLaws as laws
+use Rattle.check_directory.proofs.elements.in_constants.Given as goal
+
+abbrev pub invariant-loop-constant : goal.invariant-loop-constant
+invariant-loop-constant l = over (names l.fn.names) (first_entry (laws.flat_from (laws.in_constant (plain_interface l.interface)) 0 l.constants)) ≡ over (names l.names) (first_entry (laws.flat_from (laws.in_constant (plain_interface l.interface)) l.constant-index (drop l.constant-index l.constants)))

@@ -1,0 +1,10 @@
+use Rattle.std.proofs.Common.{◌≡◌, drop}
+use Rattle.check_scopes.specs.Scopes.{over}
+use Rattle.checking_rules.specs.Directory.{first_entry}
+use Rattle.checking_rules.specs.PlainTypes.{plain_interface}
+use Rattle.check_words.specs.Views.{names}
+use Rattle.check_directory.proofs.EntryLaws as laws
+use Rattle.check_directory.proofs.elements.in_types.Given as goal
+
+abbrev pub invariant-loop-named : goal.invariant-loop-named
+invariant-loop-named l = over (names l.fn.names) (first_entry (laws.flat_from (laws.in_named (plain_interface l.interface)) 0 l.types)) ≡ over (names l.names) (first_entry (laws.flat_from (laws.in_named (plain_interface l.interface)) l.named-index (drop l.named-index l.types)))

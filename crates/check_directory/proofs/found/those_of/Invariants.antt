@@ -1,0 +1,10 @@
+use Rattle.std.proofs.Common.{◌≡◌, ◌++◌, drop, map}
+use Rattle.checking_rules.specs.Directory.{those_of}
+use Rattle.checking_rules.specs.PlainTypes.{plain_interface}
+use Rattle.check_directory.specs.Interfaces.{found}
+use Rattle.check_directory.proofs.found.those_of.Given as goal
+
+abbrev pub invariant-loop-name : goal.invariant-loop-name
+invariant-loop-name l =
+    those_of l.directory (map plain_interface l.interfaces) l.names
+    ≡ found l.those.items ++ those_of l.directory (map plain_interface l.interfaces) (drop l.name-index l.names)
