@@ -1,5 +1,5 @@
 -- What calls and returns stand on, and where they lead (rule of this project).
-use Rattle.std.specs.Prelude.{◌≡◌, ℕ, ◌-◌, ◌≤◌, List, [], length, Some, slice_get, slice_set}
+use Rattle.std.specs.Prelude.{◌≡◌, ℕ, ◌+◌, ◌-◌, ◌≤◌, List, [], length, Some, slice_get, slice_set}
 use Rattle.code_forms.specs.declared.instruction.Instruction.{Instruction}
 use Rattle.code_forms.specs.declared.module_code.CodeEntry.{CodeEntry}
 use Rattle.code_forms.specs.declared.module_code.CodeProcedure.{CodeProcedure}
@@ -81,16 +81,27 @@ IsAmpleFor layout region table Empty = length table ≡ limit
 IsAmpleFor layout region table (Pending r) = IsAmple layout region table r.top
 IsAmpleFor layout region table (EndsSo end) = length table ≡ limit
 
--- a frame stands on top then, and the activation below waits; else the rows are as they were
+-- a frame stands on top then, and the activation below waits; or the run ends, and the rows are as they were. A call leads to nothing else
 abbrev pub AddsFrame : Layout → (table : List Row) → Registers → (table' : List Row) → Turn → Type 0
 AddsFrame layout table r table' (GoesOn r') =
     (args : ℕ) × (instance : ℕ) × (procedure : ℕ) × (r' ≡ frame_registers r layout) × (table' ≡ with_frame table r layout args instance procedure)
-AddsFrame layout table r table' _ = table' ≡ table
+AddsFrame layout table r table' Empty = ⊥
+AddsFrame layout table r table' (Pending r') = ⊥
+AddsFrame layout table r table' (EndsSo end) = table' ≡ table
 
--- the first frame stands then
+-- the activation under the topmost one goes on or is to do its call again, or none is left
+abbrev pub GoesBelow : Registers → Turn → Type 0
+GoesBelow r (GoesOn r') = r'.top + 1 ≡ r.top
+GoesBelow r Empty = r.top ≡ 0
+GoesBelow r (Pending r') = r'.top + 1 ≡ r.top
+GoesBelow r (EndsSo end) = ⊥
+
+-- the first frame stands then, or the run ends and the rows are as they were
 abbrev pub AddsFirst : (table table' : List Row) → Turn → Type 0
-AddsFirst table table' (GoesOn r') = (instance : ℕ) × (table' ≡ slice_set table 0 (frame_row instance 0))
-AddsFirst table table' _ = table' ≡ table
+AddsFirst table table' (GoesOn r') = (instance : ℕ) × (r'.top ≡ 0) × (table' ≡ slice_set table 0 (frame_row instance 0))
+AddsFirst table table' Empty = ⊥
+AddsFirst table table' (Pending r') = ⊥
+AddsFirst table table' (EndsSo end) = table' ≡ table
 
 -- where the machine comes to, with this store
 unfoldable pub LeadsTo : Image → Layout → List ℕ → List Row → Stepped → Store → Turn → Type 0

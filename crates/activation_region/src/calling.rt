@@ -4,7 +4,7 @@ ghost use Rattle.std.specs.Prelude.{◌≡◌, ℕ, suc, ◌≤◌, vec_capacity
 ghost use Rattle.code_forms.specs.declared.instruction.Instruction.TheVariants.{Call, Return};
 ghost use Rattle.object_files.specs.declared.image.Image.{Image};
 ghost use Rattle.machine_steps.specs.State.{Stepped, Store};
-ghost use Rattle.activation_region.specs.Calling.{AddsFrame, IsAmpleFor, IsAt, IsCodeOf, LeadsTo, Stands};
+ghost use Rattle.activation_region.specs.Calling.{AddsFrame, GoesBelow, IsAmpleFor, IsAt, IsCodeOf, LeadsTo, Stands};
 ghost use Rattle.activation_region.specs.Reaching.{IsUnstuck, Shown};
 ghost use Rattle.activation_region.specs.Shows.{IsAmple, IsPrepared, IsReserved};
 
@@ -73,6 +73,7 @@ pub fn give_back(
     requires ample { IsAmple layout region.old table.now r.top }
     requires at { IsAt code.now table.now r Return }
     ensures ample { IsAmpleFor layout region.new table.now result }
+    ensures below { GoesBelow r result }
     ensures leads { (image : Image) → IsPrepared image layout → IsCodeOf image code.now table.now r
         → (s : Stepped) (m : Store) → IsUnstuck image s → Shown image layout region.old table.now r s m
         → LeadsTo image layout region.new table.now s (record m { begun = suc m.begun }) result }

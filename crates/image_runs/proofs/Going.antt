@@ -1,6 +1,7 @@
 -- How a run goes on from one place to the next.
-use Rattle.std.proofs.Common.{◌≡◌, ℕ, suc, ◌+◌, ◌≤◌, List, [], ◌∷◌, ◌++◌, length, Bool, true, false, Option, Some, None, refl, sym, ap, subst, ◌∙◌, arith, append_assoc, append-nil}
+use Rattle.std.proofs.Common.{◌≡◌, ℕ, suc, ◌+◌, ◌<◌, ◌≤◌, List, [], ◌∷◌, ◌++◌, length, Bool, true, false, Option, Some, None, refl, sym, ap, subst, ◌∙◌, arith, append_assoc, append-nil}
 use Rattle.std.specs.Prelude.{IfSome, slice_get, if◌then◌else◌}
+use Rattle.std.proofs.lemmas.List.Elements.{All-nil}
 use Rattle.std.proofs.lemmas.Option.{none-some}
 use Rattle.object_files.specs.declared.image.Image.{Image}
 use Rattle.machine_steps.specs.State.{Store, Runs, Broken, Stepped, Goes}
@@ -18,7 +19,7 @@ use Rattle.activation_region.specs.Reaching.{Reaches, IsUnstuck, Shown}
 use Rattle.activation_region.specs.Shows.{IsPrepared, IsAmple}
 use Rattle.activation_region.proofs.Quiet.{reaches_itself, one_step, two_ways}
 use Rattle.region_calls.specs.declared.ahead.Coming.{Coming}
-use Rattle.region_calls.specs.declared.ahead.Coming.TheVariants.{End as AtEnd}
+use Rattle.region_calls.specs.declared.ahead.Coming.TheVariants.{Byte, End as AtEnd}
 use Rattle.region_calls.specs.declared.host.HostProcedure.TheVariants.{Write, Read}
 use Rattle.region_calls.specs.declared.host.Reading.{Reading}
 use Rattle.region_calls.specs.declared.host.Writing.{Writing}
@@ -26,9 +27,10 @@ use Rattle.region_calls.specs.Hosting.{Breaks, WritesOn}
 use Rattle.region_calls.specs.Linking.{LinkLeads}
 use Rattle.region_calls.specs.Started.{ShowsStarted}
 use Rattle.ready_images.specs.declared.prepared.Prepared.{Prepared}
+use Rattle.image_runs.specs.Longest.{reach, most}
 use Rattle.image_runs.specs.Running.{BreaksAtInput}
 use Rattle.image_runs.specs.SoFar.{ShowsGlobals, Beside, ComesTo, At, AtHost, Known, Took, SoFar, PausesAt, Paused}
-use Rattle.image_runs.proofs.Reach.{reach, most, unstuck, begun_less}
+use Rattle.image_runs.proofs.Reach.{unstuck, begun_less}
 use Rattle.image_runs.proofs.Told.{untold}
 
 -- The beginning.
@@ -48,6 +50,8 @@ unfolding LeadsTo fresh begins
 first image bound p zero none told held = record {
   got = [];
   output = [];
+  bytes = All-nil (λ b. b < 256);
+  byte = λ b e. absurd (none-some (Byte b) e);
   took = first_took told;
   wrote = first_wrote held;
   comes = λ rest faulty known. record {
@@ -68,6 +72,8 @@ module _ (image : Image) (can : CanRun image) (bound : ℕ) (told left held hold
   onward p p' control control' turns turns' begun begun' P Q f so = record {
     got = so.got;
     output = so.output;
+    bytes = so.bytes;
+    byte = so.byte;
     took = so.took;
     wrote = so.wrote;
     comes = λ rest faulty known.
@@ -86,7 +92,7 @@ module _ (image : Image) (can : CanRun image) (bound : ℕ) (told left held hold
   pub witness : (p : Prepared) (control : List ℕ) (turns begun : ℕ) (P : Stepped → Store → Type 0) → SoFar image bound p control turns begun ahead told left held holds P
       → Witness p control turns begun P
   witness p control turns begun P so =
-      let r = untold left ahead so.got in
+      let r = untold left ahead so.got so.bytes so.byte in
       record {
         input = so.got ++ r.rest;
         rest = r.rest;
@@ -210,6 +216,8 @@ module _ (image : Image) (can : CanRun image) (bound : ℕ) (told left held hold
   written p control turns begun r r' writing piece holds' prepared ample leads put so = record {
     got = so.got;
     output = so.output ++ piece;
+    bytes = so.bytes;
+    byte = so.byte;
     took = so.took;
     wrote = received_more holds holds' so.output piece so.wrote put;
     comes = wrote_on p control turns begun r r' writing piece prepared ample leads so;
@@ -229,6 +237,7 @@ broken image bound p control turns begun told left held holds r reading breaks s
       input = so.got;
       output = so.output;
       turns_left = turns;
+      bytes = so.bytes;
       runs = record {
         last = c.store;
         ends = subst (λ (i : List ℕ). Ends image (begins image i true bound) Broken c.store) (append-nil so.got) ends;
@@ -251,7 +260,7 @@ pub less_than_most : (image : Image) → CanRun image → (bound : ℕ) (told le
     (r : Registers) (why : Why) → IsPrepared image p.layout → length p.rows.items ≡ 8192 → length control ≤ reach image
     → SoFar image bound p control turns begun ahead told left held holds (PausesAt image p.layout p.region.items p.rows.items r why) → suc begun ≤ most image bound
 less_than_most image can bound told left held holds ahead p control turns begun r why prepared long short so =
-    let t = untold left ahead so.got in
+    let t = untold left ahead so.got so.bytes so.byte in
     let c = so.comes t.rest false t.known in
     let q = c.leads in
     let l = begun_less image can p.layout prepared p.region.items p.rows.items r q.procedure q.top q.rest q.shows long c.store

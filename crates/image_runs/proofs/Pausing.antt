@@ -1,11 +1,12 @@
 -- What the run of the topmost activation finds, and where it comes to.
 use Rattle.std.proofs.Common.{◌≡◌, ℕ, zero, suc, ◌+◌, ◌*◌, ◌<◌, ◌≤◌, List, [], ◌∷◌, ◌++◌, length, take, drop, set, Option, Some, None, refl, sym, ap, subst, ◌∙◌, arith}
-use Rattle.std.specs.Prelude.{◌≢◌, slice_get, IsSome, IsSomeAnd, IfSome}
+use Rattle.std.specs.Prelude.{◌≢◌, slice_get, slice_index, IsSome, IsSomeAnd, IfSome}
 use Rattle.std.proofs.Math.Seq.{take-append_seam}
 use Rattle.std.specs.Vec.{with_items}
 use Rattle.std.specs.declared.vec.Vec.{Vec}
 use Rattle.std.proofs.lemmas.Bool.{false≢true}
 use Rattle.std.proofs.lemmas.Option.{same_Some, slice_get_within, option_and_then_some}
+use Rattle.code_forms.specs.declared.module_code.CodeEntry.{CodeEntry}
 use Rattle.code_forms.specs.declared.module_code.CodeProcedure.{CodeProcedure}
 use Rattle.code_forms.specs.declared.module_code.ModuleCode.{ModuleCode}
 use Rattle.object_files.specs.declared.image.Image.{Image}
@@ -15,7 +16,7 @@ use Rattle.machine_steps.specs.LookUps.{module_number, code_in, code_of, procedu
 use Rattle.machine_steps.specs.Steps.{globals_in}
 use Rattle.quiet_run.specs.declared.registers.Pause.{Pause}
 use Rattle.quiet_run.specs.declared.registers.Registers.{Registers}
-use Rattle.quiet_run.specs.Flat.{Flat}
+use Rattle.quiet_run.specs.Flat.{Flat, Paused as PausedSo}
 use Rattle.quiet_run.specs.Running.{HasTargets, FlatPauses, Standing}
 use Rattle.activation_region.specs.declared.row.Layout.{Layout}
 use Rattle.activation_region.specs.declared.row.Row.{Row}
@@ -32,7 +33,8 @@ use Rattle.activation_region.proofs.Tables.{row_there}
 use Rattle.ready_images.specs.declared.prepared.Prepared.{Prepared}
 use Rattle.ready_images.proofs.Reading.{code_at, mapped, some_there}
 use Rattle.region_signals.proofs.InImage.{has_code}
-use Rattle.image_runs.specs.SoFar.{ShowsGlobals, Paused, PausesAt, TopRuns}
+use Rattle.image_runs.specs.SoFar.{ShowsGlobals, IsNoJump, Paused, PausesAt, TopRuns}
+use Rattle.image_runs.proofs.NoJump.{no_jump_at}
 
 some_is : {X : Type 0} (o : Option X) (x : X) → o ≡ Some x → IsSome o
 some_is {X} o x e = subst (λ (k : Option X). IsSome k) (sym e) refl
@@ -163,6 +165,8 @@ module _ (image : Image) (layout : Layout) (prepared : IsPrepared image layout) 
                   reaches = two_ways image s (Goes (Runs (a ∷ S) m)) (Goes (Runs (c.2.top ∷ c.2.rest) c.2.store)) shown.reaches c.2.reaches;
                   entry = c.2.entry;
                   fetched = c.2.fetched;
+                  no_jump = λ e. subst (λ (x : CodeEntry). IsNoJump x.instruction) (same_Some three.entry c.2.entry (sym three.fetched ∙ c.2.fetched))
+                      (no_jump_at (text_of image) number three.entry.instruction (slice_index targets u.registers.entry) u (three.pauses ∙ ap PausedSo e));
                   pauses = c.2.pauses;
                 };
               }

@@ -29,20 +29,12 @@ use Rattle.activation_region.specs.Shows.{IsPrepared, Shows}
 use Rattle.activation_region.proofs.Homes.{frame_within}
 use Rattle.activation_region.proofs.Located.{stands_at}
 use Rattle.quiet_run.specs.declared.registers.Registers.{Registers}
-use Rattle.ready_images.specs.Sizes.{largest}
 use Rattle.ready_images.proofs.Largest.{largest_bounds}
 use Rattle.ready_images.proofs.Reading.{code_at}
+use Rattle.image_runs.specs.Longest.{reach, most}
 use Rattle.image_runs.specs.Running.{SignalIsInRange, EndIsInRange}
 use Rattle.image_runs.proofs.Walk.{itself, RightRole, AllRight, EndIsRight, IsFit, IsWide, RaisesRight, runs}
-use Rattle.image_runs.proofs.Whole.{far, CanRunOn, Ran, ran, begins_one}
-
--- no more lies ahead of any state
-abbrev pub reach : Image → ℕ
-reach image = 8192 + suc (largest (λ q. length q.code) image.modules) + length image.control
-
--- no run begins more instructions
-abbrev pub most : Image → (turns : ℕ) → ℕ
-most image turns = suc (far turns 0 (length image.control) (reach image))
+use Rattle.image_runs.proofs.Whole.{CanRunOn, Ran, ran, begins_one}
 
 code_short : (image : Image) (j n : ℕ) (p : CodeProcedure) → procedure_of image j n ≡ Some p → length p.code < reach image
 unfolding procedure_of

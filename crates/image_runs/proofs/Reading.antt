@@ -1,5 +1,5 @@
 -- How a run goes on where the program reads.
-use Rattle.std.proofs.Common.{◌≡◌, ℕ, List, [], ◌∷◌, ◌++◌, Bool, Option, Some, None, refl, sym, ap, subst, ◌∙◌, append_assoc}
+use Rattle.std.proofs.Common.{◌≡◌, ℕ, ◌<◌, List, [], ◌∷◌, ◌++◌, Bool, Option, Some, None, refl, sym, ap, subst, ◌∙◌, append_assoc}
 use Rattle.std.specs.Prelude.{IfSome, slice_get}
 use Rattle.std.proofs.lemmas.Option.{none-some, same_Some}
 use Rattle.object_files.specs.declared.image.Image.{Image}
@@ -16,7 +16,8 @@ use Rattle.region_calls.specs.Hosting.{input_left, Looks, Comes, known_after, in
 use Rattle.region_calls.specs.Linking.{LinkLeads}
 use Rattle.ready_images.specs.declared.prepared.Prepared.{Prepared}
 use Rattle.image_runs.specs.SoFar.{AtHost, Known, Took, SoFar}
-use Rattle.image_runs.proofs.Told.{some_left}
+use Rattle.image_runs.specs.Running.{AreBytes}
+use Rattle.image_runs.proofs.Told.{IsByteAhead, more_bytes, some_left}
 
 -- what the program has taken then, and what it had not taken before
 abbrev pub got_after : Reading → Coming → List ℕ → List ℕ
@@ -55,11 +56,11 @@ known_before (Some c) coming rest faulty same h = subst (λ x. Comes x rest faul
 byte_or_end : (b : ℕ) → Byte b ≡ End → ⊥
 byte_or_end b e = cc
 
-ends_there : (ahead : Option Coming) (coming : Coming) (left left' : Option (List ℕ)) (rest : List ℕ) → Looks ahead coming left left' → ((c : Coming) → ahead ≡ Some c → coming ≡ c)
+ends_there : (ahead : Option Coming) (coming : Coming) (left left' : Option (List ℕ)) (rest : List ℕ) → Looks ahead coming left left'
     → input_left ahead left ≡ Some rest → (ahead ≡ Some End → rest ≡ []) → input_left (Some coming) left' ≡ Some rest → coming ≡ End → rest ≡ []
-ends_there (Some (Byte b)) coming left left' rest looks same before at_end after is = absurd (byte_or_end b (sym (same (Byte b) refl) ∙ is))
-ends_there (Some End) coming left left' rest looks same before at_end after is = at_end refl
-ends_there None coming left left' rest looks same before at_end after is =
+ends_there (Some (Byte b)) coming left left' rest looks before at_end after is = absurd (byte_or_end b (sym (looks.known (Byte b) refl) ∙ is))
+ends_there (Some End) coming left left' rest looks before at_end after is = at_end refl
+ends_there None coming left left' rest looks before at_end after is =
     let none : left' ≡ Some [] = subst (λ l. IfSome l (λ bytes. (None ≡ Some End → bytes ≡ []) → coming ≡ End → left' ≡ Some [])) before looks.told (λ e. absurd (none-some End e)) is in
     same_Some rest [] (sym (subst (λ c. input_left (Some c) left' ≡ Some rest) is after) ∙ none)
 
@@ -80,29 +81,41 @@ took_by Next End all left' got rest split after end = record { rest = rest; spli
 took_by AtEnd coming all left' got rest split after end = record { rest = rest; split = split; left_so = after; at_end = λ e. end (same_Some coming End e) }
 
 took_then : (told left left' : Option (List ℕ)) (ahead : Option Coming) (reading : Reading) (coming : Coming) (got : List ℕ) → Looks ahead coming left left'
-    → ((c : Coming) → ahead ≡ Some c → coming ≡ c) → IfSome told (Took told left ahead got) → IfSome told (Took told left' (known_after reading coming) (got_after reading coming got))
-took_then None left left' ahead reading coming got looks same t = tt
-took_then (Some all) left left' ahead reading coming got looks same t =
+    → IfSome told (Took told left ahead got) → IfSome told (Took told left' (known_after reading coming) (got_after reading coming got))
+took_then None left left' ahead reading coming got looks t = tt
+took_then (Some all) left left' ahead reading coming got looks t =
     let after = looks_so ahead coming left left' t.rest looks t.left_so in
-    took_by reading coming all left' got t.rest t.split after (ends_there ahead coming left left' t.rest looks same t.left_so t.at_end after)
+    took_by reading coming all left' got t.rest t.split after (ends_there ahead coming left left' t.rest looks t.left_so t.at_end after)
+
+got_bytes : (reading : Reading) (coming : Coming) (got : List ℕ) → ((b : ℕ) → coming ≡ Byte b → b < 256) → AreBytes got → AreBytes (got_after reading coming got)
+got_bytes Next (Byte b) got byte bytes = more_bytes got b bytes (byte b refl)
+got_bytes Next End got byte bytes = bytes
+got_bytes AtEnd coming got byte bytes = bytes
+
+byte_after : (reading : Reading) (coming : Coming) → ((b : ℕ) → coming ≡ Byte b → b < 256) → IsByteAhead (known_after reading coming)
+byte_after Next (Byte c) byte b e = absurd (none-some (Byte b) e)
+byte_after Next End byte b e = absurd (byte_or_end b (sym (same_Some End (Byte b) e)))
+byte_after AtEnd coming byte b e = byte b (same_Some coming (Byte b) e)
 
 -- The machine reads that, or raises NoInput.
 
 module _ (image : Image) (bound : ℕ) (told left left' held holds : Option (List ℕ)) (ahead : Option Coming) (p p' : Prepared) (control : List ℕ) (turns begun : ℕ)
     (r : Registers) (reading : Reading) (coming : Coming) (turn : ReadTurn) (prepared : IsPrepared image p.layout) (ample : IsAmple p.layout p.region.items p.rows.items r.top)
     (same_layout : p'.layout ≡ p.layout) (same_rows : p'.rows.items ≡ p.rows.items) (same_globals : p'.globals.items ≡ p.globals.items) (same_marks : p'.started.items ≡ p.started.items)
-    (looks : Looks ahead coming left left') (same : (c : Coming) → ahead ≡ Some c → coming ≡ c) (leads : ReadsOn p.region.items p'.region.items r reading coming turn) where
+    (looks : Looks ahead coming left left') (leads : ReadsOn p.region.items p'.region.items r reading coming turn) where
   pub read_on : SoFar image bound p control turns begun ahead told left held holds (AtHost image p r (Read reading))
       → SoFar image bound p' control turns begun (known_after reading coming) told left' held holds (λ s m. ReadLeads image p.layout p'.region.items p.rows.items r s m turn)
   unfolding LinkLeads
   read_on so = record {
     got = got_after reading coming so.got;
     output = so.output;
-    took = took_then told left left' ahead reading coming so.got looks same so.took;
+    bytes = got_bytes reading coming so.got looks.byte so.bytes;
+    byte = byte_after reading coming looks.byte;
+    took = took_then told left left' ahead reading coming so.got looks so.took;
     wrote = so.wrote;
     comes = λ rest faulty known.
         let before = comes_before reading coming rest faulty known in
-        let c = so.comes (rest_before reading coming rest) faulty (known_before ahead coming (rest_before reading coming rest) faulty same before) in
+        let c = so.comes (rest_before reading coming rest) faulty (known_before ahead coming (rest_before reading coming rest) faulty looks.known before) in
         let b = c.beside in
         let input : List ℕ = so.got ++ rest_before reading coming rest in
         let there : Comes coming c.store.input c.store.faulty = subst (λ f. Comes coming c.store.input f) (sym b.its_fault) (subst (λ i. Comes coming i faulty) (sym b.its_input) before) in

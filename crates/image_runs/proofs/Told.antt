@@ -1,7 +1,8 @@
 -- What a run so far tells its caller.
-use Rattle.std.proofs.Common.{◌≡◌, ◌⊎◌, inl, inr, ℕ, ◌+◌, ◌-◌, ◌≤◌, List, [], ◌∷◌, ◌++◌, length, take, drop, Bool, false, Option, Some, None, refl, sym, ap, subst, ◌∙◌, arith, append_assoc}
+use Rattle.std.proofs.Common.{◌≡◌, ◌⊎◌, inl, inr, ℕ, ◌+◌, ◌-◌, ◌<◌, ◌≤◌, List, [], ◌∷◌, ◌++◌, length, take, drop, Bool, false, Option, Some, None, refl, sym, ap, subst, ◌∙◌, arith, append_assoc}
 use Rattle.std.specs.Prelude.{IfSome, option_map}
 use Rattle.std.proofs.lemmas.List.{take-append-le, length-append}
+use Rattle.std.proofs.lemmas.List.Elements.{All-nil, All-cons, All-append}
 use Rattle.std.proofs.lemmas.Option.{none-some, same_Some}
 use Rattle.std.proofs.Math.Seq.{take-append-add}
 use Rattle.mesa_base.specs.Outside.{AppendsPrefix}
@@ -20,9 +21,10 @@ use Rattle.region_calls.specs.declared.ahead.Coming.{Coming}
 use Rattle.region_calls.specs.declared.ahead.Coming.TheVariants.{Byte, End as AtEnd}
 use Rattle.region_calls.specs.Hosting.{Comes}
 use Rattle.ready_images.specs.declared.prepared.Prepared.{Prepared}
-use Rattle.image_runs.specs.Running.{IsInput, HasRest, Completes, BreaksAtOutput}
+use Rattle.image_runs.specs.Longest.{reach}
+use Rattle.image_runs.specs.Running.{AreBytes, IsInput, HasRest, Completes, BreaksAtOutput}
 use Rattle.image_runs.specs.SoFar.{ComesTo, At, Known, Took, SoFar}
-use Rattle.image_runs.proofs.Reach.{reach, goes_on}
+use Rattle.image_runs.proofs.Reach.{goes_on}
 
 drop_past : {X : Type 0} (xs ys : List X) → drop (length xs) (xs ++ ys) ≡ ys
 drop_past [] ys = refl
@@ -35,13 +37,27 @@ pub record Rest (told left : Option (List ℕ)) (ahead : Option Coming) (got : L
   pub rest : List ℕ
   pub known : Known ahead rest false
   pub same : IfSome told (λ all. all ≡ got ++ rest)
+  pub bytes : IfSome told AreBytes → AreBytes (got ++ rest)
   pub left_so : IfSome told (λ all. (n : ℕ) × ((n ≡ length got) ⊎ (n ≡ length got + 1)) × (left ≡ Some (drop n all)))
 
-pub untold : (left : Option (List ℕ)) (ahead : Option Coming) (got : List ℕ) → Rest None left ahead got
+abbrev pub IsByte : ℕ → Type 0
+IsByte b = b < 256
+
+abbrev pub IsByteAhead : Option Coming → Type 0
+IsByteAhead ahead = (b : ℕ) → ahead ≡ Some (Byte b) → b < 256
+
+pub more_bytes : (got : List ℕ) (b : ℕ) → AreBytes got → b < 256 → AreBytes (got ++ b ∷ [])
+more_bytes got b bytes byte = All-append IsByte got (b ∷ []) bytes (All-cons IsByte b [] byte (All-nil IsByte))
+
+no_more : (got : List ℕ) → AreBytes got → AreBytes (got ++ [])
+no_more got bytes = All-append IsByte got [] bytes (All-nil IsByte)
+
+pub untold : (left : Option (List ℕ)) (ahead : Option Coming) (got : List ℕ) → AreBytes got → IsByteAhead ahead → Rest None left ahead got
 unfolding Comes
-untold left None got = record { rest = []; known = tt; same = tt; left_so = tt }
-untold left (Some (Byte b)) got = record { rest = b ∷ []; known = ([], refl); same = tt; left_so = tt }
-untold left (Some AtEnd) got = record { rest = []; known = (refl, refl); same = tt; left_so = tt }
+untold left None got bytes byte = record { rest = []; known = tt; same = tt; bytes = λ h. no_more got bytes; left_so = tt }
+untold left (Some (Byte b)) got bytes byte =
+    record { rest = b ∷ []; known = ([], refl); same = tt; bytes = λ h. more_bytes got b bytes (byte b refl); left_so = tt }
+untold left (Some AtEnd) got bytes byte = record { rest = []; known = (refl, refl); same = tt; bytes = λ h. no_more got bytes; left_so = tt }
 
 pub some_left : (b : ℕ) (left : Option (List ℕ)) (rest : List ℕ) → option_map (λ l. b ∷ l) left ≡ Some rest → (l : List ℕ) × (left ≡ Some l) × (rest ≡ b ∷ l)
 some_left b None rest e = absurd (none-some rest e)
@@ -53,6 +69,7 @@ told_rest all left None got t = record {
   rest = t.rest;
   known = tt;
   same = t.split;
+  bytes = λ h. subst AreBytes t.split h;
   left_so = (length got, inl refl, t.left_so ∙ ap Some (sym (ap (drop (length got)) t.split ∙ drop_past got t.rest)));
 }
 told_rest all left (Some (Byte b)) got t =
@@ -61,6 +78,7 @@ told_rest all left (Some (Byte b)) got t =
       rest = t.rest;
       known = (l.0, l.2);
       same = t.split;
+      bytes = λ h. subst AreBytes t.split h;
       left_so = (
         length got + 1,
         inr refl,
@@ -71,15 +89,17 @@ told_rest all left (Some AtEnd) got t = record {
   rest = t.rest;
   known = (t.at_end refl, refl);
   same = t.split;
+  bytes = λ h. subst AreBytes t.split h;
   left_so = (length got, inl refl, t.left_so ∙ ap Some (sym (ap (drop (length got)) t.split ∙ drop_past got t.rest)));
 }
 
-pub rest_of : (told left : Option (List ℕ)) (ahead : Option Coming) (got : List ℕ) → IfSome told (Took told left ahead got) → Rest told left ahead got
-rest_of None left ahead got t = untold left ahead got
-rest_of (Some all) left ahead got t = told_rest all left ahead got t
+pub rest_of : (told left : Option (List ℕ)) (ahead : Option Coming) (got : List ℕ) → AreBytes got → IsByteAhead ahead → IfSome told (Took told left ahead got)
+    → Rest told left ahead got
+rest_of None left ahead got bytes byte t = untold left ahead got bytes byte
+rest_of (Some all) left ahead got bytes byte t = told_rest all left ahead got t
 
-same_input : (told : Option (List ℕ)) (input : List ℕ) → IfSome told (λ all. all ≡ input) → IsInput told input
-same_input told input h = record { same = h }
+input_of : (told left : Option (List ℕ)) (ahead : Option Coming) (got : List ℕ) → (r : Rest told left ahead got) → IsInput told (got ++ r.rest)
+input_of told left ahead got r = record { same = r.same; bytes = r.bytes }
 
 has_rest : (told left : Option (List ℕ)) (got : List ℕ) → IfSome told (λ all. (n : ℕ) × ((n ≡ length got) ⊎ (n ≡ length got + 1)) × (left ≡ Some (drop n all)))
     → IfSome told (λ all. HasRest (length got) all left)
@@ -122,13 +142,13 @@ module _ (image : Image) (bound : ℕ) (p : Prepared) (control : List ℕ) (turn
       → Completes image bound (record { end = end; left = turns }) begun told left held holds
   unfolding LeadsTo
   completes end so =
-      let r = rest_of told left ahead so.got so.took in
+      let r = rest_of told left ahead so.got so.bytes so.byte so.took in
       let c = so.comes r.rest false r.known in
       record {
         input = so.got ++ r.rest;
         output = so.output;
         taken = length so.got;
-        is_input = same_input told (so.got ++ r.rest) r.same;
+        is_input = input_of told left ahead so.got r;
         runs = record {
           last = c.store;
           ends = c.leads;
@@ -147,6 +167,8 @@ module _ (image : Image) (bound : ℕ) (p : Prepared) (control : List ℕ) (turn
   all_done so = record {
     got = so.got;
     output = so.output;
+    bytes = so.bytes;
+    byte = so.byte;
     took = so.took;
     wrote = so.wrote;
     comes = λ rest faulty known.
@@ -161,12 +183,12 @@ module _ (image : Image) (bound : ℕ) (p : Prepared) (control : List ℕ) (turn
 
   -- the sink failed at a piece, behind which the machine goes on
   pub cut_off : HasValidCode image → length p.rows.items ≡ 8192 → length control ≤ reach image → (r : Registers) (holds' : Option (List ℕ)) (got output piece : List ℕ)
-      → IfSome told (Took told left ahead got) → IfSome held (λ bytes. holds ≡ Some (bytes ++ output)) → IfSome holds (λ bytes. AppendsPrefix bytes piece holds')
+      → AreBytes got → IsByteAhead ahead → IfSome told (Took told left ahead got) → IfSome held (λ bytes. holds ≡ Some (bytes ++ output)) → IfSome holds (λ bytes. AppendsPrefix bytes piece holds')
       → ((rest : List ℕ) (faulty : Bool) → Known ahead rest faulty → ComesTo (begins image (got ++ rest) faulty bound) p control turns begun (output ++ piece) rest faulty (At image p (GoesOn r)))
       → BreaksAtOutput image bound told left held holds'
   unfolding LeadsTo
-  cut_off valid long short r holds' got output piece took wrote partly comes =
-      let t = rest_of told left ahead got took in
+  cut_off valid long short r holds' got output piece bytes byte took wrote partly comes =
+      let t = rest_of told left ahead got bytes byte took in
       let c = comes t.rest false t.known in
       let shown : Shown image p.layout p.region.items p.rows.items r (begins image (got ++ t.rest) false bound) c.store = c.leads in
       let g = goes_on image valid p.layout p.region.items p.rows.items r shown.procedure shown.top shown.rest shown.shows long c.store (subst (λ (l : List ℕ). length l ≤ reach image) (sym c.beside.its_control) short) in
@@ -178,7 +200,7 @@ module _ (image : Image) (bound : ℕ) (p : Prepared) (control : List ℕ) (turn
         turns_left = g.last.turns;
         taken = length (got ++ t.rest) - length g.last.input;
         count = g.last.begun;
-        is_input = same_input told (got ++ t.rest) t.same;
+        is_input = input_of told left ahead got t;
         runs = record { last = g.last; ends = shown.reaches.by g.end g.last g.ends; its_output = refl; its_turns = refl; its_input = refl; its_count = refl };
         rest = left_later told left got _ (let l = length-append got t.rest in let k = ap (λ (x : List ℕ). length x) split in let n = length-append g.so.taken g.last.input in omega (arith, l, k, n)) t.left_so;
         appends = received_further held holds holds' output piece g.so.written g.last.output wrote partly (g.so.output ∙ ap (λ o. o ++ g.so.written) c.beside.its_output);

@@ -11,6 +11,7 @@ use Rattle.machine_steps.proofs.Measure.{Owned, weight_of, weight}
 use Rattle.machine_steps.proofs.Below.{turns_of, acts_of, fewer, lighter}
 use Rattle.machine_steps.proofs.Nearer.{ahead_of, Nearer, lower, further, After, GoesForward, after_step}
 use Rattle.activation_region.proofs.Keeping.{next_part}
+use Rattle.image_runs.specs.Longest.{far}
 use Rattle.image_runs.proofs.Walk.{store_of, Continues, itself, EndingIsRight, AllRight, IsFit, Kept, IsWide, RaisesRight, kept_run, kept_start_next, kept_seek, kept_leaving}
 
 weight_most : (role : Role (List ℕ)) (p : ℕ) → weight_of role p ≤ 2
@@ -21,10 +22,6 @@ weight_most (InArm own arm why) p = omega arith
 pub weight_small : (S : Activations) → weight S ≤ 2 * length S
 weight_small [] = omega arith
 weight_small (a ∷ S) = let h = weight_most a.role a.procedure in let r = weight_small S in omega (arith, h, r)
-
--- how many steps a state is from the end at most, where so much lies ahead of each
-abbrev pub far : (turns heavy ahead A : ℕ) → ℕ
-far turns heavy ahead A = (turns * 16385 + heavy) * suc A + ahead
 
 far_less : (P P' h h' A : ℕ) → P' < P → h' ≤ A → P' * suc A + h' < P * suc A + h
 far_less P P' h h' A less l = let k = next_part P' P (suc A) less in omega (arith, k, l)

@@ -1,5 +1,5 @@
 -- What a run over a source and a sink tells its caller (rule of this project).
-use Rattle.std.specs.Prelude.{◌≡◌, ◌⊎◌, ℕ, ◌+◌, ◌≤◌, List, ◌++◌, length, drop, Option, Some, IsSome, IfSome, true, false}
+use Rattle.std.specs.Prelude.{◌≡◌, ◌⊎◌, ℕ, ◌+◌, ◌<◌, ◌≤◌, List, ◌++◌, length, drop, All, Option, Some, IsSome, IfSome, true, false}
 use Rattle.mesa_base.specs.Outside.{AppendsPrefix}
 use Rattle.object_files.specs.declared.image.Image.{Image}
 use Rattle.signaller.specs.declared.signal_id.SignalId.{SignalId}
@@ -11,9 +11,13 @@ use Rattle.machine_steps.specs.State.{Ending, Ended, Broken}
 use Rattle.machine_steps.specs.Steps.{Steps}
 use Rattle.image_runs.specs.declared.outcome.Outcome.{Outcome}
 
--- the input of a run is that which the source tells, where it does
+abbrev pub AreBytes : List ℕ → Type 0
+AreBytes input = All (λ b. b < 256) input
+
+-- the input of a run is that which the source tells, where it does, and some bytes where it does not
 pub record IsInput (told : Option (List ℕ)) (input : List ℕ) : Type 0 where
   pub same : IfSome told (λ all. all ≡ input)
+  pub bytes : IfSome told AreBytes → AreBytes input
 
 -- a source has all but so many of its bytes, or one byte fewer
 abbrev pub HasRest : (taken : ℕ) → List ℕ → Option (List ℕ) → Type 0
@@ -35,6 +39,7 @@ pub record BreaksAtInput (image : Image) (turns count : ℕ) (told left held hol
   pub input : List ℕ
   pub output : List ℕ
   pub turns_left : ℕ
+  pub bytes : AreBytes input
   pub runs : Steps image input true turns output Broken turns_left (length input) count
   pub rest : IfSome told (λ all. (more : List ℕ) × (all ≡ input ++ more) × (left ≡ Some more))
   pub appends : IfSome held (λ bytes. holds ≡ Some (bytes ++ output))

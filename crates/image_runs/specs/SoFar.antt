@@ -1,13 +1,16 @@
 -- What a run has come to (rule of this project).
-use Rattle.std.specs.Prelude.{◌≡◌, ℕ, suc, ◌+◌, List, [], ◌∷◌, ◌++◌, Bool, Option, Some, None, IfSome, Result, Ok, Err, slice_get}
+use Rattle.std.specs.Prelude.{◌≡◌, ℕ, suc, ◌+◌, ◌<◌, List, [], ◌∷◌, ◌++◌, Bool, Option, Some, None, IfSome, Result, Ok, Err, slice_get}
+use Rattle.code_forms.specs.declared.instruction.Instruction.{Instruction}
 use Rattle.code_forms.specs.declared.module_code.CodeEntry.{CodeEntry}
 use Rattle.code_forms.specs.declared.module_code.CodeProcedure.{CodeProcedure}
+use Rattle.code_forms.specs.Depths.{forward_target, backward_target}
 use Rattle.object_files.specs.declared.image.Image.{Image}
 use Rattle.machine_steps.specs.State.{Active, Activations, Store, Runs, Stepped, Goes}
 use Rattle.machine_steps.specs.Steps.{step, begins}
 use Rattle.quiet_run.specs.declared.registers.Pause.{Pause}
 use Rattle.quiet_run.specs.declared.registers.Registers.{Registers}
 use Rattle.quiet_run.specs.declared.registers.Why.{Why}
+use Rattle.quiet_run.specs.declared.registers.Why.TheVariants.{Touches}
 use Rattle.activation_region.specs.declared.calling.Turn.{Turn}
 use Rattle.activation_region.specs.declared.row.Layout.{Layout}
 use Rattle.activation_region.specs.declared.row.Row.{Row}
@@ -15,7 +18,7 @@ use Rattle.activation_region.specs.Calling.{LeadsTo, IsAmpleFor}
 use Rattle.activation_region.specs.Reaching.{Reaches, Later, pauses_so}
 use Rattle.activation_region.specs.Shows.{Shows}
 use Rattle.region_calls.specs.declared.ahead.Coming.{Coming}
-use Rattle.region_calls.specs.declared.ahead.Coming.TheVariants.{End}
+use Rattle.region_calls.specs.declared.ahead.Coming.TheVariants.{Byte, End}
 use Rattle.region_calls.specs.declared.host.HostProcedure.{HostProcedure}
 use Rattle.region_calls.specs.declared.linking.LinkTurn.TheVariants.{Host}
 use Rattle.region_calls.specs.Hosting.{input_left, Comes}
@@ -26,7 +29,7 @@ use Rattle.ready_images.specs.declared.prepared.Prepared.{Prepared}
 use Rattle.ready_images.specs.Ready.{IsReady}
 use Rattle.image_runs.specs.declared.outcome.RunFault.{RunFault}
 use Rattle.image_runs.specs.declared.outcome.RunFault.TheVariants.{ReadFault, WriteFault}
-use Rattle.image_runs.specs.Running.{BreaksAtInput, BreaksAtOutput}
+use Rattle.image_runs.specs.Running.{AreBytes, BreaksAtInput, BreaksAtOutput}
 
 -- the globals of each instance
 abbrev pub ShowsGlobals : Prepared → (ℕ → List ℕ) → Type 0
@@ -74,6 +77,8 @@ pub record SoFar (image : Image) (bound : ℕ) (p : Prepared) (control : List �
     (told left held holds : Option (List ℕ)) (Place : Stepped → Store → Type 0) : Type 0 where
   pub got : List ℕ
   pub output : List ℕ
+  pub bytes : AreBytes got
+  pub byte : (b : ℕ) → ahead ≡ Some (Byte b) → b < 256
   pub took : IfSome told (Took told left ahead got)
   pub wrote : IfSome held (λ bytes. holds ≡ Some (bytes ++ output))
   pub comes : (rest : List ℕ) (faulty : Bool) → Known ahead rest faulty
@@ -94,7 +99,12 @@ Then image bound p control turns begun ahead told left held holds (Err WriteFaul
 
 -- The run of the topmost activation.
 
--- from s the machine comes to where the topmost activation stands at an instruction at which its run pauses
+-- an instruction that is no jump within its procedure
+abbrev pub IsNoJump : Instruction → Type 0
+IsNoJump i = (forward_target i ≡ None) × (backward_target i ≡ None)
+
+-- from s the machine comes to where the topmost activation stands at an instruction at which its run pauses; a jump within the procedure
+-- touches nothing more
 pub record PausesAt (image : Image) (layout : Layout) (region : List ℕ) (table : List Row) (r : Registers) (why : Why) (s : Stepped) (m : Store) : Type 0 where
   pub top : Active
   pub rest : Activations
@@ -103,6 +113,7 @@ pub record PausesAt (image : Image) (layout : Layout) (region : List ℕ) (table
   pub reaches : Reaches image s (Goes (Runs (top ∷ rest) m))
   pub entry : CodeEntry
   pub fetched : slice_get procedure.code r.entry ≡ Some entry
+  pub no_jump : why ≡ Touches → IsNoJump entry.instruction
   pub pauses : step image (Runs (top ∷ rest) m) ≡ pauses_so image why entry.instruction top rest (record m { begun = suc m.begun })
 
 -- so many instructions later it comes there, with these globals of its instance

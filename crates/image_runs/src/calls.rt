@@ -3,7 +3,7 @@
 ghost use Rattle.std.specs.Prelude.{◌≡◌, suc, ◌≤◌};
 ghost use Rattle.code_forms.specs.declared.instruction.Instruction.TheVariants.{Call, CallLink, Return};
 ghost use Rattle.machine_steps.specs.State.{Stepped, Store};
-ghost use Rattle.activation_region.specs.Calling.{AddsFrame, CallsThen, IsAmpleFor, LeadsTo, StandsIn};
+ghost use Rattle.activation_region.specs.Calling.{AddsFrame, CallsThen, GoesBelow, IsAmpleFor, LeadsTo, StandsIn};
 ghost use Rattle.activation_region.specs.Reaching.{IsUnstuck, Shown};
 ghost use Rattle.activation_region.specs.Shows.{IsAmple};
 ghost use Rattle.ready_images.specs.Ready.{IsReady};
@@ -61,6 +61,7 @@ pub(crate) fn return_top(image: &Image, parts: &mut Prepared, r: Registers) -> T
     requires at { StandsAt image.now parts.old.rows.items r Return }
     ensures ready { IsReady image.now parts.new }
     ensures ample { IsAmpleFor parts.new.layout parts.new.region.items parts.new.rows.items result }
+    ensures below { GoesBelow r result }
     ensures rows { parts.new.rows.items ≡ parts.old.rows.items }
     ensures globals { parts.new.globals.items ≡ parts.old.globals.items }
     ensures marks { parts.new.started.items ≡ parts.old.started.items }

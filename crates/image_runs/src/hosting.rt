@@ -1,26 +1,33 @@
 //! Calls of the host's procedures.
 
-ghost use Rattle.std.specs.Prelude.{◌≡◌, ℕ, ◌≤◌, List, Option, length, IfOk, OnErr};
-ghost use Rattle.mesa_base.specs.Outside.{Rose};
+ghost use Rattle.std.specs.Prelude.{◌≡◌, ℕ, ◌≤◌, List, Option, length, IfOk};
+ghost use Rattle.machine_steps.specs.State.{Stepped, Store};
 ghost use Rattle.activation_region.specs.declared.calling.Turn.TheVariants.{Goes};
+ghost use Rattle.activation_region.specs.Calling.{LeadsTo};
 ghost use Rattle.activation_region.specs.Shows.{IsAmple};
 ghost use Rattle.ready_images.specs.Ready.{IsReady};
 ghost use Rattle.region_calls.specs.declared.ahead.Coming.{Coming};
-ghost use Rattle.region_calls.specs.declared.host.HostProcedure.TheVariants.{Write};
-ghost use Rattle.region_calls.specs.Hosting.{behind_call};
+ghost use Rattle.region_calls.specs.declared.host.HostProcedure.TheVariants.{Read, Write};
+ghost use Rattle.region_calls.specs.declared.host.Reading.{Reading};
+ghost use Rattle.region_calls.specs.Hosting.{GoesBehind, ReadLeads, behind_call};
 ghost use Rattle.region_calls.specs.Hosts.{CallsHost, host_is};
-ghost use Rattle.image_runs.specs.SoFar.{AtHost, SoFar, Then};
+ghost use Rattle.region_signals.specs.Raising.{ArmsHold};
+ghost use Rattle.image_runs.specs.Onward.{CanGoOn, CountsFaults, Follows, HasRead, waits};
+ghost use Rattle.image_runs.specs.SoFar.{AtHost, Carries, SoFar, Then};
 
 use crate::outcome::RunFault;
+use crate::signals::raise_signal;
 use activation_region::Turn;
-use mesa_base::Sink;
+use mesa_base::{Sink, Source, Steps};
 use object_files::Image;
 use quiet_run::Registers;
 use ready_images::Prepared;
-use region_calls::{Writing, write};
+use region_calls::{Coming, HostProcedure, ReadTurn, Reading, Writing, read, write};
+use signaller::SignalId;
+use std::sync::ledger::Ledger;
 
-/// Writes what the call of the topmost activation says.
-pub(crate) fn write_out<K: Sink>(
+// Writes what the call of the topmost activation says.
+fn write_out<K: Sink>(
     writing: Writing,
     image: &Image,
     parts: &Prepared,
@@ -35,11 +42,102 @@ pub(crate) fn write_out<K: Sink>(
         → length control ≤ length image.now.control
         → SoFar image.now bound parts.now control turns begun ahead told left held (K.written out.old) (AtHost image.now parts.now r (Write writing))
         → Then image.now bound parts.now control turns begun ahead told left held (K.written out.new) result }
-    ensures fault { OnErr result (Rose (K.faults out.old) (K.faults out.new)) }
-    ensures faults_stay { K.faults out.old ≤ K.faults out.new }
+    ensures faults { (read : ℕ) → CountsFaults result read read (K.faults out.old) (K.faults out.new) }
 {
     match write(writing, image, parts.region.as_slice(), r, out) {
         Ok(after) => Ok(Turn::Goes(after)),
         Err(_) => Err(RunFault::WriteFault),
+    }
+}
+
+// Goes on behind a call that has read, or raises NoInput.
+fn read_then<C: Ledger>(
+    turn: ReadTurn,
+    image: &Image,
+    parts: &mut Prepared,
+    r: Registers,
+    turns: &mut u64,
+    comparisons: &mut Steps<C>,
+) -> Turn
+    requires ready { IsReady image.now parts.old }
+    requires ample { IsAmple parts.old.layout parts.old.region.items parts.old.rows.items r.top }
+    requires arms { ArmsHold image.now parts.old.rows.items r.top }
+    requires behind { (reading : Reading) × GoesBehind r reading turn }
+    requires reads { HasRead image.now parts.old r turn }
+    ensures carries { Carries image.now parts.new result }
+    ensures globals { parts.new.globals.items ≡ parts.old.globals.items }
+    ensures marks { parts.new.started.items ≡ parts.old.started.items }
+    ensures waits_not { waits result ≡ 0 }
+    ensures leads { (s : Stepped) (m : Store) → m.turns ≡ turns.old
+        → ReadLeads image.now parts.old.layout parts.old.region.items parts.old.rows.items r s m turn
+        → LeadsTo image.now parts.new.layout parts.new.region.items parts.new.rows.items s (record m { turns = turns.new }) result }
+{
+    match turn {
+        ReadTurn::Goes(after) => Turn::Goes(after),
+        ReadTurn::NoInput => {
+            raise_signal(image, parts, SignalId::NoInput, r, turns, comparisons)
+        }
+    }
+}
+
+// Reads what the call of the topmost activation asks for.
+fn read_in<S: Source, C: Ledger>(
+    reading: Reading,
+    image: &Image,
+    parts: &mut Prepared,
+    r: Registers,
+    ahead: &mut Option<Coming>,
+    turns: &mut u64,
+    input: &mut S,
+    comparisons: &mut Steps<C>,
+) -> Result<Turn, RunFault>
+    requires ready { IsReady image.now parts.old }
+    requires ample { IsAmple parts.old.layout parts.old.region.items parts.old.rows.items r.top }
+    requires arms { ArmsHold image.now parts.old.rows.items r.top }
+    requires run { (holds : Option (List ℕ))
+        × CanGoOn image.now parts.old turns.old ahead.old (S.left input.old) holds (AtHost image.now parts.old r (Read reading)) }
+    ensures ready { IsReady image.now parts.new }
+    ensures carries { IfOk result (Carries image.now parts.new) }
+    ensures waits_not { IfOk result (λ turn. waits turn ≡ 0) }
+    ensures follows { (holds : Option (List ℕ))
+        → Follows image.now parts.old parts.new turns.old turns.new 0 ahead.old ahead.new (S.left input.old) (S.left input.new) holds holds
+        (AtHost image.now parts.old r (Read reading)) result }
+    ensures faults { (written : ℕ) → CountsFaults result (S.faults input.old) (S.faults input.new) written written }
+{
+    match read(reading, parts.region.as_mut_slice(), r, ahead, input) {
+        Ok(turn) => Ok(read_then(turn, image, parts, r, turns, comparisons)),
+        Err(_) => Err(RunFault::ReadFault),
+    }
+}
+
+/// Does the call of the topmost activation, of a procedure of the host: the run goes on, or breaks off where the source or
+/// the sink fails.
+pub(crate) fn call_host<S: Source, K: Sink, C: Ledger>(
+    host: HostProcedure,
+    image: &Image,
+    parts: &mut Prepared,
+    r: Registers,
+    ahead: &mut Option<Coming>,
+    turns: &mut u64,
+    input: &mut S,
+    out: &mut K,
+    comparisons: &mut Steps<C>,
+) -> Result<Turn, RunFault>
+    requires ready { IsReady image.now parts.old }
+    requires ample { IsAmple parts.old.layout parts.old.region.items parts.old.rows.items r.top }
+    requires arms { ArmsHold image.now parts.old.rows.items r.top }
+    requires run { CanGoOn image.now parts.old turns.old ahead.old (S.left input.old) (K.written out.old) (AtHost image.now parts.old r host) }
+    ensures ready { IsReady image.now parts.new }
+    ensures carries { IfOk result (Carries image.now parts.new) }
+    ensures waits_not { IfOk result (λ turn. waits turn ≡ 0) }
+    ensures follows { Follows image.now parts.old parts.new turns.old turns.new 0 ahead.old ahead.new (S.left input.old) (S.left input.new) (K.written out.old) (K.written out.new)
+        (AtHost image.now parts.old r host) result }
+    ensures faults { CountsFaults result (S.faults input.old) (S.faults input.new) (K.faults out.old) (K.faults out.new) }
+{
+    match host {
+        HostProcedure::Write(writing) => write_out(writing, image, parts, r, out),
+        HostProcedure::Read(reading) => {
+            read_in(reading, image, parts, r, ahead, turns, input, comparisons)
+        }
     }
 }

@@ -1,11 +1,20 @@
 //! The run of an image that is ready.
 #![tactic(auto)]
 
+mod arms;
 mod calls;
+mod clearing;
+mod happening;
 mod hosting;
 mod look_ups;
+mod machine;
+mod onward;
 mod outcome;
+mod running;
 mod signals;
+mod standing;
 mod topmost;
+mod touching;
 
+pub use machine::run;
 pub use outcome::{Outcome, RunFault};

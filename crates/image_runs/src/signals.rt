@@ -1,18 +1,22 @@
 //! Raises over all that a run has.
 
-ghost use Rattle.std.specs.Prelude.{◌≡◌, ◌≤◌};
+ghost use Rattle.std.specs.Prelude.{◌≡◌, suc, ◌≤◌};
+ghost use Rattle.code_forms.specs.declared.instruction.Instruction.TheVariants.{Raise, RaiseHost, RaiseLink};
 ghost use Rattle.machine_steps.specs.State.{Stepped, Store};
-ghost use Rattle.activation_region.specs.Calling.{IsAmpleFor, LeadsTo};
+ghost use Rattle.activation_region.specs.Calling.{IsAmpleFor, LeadsTo, StandsIn};
+ghost use Rattle.activation_region.specs.Reaching.{Shown};
 ghost use Rattle.activation_region.specs.Shows.{IsAmple};
 ghost use Rattle.ready_images.specs.Ready.{IsReady};
-ghost use Rattle.region_signals.specs.Raising.{ArmsHold, CanRaise, HoldsOn, Raises};
+ghost use Rattle.region_calls.specs.Linking.{StandsAt};
+ghost use Rattle.region_signals.specs.Raising.{ArmsHold, CanRaise, HoldsOn, Raises, RunsArm};
 
+use crate::standing::top_code;
 use activation_region::Turn;
 use mesa_base::Steps;
 use object_files::Image;
 use quiet_run::Registers;
 use ready_images::Prepared;
-use region_signals::raise;
+use region_signals::{raise, raise_host, raise_linked, raise_own};
 use signaller::SignalId;
 use std::sync::ledger::Ledger;
 
@@ -31,6 +35,7 @@ pub(crate) fn raise_signal<L: Ledger>(
     ensures ready { IsReady image.now parts.new }
     ensures ample { IsAmpleFor parts.new.layout parts.new.region.items parts.new.rows.items result }
     ensures arms { ArmsHold image.now parts.old.rows.items r.top → HoldsOn image.now parts.new.rows.items result }
+    ensures runs { RunsArm result }
     ensures globals { parts.new.globals.items ≡ parts.old.globals.items }
     ensures marks { parts.new.started.items ≡ parts.old.started.items }
     ensures turns_fall { turns.new ≤ turns.old }
@@ -44,6 +49,123 @@ pub(crate) fn raise_signal<L: Ledger>(
         &parts.links,
         signal,
         0,
+        &mut parts.region,
+        parts.rows.as_mut_slice(),
+        r,
+        parts.layout,
+        turns,
+        comparisons,
+    )
+}
+
+/// The topmost activation raises a signal of its own module.
+pub(crate) fn raise_of_module<L: Ledger>(
+    image: &Image,
+    parts: &mut Prepared,
+    number: u32,
+    r: Registers,
+    turns: &mut u64,
+    comparisons: &mut Steps<L>,
+) -> Turn
+    requires ready { IsReady image.now parts.old }
+    requires ample { IsAmple parts.old.layout parts.old.region.items parts.old.rows.items r.top }
+    requires stands { StandsIn image.now parts.old.layout parts.old.region.items parts.old.rows.items r }
+    requires at { StandsAt image.now parts.old.rows.items r (Raise number) }
+    ensures ready { IsReady image.now parts.new }
+    ensures ample { IsAmpleFor parts.new.layout parts.new.region.items parts.new.rows.items result }
+    ensures arms { ArmsHold image.now parts.old.rows.items r.top → HoldsOn image.now parts.new.rows.items result }
+    ensures globals { parts.new.globals.items ≡ parts.old.globals.items }
+    ensures marks { parts.new.started.items ≡ parts.old.started.items }
+    ensures turns_fall { turns.new ≤ turns.old }
+    ensures leads { (s : Stepped) (m : Store) → m.turns ≡ turns.old
+        → Shown image.now parts.old.layout parts.old.region.items parts.old.rows.items r s m
+        → LeadsTo image.now parts.new.layout parts.new.region.items parts.new.rows.items s (record m { turns = turns.new; begun = suc m.begun }) result }
+{
+    let code = top_code(image, parts.rows.as_slice(), r);
+    raise_own(
+        image,
+        &parts.plans,
+        &parts.links,
+        code,
+        number,
+        &mut parts.region,
+        parts.rows.as_mut_slice(),
+        r,
+        parts.layout,
+        turns,
+        comparisons,
+    )
+}
+
+/// It raises a signal of another module, by the number of a link.
+pub(crate) fn raise_through_link<L: Ledger>(
+    image: &Image,
+    parts: &mut Prepared,
+    link: u32,
+    r: Registers,
+    turns: &mut u64,
+    comparisons: &mut Steps<L>,
+) -> Turn
+    requires ready { IsReady image.now parts.old }
+    requires ample { IsAmple parts.old.layout parts.old.region.items parts.old.rows.items r.top }
+    requires stands { StandsIn image.now parts.old.layout parts.old.region.items parts.old.rows.items r }
+    requires at { StandsAt image.now parts.old.rows.items r (RaiseLink link) }
+    ensures ready { IsReady image.now parts.new }
+    ensures ample { IsAmpleFor parts.new.layout parts.new.region.items parts.new.rows.items result }
+    ensures arms { ArmsHold image.now parts.old.rows.items r.top → HoldsOn image.now parts.new.rows.items result }
+    ensures globals { parts.new.globals.items ≡ parts.old.globals.items }
+    ensures marks { parts.new.started.items ≡ parts.old.started.items }
+    ensures turns_fall { turns.new ≤ turns.old }
+    ensures leads { (s : Stepped) (m : Store) → m.turns ≡ turns.old
+        → Shown image.now parts.old.layout parts.old.region.items parts.old.rows.items r s m
+        → LeadsTo image.now parts.new.layout parts.new.region.items parts.new.rows.items s (record m { turns = turns.new; begun = suc m.begun }) result }
+{
+    let code = top_code(image, parts.rows.as_slice(), r);
+    raise_linked(
+        image,
+        &parts.plans,
+        &parts.links,
+        code,
+        link,
+        &mut parts.region,
+        parts.rows.as_mut_slice(),
+        r,
+        parts.layout,
+        turns,
+        comparisons,
+    )
+}
+
+/// It raises a predeclared signal.
+pub(crate) fn raise_predeclared<L: Ledger>(
+    image: &Image,
+    parts: &mut Prepared,
+    fault: u8,
+    r: Registers,
+    turns: &mut u64,
+    comparisons: &mut Steps<L>,
+) -> Turn
+    requires ready { IsReady image.now parts.old }
+    requires ample { IsAmple parts.old.layout parts.old.region.items parts.old.rows.items r.top }
+    requires stands { StandsIn image.now parts.old.layout parts.old.region.items parts.old.rows.items r }
+    requires at { StandsAt image.now parts.old.rows.items r (RaiseHost fault) }
+    ensures ready { IsReady image.now parts.new }
+    ensures ample { IsAmpleFor parts.new.layout parts.new.region.items parts.new.rows.items result }
+    ensures arms { ArmsHold image.now parts.old.rows.items r.top → HoldsOn image.now parts.new.rows.items result }
+    ensures globals { parts.new.globals.items ≡ parts.old.globals.items }
+    ensures marks { parts.new.started.items ≡ parts.old.started.items }
+    ensures turns_fall { turns.new ≤ turns.old }
+    ensures leads { (s : Stepped) (m : Store) → m.turns ≡ turns.old
+        → Shown image.now parts.old.layout parts.old.region.items parts.old.rows.items r s m
+        → LeadsTo image.now parts.new.layout parts.new.region.items parts.new.rows.items s (record m { turns = turns.new; begun = suc m.begun }) result }
+{
+    let code = top_code(image, parts.rows.as_slice(), r);
+    raise_host(
+        image,
+        &parts.plans,
+        &parts.links,
+        code,
+        fault,
         &mut parts.region,
         parts.rows.as_mut_slice(),
         r,

@@ -42,6 +42,7 @@ pub record IsReady (image : Image) (p : Prepared) : Type 0 where
   pub plans : AllZip IsPlanned image.modules p.plans
   -- how each instance reads the links of labels, its globals, and whether it was started
   pub links : (j : ℕ) → j < length image.instances → slice_get p.links j ≡ Some (links_of image j)
+  pub all_globals : length p.globals.items ≡ length image.instances
   pub globals : (j : ℕ) → j < length image.instances → IsSomeAnd (slice_get p.globals.items j) (λ words. length words.items ≡ globals_in (code_of image j))
   pub started : length p.started.items ≡ length image.instances
   -- a part has the largest frame, and behind it room for the operands of any procedure; there is memory for as many parts as there may be

@@ -23,7 +23,8 @@ pub fn code_of(image: &Image, number: usize) -> &ModuleCode
 /// For each instance the words of its globals.
 pub fn all_globals(alloc: Global, image: &Image) -> Result<Vec<Vec<u16>>, OutOfMemory>
     requires { ImageInOrder image.now }
-    ensures { IfOk result (λ globals. (j : ℕ) → j < length image.now.instances
+    ensures many { IfOk result (λ globals. length globals.items ≡ length image.now.instances) }
+    ensures each { IfOk result (λ globals. (j : ℕ) → j < length image.now.instances
         → IsSomeAnd (slice_get globals.items j) (λ words. length words.items ≡ globals_in (code_of image.now j))) }
 {
     let mut globals = Vec::new(alloc);

@@ -26,7 +26,7 @@ use Rattle.region_calls.specs.declared.host.Reading.TheVariants.{Next, AtEnd}
 use Rattle.region_calls.specs.declared.reading.ReadTurn.{ReadTurn}
 use Rattle.region_calls.specs.declared.reading.ReadTurn.TheVariants.{Goes as GoesOn, NoInput as RaisesNoInput}
 use Rattle.region_calls.specs.Hosts.{host_is, CallsHost}
-use Rattle.region_calls.specs.Hosting.{CanCall, behind_call, input_after, Comes, Raises, ReadLeads, ReadsOn, Breaks}
+use Rattle.region_calls.specs.Hosting.{CanCall, behind_call, input_after, Comes, Raises, ReadLeads, GoesBehind, ReadsOn, Breaks}
 use Rattle.region_calls.proofs.Behind.{host_fits, call_there, room, gone_on, behind_shows}
 use Rattle.region_calls.proofs.HostWrites.{given}
 
@@ -161,6 +161,9 @@ pushed_registers r = record { top = r.top; slots = r.slots; sp = r.sp + 1; entry
 pub pushed_behind : (r : Registers) (reading : Reading) → pushed_registers r ≡ behind_call (Read reading) r
 pushed_behind r Next = let e : r.sp + 1 ≡ r.sp - 0 + 1 = omega arith in ap (λ k. record { top = r.top; slots = r.slots; sp = k; entry = r.entry + 1 }) e
 pushed_behind r AtEnd = let e : r.sp + 1 ≡ r.sp - 0 + 1 = omega arith in ap (λ k. record { top = r.top; slots = r.slots; sp = k; entry = r.entry + 1 }) e
+
+pub goes_behind : (r : Registers) (reading : Reading) (turn : ReadTurn) → turn ≡ GoesOn (pushed_registers r) → GoesBehind r reading turn
+goes_behind r reading turn e = subst (GoesBehind r reading) (sym e) (pushed_behind r reading)
 
 pub reads_so : (region region' : List ℕ) (r : Registers) (reading reading' : Reading) (coming coming' : Coming) (turn turn' : ReadTurn) → reading ≡ reading' → coming ≡ coming' → turn ≡ turn'
     → ReadsOn region region' r reading' coming' turn' → ReadsOn region region' r reading coming turn

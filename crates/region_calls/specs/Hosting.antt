@@ -1,5 +1,5 @@
 -- What the procedures of the host write and read (rule of this project), and where they lead.
-use Rattle.std.specs.Prelude.{◌≡◌, ℕ, ◌+◌, ◌-◌, ◌%◌, List, [], ◌∷◌, ◌++◌, Bool, true, false, Option, Some, None, IfSome, option_map, slice_index}
+use Rattle.std.specs.Prelude.{◌≡◌, ℕ, ◌+◌, ◌-◌, ◌%◌, ◌<◌, List, [], ◌∷◌, ◌++◌, Bool, true, false, Option, Some, None, IfSome, option_map, slice_index}
 use Rattle.mesa_base.specs.Decimal.{signed_word}
 use Rattle.object_files.specs.declared.image.Image.{Image}
 use Rattle.signaller.specs.declared.signal_id.SignalId.TheVariants.{NoInput}
@@ -68,8 +68,11 @@ input_left None left = left
 input_left (Some (Byte b)) left = option_map (λ l. b ∷ l) left
 input_left (Some End) left = left
 
--- a look at what comes: of a source that tells what is left the bytes are the same, and at the end none is left
+-- a look at what comes, which is a byte or the end: what was looked at before is given. Of a source that tells what is left the bytes are the
+-- same, and at the end none is left
 pub record Looks (ahead : Option Coming) (coming : Coming) (left left' : Option (List ℕ)) : Type 0 where
+  pub known : (c : Coming) → ahead ≡ Some c → coming ≡ c
+  pub byte : (b : ℕ) → coming ≡ Byte b → b < 256
   pub same : IfSome (input_left ahead left) (λ bytes. input_left (Some coming) left' ≡ Some bytes)
   pub told : IfSome left (λ bytes. (ahead ≡ Some End → bytes ≡ []) → coming ≡ End → left' ≡ Some [])
 
@@ -116,10 +119,16 @@ Breaks region r reading = (image : Image) (layout : Layout) (table : List Row)
     → (s : Stepped) (m : Store) → Reaches image s (host image (host_is (Read reading)) e.top e.rest m) → m.input ≡ [] → m.faulty ≡ true
     → Ends image s Broken m
 
+-- where it goes on, it does so behind the call
+abbrev pub GoesBehind : Registers → Reading → ReadTurn → Type 0
+GoesBehind r reading (Goes r') = r' ≡ behind_call (Read reading) r
+GoesBehind r reading RaisesNoInput = Unit {0}
+
 -- what a reading has read, and what is known then
 pub record Reads (reading : Reading) (ahead ahead' : Option Coming) (left left' : Option (List ℕ))
     (region region' : List ℕ) (r : Registers) (turn : ReadTurn) : Type 0 where
   pub coming : Coming
   pub looks : Looks ahead coming left left'
   pub after : ahead' ≡ known_after reading coming
+  pub behind : GoesBehind r reading turn
   pub leads : ReadsOn region region' r reading coming turn

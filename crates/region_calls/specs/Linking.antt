@@ -57,7 +57,7 @@ abbrev pub IsAmpleForLink : Layout → List ℕ → List Row → Registers → L
 IsAmpleForLink layout region table r (Done turn) = IsAmpleFor layout region table turn
 IsAmpleForLink layout region table r (Host h) = IsAmple layout region table r.top
 
--- a frame stands on top then, or the rows are as they were
+-- a frame stands on top then; or the run ends or the host is called, and the rows are as they were
 abbrev pub AddsFrameForLink : Layout → (table : List Row) → Registers → (table' : List Row) → LinkTurn → Type 0
 AddsFrameForLink layout table r table' (Done turn) = AddsFrame layout table r table' turn
 AddsFrameForLink layout table r table' (Host h) = table' ≡ table

@@ -4,7 +4,7 @@ ghost use Rattle.std.specs.Prelude.{◌≡◌, ◌+◌, ◌<◌, ◌≤◌, leng
 ghost use Rattle.mesa_base.specs.Outside.{Rose};
 ghost use Rattle.region_calls.specs.declared.host.HostProcedure.TheVariants.{Read};
 ghost use Rattle.region_calls.specs.declared.reading.ReadTurn.TheVariants.{Goes};
-ghost use Rattle.region_calls.specs.Hosting.{Breaks, CanCall, Reads, ReadsOn};
+ghost use Rattle.region_calls.specs.Hosting.{Breaks, CanCall, GoesBehind, Reads, ReadsOn};
 
 use crate::ahead::{Coming, look};
 use crate::host::Reading;
@@ -39,7 +39,8 @@ fn pushed(word: u16, region: &mut [u16], r: Registers) -> ReadTurn
 // Where it is known what comes.
 fn read_known(reading: Reading, coming: Coming, region: &mut [u16], r: Registers) -> ReadTurn
     requires { CanCall region.old r (Read reading) }
-    ensures { ReadsOn region.old region.new r reading coming result }
+    ensures leads { ReadsOn region.old region.new r reading coming result }
+    ensures behind { GoesBehind r reading result }
 {
     match coming {
         Coming::Byte(byte) => match reading {

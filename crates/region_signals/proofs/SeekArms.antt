@@ -7,7 +7,9 @@ use Rattle.signaller.specs.declared.signal_id.SignalId.{SignalId}
 use Rattle.machine_steps.specs.State.{Activations, Store, Seeks, Stepped, Goes}
 use Rattle.machine_steps.specs.LookUps.{procedure_of}
 use Rattle.activation_region.specs.declared.calling.Turn.{Turn}
+use Rattle.activation_region.specs.declared.calling.Turn.TheVariants.{Goes as GoesOn, Empty, Pending, Ends}
 use Rattle.activation_region.specs.declared.row.Layout.{Layout}
+use Rattle.activation_region.specs.declared.row.Reason.{Reason}
 use Rattle.activation_region.specs.declared.row.Reason.TheVariants.{Raise as RaiseRow}
 use Rattle.activation_region.specs.declared.row.Row.{Row}
 use Rattle.activation_region.specs.Below.{Over, Raised, Below}
@@ -16,10 +18,16 @@ use Rattle.activation_region.proofs.Quiet.{two_ways}
 use Rattle.region_signals.specs.declared.seeking.Landed.{Landed}
 use Rattle.region_signals.specs.Arms.{AddsArm, Awaits, CanEnter}
 use Rattle.region_signals.specs.Indexed.{AsksIn}
-use Rattle.region_signals.specs.Raising.{ArmsHold, HoldsOn}
+use Rattle.region_signals.specs.Raising.{ArmsHold, HoldsOn, RunsArm}
 use Rattle.region_signals.specs.Seeking.{CanSeek, IsLanding, Lands, Seeking}
 use Rattle.region_signals.proofs.ArmRows.{arms_entered}
 use Rattle.region_signals.proofs.Landing.{landing_awaits}
+
+pub arm_runs : (table : List Row) (top place arm : ℕ) (reason : Reason) (table' : List Row) (turn : Turn) → AddsArm table top place arm reason table' turn → RunsArm turn
+arm_runs table top place arm reason table' (GoesOn r) adds = tt
+arm_runs table top place arm reason table' Empty adds = adds
+arm_runs table top place arm reason table' (Pending r) adds = adds
+arm_runs table top place arm reason table' (Ends end) adds = tt
 
 module _ (image : Image) (layout : Layout) (region : List ℕ) (table : List Row) (top : ℕ) (signal : SignalId) (from count place : ℕ) (search : Search)
     (landed : Landed) (found : IsLanding image table place landed)

@@ -90,3 +90,10 @@ HoldsOn image table (Goes r) = ArmsHold image table r.top
 HoldsOn image table Empty = Unit {0}
 HoldsOn image table (Pending r) = ArmsHold image table r.top
 HoldsOn image table (Ends end) = Unit {0}
+
+-- an arm goes on, or the run ends
+abbrev pub RunsArm : Turn → Type 0
+RunsArm (Goes r) = Unit {0}
+RunsArm Empty = ⊥
+RunsArm (Pending r) = ⊥
+RunsArm (Ends end) = Unit {0}

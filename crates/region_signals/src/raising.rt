@@ -10,7 +10,7 @@ ghost use Rattle.activation_region.specs.Calling.{IsAmpleFor, IsAt, IsCodeOf, Le
 ghost use Rattle.activation_region.specs.Reaching.{Shown};
 ghost use Rattle.activation_region.specs.Shows.{IsAmple, IsPrepared, IsReserved};
 ghost use Rattle.region_signals.specs.Indexed.{ReadsLinks};
-ghost use Rattle.region_signals.specs.Raising.{ArmsHold, CanRaise, HoldsOn, Raises, raised_by};
+ghost use Rattle.region_signals.specs.Raising.{ArmsHold, CanRaise, HoldsOn, Raises, RunsArm, raised_by};
 
 use crate::asking::around;
 use crate::rows::{row_of, wait};
@@ -51,6 +51,7 @@ pub fn raise<L: Ledger>(
     ensures reserved { vec_capacity region.old ≤ vec_capacity region.new }
     ensures turns_fall { turns.new ≤ turns.old }
     ensures arms { ArmsHold image.now table.old r.top → HoldsOn image.now table.new result }
+    ensures runs { RunsArm result }
     ensures leads { (s : Stepped) (m : Store) → m.turns ≡ turns.old
         → Raises image.now layout region.old.items table.old r signal args s m
         → LeadsTo image.now layout region.new.items table.new s (record m { turns = turns.new }) result }

@@ -9,7 +9,7 @@ ghost use Rattle.activation_region.specs.Calling.{IsAmpleFor, LeadsTo};
 ghost use Rattle.activation_region.specs.Frames.{row_at};
 ghost use Rattle.activation_region.specs.Shows.{IsAmple, IsPrepared, IsReserved};
 ghost use Rattle.region_signals.specs.Indexed.{AskedOf, IsAsked, ReadsLinks};
-ghost use Rattle.region_signals.specs.Raising.{ArmsHold, HoldsOn};
+ghost use Rattle.region_signals.specs.Raising.{ArmsHold, HoldsOn, RunsArm};
 ghost use Rattle.region_signals.specs.Seeking.{CanSeek, IsLanding, Seeked, Seeking};
 
 use crate::asking::{around, ask};
@@ -100,6 +100,7 @@ pub(crate) fn seek_arm<L: Ledger>(
     ensures reserved { vec_capacity region.old ≤ vec_capacity region.new }
     ensures turns_fall { turns.new ≤ turns.old }
     ensures arms { ArmsHold image.now table.old top → HoldsOn image.now table.new result }
+    ensures runs { RunsArm result }
     ensures leads { (s : Stepped) (m : Store) → m.turns ≡ turns.old
         → Seeking image.now layout region.old.items table.old top signal from args place search s m
         → LeadsTo image.now layout region.new.items table.new s (record m { turns = turns.new }) result }

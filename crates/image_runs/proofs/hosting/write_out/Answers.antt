@@ -4,6 +4,7 @@ use Rattle.region_calls.specs.declared.host.HostProcedure.TheVariants.{Write}
 use Rattle.region_calls.specs.Hosting.{CanCall, WritesOn, behind_call, text_written}
 use Rattle.ready_images.proofs.Preparing.{ready_is_prepared}
 use Rattle.ready_images.proofs.Running.{ready_can_run}
+use Rattle.image_runs.proofs.Faults.{none_failed, sink_failed}
 use Rattle.image_runs.proofs.Going.{wrote_on, written}
 use Rattle.image_runs.proofs.Told.{cut_off}
 use Rattle.image_runs.proofs.hosting.write_out.Goals as goal
@@ -37,6 +38,12 @@ returns-in-Err-clause-follows g c bound control turns begun ahead told left held
     subst (λ (x : List ℕ). WritesOn c.args.image.now x c.args.r c.args.writing piece behind) c.as_slice.ensures.value c.in-Err.ensures.leads in
     let prepared = ready_is_prepared c.args.image.now c.args.parts.now c.requires.ready in
     cut_off c.args.image.now bound c.args.parts.now control turns begun ahead told left held (g.K.Sink.written c.args.out.now) prepared.valid c.requires.ample.long (omega (arith, short))
-    behind (g.K.Sink.written c.write.new.out) so.got so.output piece so.took so.wrote c.in-Err.ensures.partly
+    behind (g.K.Sink.written c.write.new.out) so.got so.output piece so.bytes so.byte so.took so.wrote c.in-Err.ensures.partly
     (wrote_on c.args.image.now (ready_can_run c.args.image.now c.args.parts.now c.requires.ready) bound told left held (g.K.Sink.written c.args.out.now) ahead c.args.parts.now control turns begun
     c.args.r behind c.args.writing piece prepared c.requires.ample leads so)
+
+pub returns-in-Ok-clause-faults : goal.returns-in-Ok-clause-faults
+returns-in-Ok-clause-faults g c read = none_failed _ read read _ _ (omega arith) c.in-Ok.ensures.faults_stay
+
+pub returns-in-Err-clause-faults : goal.returns-in-Err-clause-faults
+returns-in-Err-clause-faults g c read = sink_failed read _ _ c.in-Err.ensures.fault c.in-Err.ensures.faults_stay

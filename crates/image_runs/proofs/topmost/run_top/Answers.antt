@@ -1,4 +1,4 @@
-use Rattle.std.proofs.Common.{◌≡◌, ℕ, List, length, refl, ap, sym, subst, ◌∙◌, arith}
+use Rattle.std.proofs.Common.{◌≡◌, ℕ, List, length, length-set, refl, ap, sym, subst, ◌∙◌, arith}
 use Rattle.std.specs.Prelude.{slice_get, IfSome}
 use Rattle.std.proofs.lemmas.Option.{slice_get_within, get_or_from_slice_get}
 use Rattle.machine_steps.specs.LookUps.{code_of}
@@ -44,6 +44,7 @@ returns-clause-ready g c =
       host = c.requires.ready.host;
       plans = c.requires.ready.plans;
       links = c.requires.ready.links;
+      all_globals = length-set c.args.parts.now.globals.items c.row_of-instance.result.instance _ ∙ c.requires.ready.all_globals;
       globals = λ j less. some_set c.args.parts.now.globals.items c.row_of-instance.result.instance j _ (λ words. length words.items ≡ globals_in (code_of c.args.image.now j))
           (λ e. same_length c.index_mut.result.now c.run_procedure.new.globals ∙ ap (λ v. length v.items) is ∙ own.2 ∙ ap (λ k. globals_in (code_of c.args.image.now k)) e)
           (c.requires.ready.globals j less);

@@ -13,5 +13,5 @@ loop-number-preserved c =
     each_more _ c.loop-number.number c.loop-number.globals.items c.push.new.self.items c.in_ok-vec.field-0 c.in_ok-push.ensures.items
     (omega (arith, words, long, from, ok)) c.loop-number.invariant
 
-pub returns : goal.returns
-returns c j l = c.loop-number.invariant.each j (let t = c.loop-number-test.false in let e = c.len-number-end.ensures in omega (arith, t, e, l))
+pub returns-clause-each : goal.returns-clause-each
+returns-clause-each c j l = c.loop-number.invariant.each j (let t = c.loop-number-test.false in let e = c.len-number-end.ensures in omega (arith, t, e, l))

@@ -5,7 +5,7 @@ use Rattle.machine_steps.specs.Steps.{Ends}
 use Rattle.activation_region.specs.Below.{Raised}
 use Rattle.activation_region.specs.Calling.{LeadsTo}
 use Rattle.region_signals.proofs.Landing.{each_asked, place_within}
-use Rattle.region_signals.proofs.SeekArms.{lands_awaits, can_enter, holds_then}
+use Rattle.region_signals.proofs.SeekArms.{arm_runs, lands_awaits, can_enter, holds_then}
 use Rattle.region_signals.proofs.seeking.seek_arm.Goals as goal
 
 pub seek-requires-clause-rows : goal.seek-requires-clause-rows
@@ -27,6 +27,9 @@ pub returns-in-Some-clause-arms : goal.returns-in-Some-clause-arms
 returns-in-Some-clause-arms g c =
     holds_then c.args.image.now c.args.layout c.args.region.now.items c.args.table.now c.args.top c.args.signal c.args.from c.args.args c.args.place c.args.search
     c.in-Some.landed c.in-Some.ensures.landing c.in-Some.ensures.seeks c.enter_arm.new.table c.enter_arm.result c.enter_arm.ensures.adds
+
+pub returns-in-Some-clause-runs : goal.returns-in-Some-clause-runs
+returns-in-Some-clause-runs g c = arm_runs c.args.table.now c.args.top c.in-Some.landed.place c.in-Some.landed.arm _ c.enter_arm.new.table c.enter_arm.result c.enter_arm.ensures.adds
 
 pub returns-in-Some-clause-leads : goal.returns-in-Some-clause-leads
 returns-in-Some-clause-leads g c s m turns w =

@@ -1,0 +1,174 @@
+//! What comes of arms, and jumps out of them, over all that a run has.
+
+ghost use Rattle.std.specs.Prelude.{◌≡◌, ℕ, suc, ◌≤◌};
+ghost use Rattle.code_forms.specs.declared.instruction.Instruction.TheVariants.{ArmEnd, Leave, LeaveReturn, Resume};
+ghost use Rattle.machine_steps.specs.State.{Stepped, Store};
+ghost use Rattle.activation_region.specs.Calling.{IsAmpleFor, LeadsTo, StandsIn};
+ghost use Rattle.activation_region.specs.Reaching.{IsUnstuck, Shown};
+ghost use Rattle.activation_region.specs.Shows.{IsAmple};
+ghost use Rattle.ready_images.specs.Ready.{IsReady};
+ghost use Rattle.region_calls.specs.Linking.{StandsAt};
+ghost use Rattle.region_signals.specs.Raising.{ArmsHold, HoldsOn};
+
+use crate::standing::top_code;
+use activation_region::Turn;
+use mesa_base::Steps;
+use object_files::Image;
+use quiet_run::Registers;
+use ready_images::Prepared;
+use region_signals::{arm_end, leave, leave_return, resume};
+use std::sync::ledger::Ledger;
+
+/// The topmost activation, an arm, ends: it rejects.
+pub(crate) fn end_arm<L: Ledger>(
+    image: &Image,
+    parts: &mut Prepared,
+    r: Registers,
+    turns: &mut u64,
+    comparisons: &mut Steps<L>,
+) -> Turn
+    requires ready { IsReady image.now parts.old }
+    requires ample { IsAmple parts.old.layout parts.old.region.items parts.old.rows.items r.top }
+    requires arms { ArmsHold image.now parts.old.rows.items r.top }
+    requires stands { StandsIn image.now parts.old.layout parts.old.region.items parts.old.rows.items r }
+    requires at { StandsAt image.now parts.old.rows.items r ArmEnd }
+    ensures ready { IsReady image.now parts.new }
+    ensures ample { IsAmpleFor parts.new.layout parts.new.region.items parts.new.rows.items result }
+    ensures arms { HoldsOn image.now parts.new.rows.items result }
+    ensures globals { parts.new.globals.items ≡ parts.old.globals.items }
+    ensures marks { parts.new.started.items ≡ parts.old.started.items }
+    ensures turns_fall { turns.new ≤ turns.old }
+    ensures leads { (s : Stepped) (m : Store) → IsUnstuck image.now s → m.turns ≡ turns.old
+        → Shown image.now parts.old.layout parts.old.region.items parts.old.rows.items r s m
+        → LeadsTo image.now parts.new.layout parts.new.region.items parts.new.rows.items s (record m { turns = turns.new; begun = suc m.begun }) result }
+{
+    let code = top_code(image, parts.rows.as_slice(), r);
+    arm_end(
+        image,
+        &parts.plans,
+        &parts.links,
+        code,
+        &mut parts.region,
+        parts.rows.as_mut_slice(),
+        r,
+        parts.layout,
+        turns,
+        comparisons,
+    )
+}
+
+/// It resumes with so many words.
+pub(crate) fn resume_raiser<L: Ledger>(
+    image: &Image,
+    parts: &mut Prepared,
+    words: u16,
+    r: Registers,
+    turns: &mut u64,
+    comparisons: &mut Steps<L>,
+) -> Turn
+    requires ready { IsReady image.now parts.old }
+    requires ample { IsAmple parts.old.layout parts.old.region.items parts.old.rows.items r.top }
+    requires arms { ArmsHold image.now parts.old.rows.items r.top }
+    requires stands { StandsIn image.now parts.old.layout parts.old.region.items parts.old.rows.items r }
+    requires at { StandsAt image.now parts.old.rows.items r (Resume words) }
+    ensures ready { IsReady image.now parts.new }
+    ensures ample { IsAmpleFor parts.new.layout parts.new.region.items parts.new.rows.items result }
+    ensures arms { HoldsOn image.now parts.new.rows.items result }
+    ensures globals { parts.new.globals.items ≡ parts.old.globals.items }
+    ensures marks { parts.new.started.items ≡ parts.old.started.items }
+    ensures turns_fall { turns.new ≤ turns.old }
+    ensures leads { (s : Stepped) (m : Store) → IsUnstuck image.now s → m.turns ≡ turns.old
+        → Shown image.now parts.old.layout parts.old.region.items parts.old.rows.items r s m
+        → LeadsTo image.now parts.new.layout parts.new.region.items parts.new.rows.items s (record m { turns = turns.new; begun = suc m.begun }) result }
+{
+    let code = top_code(image, parts.rows.as_slice(), r);
+    resume(
+        image,
+        &parts.plans,
+        &parts.links,
+        code,
+        words,
+        &mut parts.region,
+        parts.rows.as_mut_slice(),
+        r,
+        parts.layout,
+        turns,
+        comparisons,
+    )
+}
+
+/// A jump leaves it, and the arms that hold it, to an offset of its procedure.
+pub(crate) fn leave_arms<L: Ledger>(
+    image: &Image,
+    parts: &mut Prepared,
+    target: u32,
+    r: Registers,
+    turns: &mut u64,
+    comparisons: &mut Steps<L>,
+) -> Turn
+    requires ready { IsReady image.now parts.old }
+    requires ample { IsAmple parts.old.layout parts.old.region.items parts.old.rows.items r.top }
+    requires arms { ArmsHold image.now parts.old.rows.items r.top }
+    requires stands { StandsIn image.now parts.old.layout parts.old.region.items parts.old.rows.items r }
+    requires at { (arms : ℕ) × StandsAt image.now parts.old.rows.items r (Leave arms target) }
+    ensures ready { IsReady image.now parts.new }
+    ensures ample { IsAmpleFor parts.new.layout parts.new.region.items parts.new.rows.items result }
+    ensures arms { HoldsOn image.now parts.new.rows.items result }
+    ensures globals { parts.new.globals.items ≡ parts.old.globals.items }
+    ensures marks { parts.new.started.items ≡ parts.old.started.items }
+    ensures turns_fall { turns.new ≤ turns.old }
+    ensures leads { (s : Stepped) (m : Store) → IsUnstuck image.now s → m.turns ≡ turns.old
+        → Shown image.now parts.old.layout parts.old.region.items parts.old.rows.items r s m
+        → LeadsTo image.now parts.new.layout parts.new.region.items parts.new.rows.items s (record m { turns = turns.new; begun = suc m.begun }) result }
+{
+    let code = top_code(image, parts.rows.as_slice(), r);
+    leave(
+        image,
+        &parts.plans,
+        code,
+        target,
+        &mut parts.region,
+        parts.rows.as_mut_slice(),
+        r,
+        parts.layout,
+        turns,
+        comparisons,
+    )
+}
+
+/// The same to its frame, which returns.
+pub(crate) fn return_out<L: Ledger>(
+    image: &Image,
+    parts: &mut Prepared,
+    r: Registers,
+    turns: &mut u64,
+    comparisons: &mut Steps<L>,
+) -> Turn
+    requires ready { IsReady image.now parts.old }
+    requires ample { IsAmple parts.old.layout parts.old.region.items parts.old.rows.items r.top }
+    requires arms { ArmsHold image.now parts.old.rows.items r.top }
+    requires stands { StandsIn image.now parts.old.layout parts.old.region.items parts.old.rows.items r }
+    requires at { (arms : ℕ) × StandsAt image.now parts.old.rows.items r (LeaveReturn arms) }
+    ensures ready { IsReady image.now parts.new }
+    ensures ample { IsAmpleFor parts.new.layout parts.new.region.items parts.new.rows.items result }
+    ensures arms { HoldsOn image.now parts.new.rows.items result }
+    ensures globals { parts.new.globals.items ≡ parts.old.globals.items }
+    ensures marks { parts.new.started.items ≡ parts.old.started.items }
+    ensures turns_fall { turns.new ≤ turns.old }
+    ensures leads { (s : Stepped) (m : Store) → IsUnstuck image.now s → m.turns ≡ turns.old
+        → Shown image.now parts.old.layout parts.old.region.items parts.old.rows.items r s m
+        → LeadsTo image.now parts.new.layout parts.new.region.items parts.new.rows.items s (record m { turns = turns.new; begun = suc m.begun }) result }
+{
+    let code = top_code(image, parts.rows.as_slice(), r);
+    leave_return(
+        image,
+        &parts.plans,
+        code,
+        &mut parts.region,
+        parts.rows.as_mut_slice(),
+        r,
+        parts.layout,
+        turns,
+        comparisons,
+    )
+}

@@ -1,0 +1,116 @@
+//! The instructions that touch more than the topmost activation.
+
+ghost use Rattle.std.specs.Prelude.{◌≡◌, suc, ◌≤◌, false};
+ghost use Rattle.machine_steps.specs.State.{Stepped, Store};
+ghost use Rattle.quiet_run.specs.declared.registers.Why.TheVariants.{Touches};
+ghost use Rattle.activation_region.specs.Calling.{IsAmpleFor, LeadsTo, StandsIn};
+ghost use Rattle.activation_region.specs.Reaching.{IsUnstuck};
+ghost use Rattle.activation_region.specs.Shows.{IsAmple};
+ghost use Rattle.ready_images.specs.Ready.{IsReady};
+ghost use Rattle.region_calls.specs.Linking.{IsAmpleForLink, LinkedTo, StandsAt};
+ghost use Rattle.region_calls.specs.Started.{ShowsStarted};
+ghost use Rattle.region_signals.specs.Raising.{ArmsHold, HoldsOn};
+ghost use Rattle.image_runs.specs.Happening.{CanPause, HoldsOnLink, is_call};
+ghost use Rattle.image_runs.specs.SoFar.{PausesAt};
+
+use crate::arms::{end_arm, leave_arms, resume_raiser, return_out};
+use crate::calls::{call_linked, call_top, return_top};
+use crate::signals::{raise_of_module, raise_predeclared, raise_through_link};
+use crate::standing::top_instruction;
+use activation_region::Turn;
+use code_forms::Instruction;
+use mesa_base::Steps;
+use object_files::Image;
+use quiet_run::Registers;
+use ready_images::Prepared;
+use region_calls::LinkTurn;
+use std::sync::ledger::Ledger;
+
+// What the instruction leads to, at which the topmost activation stands and which neither calls nor returns.
+fn signal<L: Ledger>(
+    image: &Image,
+    parts: &mut Prepared,
+    instruction: Instruction,
+    r: Registers,
+    turns: &mut u64,
+    comparisons: &mut Steps<L>,
+) -> Turn
+    requires ready { IsReady image.now parts.old }
+    requires ample { IsAmple parts.old.layout parts.old.region.items parts.old.rows.items r.top }
+    requires arms { ArmsHold image.now parts.old.rows.items r.top }
+    requires stands { StandsIn image.now parts.old.layout parts.old.region.items parts.old.rows.items r }
+    requires at { StandsAt image.now parts.old.rows.items r instruction }
+    requires no_call { is_call instruction ≡ false }
+    ensures ready { IsReady image.now parts.new }
+    ensures ample { IsAmpleFor parts.new.layout parts.new.region.items parts.new.rows.items result }
+    ensures arms { HoldsOn image.now parts.new.rows.items result }
+    ensures globals { parts.new.globals.items ≡ parts.old.globals.items }
+    ensures marks { parts.new.started.items ≡ parts.old.started.items }
+    ensures turns_fall { turns.new ≤ turns.old }
+    ensures leads { (s : Stepped) (m : Store) → m.turns ≡ turns.old → IsUnstuck image.now s
+        → PausesAt image.now parts.old.layout parts.old.region.items parts.old.rows.items r Touches s m
+        → LeadsTo image.now parts.new.layout parts.new.region.items parts.new.rows.items s (record m { turns = turns.new; begun = suc m.begun }) result }
+{
+    match instruction {
+        Instruction::Raise { signal } => raise_of_module(
+            image,
+            parts,
+            signal,
+            r,
+            turns,
+            comparisons,
+        ),
+        Instruction::RaiseLink { link } => {
+            raise_through_link(image, parts, link, r, turns, comparisons)
+        }
+        Instruction::RaiseHost { fault } => {
+            raise_predeclared(image, parts, fault, r, turns, comparisons)
+        }
+        Instruction::ArmEnd => end_arm(image, parts, r, turns, comparisons),
+        Instruction::Resume { words } => resume_raiser(image, parts, words, r, turns, comparisons),
+        Instruction::Leave { target, .. } => leave_arms(
+            image,
+            parts,
+            target,
+            r,
+            turns,
+            comparisons,
+        ),
+        Instruction::LeaveReturn { .. } => return_out(image, parts, r, turns, comparisons),
+        // The run of the topmost activation has done each other one.
+        _ => Turn::Empty,
+    }
+}
+
+/// What the instruction leads to, at which the topmost activation stands and which touches more than that activation.
+pub(crate) fn touch<L: Ledger>(
+    image: &Image,
+    parts: &mut Prepared,
+    r: Registers,
+    turns: &mut u64,
+    comparisons: &mut Steps<L>,
+) -> LinkTurn
+    requires ready { IsReady image.now parts.old }
+    requires ample { IsAmple parts.old.layout parts.old.region.items parts.old.rows.items r.top }
+    requires arms { ArmsHold image.now parts.old.rows.items r.top }
+    requires pauses { CanPause image.now parts.old r Touches }
+    ensures ready { IsReady image.now parts.new }
+    ensures ample { IsAmpleForLink parts.new.layout parts.new.region.items parts.new.rows.items r result }
+    ensures arms { HoldsOnLink image.now parts.new.rows.items r result }
+    ensures globals { parts.new.globals.items ≡ parts.old.globals.items }
+    ensures turns_fall { turns.new ≤ turns.old }
+    ensures leads { (s : Stepped) (m : Store) → m.turns ≡ turns.old → ShowsStarted parts.old.started.items m.started → IsUnstuck image.now s
+        → PausesAt image.now parts.old.layout parts.old.region.items parts.old.rows.items r Touches s m
+        → LinkedTo image.now parts.new.layout parts.new.region.items parts.new.rows.items r parts.new.started.items s
+        (record m { turns = turns.new; begun = suc m.begun }) result }
+{
+    let instruction = top_instruction(image, parts, r);
+    match instruction {
+        Instruction::Call { procedure } => {
+            LinkTurn::Done(call_top(image, parts, procedure, r, turns))
+        }
+        Instruction::CallLink { link } => call_linked(image, parts, link, r, turns),
+        Instruction::Return => LinkTurn::Done(return_top(image, parts, r)),
+        _ => LinkTurn::Done(signal(image, parts, instruction, r, turns, comparisons)),
+    }
+}
