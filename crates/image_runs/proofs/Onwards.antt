@@ -16,7 +16,6 @@ use Rattle.activation_region.specs.declared.calling.Turn.TheVariants.{Goes as Go
 use Rattle.activation_region.specs.declared.row.Layout.{Layout}
 use Rattle.activation_region.specs.declared.row.Row.{Row}
 use Rattle.activation_region.specs.Calling.{AddsFrame, CallsThen, LeadsTo, StandsIn}
-use Rattle.activation_region.specs.Frames.{with_frame}
 use Rattle.activation_region.specs.Reaching.{IsUnstuck, Shown}
 use Rattle.activation_region.specs.Shows.{IsPrepared}
 use Rattle.region_calls.specs.declared.ahead.Coming.{Coming}
@@ -26,8 +25,7 @@ use Rattle.region_calls.specs.declared.linking.LinkTurn.TheVariants.{Done}
 use Rattle.region_calls.specs.Hosts.{host_is, CallsHost}
 use Rattle.region_calls.specs.Linking.{LinkLeads, LinkedTo, WaitsToCall}
 use Rattle.region_calls.specs.Started.{ShowsStarted}
-use Rattle.region_signals.specs.Raising.{ArmsHold, HoldsOn, RunsArm}
-use Rattle.region_signals.proofs.Framed.{arms_framed}
+use Rattle.region_signals.specs.Raising.{RunsArm}
 use Rattle.ready_images.specs.declared.prepared.Prepared.{Prepared}
 use Rattle.image_runs.specs.declared.outcome.RunFault.{RunFault}
 use Rattle.image_runs.specs.declared.outcome.RunFault.TheVariants.{ReadFault, WriteFault}
@@ -207,17 +205,6 @@ pub done_there : (image : Image) (p p' : Prepared) (turns turns' count : ℕ) (a
     → Follows image p p' turns turns' count ahead ahead' left left' holds holds' P (Ok turn)
 unfolding LinkLeads
 done_there image p p' turns turns' count ahead ahead' left left' holds holds' P r turn f = f
-
--- The rows of arms where a frame is added.
-
-pub holds_added : (image : Image) (layout : Layout) (table : List Row) (r : Registers) (table' : List Row) (turn : Turn) → r.top < length table → AddsFrame layout table r table' turn
-    → ArmsHold image table r.top → HoldsOn image table' turn
-holds_added image layout table r table' (GoesOn r') low (args, j, n, goes, rows) arms =
-    subst (λ (x : List Row). ArmsHold image x r'.top) (sym rows)
-    (subst (λ (q : Registers). ArmsHold image (with_frame table r layout args j n) q.top) (sym goes) (arms_framed image table r layout args j n low arms))
-holds_added image layout table r table' Empty low h arms = tt
-holds_added image layout table r table' (Pending r') low h arms = absurd h
-holds_added image layout table r table' (EndsSo end) low h arms = tt
 
 pub top_low : (image : Image) (layout : Layout) (region : List ℕ) (table : List Row) (r : Registers) → WaitsToCall image layout region table r → r.top < length table
 top_low image layout region table r w =

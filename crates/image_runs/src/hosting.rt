@@ -130,8 +130,8 @@ pub(crate) fn call_host<S: Source, K: Sink, C: Ledger>(
     ensures ready { IsReady image.now parts.new }
     ensures carries { IfOk result (Carries image.now parts.new) }
     ensures waits_not { IfOk result (λ turn. waits turn ≡ 0) }
-    ensures follows { Follows image.now parts.old parts.new turns.old turns.new 0 ahead.old ahead.new (S.left input.old) (S.left input.new) (K.written out.old) (K.written out.new)
-        (AtHost image.now parts.old r host) result }
+    ensures follows { Follows image.now parts.old parts.new turns.old turns.new 0 ahead.old ahead.new (S.left input.old) (S.left input.new)
+        (K.written out.old) (K.written out.new) (AtHost image.now parts.old r host) result }
     ensures faults { CountsFaults result (S.faults input.old) (S.faults input.new) (K.faults out.old) (K.faults out.new) }
 {
     match host {

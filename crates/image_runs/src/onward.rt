@@ -35,10 +35,11 @@ fn go_on<S: Source, K: Sink, L: Ledger, C: Ledger>(
     requires run { CanGoOn image.now parts.old turns.old ahead.old (S.left input.old) (K.written out.old) (At image.now parts.old (Goes r)) }
     ensures ready { IsReady image.now parts.new }
     ensures carries { IfOk result (Carries image.now parts.new) }
-    ensures follows { Follows image.now parts.old parts.new turns.old turns.new (steps.new - steps.old) ahead.old ahead.new (S.left input.old) (S.left input.new)
-        (K.written out.old) (K.written out.new) (At image.now parts.old (Goes r)) result }
+    ensures follows { Follows image.now parts.old parts.new turns.old turns.new (steps.new - steps.old) ahead.old ahead.new
+        (S.left input.old) (S.left input.new) (K.written out.old) (K.written out.new) (At image.now parts.old (Goes r)) result }
     ensures counted { steps.old < steps.new }
-    ensures few { BeginsFew image.now parts.old turns.old (steps.new - steps.old) ahead.old (S.left input.old) (K.written out.old) (At image.now parts.old (Goes r)) }
+    ensures few { BeginsFew image.now parts.old turns.old (steps.new - steps.old) ahead.old (S.left input.old) (K.written out.old)
+        (At image.now parts.old (Goes r)) }
     ensures faults { CountsFaults result (S.faults input.old) (S.faults input.new) (K.faults out.old) (K.faults out.new) }
 {
     let pause = run_top(image, parts, r, *turns, steps);
@@ -112,8 +113,8 @@ pub(crate) fn advance<S: Source, K: Sink, L: Ledger, C: Ledger>(
     requires run { CanGoOn image.now parts.old turns.old ahead.old (S.left input.old) (K.written out.old) (At image.now parts.old turn) }
     ensures ready { IsReady image.now parts.new }
     ensures carries { IfOk result (Carries image.now parts.new) }
-    ensures follows { Follows image.now parts.old parts.new turns.old turns.new (steps.new - steps.old) ahead.old ahead.new (S.left input.old) (S.left input.new)
-        (K.written out.old) (K.written out.new) (At image.now parts.old turn) result }
+    ensures follows { Follows image.now parts.old parts.new turns.old turns.new (steps.new - steps.old) ahead.old ahead.new
+        (S.left input.old) (S.left input.new) (K.written out.old) (K.written out.new) (At image.now parts.old turn) result }
     ensures counted { steps.old ≤ steps.new }
     ensures advances { Advances image.now parts.old turns.old ahead.old (S.left input.old) (K.written out.old) turn steps.old steps.new result }
     ensures faults { CountsFaults result (S.faults input.old) (S.faults input.new) (K.faults out.old) (K.faults out.new) }

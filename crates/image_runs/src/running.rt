@@ -38,8 +38,8 @@ fn run_on<S: Source, K: Sink, L: Ledger, C: Ledger>(
     requires carries { Carries image.now parts.old first }
     requires run { CanGoOn image.now parts.old turns.old ahead.old (S.left input.old) (K.written out.old) (At image.now parts.old first) }
     ensures ready { IsReady image.now parts.new }
-    ensures follows { Follows image.now parts.old parts.new turns.old turns.new (steps.new - steps.old) ahead.old ahead.new (S.left input.old) (S.left input.new)
-        (K.written out.old) (K.written out.new) (At image.now parts.old first) (last_turn result) }
+    ensures follows { Follows image.now parts.old parts.new turns.old turns.new (steps.new - steps.old) ahead.old ahead.new
+        (S.left input.old) (S.left input.new) (K.written out.old) (K.written out.new) (At image.now parts.old first) (last_turn result) }
     ensures counted { steps.old ≤ steps.new }
     ensures faults { CountsFaults result (S.faults input.old) (S.faults input.new) (K.faults out.old) (K.faults out.new) }
 {
@@ -102,9 +102,10 @@ fn run_instance<S: Source, K: Sink, L: Ledger, C: Ledger>(
     requires there { instance < length image.now.instances }
     requires run { CanStart image.now parts.old instance turns.old ahead.old (S.left input.old) (K.written out.old) }
     ensures ready { IsReady image.now parts.new }
-    ensures follows { (bound : ℕ) (control : List ℕ) (begun begun' : ℕ) (told held : Option (List ℕ)) → suc (length control) ≤ length image.now.control
-        → begun' ≡ begun + (steps.new - steps.old)
-        → SoFar image.now bound parts.old (instance ∷ control) turns.old begun ahead.old told (S.left input.old) held (K.written out.old) (At image.now parts.old Empty)
+    ensures follows { (bound : ℕ) (control : List ℕ) (begun begun' : ℕ) (told held : Option (List ℕ))
+        → suc (length control) ≤ length image.now.control → begun' ≡ begun + (steps.new - steps.old)
+        → SoFar image.now bound parts.old (instance ∷ control) turns.old begun ahead.old told (S.left input.old) held (K.written out.old)
+        (At image.now parts.old Empty)
         → Then image.now bound parts.new control turns.new begun' ahead.new told (S.left input.new) held (K.written out.new) (last_turn result) }
     ensures counted { steps.old ≤ steps.new }
     ensures faults { CountsFaults result (S.faults input.old) (S.faults input.new) (K.faults out.old) (K.faults out.new) }

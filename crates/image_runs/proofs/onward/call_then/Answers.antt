@@ -7,7 +7,8 @@ use Rattle.region_signals.specs.Raising.{ArmsHold}
 use Rattle.ready_images.proofs.Running.{ready_can_run}
 use Rattle.image_runs.specs.SoFar.{At}
 use Rattle.image_runs.proofs.Faults.{none_failed}
-use Rattle.image_runs.proofs.Onwards.{AtLink, along, after, waits_so, pend_moves, done_there, holds_added, top_low, added_waits}
+use Rattle.image_runs.proofs.Onwards.{AtLink, along, after, waits_so, pend_moves, done_there, top_low, added_waits}
+use Rattle.image_runs.proofs.Touches.{arms_added}
 use Rattle.image_runs.proofs.onward.call_then.Goals as goal
 
 pub call_pending-requires-clause-waits : goal.call_pending-requires-clause-waits
@@ -34,7 +35,7 @@ returns-in-Done-clause-carries g c =
     record {
       ready = c.call_pending.ensures.ready;
       ample = c.in-Done.ensures.ample;
-      arms = holds_added c.args.image.now c.call_pending.new.parts.layout c.args.parts.now.rows.items c.args.r c.call_pending.new.parts.rows.items c.in-Done.turn
+      arms = arms_added c.args.image.now c.call_pending.new.parts.layout c.args.parts.now.rows.items c.args.r c.call_pending.new.parts.rows.items c.in-Done.turn
           (top_low c.args.image.now c.args.parts.now.layout c.args.parts.now.region.items c.args.parts.now.rows.items c.args.r waits) c.in-Done.ensures.adds c.requires.carries.arms;
     }
 
