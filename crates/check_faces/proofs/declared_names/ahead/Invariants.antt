@@ -1,0 +1,9 @@
+use Rattle.std.proofs.Common.{◌≡◌, drop, map}
+use Rattle.mesa_types.specs.PlainSyntax.{declaration}
+use Rattle.check_scopes.specs.Scopes.{over}
+use Rattle.checking_rules.specs.Programs.{ahead}
+use Rattle.check_words.specs.Views.{names}
+use Rattle.check_faces.proofs.declared_names.ahead.Given as goal
+
+abbrev pub invariant-loop-declaration : goal.invariant-loop-declaration
+invariant-loop-declaration l = ahead (map declaration l.declarations) ≡ over (names l.names) (ahead (map declaration (drop l.declaration-index l.declarations)))
