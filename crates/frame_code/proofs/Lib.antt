@@ -1,3 +1,4 @@
 pub mod FieldWords
 pub mod Linked
 pub mod Placing
+pub mod Whole

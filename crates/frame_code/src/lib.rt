@@ -5,10 +5,12 @@ mod heads;
 mod links;
 mod signals;
 mod strings;
+mod translation;
 mod words;
 
 pub use heads::{Placed, procedure_at};
 pub use links::links_of;
 pub use signals::signals_of;
 pub use strings::copied;
+pub use translation::assembled;
 pub use words::{all_words, few_words};
