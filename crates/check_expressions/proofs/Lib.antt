@@ -1,0 +1,4 @@
+pub mod Clauses
+pub mod Folding
+pub mod ListLaws
+pub mod RunLaws

@@ -1,0 +1,34 @@
+-- What is asked of lists before their values, and literals, as the code takes them one by one.
+use Rattle.std.specs.Prelude.{ℕ, List, Ok, length, nat_eq}
+use Rattle.mesa_base.specs.declared.place.Place.{Place}
+use Rattle.checking_rules.specs.Typed as t
+use Rattle.checking_rules.specs.PlainTypes.{PlainField, PlainType}
+use Rattle.checking_rules.specs.Ranges.{Typed, Aim, Arguments, finish}
+use Rattle.checking_rules.specs.Reached.{Reached, shape_of}
+use Rattle.checking_rules.specs.Steps.{Check, Checked, and_then, ◌>>=◌, pure, lift, only, refuse, spend}
+use Rattle.checking_rules.specs.Values.{by_aim, by_shape, in_order, string}
+use Rattle.checking_rules.specs.declared.fault.Cause.TheVariants.{TypeMismatch, WrongCount}
+
+-- the type that a constructor at p has from its target, and where the expression begins that goes there
+abbrev pub target : Aim → Place → Checked (PlainType × Place)
+target aim p = by_aim aim (refuse TypeMismatch p) (λ k q. Ok (k, q))
+
+-- a constructor without values
+abbrev pub nothing_in : PlainType → Place → Place → Checked Typed
+nothing_in k q p = by_shape (shape_of k) (λ fs. refuse WrongCount p) (λ n j. refuse WrongCount p) (refuse TypeMismatch q)
+
+-- no values for these parameters
+abbrev pub none_given : List PlainField → Place → Checked Arguments
+none_given fs p = and_then (only (nat_eq 0 (length fs)) WrongCount p) (λ _. Ok (in_order t.NoExprs))
+
+-- what was reached, where a raise begins
+abbrev pub at_place : Place → Check Reached → Check (Place × Reached)
+at_place p m = m >>= (λ x. pure (p, x))
+
+-- a literal of one word
+abbrev pub one_word : Aim → Typed → Check Typed
+one_word aim x = spend 1 >>= (λ _. lift (finish aim x))
+
+-- a string literal, of two words
+abbrev pub text : List (List ℕ) → Aim → Place → List ℕ → Check Typed
+text literals aim p bytes = lift (string literals p bytes) >>= (λ x. spend 2 >>= (λ _. lift (finish aim x)))

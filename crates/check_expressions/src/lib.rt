@@ -1,0 +1,10 @@
+//! The recursion over expressions: operators, names with what follows them, lists of values, calls, constructors and raises.
+#![tactic(auto)]
+
+mod expressions;
+mod lists;
+mod literals;
+mod phrases;
+
+pub use expressions::Checker;
+pub use phrases::Phrases;
