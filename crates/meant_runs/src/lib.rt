@@ -1,0 +1,6 @@
+//! The run of an image, in the words of what its source means.
+#![tactic(auto)]
+
+mod running;
+
+pub use running::run_image;
