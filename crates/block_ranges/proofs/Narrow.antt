@@ -1,11 +1,10 @@
 -- A block that is low, fits its procedure and is not heavy has no number above what its type holds.
-use Rattle.std.proofs.Common.{◌≡◌, refl, ℕ, zero, suc, ◌+◌, ◌≤◌, List, [], ◌∷◌, length, All, arith}
+use Rattle.std.proofs.Common.{◌≡◌, refl, ℕ, suc, ◌≤◌, List, [], ◌∷◌, length, All, arith}
 use Rattle.code_forms.specs.declared.instruction.Instruction.{Instruction}
 use Rattle.code_forms.specs.declared.instruction.Instruction.TheVariants as i
 use Rattle.code_forms.specs.declared.module_code.Label.{Label}
 use Rattle.code_forms.specs.declared.module_code.Label.TheVariants.{Any, Unwind, Own, Link, BoundsFault, ZeroDivisor}
-use Rattle.code_forms.specs.declared.region.Region.{Region}
-use Rattle.code_forms.specs.declared.region.Region.TheVariants.{Body, ArmOf}
+use Rattle.code_forms.specs.declared.region.Region.TheVariants.{ArmOf}
 use Rattle.code_forms.specs.Operands.{OperandsFit}
 use Rattle.code_forms.specs.Ranges.{LabelInRange}
 use Rattle.code_forms.specs.Routine.{Routine}
@@ -15,7 +14,7 @@ use Rattle.code_blocks.specs.Heaviness.{weight, caught_weight, arms_weight}
 use Rattle.code_blocks.specs.Sizes.{size}
 use Rattle.code_blocks.specs.Writing.{in_procedure}
 use Rattle.code_blocks.proofs.BlockWeights.{block_weight}
-use Rattle.code_blocks.proofs.Fits.{Ways, FitsIn, AllFit, ArmFine, Fits, ArmsFit, seen_in}
+use Rattle.code_blocks.proofs.Fits.{Ways, FitsIn, AllFit, Fits, ArmsFit, seen_in}
 use Rattle.block_trees.specs.Excess.{excess_of, excess_in, excess_of_label, excess_of_labels, excess, excess_in_arms}
 use Rattle.block_ranges.proofs.Low.{IsLow, AllLow, Low, ArmsLow}
 

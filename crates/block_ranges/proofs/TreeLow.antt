@@ -1,6 +1,6 @@
 -- The blocks of a sound body are low: the numbers of its tree are words, and a statement has few operands.
-use Rattle.std.proofs.Common.{◌≡◌, sym, ap, ◌∙◌, subst, ℕ, zero, suc, ◌+◌, ◌-◌, ◌*◌, ◌<◌, ◌≤◌, List, [], ◌∷◌, Bool, true, false, not, if◌then◌else◌, arith}
-use Rattle.mesa_base.specs.declared.limits.TheConstants.{OPERAND_WORDS, TYPE_WORDS}
+use Rattle.std.proofs.Common.{◌≡◌, ap, subst, ℕ, zero, suc, ◌+◌, ◌-◌, ◌*◌, ◌<◌, ◌≤◌, List, [], ◌∷◌, Bool, true, false, not, arith}
+use Rattle.mesa_base.specs.declared.limits.TheConstants.{OPERAND_WORDS}
 use Rattle.mesa_types.specs.declared.typed_parts.Home.{Home}
 use Rattle.mesa_types.specs.declared.typed_parts.Home.TheVariants.{Global, Local}
 use Rattle.mesa_types.specs.declared.typed_parts.Part.{Part}
@@ -12,7 +12,7 @@ use Rattle.mesa_types.specs.Sound.{Scope, a_word, Fits, VariableIn, GivenIn, Cou
 use Rattle.mesa_types.proofs.WordSizes.{values_have_words}
 use Rattle.code_relation.specs.CodeFor.{words_before_last, words_taken, words_over}
 use Rattle.code_relation.specs.Loops.{Counter, NoCounter, CountedIn, next_slot}
-use Rattle.code_relation.specs.OwnCode.{is_opposite, lift_code, check_code, arrange_code, total}
+use Rattle.code_relation.specs.OwnCode.{lift_code, check_code, arrange_code}
 use Rattle.code_relation.specs.Reading.{Coded, scratch}
 use Rattle.code_relation.specs.Slots.{fields_of, sizes}
 use Rattle.code_blocks.specs.Blocks as tree

@@ -1,5 +1,5 @@
 -- Blocks one behind the other: what one more at the end adds.
-use Rattle.std.proofs.Common.{◌≡◌, refl, sym, ap, ◌∙◌, ◌+◌, List, [], ◌∷◌, ◌++◌, append_assoc, map, arith}
+use Rattle.std.proofs.Common.{◌≡◌, ℕ, refl, sym, ap, ◌∙◌, ◌+◌, List, [], ◌∷◌, ◌++◌, append_assoc, map, arith}
 use Rattle.std.proofs.lemmas.List.{map-append}
 use Rattle.code_blocks.specs.Blocks.{Both}
 use Rattle.code_blocks.specs.Blocks as tree
@@ -7,6 +7,7 @@ use Rattle.code_blocks.specs.Sizes.{size}
 use Rattle.block_trees.specs.declared.block.Block.{Block}
 use Rattle.block_trees.specs.declared.block.Block.TheFolds.{fold-roll-Block}
 use Rattle.block_trees.specs.declared.block.Block.TheVariants as v
+use Rattle.block_trees.specs.Excess.{excess}
 use Rattle.block_trees.specs.Plain.{Seen, all_off, blocks_in, in_order, off, off_in, plain, plain_blocks, seen, seen_as}
 use Rattle.block_trees.specs.Rows.{sizes_in}
 
@@ -55,15 +56,47 @@ pub sequence_off : (bs : List Block) (last : Block) → off (v.Sequence bs last)
 unfolding off all_off
 sequence_off bs last = ap (λ (s : Seen). s.off) (sequence_seen bs last)
 
--- three more
+-- one and two more
+pub two_more : (bs : List tree.Block) (a b : tree.Block) → (bs ++ a ∷ []) ++ b ∷ [] ≡ bs ++ a ∷ b ∷ []
+two_more bs a b = simp append_assoc
+
 pub three_more : (bs : List tree.Block) (a b c : tree.Block) → ((bs ++ a ∷ []) ++ b ∷ []) ++ c ∷ [] ≡ bs ++ a ∷ b ∷ c ∷ []
 three_more bs a b c = simp append_assoc
 
-pub sizes_three : (bs : List tree.Block) (a b c : tree.Block) → sizes_in (bs ++ a ∷ b ∷ c ∷ []) ≡ sizes_in bs + (size a + (size b + size c))
-unfolding sizes_in
-sizes_three [] a b c = omega arith
-sizes_three (x ∷ xs) a b c = omega (arith, sizes_three xs a b c)
+-- before the first
+pub row_begun : (bs : List tree.Block) (b : tree.Block) → bs ≡ [] → in_order bs b ≡ b
+row_begun bs b h = ap (λ l. in_order l b) h
 
-pub in_order_three : (bs : List tree.Block) (a b c last : tree.Block) → in_order (bs ++ a ∷ b ∷ c ∷ []) last ≡ in_order bs (Both a (Both b (Both c last)))
-in_order_three [] a b c last = refl
-in_order_three (x ∷ xs) a b c last = ap (λ t. Both x t) (in_order_three xs a b c last)
+pub size_begun : (bs : List tree.Block) (n : ℕ) → bs ≡ [] → sizes_in bs + n ≡ n
+unfolding sizes_in
+size_begun bs n h = ap (λ l. sizes_in l + n) h ∙ omega arith
+
+-- several more
+in_order_joined : (old made : List tree.Block) (last : tree.Block) → in_order (old ++ made) last ≡ in_order old (in_order made last)
+in_order_joined [] made last = refl
+in_order_joined (b ∷ bs) made last = ap (λ t. Both b t) (in_order_joined bs made last)
+
+sizes_joined : (old made : List tree.Block) → sizes_in (old ++ made) ≡ sizes_in old + sizes_in made
+unfolding sizes_in
+sizes_joined [] made = omega arith
+sizes_joined (b ∷ bs) made = omega (arith, sizes_joined bs made)
+
+rest_fits : (made : List tree.Block) (rest : tree.Block) → excess (in_order made rest) ≡ 0 → excess rest ≡ 0
+unfolding excess
+rest_fits [] rest h = h
+rest_fits (b ∷ bs) rest h = rest_fits bs rest (omega arith)
+
+-- a turn of a walk over a list: what it made stands behind what was made before, and the rest is still to come
+module _ (old made new : List tree.Block) (all rest : tree.Block) (is_all : all ≡ in_order made rest) (is_new : new ≡ old ++ made) where
+  pub turn_block : (whole : tree.Block) → in_order old all ≡ whole → in_order new rest ≡ whole
+  turn_block whole h =
+      ap (λ bs. in_order bs rest) is_new
+      ∙ in_order_joined old made rest
+      ∙ ap (λ b. in_order old b) (sym is_all)
+      ∙ h
+
+  pub turn_fits : excess all ≡ 0 → excess rest ≡ 0
+  turn_fits h = rest_fits made rest (ap excess (sym is_all) ∙ h)
+
+  pub turn_small : sizes_in new + size rest ≡ sizes_in old + size all
+  turn_small = omega (arith, ap sizes_in is_new, sizes_joined old made, ap size is_all, size_in_order made rest)

@@ -12,4 +12,4 @@ abbrev pub kinds_laid : Layout → Kinds
 kinds_laid l = join (kinds_of l.first.now) (join (kinds_of l.second.now) (kinds_of l.third.now))
 
 abbrev pub coded : Routine → Coded
-coded r = without_code r.imports.now (kinds_laid r.globals) (kinds_laid r.locals)
+coded r = without_code r.links.imports.now (kinds_laid r.globals) (kinds_laid r.locals)

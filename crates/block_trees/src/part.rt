@@ -37,7 +37,7 @@ impl LetGo for Row {
     }
 }
 
-/// Values one behind the other, with the words of each; 18,446,744,073,709,551,615 where they are more.
+/// Values one behind the other, with the words of each.
 pub(crate) struct Values {
     pub row: Row,
     pub sizes: List<u64>,

@@ -1,10 +1,10 @@
 use crate::layout::Layout;
-use mesa_types::Import;
+use crate::links::Links;
 
-/// What of a procedure its translation needs: what its module imports, the module's globals, and its own variables.
+/// What of a procedure its translation needs: the links of its module, the module's globals, and its own variables.
 #[derive(Drop)]
 pub struct Routine<'a> {
-    pub imports: &'a [Import],
+    pub links: Links<'a>,
     pub globals: Layout<'a>,
     pub locals: Layout<'a>,
 }

@@ -1,0 +1,49 @@
+-- The statements of labels behind what stands before them.
+use Rattle.std.proofs.Common.{◌≡◌, ◌≢◌, refl, sym, ap, ◌∙◌, ℕ, ◌+◌, ◌≤◌, ◌<◌, List, [], ◌∷◌, ◌++◌, length, get_or, drop, map, Bool, true, false, arith}
+use Rattle.mesa_types.specs.Chain.{chain}
+use Rattle.mesa_types.specs.Counts.{hidden, hidden_exits}
+use Rattle.mesa_types.specs.Plain.{exit, stmt}
+use Rattle.mesa_types.specs.Typed as t
+use Rattle.mesa_types.specs.declared.typed_tree.Exit.{Exit}
+use Rattle.code_blocks.specs.Blocks.{Block, Both, Ends, Labels, Out, Anyhow, nothing}
+use Rattle.code_relation.specs.Reading.{Coded}
+use Rattle.code_blocks.specs.Translation as spec
+use Rattle.block_trees.specs.Excess.{excess}
+use Rattle.block_trees.specs.Forms.{exit_blocks, labelled, past_if}
+use Rattle.block_trees.specs.Rows.{excess_among}
+use Rattle.block_trees.proofs.StatementSplits.{exit_is, exits_split}
+
+pub exits_are : (P : Coded) (z : ℕ) (es : t.Exits) (before : Block) → spec.exits P z es before ≡ labelled es (exit_blocks P z es) before
+unfolding labelled exit_blocks
+exits_are P z t.NoExits before = refl
+exits_are P z (t.AndExit ls s es) before = exits_are P (z + hidden s) es (Both (Ends (Labels ls) before) (Both (spec.block P z s) (spec.past_exits es 0)))
+
+pub before_fits : (es : t.Exits) (bs : List Block) (before : Block) → excess (labelled es bs before) ≡ 0 → excess before ≡ 0
+unfolding labelled excess
+before_fits t.NoExits bs before h = h
+before_fits (t.AndExit ls s es) [] before h = h
+before_fits (t.AndExit ls s es) (b ∷ bs) before h =
+    let whole : excess (Both (Ends (Labels ls) before) (Both b (spec.past_exits es 0))) ≡ 0
+    = before_fits es bs (Both (Ends (Labels ls) before) (Both b (spec.past_exits es 0))) h in
+    omega arith
+
+pub blocks_fit : (P : Coded) (z : ℕ) (es : t.Exits) (before : Block) → excess (labelled es (exit_blocks P z es) before) ≡ 0 → excess_among (exit_blocks P z es) ≡ 0
+unfolding labelled exit_blocks excess excess_among
+blocks_fit P z t.NoExits before h = refl
+blocks_fit P z (t.AndExit ls s es) before h =
+    let next : Block = Both (Ends (Labels ls) before) (Both (spec.block P z s) (spec.past_exits es 0)) in
+    let whole : excess (Both (Ends (Labels ls) before) (Both (spec.block P z s) (spec.past_exits es 0))) ≡ 0
+    = before_fits es (exit_blocks P (z + hidden s) es) next h in
+    omega (arith, blocks_fit P (z + hidden s) es next h)
+
+pub past_some : (es : List Exit) → 0 < length es → spec.past_exits (chain (map exit es) t.NoExits) 0 ≡ Out Anyhow 0
+past_some [] h = let no : ⊥ = omega arith in absurd no
+past_some (e ∷ es) h = ap (λ l. spec.past_exits l 0) (exit_is e (chain (map exit es) t.NoExits))
+
+-- past those that are left
+pub past_left : (es : List Exit) (left : ℕ) (jumps : Bool) → left ≡ length es → (jumps ≡ true → 0 < left) → (jumps ≡ false → left ≡ 0)
+    → past_if jumps 0 ≡ spec.past_exits (chain (map exit es) t.NoExits) 0
+past_left [] left true is some none = let no : ⊥ = omega (arith, is, some refl) in absurd no
+past_left [] left false is some none = refl
+past_left (e ∷ es) left true is some none = sym (ap (λ l. spec.past_exits l 0) (exit_is e (chain (map exit es) t.NoExits)))
+past_left (e ∷ es) left false is some none = let no : ⊥ = omega (arith, is, none refl) in absurd no
