@@ -1,0 +1,32 @@
+//! All that names interfaces before a module's body.
+ghost use Rattle.std.specs.Prelude.{map};
+ghost use Rattle.check_words.specs.Gives.{GivesOnly};
+ghost use Rattle.checking_rules.specs.CheckedModule as spec;
+ghost use Rattle.checking_rules.specs.PlainTypes.{plain_interface};
+ghost use Rattle.mesa_types.specs.PlainSyntax as plain;
+
+use crate::directories::directory;
+use crate::lists::listed;
+use checking_rules::CheckFault;
+use interface_records::Interface;
+use mesa_base::Identifier;
+use mesa_types::Module;
+use std::alloc::Global;
+
+/// The DIRECTORY of a module with the interfaces that are given for it, then its IMPORTS, EXPORTS and OPEN.
+pub fn all_listed(
+    module: &Module,
+    alloc: Global,
+    interfaces: &[Interface],
+    imports: &[Identifier],
+    exports: &[Identifier],
+    opens: &[Identifier],
+) -> Result<(), CheckFault>
+    ensures { GivesOnly (λ _. tt) (spec.lists (plain.syntax module.now) (map plain_interface interfaces.now) imports.now exports.now opens.now) result }
+{
+    let items = module.directory.as_slice();
+    directory(items, alloc, interfaces)?;
+    listed(imports, alloc, items)?;
+    listed(exports, alloc, items)?;
+    listed(opens, alloc, items)
+}
