@@ -1,5 +1,8 @@
 -- The statements of labels behind what stands before them.
-use Rattle.std.proofs.Common.{◌≡◌, ◌≢◌, refl, sym, ap, ◌∙◌, ℕ, ◌+◌, ◌≤◌, ◌<◌, List, [], ◌∷◌, ◌++◌, length, get_or, drop, map, Bool, true, false, arith}
+use Rattle.std.specs.Prelude.{nat_eq, not}
+use Rattle.std.proofs.lemmas.Bool.{false≢true}
+use Rattle.std.proofs.Math.Dec.{eqb-suc-zero}
+use Rattle.std.proofs.Common.{◌≡◌, ◌≢◌, refl, sym, ap, ◌∙◌, ℕ, zero, suc, ◌+◌, ◌≤◌, ◌<◌, List, [], ◌∷◌, ◌++◌, length, get_or, drop, map, Bool, true, false, arith}
 use Rattle.mesa_types.specs.Chain.{chain}
 use Rattle.mesa_types.specs.Counts.{hidden, hidden_exits}
 use Rattle.mesa_types.specs.Plain.{exit, stmt}
@@ -47,3 +50,21 @@ past_left [] left true is some none = let no : ⊥ = omega (arith, is, some refl
 past_left [] left false is some none = refl
 past_left (e ∷ es) left true is some none = sym (ap (λ l. spec.past_exits l 0) (exit_is e (chain (map exit es) t.NoExits)))
 past_left (e ∷ es) left false is some none = let no : ⊥ = omega (arith, is, none refl) in absurd no
+
+pub some_left : (n : ℕ) → not (nat_eq n 0) ≡ true → 0 < n
+some_left zero h = cc
+some_left (suc n) h = omega arith
+
+pub none_left : (n : ℕ) → not (nat_eq n 0) ≡ false → n ≡ 0
+none_left zero h = refl
+none_left (suc n) h = absurd (false≢true (sym h ∙ ap not (eqb-suc-zero n)))
+
+-- one label's statement
+pub labelled_step : (all tail : t.Exits) (ls : List ℕ) (s : t.Stmt) (bs rest : List Block) (b before past : Block)
+    → all ≡ t.AndExit ls s tail → bs ≡ b ∷ rest → past ≡ spec.past_exits tail 0
+    → labelled all bs before ≡ labelled tail rest (Both (Ends (Labels ls) before) (Both b past))
+unfolding labelled
+labelled_step all tail ls s bs rest b before past is_all is_bs is_past =
+    ap (λ a. labelled a bs before) is_all
+    ∙ ap (λ l. labelled (t.AndExit ls s tail) l before) is_bs
+    ∙ ap (λ p. labelled tail rest (Both (Ends (Labels ls) before) (Both b p))) (sym is_past)

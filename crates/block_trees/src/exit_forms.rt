@@ -6,10 +6,11 @@ ghost use Rattle.mesa_types.specs.Typed as t;
 ghost use Rattle.code_blocks.specs.Blocks as tree;
 ghost use Rattle.code_blocks.specs.Translation as spec;
 ghost use Rattle.block_trees.specs.Excess.{excess};
-ghost use Rattle.block_trees.specs.Forms.{past_if};
+ghost use Rattle.block_trees.specs.Forms.{blocks_of, labelled, past_if};
 ghost use Rattle.block_trees.specs.Plain.{off_in_arms, plain, plain_arms};
 
 use crate::block::{ArmBlocks, Leap, Mark};
+use crate::held_parts::Held;
 use crate::making::{does, enables, ends, out, pair};
 use crate::part::Part;
 use held_trees::{LetGo, both};
@@ -40,7 +41,7 @@ pub(crate) fn past_exits(alloc: Global, exits: &[Exit]) -> Part
 
 /// The statement of some labels behind what stands before it.
 #[tactic(auto, unfolding(crate::specs::Excess::excess))]
-pub(crate) fn with_exit(
+fn with_exit(
     alloc: Global,
     before: Part,
     labels: &Numbers,
@@ -71,4 +72,79 @@ pub(crate) fn enabled(alloc: Global, arms: ArmBlocks, part: Part) -> Result<Part
     } else {
         enables(alloc, arms, part)
     }
+}
+
+/// The statements of labels behind what stands before the first of them: there are as many as labels.
+pub(crate) fn with_exits(
+    alloc: Global,
+    before: Part,
+    exits: &[Exit],
+    held: Held,
+) -> Result<Part, OutOfMemory>
+    requires together { length held.parts.items ≡ length exits.now }
+    requires fits { excess (labelled (chain (map exit exits.now) t.NoExits) (blocks_of held.parts.items) (plain before.block)) ≡ 0 }
+    ensures { IfOk result (λ made. plain made.block ≡ labelled (chain (map exit exits.now) t.NoExits) (blocks_of held.parts.items) (plain before.block)) }
+{
+    let mut before = before;
+    let mut held = held;
+    let mut left = exits.len();
+    for exit in exits {
+        left -= 1;
+        let Some(statement) = held.parts.pop_front() else {
+            before.let_go();
+            held.let_go();
+            return Err(OutOfMemory);
+        };
+        let (rest, made) = both(
+            held,
+            with_exit(alloc, before, &exit.labels, statement, left != 0),
+        )?;
+        held = rest;
+        before = made;
+    }
+    held.let_go();
+    Ok(before)
+}
+
+/// What stands before the statements of labels, these behind it, and the end of all.
+pub(crate) fn with_labels(
+    alloc: Global,
+    before: Part,
+    exits: &[Exit],
+    held: Held,
+) -> Result<Part, OutOfMemory>
+    requires together { length held.parts.items ≡ length exits.now }
+    requires fits { excess (labelled (chain (map exit exits.now) t.NoExits) (blocks_of held.parts.items) (plain before.block)) ≡ 0 }
+    ensures { IfOk result (λ made. plain made.block ≡ tree.Ends (tree.Here 0) (labelled (chain (map exit exits.now) t.NoExits) (blocks_of held.parts.items) (plain before.block))) }
+{
+    let made = with_exits(alloc, before, exits, held)?;
+    ends(alloc, Mark::Here(0), made)
+}
+
+/// A block with its phrase and its labels.
+pub(crate) fn enclosed(
+    alloc: Global,
+    arms: ArmBlocks,
+    part: Part,
+    exits: &[Exit],
+    held: Held,
+) -> Result<Part, OutOfMemory>
+    requires right { off_in_arms arms ≡ 0 }
+    requires together { length held.parts.items ≡ length exits.now }
+    requires fits { excess (labelled (chain (map exit exits.now) t.NoExits) (blocks_of held.parts.items) (tree.Both (spec.enabled (plain_arms arms) (plain part.block)) (spec.past_exits (chain (map exit exits.now) t.NoExits) 0))) ≡ 0 }
+    ensures { IfOk result (λ made. plain made.block ≡ tree.Ends (tree.Here 0) (labelled (chain (map exit exits.now) t.NoExits) (blocks_of held.parts.items) (tree.Both (spec.enabled (plain_arms arms) (plain part.block)) (spec.past_exits (chain (map exit exits.now) t.NoExits) 0)))) }
+{
+    let (held, part) = both(held, passed(alloc, arms, part, exits))?;
+    with_labels(alloc, part, exits, held)
+}
+
+/// What stands before the labels of a block, and the jump past their statements.
+#[tactic(auto, unfolding(crate::specs::Excess::excess))]
+fn passed(alloc: Global, arms: ArmBlocks, part: Part, exits: &[Exit]) -> Result<Part, OutOfMemory>
+    requires right { off_in_arms arms ≡ 0 }
+    requires fits { excess (tree.Both (spec.enabled (plain_arms arms) (plain part.block)) (spec.past_exits (chain (map exit exits.now) t.NoExits) 0)) ≡ 0 }
+    ensures { IfOk result (λ made. plain made.block ≡ tree.Both (spec.enabled (plain_arms arms) (plain part.block)) (spec.past_exits (chain (map exit exits.now) t.NoExits) 0)) }
+{
+    let part = enabled(alloc, arms, part)?;
+    pair(alloc, part, past_exits(alloc, exits))
 }

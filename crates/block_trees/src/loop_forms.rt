@@ -1,23 +1,27 @@
 //! Loops by what their parts are.
-ghost use Rattle.std.specs.Prelude.{◌≡◌, ◌+◌, ◌≤◌, IfOk};
-ghost use Rattle.mesa_types.specs.Plain.{condition, interval};
+ghost use Rattle.std.specs.Prelude.{◌≡◌, ◌+◌, ◌≤◌, length, map, IfOk};
+ghost use Rattle.mesa_types.specs.Chain.{chain};
+ghost use Rattle.mesa_types.specs.Plain.{condition, exit, interval};
+ghost use Rattle.mesa_types.specs.Typed as t;
 ghost use Rattle.code_relation.specs.Loops.{step_code};
 ghost use Rattle.code_blocks.specs.Blocks as tree;
 ghost use Rattle.code_blocks.specs.Translation as spec;
 ghost use Rattle.block_trees.specs.Excess.{excess};
-ghost use Rattle.block_trees.specs.Forms.{counter_of, rounds_of};
+ghost use Rattle.block_trees.specs.Forms.{blocks_of, counter_of, labelled, rounds_of};
 ghost use Rattle.block_trees.specs.Plain.{plain};
 ghost use Rattle.block_trees.specs.Routines.{coded};
 
 use crate::block::Mark;
 use crate::counter::Counter;
+use crate::exit_forms::with_labels;
+use crate::held_parts::Held;
 use crate::loop_code::{given_next, head, start, step};
 use crate::making::{does, ends, pair, rounds, then};
 use crate::part::Part;
 use crate::routine::Routine;
 use held_trees::both;
 use mesa_base::OutOfMemory;
-use mesa_types::{Base, Condition, Interval};
+use mesa_types::{Base, Condition, Exit, Interval};
 use std::alloc::Global;
 
 /// What an endless loop without a count would do at its end is never done.
@@ -95,4 +99,29 @@ pub(crate) fn started(
     let ((bounds, made), code) = both((bounds, made), start(alloc, slot, base, range))?;
     let (bounds, made) = both(bounds, pair(alloc, does(code), made))?;
     pair(alloc, bounds, made)
+}
+
+/// The rounds of a loop, and what is done behind the last one.
+#[tactic(auto, unfolding(crate::specs::Excess::excess))]
+fn concluded(alloc: Global, rounds: Part, finish: Part) -> Result<Part, OutOfMemory>
+    requires { excess (tree.Both (plain rounds.block) (plain finish.block)) ≡ 0 }
+    ensures { IfOk result (λ made. plain made.block ≡ tree.Both (plain rounds.block) (plain finish.block)) }
+{
+    pair(alloc, rounds, finish)
+}
+
+/// The rounds of a loop, what is done behind the last one, and the statements of its labels.
+pub(crate) fn looped(
+    alloc: Global,
+    rounds: Part,
+    finish: Part,
+    exits: &[Exit],
+    held: Held,
+) -> Result<Part, OutOfMemory>
+    requires together { length held.parts.items ≡ length exits.now }
+    requires fits { excess (labelled (chain (map exit exits.now) t.NoExits) (blocks_of held.parts.items) (tree.Both (plain rounds.block) (plain finish.block))) ≡ 0 }
+    ensures { IfOk result (λ made. plain made.block ≡ tree.Ends (tree.Here 0) (labelled (chain (map exit exits.now) t.NoExits) (blocks_of held.parts.items) (tree.Both (plain rounds.block) (plain finish.block)))) }
+{
+    let (held, made) = both(held, concluded(alloc, rounds, finish))?;
+    with_labels(alloc, made, exits, held)
 }
