@@ -25,7 +25,6 @@ use Rattle.mesa_types.proofs.PlainForms.{of_field, of_applied}
 use Rattle.checking_rules.specs.declared.fault.Cause.TheVariants.{TypeMismatch, WrongCount}
 use Rattle.checking_rules.specs.Ranges.{Typed, Aim, Free, Into, Several, finish}
 use Rattle.checking_rules.specs.Reached.{Reached, Bracketed, Named, Value, Variable, Results, Shape, OfFields, OfElements, NoShape, Use, field, indexed, may_apply, settled, shape_of, text_at}
-use Rattle.checking_rules.specs.Statements.{Ends}
 use Rattle.checking_rules.specs.Steps.{Check, Checked, State, and_then, ◌>>=◌, pure, lift, only, refuse, spend, fail, ensure}
 use Rattle.checking_rules.specs.Values.{Raises, by_level, by_shape, compared, in_order, is_truth, letter, level_of, raises_by, summed, not_of, number, signed, string, truth, within}
 use Rattle.check_parts.specs.Lists as lists

@@ -1,7 +1,7 @@
 -- Lists that are gone through part by part.
-use Rattle.std.proofs.Common.{◌≡◌, ◌<◌, ◌≤◌, ◌+◌, ℕ, List, [], ◌∷◌, ◌++◌, map, drop, length, get_or, Ok, Err, refl, sym, ap, ◌∙◌}
+use Rattle.std.proofs.Common.{◌≡◌, ◌<◌, ◌≤◌, ◌+◌, ℕ, List, [], ◌∷◌, map, drop, length, get_or, Ok, Err, refl, sym, ap, ◌∙◌}
 use Rattle.std.proofs.lemmas.List.{drop_more, drop_all}
-use Rattle.checking_rules.specs.Steps.{Check, Checked, State, and_then, ◌>>=◌, pure}
+use Rattle.checking_rules.specs.Steps.{Check, Checked, State, and_then}
 use Rattle.check_parts.specs.Folds.{folded}
 
 module _ {A B : Type 0} where

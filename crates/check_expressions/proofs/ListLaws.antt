@@ -1,6 +1,6 @@
 -- Lists of values, part by part.
-use Rattle.std.proofs.Common.{◌≡◌, ◌≢◌, ◌<◌, drop, get_or, ℕ, zero, suc, ◌+◌, Bool, true, false, not, ◌&&◌, List, [], ◌∷◌, ◌++◌, length, map, Option, Some, None, is_some, Ok, Err, refl, sym, ap, ◌∙◌, arith, zero-add}
-use Rattle.std.specs.Prelude.{nat_eq, slice_get, if◌then◌else◌}
+use Rattle.std.proofs.Common.{◌≡◌, ◌≢◌, ◌<◌, drop, get_or, ℕ, suc, ◌+◌, Bool, true, false, ◌&&◌, List, [], ◌∷◌, ◌++◌, length, map, Option, Some, None, is_some, Ok, Err, refl, sym, ap, ◌∙◌, arith, zero-add}
+use Rattle.std.specs.Prelude.{nat_eq, if◌then◌else◌}
 use Rattle.std.proofs.lemmas.Bool.{ne_eqb}
 use Rattle.std.proofs.lemmas.List.{length-append, length-map}
 use Rattle.mesa_base.specs.declared.identifier.Identifier.{Identifier}
@@ -20,7 +20,7 @@ use Rattle.checking_rules.specs.Ranges.{Arguments, Typed, Into}
 use Rattle.checking_rules.specs.Reached.{Shape, OfFields, OfElements, NoShape, shape_of}
 use Rattle.checking_rules.specs.declared.fault.Cause.TheVariants.{TypeMismatch, WrongCount}
 use Rattle.checking_rules.specs.Steps.{Check, Checked, State, and_then, ◌>>=◌, pure, lift, fail, refuse, or_refuse, ensure, spend}
-use Rattle.checking_rules.specs.Values.{bound_aim, by_keys, by_shape, in_fields, in_order, made}
+use Rattle.checking_rules.specs.Values.{by_keys, by_shape, in_fields, in_order, made}
 use Rattle.check_reached.specs.Keys.{places, places_if}
 use Rattle.check_parts.specs.Folds.{folded}
 use Rattle.check_parts.specs.Lists as lists

@@ -1,6 +1,6 @@
 -- Runs of operators and of suffixes, part by part.
 use Rattle.std.proofs.lemmas.List.{map-append}
-use Rattle.std.proofs.Common.{◌≡◌, ◌≤◌, ◌<◌, ◌+◌, arith, drop, length, get_or, ℕ, Bool, true, false, List, [], ◌∷◌, ◌++◌, map, Ok, Err, None, refl, sym, ap, ◌∙◌}
+use Rattle.std.proofs.Common.{◌≡◌, ◌<◌, ◌+◌, drop, length, get_or, ℕ, Bool, true, false, List, [], ◌∷◌, ◌++◌, map, Ok, Err, None, refl, sym, ap, ◌∙◌}
 use Rattle.mesa_base.specs.declared.place.Place.{Place}
 use Rattle.mesa_base.specs.declared.identifier.Identifier.{Identifier}
 use Rattle.mesa_types.specs.Plain as tree
@@ -27,25 +27,18 @@ use Rattle.mesa_types.specs.declared.syntax.Left.{Left}
 use Rattle.mesa_types.specs.declared.syntax.Operator.{Operator}
 use Rattle.mesa_types.specs.declared.syntax.Suffix.{Suffix, roll-Suffix, out-Suffix, roll-out-Suffix}
 use Rattle.mesa_types.specs.declared.syntax.Condition.TheOpen.{Suffix-F}
-use Rattle.mesa_types.specs.declared.typed_tree.Operation.{Operation as Typed-Operation}
-use Rattle.mesa_types.specs.declared.typed_tree.Condition.TheFolds.{fold_out-Operation, fold-roll-Operation}
-use Rattle.mesa_types.specs.declared.typed_tree.Condition.TheViews.{roll-Operation}
 use Rattle.mesa_types.specs.declared.typed_tree.TypedExpr.{TypedExpr}
-use Rattle.mesa_types.specs.declared.typed_parts.Operator.{Operator as TypedOperator}
-use Rattle.mesa_types.specs.declared.typed_parts.Range.{Range}
 use Rattle.mesa_types.proofs.PlainForms.{parts_of_operation, suffix_at}
 use Rattle.checking_rules.specs.Around.{Around}
 use Rattle.checking_rules.specs.Checking as spec
-use Rattle.checking_rules.specs.Parts.{and_operation}
 use Rattle.checking_rules.specs.PlainTypes.{PlainType}
 use Rattle.checking_rules.specs.Ranges.{Typed, Free}
 use Rattle.checking_rules.specs.Reached.{Reached, Use, field, may_apply, settled}
 use Rattle.checking_rules.specs.declared.fault.Cause.TheVariants.{TypeMismatch}
-use Rattle.checking_rules.specs.Steps.{Check, Checked, State, and_then, ◌>>=◌, pure, lift, ensure}
-use Rattle.checking_rules.specs.Values.{Done, Bare, Sums, Alls, Somes, by_level, level, level_of, is_truth, step, truth, truth_operand}
+use Rattle.checking_rules.specs.Steps.{Checked, State, and_then, ◌>>=◌, pure, ensure}
+use Rattle.checking_rules.specs.Values.{Done, Bare, Sums, Alls, Somes, level_of, is_truth, step, truth, truth_operand}
 use Rattle.check_parts.specs.Folds.{folded}
 use Rattle.check_parts.specs.Runs.{Sum, begun, with_done, behind, ended, sum_turn, sums, operand, truth_turn, truths, run, suffix}
-use Rattle.check_parts.specs.Views.{exprs, typed_operations}
 use Rattle.check_expressions.proofs.Folding.{folded_at, in_turn}
 
 -- ---- sums and products

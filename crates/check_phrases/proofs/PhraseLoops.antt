@@ -1,10 +1,10 @@
 -- Whether one of a list holds a catch phrase, one after the other.
-use Rattle.std.proofs.Common.{◌≡◌, ◌<◌, ◌≤◌, ◌+◌, ℕ, Bool, true, false, List, [], ◌∷◌, drop, length, get_or, refl, sym, ap, ◌∙◌}
+use Rattle.std.proofs.Common.{◌≡◌, ◌<◌, ◌≤◌, ◌+◌, ℕ, Bool, false, List, ◌∷◌, drop, length, get_or, sym, ap, ◌∙◌}
 use Rattle.std.specs.Prelude.{◌||◌}
 use Rattle.std.proofs.lemmas.List.{drop_more, drop_all}
 use Rattle.mesa_types.specs.Syntax as s
 use Rattle.mesa_base.specs.declared.place.Place.{Place}
-use Rattle.mesa_types.specs.PlainSyntax.{expr, exprs, interval, keyed_exprs, operation, operations, suffix, suffixes}
+use Rattle.mesa_types.specs.PlainSyntax.{expr, exprs, interval, keyed_exprs, operations, suffix, suffixes}
 use Rattle.mesa_types.specs.declared.syntax.Expr.{Expr}
 use Rattle.mesa_types.specs.declared.syntax.Expr.TheVariants.{Within}
 use Rattle.mesa_types.specs.declared.syntax.Interval.{Interval, out-Interval}

@@ -3,7 +3,6 @@ use Rattle.mesa_types.specs.Plain.{expr}
 use Rattle.mesa_types.specs.PlainSyntax as plain
 use Rattle.mesa_types.specs.declared.syntax.Expr.{Expr}
 use Rattle.mesa_types.specs.declared.syntax.Keyed.{Keyed}
-use Rattle.checking_rules.specs.Values.{is_truth}
 use Rattle.check_words.specs.Views as words
 use Rattle.check_reached.specs.Views as reaching
 use Rattle.check_parts.specs.Lists.{value_turn}
