@@ -11,7 +11,7 @@ use Rattle.std.specs.Cmp.Lexicographic.{slice_cmp, bytes_decides, nat_list_cmp_t
 use Rattle.std.specs.declared.vec.Vec.{Vec}
 use Rattle.std.specs.declared.alloc.Global.{Global}
 use Rattle.std.proofs.lemmas.Map.Text.{is_eq-slice_cmp}
-use Rattle.check_scopes.specs.Scopes.{Scope, over, with_name}
+use Rattle.check_scopes.specs.Scopes.{Scope, nothing, over, with_name}
 use Rattle.check_scopes.specs.Shows.{indexed}
 use mathlib.Core.Logic.{⊎_elim}
 
@@ -74,3 +74,11 @@ indexed-empty inner outer e = λ i y. ap (λ es. option_or (lookup (λ k. is_eq 
 pub none_left : {X : Type 0} (es : List X) → (0 < length es → false ≡ true) → es ≡ []
 none_left [] h = refl
 none_left (e ∷ es) h = absurd (false≢true (h (omega arith)))
+
+pub indexed-none : {T : Type 0} (index : BTreeMap (Vec ℕ Global) T) → index.entries ≡ [] → indexed index ≡ nothing
+unfolding indexed
+indexed-none index e = λ i y. ap (λ es. lookup (λ k. is_eq (slice_cmp nat_cmp y k.items)) es) e i
+
+pub no_entries : {X : Type 0} (es : List X) → length es ≡ 0 → es ≡ []
+no_entries [] h = refl
+no_entries (e ∷ es) h = absurd (omega (arith, h))

@@ -1,5 +1,5 @@
 -- Scopes in one another after the innermost one, which stands last in the code, has changed.
-use Rattle.std.proofs.Common.{◌≡◌, ℕ, ◌+◌, ◌-◌, ◌<◌, List, [], ◌∷◌, ◌++◌, length, map, reverse, get_or, Result, Ok, Err, OnOk, OnErr, refl, sym, ap, subst, ◌∙◌, arith}
+use Rattle.std.proofs.Common.{◌≡◌, ℕ, ◌+◌, ◌-◌, ◌<◌, List, [], ◌∷◌, ◌++◌, length, map, reverse, get_or, Result, Ok, Err, IfOk, OnOk, OnErr, refl, sym, ap, subst, ◌∙◌, arith}
 use Rattle.std.proofs.Math.ListN.{set}
 use Rattle.std.proofs.Math.Seq.{set-append_seam, get_or-append_seam}
 use Rattle.std.proofs.lemmas.List.{reverse-append, length-append}
@@ -52,6 +52,10 @@ module _ {T : Type 0} where
       → now ≡ get_or all (n - 1) now → means new ≡ means now → shown (set all (n - 1) new) ≡ shown all
   last_as_before all n now new many some h e = let c = changed all n now new many some h in c.0 ∙ ap (λ s. s ∷ outer (shown all)) e ∙ sym c.1
 
+pub innermost_last : {T : Type 0} (all : List (Names T)) (n : ℕ) (now : Names T) → n ≡ length all → 0 < n → now ≡ get_or all (n - 1) now
+    → means now ≡ innermost (shown all)
+innermost_last all n now many some h = sym (ap innermost (changed all n now now many some h).1)
+
 pub ok_also : {A E P Q : Type 0} (r : Result A E) → (P → Q) → OnOk r P → OnOk r Q
 ok_also (Ok a) f p = f p
 ok_also (Err e) f p = p
@@ -59,3 +63,7 @@ ok_also (Err e) f p = p
 pub err_also : {A E P Q : Type 0} (r : Result A E) → (P → Q) → OnErr r P → OnErr r Q
 err_also (Ok a) f p = p
 err_also (Err e) f p = f p
+
+pub if_ok_also : {A E : Type 0} {P Q : A → Type 0} (r : Result A E) → ((a : A) → P a → Q a) → IfOk r P → IfOk r Q
+if_ok_also (Ok a) f p = f a p
+if_ok_also (Err e) f p = p

@@ -1,4 +1,5 @@
 pub mod Indexes
 pub mod Innermost
-pub mod Marking
 pub mod Laws
+pub mod LayerLaws
+pub mod Marking

@@ -1,10 +1,13 @@
 //! What is visible: names with their meanings, scopes in one another, and marks of what is used.
 #![tactic(auto)]
 
+mod index;
+mod layers;
 mod marks;
 mod names;
 mod scopes;
 
+pub use index::Index;
 pub use marks::Marks;
 pub use names::Names;
 pub use scopes::Scopes;

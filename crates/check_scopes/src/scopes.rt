@@ -1,4 +1,4 @@
-ghost use Rattle.std.specs.Prelude.{◌≡◌, [], ◌∷◌, OnOk, OnErr, IfNone, IfSome, is_some, map, reverse};
+ghost use Rattle.std.specs.Prelude.{◌≡◌, [], ◌∷◌, OnOk, OnErr, IfOk, IfNone, IfSome, is_some, map, reverse};
 ghost use Rattle.std.specs.Option.{option_copied};
 ghost use Rattle.check_scopes.specs.Scopes as spec;
 ghost use Rattle.check_scopes.specs.Shows.{means, shows};
@@ -72,6 +72,7 @@ impl<T: Drop> Scopes<T> {
     pub fn leave(&mut self) -> Option<Names<T>>
         ensures left { shows self.new ≡ spec.outer (shows self.old) }
         ensures names { IfSome result (λ names. means names ≡ spec.innermost (shows self.old)) }
+        ensures some { IfSome result (λ names. shows self.old ≡ means names ∷ shows self.new) }
         ensures none { IfNone result (shows self.old ≡ []) }
     {
         self.scopes.pop()
@@ -104,5 +105,17 @@ impl<T: Drop> Scopes<T> {
         }
         self.scopes.push(names)?;
         Ok(())
+    }
+
+    /// The names of the innermost scope as they are now; none where no scope is open. Nothing is copied but what is newest.
+    #[tactic(auto, unfolding(crate::specs::Shows::shows))]
+    pub fn share(&mut self, alloc: Global) -> Result<Names<T>, OutOfMemory>
+        ensures same { IfOk result (λ names. means names ≡ spec.innermost (shows self.old)) }
+        ensures stays { OnOk result (shows self.new ≡ shows self.old) }
+    {
+        match self.scopes.last_mut() {
+            Some(names) => names.share(alloc),
+            None => Ok(Names::new(alloc)),
+        }
     }
 }

@@ -107,3 +107,36 @@ fn marks(rt: HostRuntime) -> Result<(), Fail> {
     assert!(rt; marks.is_marked(0, 2) && !marks.is_marked(0, 1) && !marks.is_marked(7, 7));
     Ok(())
 }
+
+#[test]
+fn shared_names_stay(rt: HostRuntime) -> Result<(), Fail> {
+    let alloc = rt.alloc();
+    let mut names = Names::new(alloc);
+    let mut seen = Vec::new(alloc);
+    let all: [&[u8]; 9] = [b"a", b"b", b"c", b"d", b"e", b"f", b"g", b"h", b"i"];
+    for (n, name) in all.iter().enumerate() {
+        seen.push(names.share(alloc)?)?;
+        names.declare(alloc, name, n)?;
+    }
+    for (n, name) in all.iter().enumerate() {
+        assert_eq!(rt; names.get(name).copied(), Some(n));
+        for (m, then) in seen.iter().enumerate() {
+            assert_eq!(rt; then.has(name), n < m);
+        }
+    }
+    names.declare(alloc, b"c", 10)?;
+    let mut later = names.share(alloc)?;
+    later.declare(alloc, b"d", 11)?;
+    assert_eq!(rt; names.get(b"c").copied(), Some(10));
+    assert_eq!(rt; names.get(b"d").copied(), Some(3));
+    assert_eq!(rt; later.get(b"c").copied(), Some(10));
+    assert_eq!(rt; later.get(b"d").copied(), Some(11));
+    let sixth = seen.get(5).ok_or("no scope")?;
+    assert_eq!(rt; sixth.get(b"c").copied(), Some(2));
+    let mut rest = later.into_index()?;
+    assert_eq!(rt; rest.len(), 9);
+    let (first, meaning) = rest.pop_first().ok_or("no name")?;
+    assert!(rt; first.as_slice() == b"a".as_slice());
+    assert_eq!(rt; *meaning, 0);
+    Ok(())
+}

@@ -84,6 +84,15 @@ impl State {
         self.coming = coming;
     }
 
+    /// The innermost scope as it is now.
+    #[tactic(auto, using(crate::proofs::ScopeLaws::innermost_as), unfolding(crate::specs::Views::state, crate::specs::Views::scopes, crate::specs::Views::names))]
+    pub fn top(&mut self, alloc: Global) -> Result<Names<Meaning>, OutOfMemory>
+        ensures names { IfOk result (λ names. view.names names ≡ innermost (view.state self.old).scopes) }
+        ensures state { OnOk result (view.state self.new ≡ view.state self.old) }
+    {
+        self.scopes.share(alloc)
+    }
+
     /// Puts these names in the place of the innermost scope, and hands that over.
     #[tactic(auto, using(crate::proofs::ScopeLaws::innermost_as, crate::proofs::ScopeLaws::outer_as), unfolding(crate::specs::Views::state, crate::specs::Views::scopes, crate::specs::Views::names))]
     pub fn swap(

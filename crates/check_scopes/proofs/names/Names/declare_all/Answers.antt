@@ -1,23 +1,17 @@
--- Each turn moves one name; in the end none is left.
-use Rattle.std.proofs.Common.{sym, ◌∙◌}
-use Rattle.check_scopes.specs.Shows.{means, indexed}
-use Rattle.check_scopes.proofs.Indexes.{indexed-moved, indexed-empty, none_left}
+-- Names over the newest ones are over all.
+use Rattle.std.proofs.Common.{ap, ◌∙◌}
+use Rattle.check_scopes.specs.Scopes.{over}
+use Rattle.check_scopes.specs.Shows.{means, valued, layered}
+use Rattle.check_scopes.proofs.Innermost.{ok_also}
+use Rattle.check_scopes.proofs.LayerLaws.{valued-over, over-over}
 use Rattle.check_scopes.proofs.names.Names.declare_all.Goals as goal
-
-pub loop-name-preserved-in_ok-insert : goal.loop-name-preserved-in_ok-insert
-loop-name-preserved-in_ok-insert g c =
-    indexed-moved c.in-Some.name c.loop-name.rest c.pop_first.new.self c.loop-name.self.index c.insert.new.self c.in-Some.meaning
-    c.in-Some.ensures.value c.in-Some.ensures.updates c.in_ok-insert.ensures.updates
-    ∙ c.loop-name.invariant
-
-pub loop-name-preserved : goal.loop-name-preserved
-loop-name-preserved g c =
-    indexed-moved c.in-Some.name c.loop-name.rest c.pop_first.new.self c.loop-name.self.index c.insert.new.self c.in-Some.meaning
-    c.in-Some.ensures.value c.in-Some.ensures.updates c.in_ok-insert.ensures.updates
-    ∙ c.loop-name.invariant
 
 pub returns : goal.returns
 unfolding means
 returns g c =
-    sym (indexed-empty c.loop-name.rest (indexed c.loop-name.self.index) (none_left c.loop-name.rest.entries c.in_default.ensures.variant.1))
-    ∙ c.loop-name.invariant
+    let frozen = c.args.self.now.frozen.items in
+    ok_also c.declare_all.result (λ h.
+    ap (λ s. over s (layered frozen)) (valued-over c.in_ok-names.names c.args.self.now.newest c.declare_all.new.self h)
+    ∙ over-over (valued c.in_ok-names.names) (valued c.args.self.now.newest) (layered frozen)
+    ∙ ap (λ s. over s (over (valued c.args.self.now.newest) (layered frozen))) c.in_ok-names.ensures)
+    c.declare_all.ensures
