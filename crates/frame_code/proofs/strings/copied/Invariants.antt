@@ -1,5 +1,6 @@
 use Rattle.std.proofs.Common.{◌≡◌, take}
+use Rattle.frame_code.specs.Code.{AreOfBytes}
 use Rattle.frame_code.proofs.strings.copied.Given as goal
 
 abbrev pub invariant-loop-text : goal.invariant-loop-text
-invariant-loop-text l = l.copy ≡ take l.text-index l.texts
+invariant-loop-text l = (l.copy ≡ take l.text-index l.texts) × AreOfBytes l.copy

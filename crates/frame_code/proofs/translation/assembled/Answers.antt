@@ -17,7 +17,7 @@ invariant_of-new c =
     c.in_ok-links.links c.args.procedures c.in_ok-name.ensures
     (c.few_words-global_words.ensures ∙ ap (λ (l : List FieldType). words_of_fields l) c.as_slice.ensures)
     (c.in_ok-signals.ensures ∙ ap (λ (l : List Item). map signal_code l) c.as_slice-2.ensures)
-    (c.in_ok-strings.ensures ∙ c.as_slice-3.ensures)
+    (c.in_ok-strings.ensures.same ∙ c.as_slice-3.ensures)
     (c.in_ok-links.ensures ∙ ap (λ (l : List Import). map link_code (links_of l)) c.as_slice-4.ensures) c.requires.procedures in
     record { ranges = ∣ (whole.1).ranges ∣₁ }
 
@@ -29,7 +29,7 @@ new-requires-clause-valid c =
     c.in_ok-links.links c.args.procedures c.in_ok-name.ensures
     (c.few_words-global_words.ensures ∙ ap (λ (l : List FieldType). words_of_fields l) c.as_slice.ensures)
     (c.in_ok-signals.ensures ∙ ap (λ (l : List Item). map signal_code l) c.as_slice-2.ensures)
-    (c.in_ok-strings.ensures ∙ c.as_slice-3.ensures)
+    (c.in_ok-strings.ensures.same ∙ c.as_slice-3.ensures)
     (c.in_ok-links.ensures ∙ ap (λ (l : List Import). map link_code (links_of l)) c.as_slice-4.ensures) c.requires.procedures in
     (whole.1).valid
 
@@ -41,7 +41,7 @@ new-requires-clause-depths c =
     c.in_ok-links.links c.args.procedures c.in_ok-name.ensures
     (c.few_words-global_words.ensures ∙ ap (λ (l : List FieldType). words_of_fields l) c.as_slice.ensures)
     (c.in_ok-signals.ensures ∙ ap (λ (l : List Item). map signal_code l) c.as_slice-2.ensures)
-    (c.in_ok-strings.ensures ∙ c.as_slice-3.ensures)
+    (c.in_ok-strings.ensures.same ∙ c.as_slice-3.ensures)
     (c.in_ok-links.ensures ∙ ap (λ (l : List Import). map link_code (links_of l)) c.as_slice-4.ensures) c.requires.procedures in
     (whole.1).depths
 
@@ -53,6 +53,6 @@ returns c =
     c.in_ok-links.links c.args.procedures c.in_ok-name.ensures
     (c.few_words-global_words.ensures ∙ ap (λ (l : List FieldType). words_of_fields l) c.as_slice.ensures)
     (c.in_ok-signals.ensures ∙ ap (λ (l : List Item). map signal_code l) c.as_slice-2.ensures)
-    (c.in_ok-strings.ensures ∙ c.as_slice-3.ensures)
+    (c.in_ok-strings.ensures.same ∙ c.as_slice-3.ensures)
     (c.in_ok-links.ensures ∙ ap (λ (l : List Import). map link_code (links_of l)) c.as_slice-4.ensures) c.requires.procedures in
-    subst (IsCodeOf (plain m)) (sym c.new.ensures) (record { chosen = whole.0; stands = whole.1 })
+    subst (IsCodeOf (plain m)) (sym c.new.ensures) (record { chosen = whole.0; stands = whole.1; bytes = c.in_ok-strings.ensures.bytes })
