@@ -1,4 +1,7 @@
+ghost use Rattle.written_trees.specs.Alone.{CheckedTextsStandAlone};
 ghost use Rattle.written_trees.specs.Laws.{CheckedDefinitionsAreInOrder, CheckedTextsAreSound, CheckedTextsCanBeSpelled, FaultsStandAtTokens, NamesOfTreesAreNames, PlacesAreOfTokens, TokensAreWithin, TreesAreWritten};
+
+use checking_rules::laws::shapes_are_given;
 
 /// The tokens of a text are within their limits: what is written as a name is one, and strings have at most their bytes.
 #[tactic(auto, using(crate::proofs::Tokens::tokens_are_within))]
@@ -46,3 +49,12 @@ pub fn checked_definitions_are_in_order()
 pub fn checked_texts_can_be_spelled()
     ensures { CheckedTextsCanBeSpelled }
 {}
+
+/// What checking gives of a text, with the built-in interface for each item of its DIRECTORY, is a module that can be translated and run
+/// by itself: it is sound, has at most 4,194,304 nodes, and imports nothing but that interface.
+#[tactic(auto, using(crate::proofs::Alone::stand_alone))]
+pub fn checked_texts_stand_alone()
+    ensures { CheckedTextsStandAlone }
+{
+    shapes_are_given();
+}

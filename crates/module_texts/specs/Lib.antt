@@ -1,0 +1,3 @@
+pub mod Laws
+pub mod TextFaults
+pub mod Texts
