@@ -3,25 +3,21 @@ ghost use Rattle.module_texts.specs.Laws.{OneFault, OneModule, ReadModulesStandA
 use written_trees::checked_texts_stand_alone;
 
 /// Bytes are the text of at most one module.
-#[tactic(auto, using(crate::proofs::Verdicts::one_module))]
 pub fn one_module()
     ensures { OneModule }
 {}
 
 /// A text has at most one first fault.
-#[tactic(auto, using(crate::proofs::Verdicts::one_fault))]
 pub fn one_fault()
     ensures { OneFault }
 {}
 
 /// A text that has a module has no fault.
-#[tactic(auto, using(crate::proofs::Verdicts::no_fault))]
 pub fn read_texts_have_no_fault()
     ensures { ReadTextsHaveNoFault }
 {}
 
 /// The module of a text can be translated and run by itself.
-#[tactic(auto, using(crate::proofs::Alone::read_alone))]
 pub fn read_modules_stand_alone()
     ensures { ReadModulesStandAlone }
 {

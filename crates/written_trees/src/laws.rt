@@ -52,7 +52,6 @@ pub fn checked_texts_can_be_spelled()
 
 /// What checking gives of a text, with the built-in interface for each item of its DIRECTORY, is a module that can be translated and run
 /// by itself: it is sound, has at most 4,194,304 nodes, and imports nothing but that interface.
-#[tactic(auto, using(crate::proofs::Alone::stand_alone))]
 pub fn checked_texts_stand_alone()
     ensures { CheckedTextsStandAlone }
 {
