@@ -1,0 +1,6 @@
+//! The tree of blocks of a typed body: the walk over its statements and expressions.
+#![tactic(auto)]
+
+mod expressions;
+mod phrases;
+mod statements;
