@@ -4,3 +4,4 @@
 mod expressions;
 mod phrases;
 mod statements;
+mod turns;

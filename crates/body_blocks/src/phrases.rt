@@ -9,12 +9,16 @@ ghost use Rattle.block_trees.specs.Excess.{excess_in_arms};
 ghost use Rattle.block_trees.specs.Plain.{off_in_arms, plain_arms};
 ghost use Rattle.block_trees.specs.Routines.{coded};
 
+use crate::statements::block;
+use crate::turns::armed;
 use block_trees::{ArmBlocks, Routine};
-use mesa_base::OutOfMemory;
+use held_trees::both;
+use mesa_base::{List, OutOfMemory};
 use mesa_types::{Arm, Phrase};
 use std::alloc::Global;
 
 /// The arms of a phrase; none where there is none.
+#[tactic(auto, unfolding(mesa_types::specs::Counts::hidden_phrase, block_trees::specs::Excess::excess_in_arms, block_trees::specs::Plain::plain_arms, block_trees::specs::Plain::off_in_arms))]
 pub(crate) fn caught_by(
     alloc: Global,
     routine: &Routine,
@@ -27,10 +31,14 @@ pub(crate) fn caught_by(
     ensures right { IfOk result (λ made. off_in_arms made ≡ 0) }
     ensures next { OnOk result (next.new ≡ next.old + hidden_phrase (phrase catching.now)) }
 {
-    Err(OutOfMemory)
+    match catching {
+        Phrase::NoPhrase => Ok(List::new(alloc)),
+        Phrase::Catch(_, arms) => arm_blocks(alloc, routine, next, arms.as_slice()),
+    }
 }
 
 /// The arms one by one.
+#[tactic(auto, using(block_trees::proofs::Walks::arm_first, block_trees::proofs::Walks::arm_words, block_trees::proofs::Walks::hidden_arm, block_trees::proofs::Splits::arms_split))]
 pub(crate) fn arm_blocks(
     alloc: Global,
     routine: &Routine,
@@ -43,5 +51,11 @@ pub(crate) fn arm_blocks(
     ensures right { IfOk result (λ made. off_in_arms made ≡ 0) }
     ensures next { OnOk result (next.new ≡ next.old + hidden_arms (chain (map arm arms.now) t.NoArms)) }
 {
-    Err(OutOfMemory)
+    let mut made = List::new(alloc);
+    for arm in arms {
+        let (held, body) = both(made, block(alloc, routine, next, &arm.body))?;
+        let on = arm.labels.as_slice();
+        made = armed(alloc, routine, held, on, arm.first, arm.count, body)?;
+    }
+    Ok(made)
 }

@@ -1,0 +1,4 @@
+pub mod ArmTurns
+pub mod ExpressionForms
+pub mod ExpressionLaws
+pub mod RowTurns
