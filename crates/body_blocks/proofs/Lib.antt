@@ -1,4 +1,6 @@
 pub mod ArmTurns
 pub mod ExpressionForms
 pub mod ExpressionLaws
+pub mod FormLaws
+pub mod ReadLaws
 pub mod RowTurns

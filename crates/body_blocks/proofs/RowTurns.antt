@@ -16,7 +16,7 @@ use Rattle.code_blocks.specs.Translation as spec
 use Rattle.block_trees.specs.Excess.{excess}
 use Rattle.block_trees.specs.Plain.{in_order}
 use Rattle.block_trees.specs.Rows.{sizes_in}
-use Rattle.block_trees.proofs.RowLaws.{size_begun}
+use Rattle.block_trees.proofs.RowLaws.{size_begun, turn_small}
 use Rattle.block_trees.proofs.SizeFits.{size_fits}
 use Rattle.block_trees.proofs.Splits.{no_suffix_left}
 
@@ -39,6 +39,9 @@ three_put old held new a made b c is_held is_made put = put ∙ ap (λ l. l ++ a
 
 pub room_for : (bs held : List Block) (n : ℕ) → held ≡ bs → sizes_in bs + n ≤ 4294967295 → sizes_in held + n ≤ 4294967295
 room_for bs held n is h = omega (arith, h, ap sizes_in is)
+
+pub turn_room : (old made new : List Block) (all rest : Block) → all ≡ in_order made rest → new ≡ old ++ made → sizes_in old + size all ≤ 4294967295 → sizes_in new + size rest ≤ 4294967295
+turn_room old made new all rest is put h = omega (arith, h, turn_small old made new all rest is put)
 
 -- behind the last one nothing is left
 

@@ -52,8 +52,9 @@ pub(crate) fn value(
             },
         ),
         TypedExpr::Variable(home, suffixes, words) => {
-            let path = path(alloc, routine, next, suffixes.as_slice())?;
-            read(alloc, routine, *home, suffixes.as_slice(), *words, path)
+            let suffixes = suffixes.as_slice();
+            let way = path(alloc, routine, next, suffixes)?;
+            read(alloc, routine, *home, suffixes, *words, way)
         }
         TypedExpr::FieldOf(of, parts) => {
             let words = value_words(of.get())?;
@@ -114,31 +115,23 @@ pub(crate) fn value(
         }
         TypedExpr::Call(callee, places, es, words, catching) => {
             let call = call_code(&routine.links, *callee)?;
-            let (of, sizes) = values(alloc, routine, next, es.as_slice())?;
-            let (of, arms) = both(of, caught_by(alloc, routine, next, catching.get()))?;
-            called(
-                alloc,
-                of,
-                places.as_slice(),
-                sizes.as_slice(),
-                call,
-                *words,
-                arms,
-            )
+            let taken = es.as_slice();
+            let (of, sizes) = values(alloc, routine, next, taken)?;
+            let arms_of = catching.get();
+            let (of, arms) = both(of, caught_by(alloc, routine, next, arms_of))?;
+            let order = places.as_slice();
+            let lengths = sizes.as_slice();
+            called(alloc, of, order, lengths, call, *words, arms)
         }
         TypedExpr::Raise(raised, places, es, words, catching) => {
             let raise = raise_code(&routine.links, *raised)?;
-            let (of, sizes) = values(alloc, routine, next, es.as_slice())?;
-            let (of, arms) = both(of, caught_by(alloc, routine, next, catching.get()))?;
-            called(
-                alloc,
-                of,
-                places.as_slice(),
-                sizes.as_slice(),
-                raise,
-                *words,
-                arms,
-            )
+            let told = es.as_slice();
+            let (of, sizes) = values(alloc, routine, next, told)?;
+            let catches = catching.get();
+            let (of, arms) = both(of, caught_by(alloc, routine, next, catches))?;
+            let ranks = places.as_slice();
+            let widths = sizes.as_slice();
+            called(alloc, of, ranks, widths, raise, *words, arms)
         }
     }
 }
@@ -227,10 +220,9 @@ pub(crate) fn values(
     ensures sizes { IfOk result (λ made. made.1 ≡ slots.sizes (exprs (map expr es.now))) }
     ensures next { OnOk result (next.new ≡ next.old + hidden_exprs (exprs (map expr es.now))) }
 {
-    let mut made = Values {
-        row: no_row(alloc),
-        sizes: List::new(alloc),
-    };
+    let row = no_row(alloc);
+    let sizes = List::new(alloc);
+    let mut made = Values { row, sizes };
     for e in es {
         let (held, words) = both(made, value_words(e))?;
         let (held, part) = both(held, value(alloc, routine, next, e))?;

@@ -51,4 +51,3 @@ invariant-path-loop-suffix l = record {
   next : l.next + hidden_suffixes (chain (map suffix (drop l.suffix-index l.suffixes)) t.NoSuffix)
       ≡ l.fn.next + hidden_suffixes (chain (map suffix l.suffixes) t.NoSuffix);
 }
-
