@@ -31,7 +31,7 @@ use typed_counts::value_words;
 
 /// The block of a value; its hidden words lie from the next free slot on.
 #[cycle(blocks)]
-#[tactic(auto, unfolding(mesa_types::specs::Counts::hidden_expr, block_trees::specs::Excess::excess, block_trees::specs::Excess::excess_in, block_trees::specs::Excess::excess_of))]
+#[tactic(auto, unfolding(mesa_types::specs::Counts::hidden_expr, block_trees::specs::Excess::excess, block_trees::specs::Excess::excess_in, block_trees::specs::Excess::excess_of), using(crate::proofs::ReadLaws::path_fits))]
 pub(crate) fn value(
     alloc: Global,
     routine: &Routine,
@@ -207,7 +207,7 @@ fn passed(
 
 /// Values one behind the other, with the words of each.
 #[cycle(blocks)]
-#[tactic(auto, unfolding(mesa_types::specs::Counts::hidden_expr), using(block_trees::proofs::Walks::values_first, block_trees::proofs::Walks::hidden_first, block_trees::proofs::Splits::exprs_split))]
+#[tactic(auto, unfolding(mesa_types::specs::Counts::hidden_expr), using(crate::proofs::ItemLaws::value_fits, crate::proofs::ItemLaws::value_room))]
 pub(crate) fn values(
     alloc: Global,
     routine: &Routine,
@@ -235,7 +235,7 @@ pub(crate) fn values(
 
 /// Out to the end of a part from the first operand that is true, or that is not.
 #[cycle(blocks)]
-#[tactic(auto, unfolding(mesa_types::specs::Counts::hidden_expr), using(block_trees::proofs::Walks::operands_first, block_trees::proofs::Walks::hidden_first, block_trees::proofs::Splits::exprs_split))]
+#[tactic(auto, unfolding(mesa_types::specs::Counts::hidden_expr), using(crate::proofs::ItemLaws::operand_fits, crate::proofs::ItemLaws::value_room))]
 pub(crate) fn operands(
     alloc: Global,
     routine: &Routine,
@@ -259,7 +259,7 @@ pub(crate) fn operands(
 
 /// The operators of a run behind its first operand.
 #[cycle(blocks)]
-#[tactic(auto, unfolding(mesa_types::specs::Counts::hidden_expr), using(block_trees::proofs::Walks::operations_first, block_trees::proofs::Walks::hidden_operation, block_trees::proofs::Splits::operations_split))]
+#[tactic(auto, unfolding(mesa_types::specs::Counts::hidden_expr), using(crate::proofs::ItemLaws::right_fits, crate::proofs::ItemLaws::right_room))]
 pub(crate) fn operations(
     alloc: Global,
     routine: &Routine,
@@ -300,7 +300,7 @@ pub(crate) fn bounds(
 
 /// The indices among suffixes, each added to the offset on the operand stack.
 #[cycle(blocks)]
-#[tactic(auto, unfolding(mesa_types::specs::Counts::hidden_expr), using(block_trees::proofs::Walks::path_first, block_trees::proofs::Walks::hidden_index, block_trees::proofs::Splits::index_split, block_trees::proofs::Splits::field_split))]
+#[tactic(auto, unfolding(mesa_types::specs::Counts::hidden_expr), using(crate::proofs::ItemLaws::index_fits, crate::proofs::ItemLaws::index_room))]
 pub(crate) fn path(
     alloc: Global,
     routine: &Routine,
@@ -314,9 +314,12 @@ pub(crate) fn path(
 {
     let mut row = no_row(alloc);
     for suffix in suffixes {
-        if let Suffix::Index(extent, e) = suffix {
-            let (held, index) = both(row, value(alloc, routine, next, e))?;
-            row = indexed(alloc, held, index, *extent)?;
+        match suffix {
+            Suffix::Field(_, _) => {}
+            Suffix::Index(extent, e) => {
+                let (held, index) = both(row, value(alloc, routine, next, e))?;
+                row = indexed(alloc, held, index, *extent)?;
+            }
         }
     }
     closed(alloc, row, does(List::new(alloc)))
