@@ -11,6 +11,7 @@ ghost use Rattle.block_trees.specs.Plain.{plain};
 ghost use Rattle.block_trees.specs.Routines.{coded};
 
 use crate::phrases::caught_by;
+use crate::rooms::{room_for_jump, room_for_path, room_for_value};
 use crate::turns::{operated, read};
 use block_trees::calls::{called, constructed};
 use block_trees::conditions::{answer, turned};
@@ -31,7 +32,7 @@ use typed_counts::value_words;
 
 /// The block of a value; its hidden words lie from the next free slot on.
 #[cycle(blocks)]
-#[tactic(auto, unfolding(mesa_types::specs::Counts::hidden_expr, block_trees::specs::Excess::excess, block_trees::specs::Excess::excess_in, block_trees::specs::Excess::excess_of), using(crate::proofs::ReadLaws::path_fits))]
+#[tactic(auto, unfolding(mesa_types::specs::Counts::hidden_expr, block_trees::specs::Excess::excess, block_trees::specs::Excess::excess_in, block_trees::specs::Excess::excess_of))]
 pub(crate) fn value(
     alloc: Global,
     routine: &Routine,
@@ -53,6 +54,7 @@ pub(crate) fn value(
         ),
         TypedExpr::Variable(home, suffixes, words) => {
             let suffixes = suffixes.as_slice();
+            room_for_path(routine, *next, suffixes);
             let way = path(alloc, routine, next, suffixes)?;
             read(alloc, routine, *home, suffixes, *words, way)
         }
@@ -207,7 +209,7 @@ fn passed(
 
 /// Values one behind the other, with the words of each.
 #[cycle(blocks)]
-#[tactic(auto, unfolding(mesa_types::specs::Counts::hidden_expr), using(crate::proofs::ItemLaws::value_fits, crate::proofs::ItemLaws::value_room))]
+#[tactic(auto, unfolding(mesa_types::specs::Counts::hidden_expr))]
 pub(crate) fn values(
     alloc: Global,
     routine: &Routine,
@@ -225,6 +227,7 @@ pub(crate) fn values(
     let mut made = Values { row, sizes };
     for e in es {
         let (held, words) = both(made, value_words(e))?;
+        room_for_value(routine, *next, e);
         let (held, part) = both(held, value(alloc, routine, next, e))?;
         made = valued(held, part, words)?;
     }
@@ -235,7 +238,7 @@ pub(crate) fn values(
 
 /// Out to the end of a part from the first operand that is true, or that is not.
 #[cycle(blocks)]
-#[tactic(auto, unfolding(mesa_types::specs::Counts::hidden_expr), using(crate::proofs::ItemLaws::operand_fits, crate::proofs::ItemLaws::value_room))]
+#[tactic(auto, unfolding(mesa_types::specs::Counts::hidden_expr))]
 pub(crate) fn operands(
     alloc: Global,
     routine: &Routine,
@@ -251,6 +254,7 @@ pub(crate) fn operands(
 {
     let mut row = no_row(alloc);
     for e in es {
+        room_for_jump(routine, *next, e, sense, part);
         let (held, part) = both(row, jump(alloc, routine, next, e, sense, part))?;
         row = joined(held, part)?;
     }
@@ -259,7 +263,7 @@ pub(crate) fn operands(
 
 /// The operators of a run behind its first operand.
 #[cycle(blocks)]
-#[tactic(auto, unfolding(mesa_types::specs::Counts::hidden_expr), using(crate::proofs::ItemLaws::right_fits, crate::proofs::ItemLaws::right_room))]
+#[tactic(auto, unfolding(mesa_types::specs::Counts::hidden_expr))]
 pub(crate) fn operations(
     alloc: Global,
     routine: &Routine,
@@ -273,6 +277,7 @@ pub(crate) fn operations(
 {
     let mut row = no_row(alloc);
     for step in rest {
+        room_for_value(routine, *next, &step.right);
         let (held, right) = both(row, value(alloc, routine, next, &step.right))?;
         row = operated(alloc, routine, held, step.check, step.operator, right)?;
     }
@@ -300,7 +305,7 @@ pub(crate) fn bounds(
 
 /// The indices among suffixes, each added to the offset on the operand stack.
 #[cycle(blocks)]
-#[tactic(auto, unfolding(mesa_types::specs::Counts::hidden_expr), using(crate::proofs::ItemLaws::index_fits, crate::proofs::ItemLaws::index_room))]
+#[tactic(auto, unfolding(mesa_types::specs::Counts::hidden_expr))]
 pub(crate) fn path(
     alloc: Global,
     routine: &Routine,
@@ -317,6 +322,7 @@ pub(crate) fn path(
         match suffix {
             Suffix::Field(_, _) => {}
             Suffix::Index(extent, e) => {
+                room_for_value(routine, *next, e);
                 let (held, index) = both(row, value(alloc, routine, next, e))?;
                 row = indexed(alloc, held, index, *extent)?;
             }

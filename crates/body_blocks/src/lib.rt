@@ -3,5 +3,6 @@
 
 mod expressions;
 mod phrases;
+mod rooms;
 mod statements;
 mod turns;

@@ -17,10 +17,53 @@ use Rattle.block_trees.proofs.RowLaws.{row_begun, turn_block, turn_fits}
 use Rattle.block_trees.proofs.Splits.{exprs_split, field_split, index_split, operations_split}
 use Rattle.block_trees.proofs.Walks.{hidden_index_next, hidden_next, hidden_operation_next, hidden_passed, operands_next, operations_next, path_index, path_next, path_passed, sizes_next, values_next}
 use Rattle.body_blocks.proofs.RowTurns.{begun_small, one_put, sizes_begun, three_put, turn_room, two_put}
-use Rattle.body_blocks.proofs.ExpressionLaws.{call_form, raise_form}
+use Rattle.body_blocks.proofs.ExpressionLaws.{call_form, raise_form, variable_form, variable_hidden}
 use Rattle.body_blocks.proofs.FormLaws.{call_made, fits_call}
+use Rattle.body_blocks.proofs.ItemLaws.{index_fits, index_room, operand_fits, right_fits, right_room, value_fits, value_room}
+use Rattle.body_blocks.proofs.ReadLaws.{path_fits}
 use Rattle.body_blocks.proofs.expressions.+blocks.Goals as goal
 use Rattle.body_blocks.proofs.expressions.+blocks.Goals.{path-in-Field, path-in-Index+in_ok-held+in_ok-row}
+
+pub values-room_for_value-requires-clause-room : goal.values-room_for_value-requires-clause-room
+values-room_for_value-requires-clause-room n c =
+    value_room (coded c.args.routine.now) c.loop-e.next c.e-item.result c.loop-e.e-index c.args.es.now c.loop-e-test.true c.e-item.is _ c.loop-e.invariant.next c.requires.room
+
+pub values-room_for_value-requires-clause-fits : goal.values-room_for_value-requires-clause-fits
+values-room_for_value-requires-clause-fits n c =
+    value_fits (coded c.args.routine.now) c.loop-e.next c.e-item.result c.loop-e.e-index c.args.es.now c.loop-e-test.true c.e-item.is c.loop-e.invariant.fits
+
+pub operands-room_for_jump-requires-clause-room : goal.operands-room_for_jump-requires-clause-room
+operands-room_for_jump-requires-clause-room n c =
+    value_room (coded c.args.routine.now) c.loop-e.next c.e-item.result c.loop-e.e-index c.args.es.now c.loop-e-test.true c.e-item.is _ c.loop-e.invariant.next c.requires.room
+
+pub operands-room_for_jump-requires-clause-fits : goal.operands-room_for_jump-requires-clause-fits
+operands-room_for_jump-requires-clause-fits n c =
+    operand_fits (coded c.args.routine.now) c.loop-e.next c.e-item.result c.loop-e.e-index c.args.es.now c.loop-e-test.true c.e-item.is c.args.sense c.args.part c.loop-e.invariant.fits
+
+pub operations-room_for_value-requires-clause-room : goal.operations-room_for_value-requires-clause-room
+operations-room_for_value-requires-clause-room n c =
+    right_room (coded c.args.routine.now) c.loop-step.next c.step-item.result c.loop-step.step-index c.args.rest.now c.loop-step-test.true c.step-item.is _ c.loop-step.invariant.next c.requires.room
+
+pub operations-room_for_value-requires-clause-fits : goal.operations-room_for_value-requires-clause-fits
+operations-room_for_value-requires-clause-fits n c =
+    right_fits (coded c.args.routine.now) c.loop-step.next c.step-item.result c.loop-step.step-index c.args.rest.now c.loop-step-test.true c.step-item.is c.loop-step.invariant.fits
+
+pub path-room_for_value-requires-clause-room : goal.path-room_for_value-requires-clause-room
+path-room_for_value-requires-clause-room n c =
+    index_room (coded c.args.routine.now) c.loop-suffix.next c.in-Index.e c.loop-suffix.suffix-index c.args.suffixes.now c.suffix-item.result c.in-Index.extent c.loop-suffix-test.true c.suffix-item.is c.in-Index.is _ c.loop-suffix.invariant.next c.requires.room
+
+pub path-room_for_value-requires-clause-fits : goal.path-room_for_value-requires-clause-fits
+path-room_for_value-requires-clause-fits n c =
+    index_fits (coded c.args.routine.now) c.loop-suffix.next c.in-Index.e c.loop-suffix.suffix-index c.args.suffixes.now c.suffix-item.result c.in-Index.extent c.loop-suffix-test.true c.suffix-item.is c.in-Index.is c.loop-suffix.invariant.fits
+
+pub value-room_for_path-requires-clause-room : goal.value-room_for_path-requires-clause-room
+value-room_for_path-requires-clause-room n c =
+    omega (arith, c.requires.room, variable_hidden (coded c.args.routine.now) c.args.next.now c.args.e.now _ _ c.as_slice-suffixes.result.now _ c.in-Variable.is c.as_slice-suffixes.ensures)
+
+pub value-room_for_path-requires-clause-fits : goal.value-room_for_path-requires-clause-fits
+value-room_for_path-requires-clause-fits n c =
+    path_fits (coded c.args.routine.now) c.args.next.now c.in-Variable.home (chain (map suffix c.as_slice-suffixes.result.now) t.NoSuffix) c.in-Variable.words
+    (ap excess (sym (variable_form (coded c.args.routine.now) c.args.next.now c.args.e.now _ _ c.as_slice-suffixes.result.now _ c.in-Variable.is c.as_slice-suffixes.ensures)) ∙ c.requires.fits)
 
 pub values-loop-e-preserved : goal.values-loop-e-preserved
 values-loop-e-preserved n c =
