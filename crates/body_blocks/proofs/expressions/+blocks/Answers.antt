@@ -22,7 +22,7 @@ use Rattle.body_blocks.proofs.FormLaws.{call_made, fits_call}
 use Rattle.body_blocks.proofs.ItemLaws.{index_fits, index_room, operand_fits, right_fits, right_room, value_fits, value_room}
 use Rattle.body_blocks.proofs.ReadLaws.{path_fits}
 use Rattle.body_blocks.proofs.expressions.+blocks.Goals as goal
-use Rattle.body_blocks.proofs.expressions.+blocks.Goals.{path-in-Field, path-in-Index+in_ok-held+in_ok-row}
+use Rattle.body_blocks.proofs.expressions.+blocks.Goals.{path-in-Field, path-in-Index+in_ok-held-in-Index+in_ok-row-in-Index}
 
 pub values-room_for_value-requires-clause-room : goal.values-room_for_value-requires-clause-room
 values-room_for_value-requires-clause-room n c =
@@ -169,13 +169,13 @@ path-loop-suffix-preserved n c =
             small = omega (arith, c.loop-suffix.invariant.small, ap size (path_passed P c.loop-suffix.next _ _ all tail split));
             next = omega (arith, c.loop-suffix.invariant.next, hidden_passed P c.loop-suffix.next _ _ all tail split);
           })
-      | path-in-Index+in_ok-held+in_ok-row w ↦
+      | path-in-Index+in_ok-held-in-Index+in_ok-row-in-Index w ↦
           let split = index_split c.args.suffixes.now c.loop-suffix.suffix-index c.suffix-item.result c.loop-suffix-test.true c.suffix-item.is w.in-Index.extent w.in-Index.e w.in-Index.is in
-          let made = rw w.in_ok-held.ensures.1 at w.value.ensures.block in
-          let after = w.next-is ∙ rw w.in_ok-held.ensures.1 at w.value.ensures.next in
+          let made = rw w.in_ok-held-in-Index.ensures.1 at w.value.ensures.block in
+          let after = w.next-is ∙ rw w.in_ok-held-in-Index.ensures.1 at w.value.ensures.next in
           let next = path_next P c.loop-suffix.next _ _ _ _ _ _ all tail split after in
-          let row = ap (λ (x : Row). plain_blocks x.blocks) w.in_ok-held.ensures.0 in
-          let put = ap (λ (x : Row). plain_blocks x.blocks) w.row-is ∙ two_put _ _ _ _ _ _ row made w.in_ok-row.ensures in
+          let row = ap (λ (x : Row). plain_blocks x.blocks) w.in_ok-held-in-Index.ensures.0 in
+          let put = ap (λ (x : Row). plain_blocks x.blocks) w.row-is ∙ two_put _ _ _ _ _ _ row made w.in_ok-row-in-Index.ensures in
           let bs = (spec.forms P c.loop-suffix.next (expr w.in-Index.e)).value
           ∷ Does (index_code w.in-Index.extent.check w.in-Index.extent.first w.in-Index.extent.elements w.in-Index.extent.words) ∷ [] in
           record {
