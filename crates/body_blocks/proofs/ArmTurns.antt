@@ -1,5 +1,5 @@
 -- A phrase's arms one by one: the first, one more, the last.
-use Rattle.std.proofs.Common.{◌≡◌, refl, sym, ap, ◌∙◌, ℕ, ◌+◌, ◌≤◌, List, [], ◌∷◌, length, drop, map, arith}
+use Rattle.std.proofs.Common.{◌≡◌, sym, ap, ◌∙◌, ℕ, ◌+◌, ◌≤◌, List, [], length, drop, map, arith}
 use Rattle.std.proofs.lemmas.List.{drop_all}
 use Rattle.mesa_types.specs.Chain.{chain}
 use Rattle.mesa_types.specs.Counts.{hidden, hidden_arms}
@@ -10,7 +10,7 @@ use Rattle.mesa_types.specs.declared.typed_tree.Arm.{Arm}
 use Rattle.code_relation.specs.Links.{label_code}
 use Rattle.code_relation.specs.Reading.{Coded}
 use Rattle.code_relation.specs.Slots.{local_slot, words_from}
-use Rattle.code_blocks.specs.Blocks.{Block, ArmBlocks, NoArmBlock, AndArmBlock}
+use Rattle.code_blocks.specs.Blocks.{Block, ArmBlocks, AndArmBlock}
 use Rattle.code_blocks.specs.Translation as spec
 use Rattle.block_trees.specs.ArmRows.{arms_before}
 use Rattle.block_trees.specs.Plain.{off_in_arms, plain_arms}

@@ -1,5 +1,5 @@
 -- The block of each form of an expression by those of its parts, where each part begins with its hidden words behind those before it.
-use Rattle.std.proofs.Common.{◌≡◌, refl, sym, ap, ◌∙◌, ℕ, suc, ◌+◌, ◌-◌, List, [], ◌∷◌, map, Bool, true, false, not, arith}
+use Rattle.std.proofs.Common.{◌≡◌, refl, sym, ap, ◌∙◌, ℕ, ◌+◌, ◌-◌, List, [], ◌∷◌, map, Bool, true, false, not}
 use Rattle.mesa_types.specs.Chain.{chain}
 use Rattle.mesa_types.specs.Counts.{hidden_expr, hidden_exprs, hidden_interval, hidden_operations, hidden_phrase, hidden_suffixes, last_words, words_given, words_of}
 use Rattle.mesa_types.specs.Plain.{expr, exprs, interval, operation, phrase, suffix}
@@ -25,7 +25,7 @@ use Rattle.code_relation.specs.Links.{call_code, raise_code}
 use Rattle.code_relation.specs.OwnCode.{arrange_code, check_code, field_code, relation_code, total}
 use Rattle.code_relation.specs.Reading.{Coded, scratch}
 use Rattle.code_relation.specs.Slots.{sizes}
-use Rattle.code_blocks.specs.Blocks.{ArmBlocks, Block, Both, Calls, Does, Out, Where}
+use Rattle.code_blocks.specs.Blocks.{ArmBlocks, Block, Both, Calls, Does}
 use Rattle.code_blocks.specs.Translation as spec
 use Rattle.body_blocks.proofs.ExpressionForms.{all_is, byte_is, call_is, checked_is, construct_is, field_is, length_is, negate_is, not_is, operate_is, raise_is, relate_is, some_is, variable_is, within_is}
 

@@ -1,5 +1,5 @@
 -- The element of a list that is walked next: where the rest of the list has room and fits, so does it.
-use Rattle.std.proofs.Common.{◌≡◌, ap, ◌∙◌, sym, ℕ, ◌+◌, ◌<◌, ◌≤◌, List, length, get_or, drop, map, Bool, arith}
+use Rattle.std.proofs.Common.{◌≡◌, ℕ, ◌+◌, ◌<◌, ◌≤◌, List, length, get_or, drop, map, Bool, arith}
 use Rattle.mesa_types.specs.Chain.{chain}
 use Rattle.mesa_types.specs.Counts.{hidden_expr, hidden_exprs, hidden_operations, hidden_suffixes}
 use Rattle.mesa_types.specs.Plain.{expr, exprs, operation, suffix}
@@ -9,12 +9,11 @@ use Rattle.mesa_types.specs.declared.typed_tree.Operation.{Operation}
 use Rattle.mesa_types.specs.declared.typed_tree.Suffix.{Suffix}
 use Rattle.mesa_types.specs.declared.typed_tree.Suffix.TheVariants as v
 use Rattle.mesa_types.specs.declared.typed_tree.TypedExpr.{TypedExpr}
-use Rattle.code_relation.specs.OwnCode.{index_code}
 use Rattle.code_relation.specs.Reading.{Coded}
 use Rattle.code_blocks.specs.Translation as spec
-use Rattle.block_trees.specs.Excess.{excess, excess_in}
+use Rattle.block_trees.specs.Excess.{excess}
 use Rattle.block_trees.proofs.Splits.{exprs_split, index_split, operations_split}
-use Rattle.block_trees.proofs.Walks.{hidden_first, hidden_index, hidden_operation, operands_first, operations_first, path_first, path_index, values_first}
+use Rattle.block_trees.proofs.Walks.{hidden_first, hidden_index, hidden_operation, operands_first, operations_first, path_first, values_first}
 
 module _ (P : Coded) (z : ℕ) (x : TypedExpr) (i : ℕ) (es : List TypedExpr) (lt : i < length es) (is : x ≡ get_or es i x) where
   pub value_fits : excess (spec.values P z (exprs (map expr (drop i es)))) ≡ 0 → excess ((spec.forms P z (expr x)).value) ≡ 0

@@ -1,5 +1,5 @@
 -- The path to the part of a variable that is read fits where the whole does: it has no code where there is no index on it.
-use Rattle.std.proofs.Common.{◌≡◌, refl, ap, ◌∙◌, ℕ, [], ◌∷◌, Bool, true, false, arith}
+use Rattle.std.proofs.Common.{◌≡◌, refl, ap, ℕ, [], ◌∷◌, Bool, true, false, arith}
 use Rattle.mesa_types.specs.Typed as t
 use Rattle.mesa_types.specs.declared.typed_parts.Home.{Home}
 use Rattle.code_relation.specs.Reading.{Coded}

@@ -1,16 +1,13 @@
-use Rattle.std.proofs.Common.{◌≡◌, ◌+◌, ◌≤◌, ◌++◌, map, drop}
+use Rattle.std.proofs.Common.{◌≡◌, ◌+◌, map, drop}
 use Rattle.mesa_types.specs.Chain.{chain}
-use Rattle.mesa_types.specs.Counts.{hidden_arms, hidden_exprs, hidden_operations, hidden_suffixes}
-use Rattle.mesa_types.specs.Plain.{arm, expr, exprs, operation, suffix}
+use Rattle.mesa_types.specs.Counts.{hidden_arms}
+use Rattle.mesa_types.specs.Plain.{arm}
 use Rattle.mesa_types.specs.Typed as t
-use Rattle.code_relation.specs.Slots.{sizes}
-use Rattle.code_blocks.specs.Sizes.{size}
 use Rattle.code_blocks.specs.Translation as spec
 use Rattle.block_trees.specs.ArmRows.{arms_before}
-use Rattle.block_trees.specs.Excess.{excess, excess_in_arms}
-use Rattle.block_trees.specs.Plain.{in_order, off_in_arms, plain_blocks}
+use Rattle.block_trees.specs.Excess.{excess_in_arms}
+use Rattle.block_trees.specs.Plain.{off_in_arms}
 use Rattle.block_trees.specs.Routines.{coded}
-use Rattle.block_trees.specs.Rows.{sizes_in}
 use Rattle.body_blocks.proofs.phrases.arm_blocks.Given as goal
 
 abbrev pub invariant-loop-arm : goal.invariant-loop-arm
