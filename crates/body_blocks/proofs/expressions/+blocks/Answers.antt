@@ -77,10 +77,15 @@ values-loop-e-preserved n c =
     let lengths = ap (λ (x : Values). x.sizes) (c.in_ok-held-2.ensures.0 ∙ c.in_ok-held.ensures.0) in
     let put = one_put _ _ _ _ _ row made c.in_ok-made.ensures.blocks in
     let sized = one_put _ _ _ _ _ lengths refl c.in_ok-made.ensures.sizes in
+    let rest = exprs (map expr (drop c.loop-e.e-index c.args.es.now)) in
+    let later = exprs (map expr (drop (c.loop-e.e-index + 1) c.args.es.now)) in
+    let old = plain_blocks c.loop-e.made.row.blocks in
+    let new = plain_blocks c.in_ok-made.made.row.blocks in
+    let bs = (spec.forms P c.loop-e.next (expr c.e-item.result)).value ∷ [] in
     record {
-      block = turn_block (plain_blocks c.loop-e.made.row.blocks) ((spec.forms P c.loop-e.next (expr c.e-item.result)).value ∷ []) (plain_blocks c.in_ok-made.made.row.blocks) (spec.values P c.loop-e.next (exprs (map expr (drop c.loop-e.e-index c.args.es.now)))) (spec.values P c.value.new.next (exprs (map expr (drop (c.loop-e.e-index + 1) c.args.es.now)))) next put _ c.loop-e.invariant.block;
-      fits = turn_fits (plain_blocks c.loop-e.made.row.blocks) ((spec.forms P c.loop-e.next (expr c.e-item.result)).value ∷ []) (plain_blocks c.in_ok-made.made.row.blocks) (spec.values P c.loop-e.next (exprs (map expr (drop c.loop-e.e-index c.args.es.now)))) (spec.values P c.value.new.next (exprs (map expr (drop (c.loop-e.e-index + 1) c.args.es.now)))) next put c.loop-e.invariant.fits;
-      small = turn_room (plain_blocks c.loop-e.made.row.blocks) ((spec.forms P c.loop-e.next (expr c.e-item.result)).value ∷ []) (plain_blocks c.in_ok-made.made.row.blocks) (spec.values P c.loop-e.next (exprs (map expr (drop c.loop-e.e-index c.args.es.now)))) (spec.values P c.value.new.next (exprs (map expr (drop (c.loop-e.e-index + 1) c.args.es.now)))) next put c.loop-e.invariant.small;
+      block = turn_block old bs new (spec.values P c.loop-e.next rest) (spec.values P c.value.new.next later) next put _ c.loop-e.invariant.block;
+      fits = turn_fits old bs new (spec.values P c.loop-e.next rest) (spec.values P c.value.new.next later) next put c.loop-e.invariant.fits;
+      small = turn_room old bs new (spec.values P c.loop-e.next rest) (spec.values P c.value.new.next later) next put c.loop-e.invariant.small;
       words = sizes_next P c.loop-e.next 0 _ _ _ split _ _ _ words sized ∙ c.loop-e.invariant.words;
       next = hidden_next P c.loop-e.next _ _ _ _ split after ∙ c.loop-e.invariant.next;
     }
@@ -94,10 +99,17 @@ operands-loop-e-preserved n c =
     let next = operands_next P c.loop-e.next _ _ _ _ split c.args.sense c.args.part after in
     let row = ap (λ (x : Row). plain_blocks x.blocks) c.in_ok-held.ensures.0 in
     let put = one_put _ _ _ _ _ row made c.in_ok-row.ensures in
+    let rest = exprs (map expr (drop c.loop-e.e-index c.args.es.now)) in
+    let later = exprs (map expr (drop (c.loop-e.e-index + 1) c.args.es.now)) in
+    let all = spec.operands P c.loop-e.next rest c.args.sense c.args.part in
+    let tail = spec.operands P c.jump.new.next later c.args.sense c.args.part in
+    let old = plain_blocks c.loop-e.row.blocks in
+    let new = plain_blocks c.in_ok-row.row.blocks in
+    let bs = (spec.forms P c.loop-e.next (expr c.e-item.result)).jump c.args.sense c.args.part ∷ [] in
     record {
-      block = turn_block (plain_blocks c.loop-e.row.blocks) ((spec.forms P c.loop-e.next (expr c.e-item.result)).jump c.args.sense c.args.part ∷ []) (plain_blocks c.in_ok-row.row.blocks) (spec.operands P c.loop-e.next (exprs (map expr (drop c.loop-e.e-index c.args.es.now))) c.args.sense c.args.part) (spec.operands P c.jump.new.next (exprs (map expr (drop (c.loop-e.e-index + 1) c.args.es.now))) c.args.sense c.args.part) next put _ c.loop-e.invariant.block;
-      fits = turn_fits (plain_blocks c.loop-e.row.blocks) ((spec.forms P c.loop-e.next (expr c.e-item.result)).jump c.args.sense c.args.part ∷ []) (plain_blocks c.in_ok-row.row.blocks) (spec.operands P c.loop-e.next (exprs (map expr (drop c.loop-e.e-index c.args.es.now))) c.args.sense c.args.part) (spec.operands P c.jump.new.next (exprs (map expr (drop (c.loop-e.e-index + 1) c.args.es.now))) c.args.sense c.args.part) next put c.loop-e.invariant.fits;
-      small = turn_room (plain_blocks c.loop-e.row.blocks) ((spec.forms P c.loop-e.next (expr c.e-item.result)).jump c.args.sense c.args.part ∷ []) (plain_blocks c.in_ok-row.row.blocks) (spec.operands P c.loop-e.next (exprs (map expr (drop c.loop-e.e-index c.args.es.now))) c.args.sense c.args.part) (spec.operands P c.jump.new.next (exprs (map expr (drop (c.loop-e.e-index + 1) c.args.es.now))) c.args.sense c.args.part) next put c.loop-e.invariant.small;
+      block = turn_block old bs new all tail next put _ c.loop-e.invariant.block;
+      fits = turn_fits old bs new all tail next put c.loop-e.invariant.fits;
+      small = turn_room old bs new all tail next put c.loop-e.invariant.small;
       next = hidden_next P c.loop-e.next _ _ _ _ split after ∙ c.loop-e.invariant.next;
     }
 
@@ -110,10 +122,18 @@ operations-loop-step-preserved n c =
     let next = operations_next P c.loop-step.next _ _ _ _ _ _ split after in
     let row = ap (λ (x : Row). plain_blocks x.blocks) c.in_ok-held.ensures.0 in
     let put = three_put _ _ _ _ _ _ _ row made c.in_ok-row.ensures in
+    let rest = chain (map operation (drop c.loop-step.step-index c.args.rest.now)) t.NoOperation in
+    let later = chain (map operation (drop (c.loop-step.step-index + 1) c.args.rest.now)) t.NoOperation in
+    let all = spec.operations P c.loop-step.next rest in
+    let tail = spec.operations P c.value.new.next later in
+    let old = plain_blocks c.loop-step.row.blocks in
+    let new = plain_blocks c.in_ok-row.row.blocks in
+    let step = c.step-item.result in
+    let bs = Does (check_code step.check) ∷ (spec.forms P c.loop-step.next (expr step.right)).value ∷ Does (operator_code (scratch P) step.operator) ∷ [] in
     record {
-      block = turn_block (plain_blocks c.loop-step.row.blocks) (Does (check_code c.step-item.result.check) ∷ (spec.forms P c.loop-step.next (expr c.step-item.result.right)).value ∷ Does (operator_code (scratch P) c.step-item.result.operator) ∷ []) (plain_blocks c.in_ok-row.row.blocks) (spec.operations P c.loop-step.next (chain (map operation (drop c.loop-step.step-index c.args.rest.now)) t.NoOperation)) (spec.operations P c.value.new.next (chain (map operation (drop (c.loop-step.step-index + 1) c.args.rest.now)) t.NoOperation)) next put _ c.loop-step.invariant.block;
-      fits = turn_fits (plain_blocks c.loop-step.row.blocks) (Does (check_code c.step-item.result.check) ∷ (spec.forms P c.loop-step.next (expr c.step-item.result.right)).value ∷ Does (operator_code (scratch P) c.step-item.result.operator) ∷ []) (plain_blocks c.in_ok-row.row.blocks) (spec.operations P c.loop-step.next (chain (map operation (drop c.loop-step.step-index c.args.rest.now)) t.NoOperation)) (spec.operations P c.value.new.next (chain (map operation (drop (c.loop-step.step-index + 1) c.args.rest.now)) t.NoOperation)) next put c.loop-step.invariant.fits;
-      small = turn_room (plain_blocks c.loop-step.row.blocks) (Does (check_code c.step-item.result.check) ∷ (spec.forms P c.loop-step.next (expr c.step-item.result.right)).value ∷ Does (operator_code (scratch P) c.step-item.result.operator) ∷ []) (plain_blocks c.in_ok-row.row.blocks) (spec.operations P c.loop-step.next (chain (map operation (drop c.loop-step.step-index c.args.rest.now)) t.NoOperation)) (spec.operations P c.value.new.next (chain (map operation (drop (c.loop-step.step-index + 1) c.args.rest.now)) t.NoOperation)) next put c.loop-step.invariant.small;
+      block = turn_block old bs new all tail next put _ c.loop-step.invariant.block;
+      fits = turn_fits old bs new all tail next put c.loop-step.invariant.fits;
+      small = turn_room old bs new all tail next put c.loop-step.invariant.small;
       next = hidden_operation_next P c.loop-step.next _ _ _ _ _ _ split after ∙ c.loop-step.invariant.next;
     }
 
