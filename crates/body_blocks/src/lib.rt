@@ -1,6 +1,11 @@
 //! The tree of blocks of a typed body: the walk over its statements and expressions.
 #![tactic(auto)]
 
+mod cases;
 mod expressions;
+mod loops;
 mod phrases;
 mod statements;
+mod targets;
+
+pub use statements::block as body_block;

@@ -1,18 +1,37 @@
 //! Blocks of statements.
-ghost use Rattle.std.specs.Prelude.{◌≡◌, ◌+◌, ◌≤◌, IfOk, OnOk};
-ghost use Rattle.mesa_types.specs.Counts.{hidden};
-ghost use Rattle.mesa_types.specs.Plain.{stmt};
+ghost use Rattle.std.specs.Prelude.{◌≡◌, ◌+◌, ◌≤◌, map, IfOk, OnOk};
+ghost use Rattle.mesa_types.specs.Counts.{hidden, hidden_stmts};
+ghost use Rattle.mesa_types.specs.Plain.{stmt, stmts};
 ghost use Rattle.code_blocks.specs.Translation as spec;
 ghost use Rattle.block_trees.specs.Excess.{excess};
 ghost use Rattle.block_trees.specs.Plain.{plain};
 ghost use Rattle.block_trees.specs.Routines.{coded};
 
-use block_trees::{Part, Routine};
-use mesa_base::OutOfMemory;
+use crate::cases::cases;
+use crate::expressions::{bounds, jump, path, value, values};
+use crate::loops::{a_loop, exits};
+use crate::phrases::caught_by;
+use crate::targets::targets;
+use block_trees::case_forms::{branches, dropped, is_null, selected};
+use block_trees::counter::Counter;
+use block_trees::exit_forms::enclosed;
+use block_trees::forms::followed;
+use block_trees::loop_forms::started;
+use block_trees::making::{closed, does, ends, goes, joined, no_row};
+use block_trees::statement_forms::{
+    assigned, declared, declared_as, given, goes_out, point_of, rejected, resumed, returned,
+};
+use block_trees::{Mark, Part, Point, Routine};
+use held_trees::both;
+use mesa_base::{List, OutOfMemory};
 use mesa_types::TypedStmt;
 use std::alloc::Global;
+use typed_counts::value_words;
 
-/// The block of a statement; its hidden words lie from the next free slot on.
+/// The block of a statement; its hidden words lie from the next free slot on. The one refusal is want of memory. The recursion
+/// is as deep as the tree.
+#[cycle(blocks)]
+#[tactic(auto, unfolding(mesa_types::specs::Counts::hidden, block_trees::specs::Excess::excess))]
 pub fn block(
     alloc: Global,
     routine: &Routine,
@@ -24,5 +43,113 @@ pub fn block(
     ensures block { IfOk result (λ made. plain made.block ≡ spec.block (coded routine.now) next.old (stmt s.now)) }
     ensures next { OnOk result (next.new ≡ next.old + hidden (stmt s.now)) }
 {
-    Err(OutOfMemory)
+    match s {
+        TypedStmt::Null => Ok(does(List::new(alloc))),
+        TypedStmt::Marked(number, of) => {
+            let of = block(alloc, routine, next, of.get())?;
+            ends(alloc, Mark::Statement(*number), of)
+        }
+        TypedStmt::Declare(homes, of) => declared(alloc, routine, homes.as_slice(), of),
+        TypedStmt::DeclareAs(homes, of, e) => {
+            let set = value(alloc, routine, next, e)?;
+            declared_as(alloc, routine, homes.as_slice(), of, set)
+        }
+        TypedStmt::Assign(home, suffixes, e) => {
+            let words = value_words(e)?;
+            let suffixes = suffixes.as_slice();
+            let way = path(alloc, routine, next, suffixes)?;
+            let (way, set) = both(way, value(alloc, routine, next, e))?;
+            assigned(alloc, routine, *home, suffixes, way, set, words)
+        }
+        TypedStmt::Extract(_, ts, e) => {
+            let words = value_words(e)?;
+            let taken = targets(alloc, routine, next, words, ts.as_slice())?;
+            let (taken, from) = both(taken, value(alloc, routine, next, e))?;
+            followed(alloc, from, taken)
+        }
+        TypedStmt::Perform(e) => {
+            let words = value_words(e)?;
+            let of = value(alloc, routine, next, e)?;
+            dropped(alloc, of, words)
+        }
+        TypedStmt::If(e, then, otherwise) => {
+            let test = jump(alloc, routine, next, e, false, 0)?;
+            let (test, first) = both(test, block(alloc, routine, next, then.get()))?;
+            let otherwise = otherwise.get();
+            let ((test, first), second) = both(
+                (test, first),
+                block(alloc, routine, next, otherwise),
+            )?;
+            branches(alloc, test, first, !is_null(otherwise), second)
+        }
+        TypedStmt::Select(e, cs, otherwise) => {
+            let slot = *next;
+            *next += 1;
+            let words = value_words(e)?;
+            let selector = value(alloc, routine, next, e)?;
+            let otherwise = otherwise.get();
+            let passes = !is_null(otherwise);
+            let (selector, row) = both(
+                selector,
+                cases(alloc, routine, next, slot, passes, cs.as_slice()),
+            )?;
+            let ((selector, row), last) = both(
+                (selector, row),
+                block(alloc, routine, next, otherwise),
+            )?;
+            selected(alloc, slot, words, selector, cs.is_empty(), row, last)
+        }
+        TypedStmt::Block(catching, ss, es) => {
+            let arms = caught_by(alloc, routine, next, catching.get())?;
+            let (arms, of) = both(arms, blocks(alloc, routine, next, ss.as_slice()))?;
+            let es = es.as_slice();
+            let ((arms, of), held) = both((arms, of), exits(alloc, routine, next, es))?;
+            enclosed(alloc, arms, of, es, held)
+        }
+        TypedStmt::Repeat(l) => a_loop(alloc, routine, next, Counter::Uncounted, l.get()),
+        TypedStmt::For(number, down, base, range, l) => {
+            let slot = *next;
+            *next += 3;
+            let range = range.get();
+            let counter = Counter::CountedIn(slot, *number, *down);
+            let ends = bounds(alloc, routine, next, range)?;
+            let (ends, made) = both(ends, a_loop(alloc, routine, next, counter, l.get()))?;
+            started(alloc, slot, *base, range, ends, made)
+        }
+        TypedStmt::Jump(arms, goal) => goes_out(*arms, point_of(*goal)),
+        TypedStmt::ReturnWith(arms, first, places, es) => {
+            let (of, sizes) = values(alloc, routine, next, es.as_slice())?;
+            let (of, (code, words)) = both(of, given(alloc, places.as_slice(), sizes.as_slice()))?;
+            returned(alloc, routine, *arms, *first, of, code, words)
+        }
+        TypedStmt::Resume(places, es) => {
+            let (of, sizes) = values(alloc, routine, next, es.as_slice())?;
+            let (of, (code, words)) = both(of, given(alloc, places.as_slice(), sizes.as_slice()))?;
+            resumed(alloc, of, code, words)
+        }
+        TypedStmt::Reject => rejected(alloc),
+        TypedStmt::Retry(statement) => Ok(goes(1, Point::Start(*statement))),
+        TypedStmt::Continue(statement) => Ok(goes(1, Point::After(*statement))),
+    }
+}
+
+/// Statements one behind the other.
+#[cycle(blocks)]
+pub(crate) fn blocks(
+    alloc: Global,
+    routine: &Routine,
+    next: &mut u16,
+    ss: &[TypedStmt],
+) -> Result<Part, OutOfMemory>
+    requires room { next.old + hidden_stmts (stmts (map stmt ss.now)) ≤ 65535 }
+    requires fits { excess (spec.blocks (coded routine.now) next.old (stmts (map stmt ss.now))) ≡ 0 }
+    ensures block { IfOk result (λ made. plain made.block ≡ spec.blocks (coded routine.now) next.old (stmts (map stmt ss.now))) }
+    ensures next { OnOk result (next.new ≡ next.old + hidden_stmts (stmts (map stmt ss.now))) }
+{
+    let mut row = no_row(alloc);
+    for s in ss {
+        let (held, made) = both(row, block(alloc, routine, next, s))?;
+        row = joined(held, made)?;
+    }
+    closed(alloc, row, does(List::new(alloc)))
 }

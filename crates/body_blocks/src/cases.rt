@@ -1,0 +1,119 @@
+//! Blocks of cases and their tests.
+ghost use Rattle.std.specs.Prelude.{◌≡◌, ◌+◌, ◌≤◌, map, IfOk, OnOk};
+ghost use Rattle.mesa_types.specs.Chain.{chain};
+ghost use Rattle.mesa_types.specs.Counts.{hidden, hidden_cases, hidden_tests};
+ghost use Rattle.mesa_types.specs.Plain.{case, stmt, test};
+ghost use Rattle.mesa_types.specs.Typed as t;
+ghost use Rattle.code_blocks.specs.Translation as spec;
+ghost use Rattle.block_trees.specs.Excess.{excess};
+ghost use Rattle.block_trees.specs.Forms.{case_blocks, case_of, test_of};
+ghost use Rattle.block_trees.specs.Plain.{plain, plain_blocks};
+ghost use Rattle.block_trees.specs.Routines.{coded};
+ghost use Rattle.block_trees.specs.Rows.{excess_among, sizes_in};
+
+use crate::expressions::{bounds, value};
+use crate::statements::block;
+use block_trees::case_forms::{related, tested, within};
+use block_trees::exit_forms::past_if;
+use block_trees::making::{closed, joined, no_row};
+use block_trees::{Part, Routine, Row};
+use held_trees::both;
+use mesa_base::OutOfMemory;
+use mesa_types::{Case, Test};
+use std::alloc::Global;
+
+/// The cases that have tests, one by one; the last of them jumps past the statement behind it where it is to.
+#[cycle(blocks)]
+pub(crate) fn cases(
+    alloc: Global,
+    routine: &Routine,
+    next: &mut u16,
+    slot: u16,
+    passes: bool,
+    cs: &[Case],
+) -> Result<Row, OutOfMemory>
+    requires room { next.old + hidden_cases (chain (map case cs.now) (t.Otherwise t.Null)) ≤ 65535 }
+    requires fits { excess_among (case_blocks (coded routine.now) next.old slot passes (chain (map case cs.now) (t.Otherwise t.Null))) ≡ 0 }
+    requires small { sizes_in (case_blocks (coded routine.now) next.old slot passes (chain (map case cs.now) (t.Otherwise t.Null))) ≤ 4294967295 }
+    ensures blocks { IfOk result (λ row. plain_blocks row.blocks ≡ case_blocks (coded routine.now) next.old slot passes (chain (map case cs.now) (t.Otherwise t.Null))) }
+    ensures next { OnOk result (next.new ≡ next.old + hidden_cases (chain (map case cs.now) (t.Otherwise t.Null))) }
+{
+    let mut row = no_row(alloc);
+    let mut left = cs.len();
+    for case in cs {
+        left -= 1;
+        let jumps = left > 0 || passes;
+        let (held, made) = both(row, a_case(alloc, routine, next, slot, jumps, case))?;
+        row = joined(held, made)?;
+    }
+    Ok(row)
+}
+
+/// A case: its tests, its statement, and a jump past those behind it where it is to jump.
+#[cycle(blocks)]
+pub(crate) fn a_case(
+    alloc: Global,
+    routine: &Routine,
+    next: &mut u16,
+    slot: u16,
+    jumps: bool,
+    of: &Case,
+) -> Result<Part, OutOfMemory>
+    requires room { next.old + (hidden_tests (chain (map test of.now.tests) t.NoTests) + hidden (stmt of.now.body)) ≤ 65535 }
+    requires fits { excess (case_of (coded routine.now) next.old slot (chain (map test of.now.tests) t.NoTests) (stmt of.now.body) jumps) ≡ 0 }
+    ensures block { IfOk result (λ made. plain made.block ≡ case_of (coded routine.now) next.old slot (chain (map test of.now.tests) t.NoTests) (stmt of.now.body) jumps) }
+    ensures next { OnOk result (next.new ≡ next.old + (hidden_tests (chain (map test of.now.tests) t.NoTests) + hidden (stmt of.now.body))) }
+{
+    let of_tests = tests(alloc, routine, next, slot, of.tests.as_slice())?;
+    let (of_tests, statement) = both(of_tests, block(alloc, routine, next, &of.body))?;
+    tested(alloc, of_tests, statement, jumps)
+}
+
+/// The tests of a case: one that fits leads to the end of part 0; where none does, control goes to that of part 1.
+pub(crate) fn tests(
+    alloc: Global,
+    routine: &Routine,
+    next: &mut u16,
+    slot: u16,
+    ts: &[Test],
+) -> Result<Part, OutOfMemory>
+    requires room { next.old + hidden_tests (chain (map test ts.now) t.NoTests) ≤ 65535 }
+    requires fits { excess (spec.tests (coded routine.now) next.old slot (chain (map test ts.now) t.NoTests)) ≡ 0 }
+    ensures block { IfOk result (λ made. plain made.block ≡ spec.tests (coded routine.now) next.old slot (chain (map test ts.now) t.NoTests)) }
+    ensures next { OnOk result (next.new ≡ next.old + hidden_tests (chain (map test ts.now) t.NoTests)) }
+{
+    let mut row = no_row(alloc);
+    let mut left = ts.len();
+    for of in ts {
+        left -= 1;
+        let (held, made) = both(row, a_test(alloc, routine, next, slot, left == 0, of))?;
+        row = joined(held, made)?;
+    }
+    closed(alloc, row, past_if(alloc, ts.is_empty(), 1))
+}
+
+/// A test of the selector, which lies in its slot; the last one leads past the case where it fails.
+pub(crate) fn a_test(
+    alloc: Global,
+    routine: &Routine,
+    next: &mut u16,
+    slot: u16,
+    last: bool,
+    of: &Test,
+) -> Result<Part, OutOfMemory>
+    requires room { next.old + hidden_tests (test of.now t.NoTests) ≤ 65535 }
+    requires fits { excess (test_of (coded routine.now) next.old slot last (test of.now t.NoTests)) ≡ 0 }
+    ensures block { IfOk result (λ made. plain made.block ≡ test_of (coded routine.now) next.old slot last (test of.now t.NoTests)) }
+    ensures next { OnOk result (next.new ≡ next.old + hidden_tests (test of.now t.NoTests)) }
+{
+    match of {
+        Test::IfRelated(range, base, relation, e) => {
+            let right = value(alloc, routine, next, e)?;
+            related(alloc, slot, *range, *base, *relation, last, right)
+        }
+        Test::IfWithin(negated, bases, range) => {
+            let ends = bounds(alloc, routine, next, range)?;
+            within(alloc, routine, slot, *negated, *bases, range, last, ends)
+        }
+    }
+}
