@@ -8,11 +8,12 @@ use Rattle.mesa_types.specs.Plain as twin
 use Rattle.mesa_types.specs.Typed as t
 use Rattle.mesa_types.specs.declared.typed_tree.Exit.{Exit}
 use Rattle.mesa_types.specs.declared.typed_tree.TypedStmt.{TypedStmt}
+use Rattle.code_relation.specs.Loops as loops
 use Rattle.code_relation.specs.Reading.{Coded}
 use Rattle.code_blocks.specs.Blocks.{Block, Both}
 use Rattle.code_blocks.specs.Translation as spec
 use Rattle.block_trees.specs.Excess.{excess}
-use Rattle.block_trees.specs.Forms.{blocks_of, exit_blocks, past_if}
+use Rattle.block_trees.specs.Forms.{blocks_of, exit_blocks, past_if, rounds_of}
 use Rattle.block_trees.specs.declared.part.Part.{Part}
 use Rattle.block_trees.proofs.StatementSplits.{exit_is}
 use Rattle.std.proofs.lemmas.List.{length-map}
@@ -44,3 +45,15 @@ as_many P z (e ∷ es) = ap (λ l. length (exit_blocks P z l)) (exit_is e (chain
 pub held_together : (P : Coded) (z : ℕ) (es : List Exit) (ps : List Part) → blocks_of ps ≡ exit_blocks P z (chain (map exit es) t.NoExits) → length ps ≡ length es
 unfolding blocks_of
 held_together P z es ps is = sym (length-map ps _) ∙ ap length is ∙ as_many P z es
+
+-- the rounds of a loop, and what is behind them
+
+pub rounds_same : (P : Coded) (k : loops.Counter) (a b c d : Block) → a ≡ b → c ≡ d → rounds_of P k a c ≡ rounds_of P k b d
+rounds_same P k a b c d is_test is_body = ap (λ x. rounds_of P k x c) is_test ∙ ap (rounds_of P k b) is_body
+
+pub unless_same : (a b : Bool) (c d : Block) → a ≡ b → c ≡ d → spec.unless a c ≡ spec.unless b d
+unless_same a b c d is_endless is = ap (λ x. spec.unless x c) is_endless ∙ ap (spec.unless b) is
+
+pub unless_fits : (endless : Bool) (b : Block) → endless ≡ false → excess (spec.unless endless b) ≡ 0 → excess b ≡ 0
+unless_fits true b is h = cc
+unless_fits false b is h = h

@@ -1,7 +1,7 @@
 -- Blocks one behind the other that grow by the first of those that are still to come.
-use Rattle.std.proofs.Common.{◌≡◌, refl, sym, ap, ◌∙◌, ℕ, ◌+◌, ◌≤◌, List, [], ◌∷◌, ◌++◌, append_assoc, arith}
+use Rattle.std.proofs.Common.{◌≡◌, refl, sym, ap, ◌∙◌, subst, ℕ, ◌+◌, ◌-◌, ◌<◌, ◌≤◌, List, [], ◌∷◌, ◌++◌, append_assoc, length, get_or, drop, arith}
 use Rattle.std.proofs.lemmas.List.{append-nil}
-use Rattle.std.specs.Prelude.{Result, Ok, IfOk}
+use Rattle.std.specs.Prelude.{Result, Ok, Err, IfOk, OnOk}
 use Rattle.code_blocks.specs.Blocks.{Block, Both}
 use Rattle.code_blocks.specs.Sizes.{size}
 use Rattle.block_trees.specs.Excess.{excess}
@@ -9,6 +9,7 @@ use Rattle.block_trees.specs.Plain.{in_order, plain, plain_blocks}
 use Rattle.block_trees.specs.Rows.{excess_among, sizes_in}
 use Rattle.block_trees.specs.declared.part.Part.{Part}
 use Rattle.block_trees.specs.declared.part.Row.{Row}
+use Rattle.block_trees.proofs.Splits.{item_at}
 use Rattle.block_trees.proofs.RowFits.{among_fit, among_joined, in_order_joined, last_fits, row_fits, row_size, sizes_joined}
 
 -- what a call made, by what it promised of its result
@@ -17,6 +18,21 @@ part_made r x b is h = rw is at h
 
 pub row_made : {E : Type 0} (r : Result Row E) (x : Row) (bs : List Block) → r ≡ Ok x → IfOk r (λ y. plain_blocks y.blocks ≡ bs) → plain_blocks x.blocks ≡ bs
 row_made r x bs is h = rw is at h
+
+pub next_made : {T E : Type 0} (r : Result T E) (x : T) (n m : ℕ) → r ≡ Ok x → OnOk r (n ≡ m) → n ≡ m
+next_made r x n m is h = rw is at h
+
+-- what a maker promises, said of the block of the definitions
+pub made_as : {E : Type 0} (r : Result Part E) (b c : Block) → IfOk r (λ y. plain y.block ≡ b) → b ≡ c → IfOk r (λ y. plain y.block ≡ c)
+made_as r b c h e = subst (λ d. IfOk r (λ y. plain y.block ≡ d)) e h
+
+pub next_held : {T E : Type 0} (r : Result T E) (n m : ℕ) → n ≡ m → OnOk r (n ≡ m)
+next_held (Ok x) n m e = e
+next_held (Err x) n m e = tt
+
+-- so many are left behind the next one
+pub one_fewer : {A : Type 0} (xs : List A) (i left : ℕ) (x : A) → i < length xs → x ≡ get_or xs i x → left ≡ length (drop i xs) → left - 1 ≡ length (drop (i + 1) xs)
+one_fewer xs i left x lt is is_left = let split = ap length (item_at xs i x lt is) in omega (arith, split, is_left)
 
 -- before a last block
 
@@ -59,6 +75,10 @@ module _ (bs : List Block) (rest whole first tail : Block) (is : in_order bs res
   first_more held new made same is_made is_new =
       firsts_more bs rest whole (first ∷ []) tail is next fit new
       (is_new ∙ ap (λ l. l ++ made ∷ []) same ∙ ap (λ b. bs ++ b ∷ []) is_made)
+
+-- all of them, where they are a block whose numbers fit
+pub whole_small : (bs : List Block) (last whole : Block) → in_order bs last ≡ whole → excess whole ≡ 0 → sizes_in bs + size last ≤ 4294967295
+whole_small bs last whole is fit = row_fits bs last (ap excess is ∙ fit)
 
 -- of a list of blocks
 

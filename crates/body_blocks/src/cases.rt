@@ -1,5 +1,5 @@
 //! Blocks of cases and their tests.
-ghost use Rattle.std.specs.Prelude.{◌≡◌, ◌+◌, ◌≤◌, map, IfOk, OnOk};
+ghost use Rattle.std.specs.Prelude.{◌≡◌, ◌+◌, ◌<◌, ◌≤◌, map, true, IfOk, OnOk};
 ghost use Rattle.mesa_types.specs.Chain.{chain};
 ghost use Rattle.mesa_types.specs.Counts.{hidden, hidden_cases, hidden_tests};
 ghost use Rattle.mesa_types.specs.Plain.{case, stmt, test};
@@ -42,11 +42,19 @@ pub(crate) fn cases(
     let mut left = cs.len();
     for case in cs {
         left -= 1;
-        let jumps = left > 0 || passes;
+        let jumps = jumps_past(left, passes);
         let (held, made) = both(row, a_case(alloc, routine, next, slot, jumps, case))?;
         row = joined(held, made)?;
     }
     Ok(row)
+}
+
+/// Whether a case jumps past what stands behind it: where more cases are left it does.
+fn jumps_past(left: usize, passes: bool) -> bool
+    ensures last { left ≡ 0 → result ≡ passes }
+    ensures others { 0 < left → result ≡ true }
+{
+    if left == 0 { passes } else { true }
 }
 
 /// A case: its tests, its statement, and a jump past those behind it where it is to jump.
@@ -65,8 +73,8 @@ pub(crate) fn a_case(
     ensures next { OnOk result (next.new ≡ next.old + (hidden_tests (chain (map test of.now.tests) t.NoTests) + hidden (stmt of.now.body))) }
 {
     let of_tests = tests(alloc, routine, next, slot, of.tests.as_slice())?;
-    let (of_tests, statement) = both(of_tests, block(alloc, routine, next, &of.body))?;
-    tested(alloc, of_tests, statement, jumps)
+    let (kept, statement) = both(of_tests, block(alloc, routine, next, &of.body))?;
+    tested(alloc, kept, statement, jumps)
 }
 
 /// The tests of a case: one that fits leads to the end of part 0; where none does, control goes to that of part 1.

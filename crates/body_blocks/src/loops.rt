@@ -41,20 +41,25 @@ pub(crate) fn a_loop(
     ensures next { OnOk result (next.new ≡ next.old + hidden_loop (loop l.now)) }
 {
     let test = control(alloc, routine, next, &l.condition)?;
-    let (test, of) = both(test, block(alloc, routine, next, &l.body))?;
-    let rounds = repeating(alloc, routine, counter, test, of)?;
+    let (kept, made) = both(test, block(alloc, routine, next, &l.body))?;
+    let rounds = repeating(alloc, routine, counter, kept, made)?;
     let es = l.exits.as_slice();
-    let (rounds, held) = both(rounds, exits(alloc, routine, next, es))?;
+    let (turns, held) = both(rounds, exits(alloc, routine, next, es))?;
     let endless = is_endless(counter, &l.condition);
     match &l.finished {
         Some(s) => {
-            let ((rounds, held), last) = both(
-                (rounds, held),
-                finished(alloc, routine, next, endless, !es.is_empty(), s),
+            let jumps = !es.is_empty();
+            let (parts, last) = both(
+                (turns, held),
+                finished(alloc, routine, next, endless, jumps, s),
             )?;
-            looped(alloc, rounds, last, es, held)
+            let (turns, held) = parts;
+            looped(alloc, turns, last, es, held)
         }
-        None => looped(alloc, rounds, unfinished(alloc, endless, es), es, held),
+        None => {
+            let last = unfinished(alloc, endless, es);
+            looped(alloc, turns, last, es, held)
+        }
     }
 }
 
@@ -89,12 +94,13 @@ pub(crate) fn finished(
         *next += hidden_words(s) as u16;
         Ok(does(List::new(alloc)))
     } else {
-        let of = block(alloc, routine, next, s)?;
-        pair(alloc, of, past_if(alloc, jumps, 0))
+        let made = block(alloc, routine, next, s)?;
+        pair(alloc, made, past_if(alloc, jumps, 0))
     }
 }
 
 /// Out to the end of part 0 where a loop is done.
+#[tactic(auto, unfolding(mesa_types::specs::Counts::hidden_condition))]
 pub(crate) fn control(
     alloc: Global,
     routine: &Routine,

@@ -45,42 +45,40 @@ pub fn block(
 {
     match s {
         TypedStmt::Null => Ok(does(List::new(alloc))),
-        TypedStmt::Marked(number, of) => {
-            let of = block(alloc, routine, next, of.get())?;
-            ends(alloc, Mark::Statement(*number), of)
+        TypedStmt::Marked(number, inner) => {
+            let made = block(alloc, routine, next, inner.get())?;
+            ends(alloc, Mark::Statement(*number), made)
         }
-        TypedStmt::Declare(homes, of) => declared(alloc, routine, homes.as_slice(), of),
-        TypedStmt::DeclareAs(homes, of, e) => {
+        TypedStmt::Declare(homes, kind) => declared(alloc, routine, homes.as_slice(), kind),
+        TypedStmt::DeclareAs(homes, kind, e) => {
             let set = value(alloc, routine, next, e)?;
-            declared_as(alloc, routine, homes.as_slice(), of, set)
+            declared_as(alloc, routine, homes.as_slice(), kind, set)
         }
         TypedStmt::Assign(home, suffixes, e) => {
             let words = value_words(e)?;
             let suffixes = suffixes.as_slice();
             let way = path(alloc, routine, next, suffixes)?;
-            let (way, set) = both(way, value(alloc, routine, next, e))?;
-            assigned(alloc, routine, *home, suffixes, way, set, words)
+            let (kept, set) = both(way, value(alloc, routine, next, e))?;
+            assigned(alloc, routine, *home, suffixes, kept, set, words)
         }
         TypedStmt::Extract(_, ts, e) => {
             let words = value_words(e)?;
             let taken = targets(alloc, routine, next, words, ts.as_slice())?;
-            let (taken, from) = both(taken, value(alloc, routine, next, e))?;
-            followed(alloc, from, taken)
+            let (kept, from) = both(taken, value(alloc, routine, next, e))?;
+            followed(alloc, from, kept)
         }
         TypedStmt::Perform(e) => {
             let words = value_words(e)?;
-            let of = value(alloc, routine, next, e)?;
-            dropped(alloc, of, words)
+            let made = value(alloc, routine, next, e)?;
+            dropped(alloc, made, words)
         }
         TypedStmt::If(e, then, otherwise) => {
             let test = jump(alloc, routine, next, e, false, 0)?;
-            let (test, first) = both(test, block(alloc, routine, next, then.get()))?;
+            let (held, first) = both(test, block(alloc, routine, next, then.get()))?;
             let otherwise = otherwise.get();
-            let ((test, first), second) = both(
-                (test, first),
-                block(alloc, routine, next, otherwise),
-            )?;
-            branches(alloc, test, first, !is_null(otherwise), second)
+            let (parts, second) = both((held, first), block(alloc, routine, next, otherwise))?;
+            let (held, first) = parts;
+            branches(alloc, held, first, !is_null(otherwise), second)
         }
         TypedStmt::Select(e, cs, otherwise) => {
             let slot = *next;
@@ -89,22 +87,19 @@ pub fn block(
             let selector = value(alloc, routine, next, e)?;
             let otherwise = otherwise.get();
             let passes = !is_null(otherwise);
-            let (selector, row) = both(
-                selector,
-                cases(alloc, routine, next, slot, passes, cs.as_slice()),
-            )?;
-            let ((selector, row), last) = both(
-                (selector, row),
-                block(alloc, routine, next, otherwise),
-            )?;
-            selected(alloc, slot, words, selector, cs.is_empty(), row, last)
+            let rest = cs.as_slice();
+            let (kept, row) = both(selector, cases(alloc, routine, next, slot, passes, rest))?;
+            let (parts, last) = both((kept, row), block(alloc, routine, next, otherwise))?;
+            let (kept, row) = parts;
+            selected(alloc, slot, words, kept, cs.is_empty(), row, last)
         }
         TypedStmt::Block(catching, ss, es) => {
             let arms = caught_by(alloc, routine, next, catching.get())?;
-            let (arms, of) = both(arms, blocks(alloc, routine, next, ss.as_slice()))?;
+            let (kept, made) = both(arms, blocks(alloc, routine, next, ss.as_slice()))?;
             let es = es.as_slice();
-            let ((arms, of), held) = both((arms, of), exits(alloc, routine, next, es))?;
-            enclosed(alloc, arms, of, es, held)
+            let (parts, held) = both((kept, made), exits(alloc, routine, next, es))?;
+            let (kept, made) = parts;
+            enclosed(alloc, kept, made, es, held)
         }
         TypedStmt::Repeat(l) => a_loop(alloc, routine, next, Counter::Uncounted, l.get()),
         TypedStmt::For(number, down, base, range, l) => {
@@ -112,20 +107,22 @@ pub fn block(
             *next += 3;
             let range = range.get();
             let counter = Counter::CountedIn(slot, *number, *down);
-            let ends = bounds(alloc, routine, next, range)?;
-            let (ends, made) = both(ends, a_loop(alloc, routine, next, counter, l.get()))?;
-            started(alloc, slot, *base, range, ends, made)
+            let limits = bounds(alloc, routine, next, range)?;
+            let (kept, made) = both(limits, a_loop(alloc, routine, next, counter, l.get()))?;
+            started(alloc, slot, *base, range, kept, made)
         }
         TypedStmt::Jump(arms, goal) => goes_out(*arms, point_of(*goal)),
         TypedStmt::ReturnWith(arms, first, places, es) => {
-            let (of, sizes) = values(alloc, routine, next, es.as_slice())?;
-            let (of, (code, words)) = both(of, given(alloc, places.as_slice(), sizes.as_slice()))?;
-            returned(alloc, routine, *arms, *first, of, code, words)
+            let (made, sizes) = values(alloc, routine, next, es.as_slice())?;
+            let (kept, order) = both(made, given(alloc, places.as_slice(), sizes.as_slice()))?;
+            let (code, words) = order;
+            returned(alloc, routine, *arms, *first, kept, code, words)
         }
         TypedStmt::Resume(places, es) => {
-            let (of, sizes) = values(alloc, routine, next, es.as_slice())?;
-            let (of, (code, words)) = both(of, given(alloc, places.as_slice(), sizes.as_slice()))?;
-            resumed(alloc, of, code, words)
+            let (made, sizes) = values(alloc, routine, next, es.as_slice())?;
+            let (kept, order) = both(made, given(alloc, places.as_slice(), sizes.as_slice()))?;
+            let (code, words) = order;
+            resumed(alloc, kept, code, words)
         }
         TypedStmt::Reject => rejected(alloc),
         TypedStmt::Retry(statement) => Ok(goes(1, Point::Start(*statement))),
