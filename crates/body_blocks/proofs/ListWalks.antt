@@ -1,5 +1,6 @@
 -- What the next element of a list of statements, cases, labels or targets puts before the rest of its blocks.
 use Rattle.std.proofs.Common.{◌≡◌, refl, sym, ap, ◌∙◌, ℕ, ◌+◌, ◌-◌, ◌<◌, ◌≤◌, List, [], ◌∷◌, ◌++◌, length, get_or, drop, map, reverse, Bool, true, false, arith}
+use Rattle.std.proofs.Common.{length-drop}
 use Rattle.std.proofs.lemmas.List.{drop_all}
 use Rattle.mesa_types.specs.Chain.{chain}
 use Rattle.mesa_types.specs.Counts.{hidden, hidden_cases, hidden_exits, hidden_stmts, hidden_suffixes, hidden_targets, hidden_tests}
@@ -82,16 +83,15 @@ module _ (cs : List Case) (i : ℕ) (x : Case) (lt : i < length cs) (is : x ≡ 
   unfolding hidden_cases
   cases_hidden = ap hidden_cases (cases_split cs i x (t.Otherwise t.Null) lt is)
 
-module _ (P : Coded) (begin slot : ℕ) (passes jumps : Bool) (cs : List Case) (i : ℕ) (x : Case) (bs : List Block) (now left : ℕ)
+module _ (P : Coded) (begin slot : ℕ) (passes jumps : Bool) (cs : List Case) (i : ℕ) (x : Case) (bs : List Block) (now : ℕ)
     (lt : i < length cs) (is : x ≡ get_or cs i x)
     (so_far : bs ++ case_blocks P now slot passes (chain (map case (drop i cs)) (t.Otherwise t.Null)) ≡ case_blocks P begin slot passes (chain (map case cs) (t.Otherwise t.Null)))
-    (is_left : left ≡ length (drop i cs)) (last : left - 1 ≡ 0 → jumps ≡ passes) (others : 0 < left - 1 → jumps ≡ true) where
+    (is_jumps : jumps ≡ goes_on passes (chain (map case (drop (i + 1) cs)) (t.Otherwise t.Null))) where
   a_case : (after : ℕ) → after ≡ now + (hidden_tests (chain (map test x.tests) t.NoTests) + hidden (stmt x.body))
       → case_blocks P now slot passes (chain (map case (drop i cs)) (t.Otherwise t.Null))
       ≡ case_of P now slot (chain (map test x.tests) t.NoTests) (stmt x.body) jumps ∷ case_blocks P after slot passes (chain (map case (drop (i + 1) cs)) (t.Otherwise t.Null))
   a_case after is_after =
-      cases_next cs i x lt is P now after slot passes jumps is_after
-      (on_left (drop (i + 1) cs) (left - 1) passes jumps (one_fewer cs i left x lt is is_left) last others)
+      cases_next cs i x lt is P now after slot passes jumps is_after is_jumps
 
   pub case_fits : excess_among (case_blocks P begin slot passes (chain (map case cs) (t.Otherwise t.Null))) ≡ 0
       → excess (case_of P now slot (chain (map test x.tests) t.NoTests) (stmt x.body) jumps) ≡ 0
@@ -236,3 +236,15 @@ module _ (P : Coded) (begin words : ℕ) (ts : List Target) (i : ℕ) (bs : List
   pub targets_end_hidden : hidden_targets (chain (map target (drop i ts)) t.NoTargets) ≡ 0
   unfolding hidden_targets
   targets_end_hidden = ap (λ l. hidden_targets (chain (map target l) t.NoTargets)) (drop_all i ts past)
+
+-- whether there are more cases at a place
+pub cases_go_on : (cs : List Case) (at : ℕ) (passes more : Bool) → (length cs ≤ at → more ≡ passes) → (at < length cs → more ≡ true)
+    → more ≡ goes_on passes (chain (map case (drop at cs)) (t.Otherwise t.Null))
+cases_go_on cs at passes more last others =
+    on_left (drop at cs) (length (drop at cs)) passes more refl (λ h. last (omega (arith, length-drop at cs, h))) (λ h. others (omega (arith, length-drop at cs, h)))
+
+pub cases_last : (cs : List Case) (at : ℕ) (passes : Bool) → length cs ≤ at → goes_on passes (chain (map case (drop at cs)) (t.Otherwise t.Null)) ≡ passes
+cases_last cs at passes h = sym (cases_go_on cs at passes passes (λ _. refl) (λ g. absurd (omega (arith, g, h))))
+
+pub cases_more : (cs : List Case) (at : ℕ) (passes : Bool) → at < length cs → goes_on passes (chain (map case (drop at cs)) (t.Otherwise t.Null)) ≡ true
+cases_more cs at passes h = sym (cases_go_on cs at passes true (λ g. absurd (omega (arith, g, h))) (λ _. refl))

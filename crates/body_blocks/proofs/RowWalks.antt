@@ -80,6 +80,13 @@ module _ (bs : List Block) (rest whole first tail : Block) (is : in_order bs res
 pub whole_small : (bs : List Block) (last whole : Block) → in_order bs last ≡ whole → excess whole ≡ 0 → sizes_in bs + size last ≤ 4294967295
 whole_small bs last whole is fit = row_fits bs last (ap excess is ∙ fit)
 
+-- what is still to come fits
+pub tail_fits : (rows : List Block) (tail whole : Block) → in_order rows tail ≡ whole → excess whole ≡ 0 → excess tail ≡ 0
+tail_fits rows tail whole is fit = rest_fits rows tail whole is fit
+
+pub tail_among : (bs rest all : List Block) → bs ++ rest ≡ all → excess_among all ≡ 0 → excess_among rest ≡ 0
+tail_among bs rest all is fit = omega (arith, among_joined bs rest, ap excess_among is)
+
 -- of a list of blocks
 
 module _ (bs rest all : List Block) (first : Block) (tail : List Block) (is : bs ++ rest ≡ all) (next : rest ≡ first ∷ tail) where

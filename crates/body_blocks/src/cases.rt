@@ -1,12 +1,12 @@
 //! Blocks of cases and their tests.
-ghost use Rattle.std.specs.Prelude.{◌≡◌, ◌+◌, ◌<◌, ◌≤◌, map, true, IfOk, OnOk};
+ghost use Rattle.std.specs.Prelude.{◌≡◌, ◌+◌, ◌≤◌, drop, map, IfOk, OnOk};
 ghost use Rattle.mesa_types.specs.Chain.{chain};
 ghost use Rattle.mesa_types.specs.Counts.{hidden, hidden_cases, hidden_tests};
 ghost use Rattle.mesa_types.specs.Plain.{case, stmt, test};
 ghost use Rattle.mesa_types.specs.Typed as t;
 ghost use Rattle.code_blocks.specs.Translation as spec;
 ghost use Rattle.block_trees.specs.Excess.{excess};
-ghost use Rattle.block_trees.specs.Forms.{case_blocks, case_of, test_of};
+ghost use Rattle.block_trees.specs.Forms.{case_blocks, case_of, goes_on, test_of};
 ghost use Rattle.block_trees.specs.Plain.{plain, plain_blocks};
 ghost use Rattle.block_trees.specs.Routines.{coded};
 ghost use Rattle.block_trees.specs.Rows.{excess_among, sizes_in};
@@ -24,6 +24,7 @@ use std::alloc::Global;
 
 /// The cases that have tests, one by one; the last of them jumps past the statement behind it where it is to.
 #[cycle(blocks)]
+#[tactic(auto, unfolding(mesa_types::specs::Counts::hidden, block_trees::specs::Forms::case_blocks, block_trees::specs::Rows::excess_among))]
 pub(crate) fn cases(
     alloc: Global,
     routine: &Routine,
@@ -39,26 +40,27 @@ pub(crate) fn cases(
     ensures next { OnOk result (next.new ≡ next.old + hidden_cases (chain (map case cs.now) (t.Otherwise t.Null))) }
 {
     let mut row = no_row(alloc);
-    let mut left = cs.len();
+    let mut at = 0;
     for case in cs {
-        left -= 1;
-        let jumps = jumps_past(left, passes);
+        at += 1;
+        let jumps = jumps_past(cs, at, passes);
         let (held, made) = both(row, a_case(alloc, routine, next, slot, jumps, case))?;
         row = joined(held, made)?;
     }
     Ok(row)
 }
 
-/// Whether a case jumps past what stands behind it: where more cases are left it does.
-fn jumps_past(left: usize, passes: bool) -> bool
-    ensures last { left ≡ 0 → result ≡ passes }
-    ensures others { 0 < left → result ≡ true }
+/// Whether the case before a place jumps past what stands behind it: where there are more cases it does.
+#[tactic(auto, using(crate::proofs::ListWalks::cases_last, crate::proofs::ListWalks::cases_more))]
+fn jumps_past(cs: &[Case], at: usize, passes: bool) -> bool
+    ensures { result ≡ goes_on passes (chain (map case (drop at cs.now)) (t.Otherwise t.Null)) }
 {
-    if left == 0 { passes } else { true }
+    if at < cs.len() { true } else { passes }
 }
 
 /// A case: its tests, its statement, and a jump past those behind it where it is to jump.
 #[cycle(blocks)]
+#[tactic(auto, unfolding(mesa_types::specs::Counts::hidden, block_trees::specs::Excess::excess))]
 pub(crate) fn a_case(
     alloc: Global,
     routine: &Routine,

@@ -28,6 +28,7 @@ use typed_counts::hidden_words;
 
 /// A loop with the statements of its labels.
 #[cycle(blocks)]
+#[tactic(auto, using(crate::proofs::LoopWalks::loop_whole_hidden, crate::proofs::LoopWalks::finish_hidden, crate::proofs::LoopWalks::loop_body_fits, crate::proofs::LoopWalks::loop_exits_fit, crate::proofs::LoopWalks::loop_finish_fits))]
 pub(crate) fn a_loop(
     alloc: Global,
     routine: &Routine,
@@ -77,6 +78,7 @@ fn unfinished(alloc: Global, endless: bool, es: &[Exit]) -> Part
 /// The statement of FINISHED, and past the statements of labels where it is to. Behind an endless loop it has no code, and its
 /// hidden words are left out.
 #[cycle(blocks)]
+#[tactic(auto, unfolding(block_trees::specs::Excess::excess))]
 pub(crate) fn finished(
     alloc: Global,
     routine: &Routine,
@@ -121,6 +123,7 @@ pub(crate) fn control(
 
 /// The statements of labels, one by one.
 #[cycle(blocks)]
+#[tactic(auto, unfolding(mesa_types::specs::Counts::hidden, block_trees::specs::Forms::exit_blocks, block_trees::specs::Rows::excess_among))]
 pub(crate) fn exits(
     alloc: Global,
     routine: &Routine,

@@ -31,7 +31,7 @@ use typed_counts::value_words;
 /// The block of a statement; its hidden words lie from the next free slot on. The one refusal is want of memory. The recursion
 /// is as deep as the tree.
 #[cycle(blocks)]
-#[tactic(auto, unfolding(mesa_types::specs::Counts::hidden, block_trees::specs::Excess::excess))]
+#[tactic(auto, unfolding(mesa_types::specs::Counts::hidden, block_trees::specs::Excess::excess), using(block_trees::proofs::StatementLaws::select_hidden, block_trees::proofs::LoopLaws::block_hidden, crate::proofs::StatementWalks::cases_fit, crate::proofs::StatementWalks::cases_small, crate::proofs::StatementWalks::last_statement, crate::proofs::LoopWalks::body_fits, crate::proofs::LoopWalks::labels_fit))]
 pub fn block(
     alloc: Global,
     routine: &Routine,
@@ -132,6 +132,7 @@ pub fn block(
 
 /// Statements one behind the other.
 #[cycle(blocks)]
+#[tactic(auto, unfolding(mesa_types::specs::Counts::hidden, block_trees::specs::Excess::excess))]
 pub(crate) fn blocks(
     alloc: Global,
     routine: &Routine,
