@@ -62,6 +62,13 @@ pub if_same : (a b c d past e f : Block) → a ≡ b → c ≡ d → e ≡ f →
 if_same a b c d past e f is_test is_first is_second =
     ap (λ x. if_of x c past e) is_test ∙ ap (λ x. if_of b x past e) is_first ∙ ap (if_of b d past) is_second
 
+pub if_all_same : (a b c d past past_same e f : Block) → a ≡ b → c ≡ d → past ≡ past_same → e ≡ f → if_of a c past e ≡ if_of b d past_same f
+if_all_same a b c d past past_same e f is_test is_first is_past is_second =
+    ap (λ x. if_of a c x e) is_past ∙ if_same a b c d past_same e f is_test is_first is_second
+
+pub code_same : (a b last : List Instruction) → a ≡ b → Does (a ++ last) ≡ Does (b ++ last)
+code_same a b last is = ap (λ l. Does (l ++ last)) is
+
 pub assign_same : (P : Coded) (h : Home) (s : t.Suffixes) (words way_words : ℕ) (a b c d : Block) → words ≡ way_words → a ≡ b → c ≡ d
     → assign_of P h s words a c ≡ assign_of P h s way_words b d
 assign_same P h s words way_words a b c d is_words is_way is_set =

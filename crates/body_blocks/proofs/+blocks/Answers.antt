@@ -24,7 +24,7 @@ use Rattle.block_trees.proofs.StatementLaws.{assign_form, assign_hidden, declare
 use Rattle.body_blocks.proofs.ListWalks.{case_fits, case_more, case_small, cases_end_hidden, cases_end_is, cases_hidden, exit_fits, exit_more, exits_end_hidden, exits_end_is, exits_hidden, stmt_fits, stmt_more, stmt_small, stmts_end_hidden, stmts_end_is, stmts_hidden}
 use Rattle.body_blocks.proofs.LoopWalks.{finish_hidden, finished_form, held_together, no_finish_hidden, rounds_same, unfinished_form, unless_fits, unless_same}
 use Rattle.body_blocks.proofs.RowWalks.{made_as, next_held, next_made, part_made, row_made, tail_among, tail_fits, whole_small}
-use Rattle.body_blocks.proofs.StatementWalks.{assign_same, both_same, case_same, cases_fit, cases_small, code_made, code_part, enclosed_same, ended_part, first_part, held_made, if_same, last_part, last_statement, length_made, looped_same, marked_form, marked_hidden, middle_part, perform_form, perform_hidden, repeat_form, repeat_hidden, select_same, selector_value, small_parts, words_made}
+use Rattle.body_blocks.proofs.StatementWalks.{assign_same, both_same, case_same, cases_fit, cases_small, code_made, code_part, code_same, enclosed_same, ended_part, first_part, held_made, if_all_same, last_part, last_statement, length_made, looped_same, marked_form, marked_hidden, middle_part, perform_form, perform_hidden, repeat_form, repeat_hidden, select_same, selector_value, small_parts, words_made}
 use Rattle.body_blocks.proofs.TestWalks.{case_parts}
 use Rattle.body_blocks.proofs.+blocks.Goals as goal
 
@@ -94,7 +94,7 @@ statements::block-returns-in_ok-made-in-Perform-clause-next m c =
 
 pub statements::block-returns-in_ok-parts-in-If-clause-block : goal.statements::block-returns-in_ok-parts-in-If-clause-block
 statements::block-returns-in_ok-parts-in-If-clause-block m c =
-    made_as c.branches.result _ _ c.branches.ensures (ap (λ b. if_of _ _ (past_if (not b) 1) _) c.is_null.ensures ∙ if_same _ _ _ _ _ _ _ (ap (λ (p : Part × Part). plain p.0.block) c.in_ok-parts-in-If.ensures.0 ∙ ap (λ (p : Part). plain p.block) c.in_ok-held-in-If.ensures.0 ∙ c.in_ok-test-in-If.ensures.block) (ap (λ (p : Part × Part). plain p.1.block) c.in_ok-parts-in-If.ensures.0 ∙ part_made c.block-in-If.result c.in_ok-held-in-If.first _ c.in_ok-held-in-If.ensures.1 c.block-in-If.ensures.block) (part_made c.block-in-If-2.result c.in_ok-parts-in-If.second _ c.in_ok-parts-in-If.ensures.1 c.block-in-If-2.ensures.block) ∙ sym (if_form (coded c.args.routine.now) c.args.next.now c.args.s.now _ _ _ _ _ c.in-If.is c.get-in-If.ensures c.get-otherwise.ensures c.jump.new.next c.block-in-If.new.next c.in_ok-test-in-If.ensures.next (next_made c.block-in-If.result c.in_ok-held-in-If.first _ _ c.in_ok-held-in-If.ensures.1 c.block-in-If.ensures.next)))
+    made_as c.branches.result _ _ c.branches.ensures (if_all_same _ _ _ _ _ _ _ _ (ap (λ (p : Part × Part). plain p.0.block) c.in_ok-parts-in-If.ensures.0 ∙ ap (λ (p : Part). plain p.block) c.in_ok-held-in-If.ensures.0 ∙ c.in_ok-test-in-If.ensures.block) (ap (λ (p : Part × Part). plain p.1.block) c.in_ok-parts-in-If.ensures.0 ∙ part_made c.block-in-If.result c.in_ok-held-in-If.first _ c.in_ok-held-in-If.ensures.1 c.block-in-If.ensures.block) (ap (λ b. past_if (not b) 1) c.is_null.ensures) (part_made c.block-in-If-2.result c.in_ok-parts-in-If.second _ c.in_ok-parts-in-If.ensures.1 c.block-in-If-2.ensures.block) ∙ sym (if_form (coded c.args.routine.now) c.args.next.now c.args.s.now _ _ _ _ _ c.in-If.is c.get-in-If.ensures c.get-otherwise.ensures c.jump.new.next c.block-in-If.new.next c.in_ok-test-in-If.ensures.next (next_made c.block-in-If.result c.in_ok-held-in-If.first _ _ c.in_ok-held-in-If.ensures.1 c.block-in-If.ensures.next)))
 
 pub statements::block-returns-in_ok-parts-in-If-clause-next : goal.statements::block-returns-in_ok-parts-in-If-clause-next
 statements::block-returns-in_ok-parts-in-If-clause-next m c =
@@ -246,11 +246,11 @@ statements::block-given-requires m c =
 
 pub statements::block-returned-requires : goal.statements::block-returned-requires
 statements::block-returned-requires m c =
-    ap excess (both_same _ _ _ _ (ap (λ (p : Part). plain p.block) c.in_ok-kept-in-ReturnWith.ensures.0 ∙ c.in_ok-made-in-ReturnWith.ensures.block) (both_same _ _ _ _ (ap (λ l. Does (l ++ i.StoreL _ _ ∷ [])) (code_made c.given.result c.in_ok-kept-in-ReturnWith.order _ c.in_ok-kept-in-ReturnWith.ensures.1 c.given.ensures.code)) refl) ∙ sym (return_form (coded c.args.routine.now) c.args.next.now c.args.s.now _ _ _ _ _ _ c.in-ReturnWith.is c.as_slice-in-ReturnWith-2.ensures c.as_slice-in-ReturnWith.ensures _ _ (c.as_slice-in-ReturnWith-3.ensures ∙ c.in_ok-made-in-ReturnWith.ensures.sizes) (words_made c.given.result c.in_ok-kept-in-ReturnWith.order _ c.in_ok-kept-in-ReturnWith.ensures.1 c.given.ensures.words))) ∙ c.requires.fits
+    ap excess (both_same _ _ _ _ (ap (λ (p : Part). plain p.block) c.in_ok-kept-in-ReturnWith.ensures.0 ∙ c.in_ok-made-in-ReturnWith.ensures.block) (both_same _ _ _ _ (code_same _ _ _ (code_made c.given.result c.in_ok-kept-in-ReturnWith.order _ c.in_ok-kept-in-ReturnWith.ensures.1 c.given.ensures.code)) refl) ∙ sym (return_form (coded c.args.routine.now) c.args.next.now c.args.s.now _ _ _ _ _ _ c.in-ReturnWith.is c.as_slice-in-ReturnWith-2.ensures c.as_slice-in-ReturnWith.ensures _ _ (c.as_slice-in-ReturnWith-3.ensures ∙ c.in_ok-made-in-ReturnWith.ensures.sizes) (words_made c.given.result c.in_ok-kept-in-ReturnWith.order _ c.in_ok-kept-in-ReturnWith.ensures.1 c.given.ensures.words))) ∙ c.requires.fits
 
 pub statements::block-returns-in_ok-kept-in-ReturnWith-clause-block : goal.statements::block-returns-in_ok-kept-in-ReturnWith-clause-block
 statements::block-returns-in_ok-kept-in-ReturnWith-clause-block m c =
-    made_as c.returned.result _ _ c.returned.ensures (both_same _ _ _ _ (ap (λ (p : Part). plain p.block) c.in_ok-kept-in-ReturnWith.ensures.0 ∙ c.in_ok-made-in-ReturnWith.ensures.block) (both_same _ _ _ _ (ap (λ l. Does (l ++ i.StoreL _ _ ∷ [])) (code_made c.given.result c.in_ok-kept-in-ReturnWith.order _ c.in_ok-kept-in-ReturnWith.ensures.1 c.given.ensures.code)) refl) ∙ sym (return_form (coded c.args.routine.now) c.args.next.now c.args.s.now _ _ _ _ _ _ c.in-ReturnWith.is c.as_slice-in-ReturnWith-2.ensures c.as_slice-in-ReturnWith.ensures _ _ (c.as_slice-in-ReturnWith-3.ensures ∙ c.in_ok-made-in-ReturnWith.ensures.sizes) (words_made c.given.result c.in_ok-kept-in-ReturnWith.order _ c.in_ok-kept-in-ReturnWith.ensures.1 c.given.ensures.words)))
+    made_as c.returned.result _ _ c.returned.ensures (both_same _ _ _ _ (ap (λ (p : Part). plain p.block) c.in_ok-kept-in-ReturnWith.ensures.0 ∙ c.in_ok-made-in-ReturnWith.ensures.block) (both_same _ _ _ _ (code_same _ _ _ (code_made c.given.result c.in_ok-kept-in-ReturnWith.order _ c.in_ok-kept-in-ReturnWith.ensures.1 c.given.ensures.code)) refl) ∙ sym (return_form (coded c.args.routine.now) c.args.next.now c.args.s.now _ _ _ _ _ _ c.in-ReturnWith.is c.as_slice-in-ReturnWith-2.ensures c.as_slice-in-ReturnWith.ensures _ _ (c.as_slice-in-ReturnWith-3.ensures ∙ c.in_ok-made-in-ReturnWith.ensures.sizes) (words_made c.given.result c.in_ok-kept-in-ReturnWith.order _ c.in_ok-kept-in-ReturnWith.ensures.1 c.given.ensures.words)))
 
 pub statements::block-returns-in_ok-kept-in-ReturnWith-clause-next : goal.statements::block-returns-in_ok-kept-in-ReturnWith-clause-next
 statements::block-returns-in_ok-kept-in-ReturnWith-clause-next m c =
@@ -262,11 +262,11 @@ statements::block-given-requires-in-Resume m c =
 
 pub statements::block-resumed-requires : goal.statements::block-resumed-requires
 statements::block-resumed-requires m c =
-    ap excess (both_same _ _ _ _ (ap (λ (p : Part). plain p.block) c.in_ok-kept-in-Resume.ensures.0 ∙ c.in_ok-made-in-Resume.ensures.block) (ap (λ l. Does (l ++ i.Resume _ ∷ [])) (code_made c.given-in-Resume.result c.in_ok-kept-in-Resume.order _ c.in_ok-kept-in-Resume.ensures.1 c.given-in-Resume.ensures.code)) ∙ sym (resume_form (coded c.args.routine.now) c.args.next.now c.args.s.now _ _ _ _ c.in-Resume.is c.as_slice-in-Resume-2.ensures c.as_slice-in-Resume.ensures _ _ (c.as_slice-in-Resume-3.ensures ∙ c.in_ok-made-in-Resume.ensures.sizes) (words_made c.given-in-Resume.result c.in_ok-kept-in-Resume.order _ c.in_ok-kept-in-Resume.ensures.1 c.given-in-Resume.ensures.words))) ∙ c.requires.fits
+    ap excess (both_same _ _ _ _ (ap (λ (p : Part). plain p.block) c.in_ok-kept-in-Resume.ensures.0 ∙ c.in_ok-made-in-Resume.ensures.block) (code_same _ _ _ (code_made c.given-in-Resume.result c.in_ok-kept-in-Resume.order _ c.in_ok-kept-in-Resume.ensures.1 c.given-in-Resume.ensures.code)) ∙ sym (resume_form (coded c.args.routine.now) c.args.next.now c.args.s.now _ _ _ _ c.in-Resume.is c.as_slice-in-Resume-2.ensures c.as_slice-in-Resume.ensures _ _ (c.as_slice-in-Resume-3.ensures ∙ c.in_ok-made-in-Resume.ensures.sizes) (words_made c.given-in-Resume.result c.in_ok-kept-in-Resume.order _ c.in_ok-kept-in-Resume.ensures.1 c.given-in-Resume.ensures.words))) ∙ c.requires.fits
 
 pub statements::block-returns-in_ok-kept-in-Resume-clause-block : goal.statements::block-returns-in_ok-kept-in-Resume-clause-block
 statements::block-returns-in_ok-kept-in-Resume-clause-block m c =
-    made_as c.resumed.result _ _ c.resumed.ensures (both_same _ _ _ _ (ap (λ (p : Part). plain p.block) c.in_ok-kept-in-Resume.ensures.0 ∙ c.in_ok-made-in-Resume.ensures.block) (ap (λ l. Does (l ++ i.Resume _ ∷ [])) (code_made c.given-in-Resume.result c.in_ok-kept-in-Resume.order _ c.in_ok-kept-in-Resume.ensures.1 c.given-in-Resume.ensures.code)) ∙ sym (resume_form (coded c.args.routine.now) c.args.next.now c.args.s.now _ _ _ _ c.in-Resume.is c.as_slice-in-Resume-2.ensures c.as_slice-in-Resume.ensures _ _ (c.as_slice-in-Resume-3.ensures ∙ c.in_ok-made-in-Resume.ensures.sizes) (words_made c.given-in-Resume.result c.in_ok-kept-in-Resume.order _ c.in_ok-kept-in-Resume.ensures.1 c.given-in-Resume.ensures.words)))
+    made_as c.resumed.result _ _ c.resumed.ensures (both_same _ _ _ _ (ap (λ (p : Part). plain p.block) c.in_ok-kept-in-Resume.ensures.0 ∙ c.in_ok-made-in-Resume.ensures.block) (code_same _ _ _ (code_made c.given-in-Resume.result c.in_ok-kept-in-Resume.order _ c.in_ok-kept-in-Resume.ensures.1 c.given-in-Resume.ensures.code)) ∙ sym (resume_form (coded c.args.routine.now) c.args.next.now c.args.s.now _ _ _ _ c.in-Resume.is c.as_slice-in-Resume-2.ensures c.as_slice-in-Resume.ensures _ _ (c.as_slice-in-Resume-3.ensures ∙ c.in_ok-made-in-Resume.ensures.sizes) (words_made c.given-in-Resume.result c.in_ok-kept-in-Resume.order _ c.in_ok-kept-in-Resume.ensures.1 c.given-in-Resume.ensures.words)))
 
 pub statements::block-returns-in_ok-kept-in-Resume-clause-next : goal.statements::block-returns-in_ok-kept-in-Resume-clause-next
 statements::block-returns-in_ok-kept-in-Resume-clause-next m c =
