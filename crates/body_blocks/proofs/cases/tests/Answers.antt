@@ -16,8 +16,10 @@ use Rattle.body_blocks.proofs.cases.tests.Goals as goal
 pub a_test-requires-clause-room : goal.a_test-requires-clause-room
 a_test-requires-clause-room c =
     omega (
-      arith, tests_hidden c.args.ts.now c.loop-of.of-index c.of-item.result c.loop-of-test.true c.of-item.is,
-      c.loop-of.invariant.next, c.requires.room,
+      arith,
+      tests_hidden c.args.ts.now c.loop-of.of-index c.of-item.result c.loop-of-test.true c.of-item.is,
+      c.loop-of.invariant.next,
+      c.requires.room,
     )
 
 pub a_test-requires-clause-fits : goal.a_test-requires-clause-fits
@@ -47,7 +49,9 @@ loop-of-preserved c =
       left = one_fewer c.args.ts.now c.loop-of.of-index c.loop-of.left c.of-item.result c.loop-of-test.true c.of-item.is c.loop-of.invariant.left;
       next =
           omega (
-            arith, after, tests_hidden c.args.ts.now c.loop-of.of-index c.of-item.result c.loop-of-test.true c.of-item.is,
+            arith,
+            after,
+            tests_hidden c.args.ts.now c.loop-of.of-index c.of-item.result c.loop-of-test.true c.of-item.is,
             c.loop-of.invariant.next,
           );
     }
@@ -73,6 +77,7 @@ pub returns-clause-next : goal.returns-clause-next
 returns-clause-next c =
     next_held c.closed.result _ _
     (omega (
-      arith, c.loop-of.invariant.next,
+      arith,
+      c.loop-of.invariant.next,
       tests_end_hidden (coded c.args.routine.now) c.args.next.now c.args.slot c.args.ts.now c.loop-of.of-index (plain_blocks c.loop-of.row.blocks) c.loop-of.next c.loop-of-test.false,
     ))

@@ -28,9 +28,11 @@ after_is r x z new read ss is h same = next_made r x _ _ is h ∙ ap (λ l. z + 
 pub path-requires-clause-room : goal.path-requires-clause-room
 path-requires-clause-room c =
     omega (
-      arith, ap (λ l. hidden_suffixes (chain (map suffix l) t.NoSuffix)) c.as_slice.ensures,
+      arith,
+      ap (λ l. hidden_suffixes (chain (map suffix l) t.NoSuffix)) c.as_slice.ensures,
       targets_hidden c.args.ts.now c.loop-target.target-index c.target-item.result c.loop-target-test.true c.target-item.is,
-      c.loop-target.invariant.next, c.requires.room,
+      c.loop-target.invariant.next,
+      c.requires.room,
     )
 
 pub path-requires-clause-fits : goal.path-requires-clause-fits
@@ -71,7 +73,9 @@ loop-target-preserved c =
           c.in_ok-held.ensures.blocks c.in_ok-held.ensures.taken;
       next =
           omega (
-            arith, after, targets_hidden c.args.ts.now c.loop-target.target-index c.target-item.result c.loop-target-test.true c.target-item.is,
+            arith,
+            after,
+            targets_hidden c.args.ts.now c.loop-target.target-index c.target-item.result c.loop-target-test.true c.target-item.is,
             c.loop-target.invariant.next,
           );
     }
@@ -93,7 +97,8 @@ pub returns-clause-next : goal.returns-clause-next
 returns-clause-next c =
     next_held c.taken.result _ _
     (omega (
-      arith, c.loop-target.invariant.next,
+      arith,
+      c.loop-target.invariant.next,
       targets_end_hidden (coded c.args.routine.now) c.args.next.now c.args.all c.args.ts.now c.loop-target.target-index
-      (plain_blocks c.loop-target.held.row.blocks) c.loop-target.held.taken c.loop-target.next c.loop-target-test.false c.loop-target.invariant.block,
+          (plain_blocks c.loop-target.held.row.blocks) c.loop-target.held.taken c.loop-target.next c.loop-target-test.false c.loop-target.invariant.block,
     ))
