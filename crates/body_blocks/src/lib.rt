@@ -5,6 +5,7 @@ mod cases;
 mod expressions;
 mod loops;
 mod phrases;
+mod rooms;
 mod statements;
 mod targets;
 

@@ -13,6 +13,7 @@ ghost use Rattle.block_trees.specs.Routines.{coded};
 ghost use Rattle.block_trees.specs.Rows.{excess_among};
 
 use crate::expressions::jump;
+use crate::rooms::{room_for_exits, room_for_finish, room_for_statement};
 use crate::statements::block;
 use block_trees::counter::Counter;
 use block_trees::exit_forms::{past_exits, past_if};
@@ -28,7 +29,6 @@ use typed_counts::hidden_words;
 
 /// A loop with the statements of its labels.
 #[cycle(blocks)]
-#[tactic(auto, using(crate::proofs::LoopWalks::loop_whole_hidden, crate::proofs::LoopWalks::finish_hidden, crate::proofs::LoopWalks::loop_body_fits, crate::proofs::LoopWalks::loop_exits_fit, crate::proofs::LoopWalks::loop_finish_fits))]
 pub(crate) fn a_loop(
     alloc: Global,
     routine: &Routine,
@@ -42,14 +42,17 @@ pub(crate) fn a_loop(
     ensures next { OnOk result (next.new ≡ next.old + hidden_loop (loop l.now)) }
 {
     let test = control(alloc, routine, next, &l.condition)?;
+    room_for_statement(routine, *next, &l.body);
     let (kept, made) = both(test, block(alloc, routine, next, &l.body))?;
     let rounds = repeating(alloc, routine, counter, kept, made)?;
     let es = l.exits.as_slice();
+    room_for_exits(routine, *next, es);
     let (turns, held) = both(rounds, exits(alloc, routine, next, es))?;
     let endless = is_endless(counter, &l.condition);
     match &l.finished {
         Some(s) => {
             let jumps = !es.is_empty();
+            room_for_finish(routine, *next, endless, jumps, s);
             let (parts, last) = both(
                 (turns, held),
                 finished(alloc, routine, next, endless, jumps, s),

@@ -11,6 +11,7 @@ use crate::cases::cases;
 use crate::expressions::{bounds, jump, path, value, values};
 use crate::loops::{a_loop, exits};
 use crate::phrases::caught_by;
+use crate::rooms::{room_for_cases, room_for_exits, room_for_statement, room_for_statements};
 use crate::targets::targets;
 use block_trees::case_forms::{branches, dropped, is_null, selected};
 use block_trees::counter::Counter;
@@ -31,7 +32,7 @@ use typed_counts::value_words;
 /// The block of a statement; its hidden words lie from the next free slot on. The one refusal is want of memory. The recursion
 /// is as deep as the tree.
 #[cycle(blocks)]
-#[tactic(auto, unfolding(mesa_types::specs::Counts::hidden, block_trees::specs::Excess::excess), using(block_trees::proofs::StatementLaws::select_hidden, block_trees::proofs::LoopLaws::block_hidden, crate::proofs::StatementWalks::cases_fit, crate::proofs::StatementWalks::cases_small, crate::proofs::StatementWalks::last_statement, crate::proofs::LoopWalks::body_fits, crate::proofs::LoopWalks::labels_fit))]
+#[tactic(auto, unfolding(mesa_types::specs::Counts::hidden, block_trees::specs::Excess::excess), using(block_trees::proofs::StatementLaws::select_hidden, block_trees::proofs::LoopLaws::block_hidden))]
 pub fn block(
     alloc: Global,
     routine: &Routine,
@@ -88,15 +89,20 @@ pub fn block(
             let otherwise = otherwise.get();
             let passes = !is_null(otherwise);
             let rest = cs.as_slice();
+            room_for_cases(routine, *next, slot, passes, rest);
             let (kept, row) = both(selector, cases(alloc, routine, next, slot, passes, rest))?;
+            room_for_statement(routine, *next, otherwise);
             let (parts, last) = both((kept, row), block(alloc, routine, next, otherwise))?;
             let (kept, row) = parts;
             selected(alloc, slot, words, kept, cs.is_empty(), row, last)
         }
         TypedStmt::Block(catching, ss, es) => {
             let arms = caught_by(alloc, routine, next, catching.get())?;
-            let (kept, made) = both(arms, blocks(alloc, routine, next, ss.as_slice()))?;
+            let ss = ss.as_slice();
+            room_for_statements(routine, *next, ss);
+            let (kept, made) = both(arms, blocks(alloc, routine, next, ss))?;
             let es = es.as_slice();
+            room_for_exits(routine, *next, es);
             let (parts, held) = both((kept, made), exits(alloc, routine, next, es))?;
             let (kept, made) = parts;
             enclosed(alloc, kept, made, es, held)

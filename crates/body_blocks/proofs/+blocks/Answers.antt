@@ -22,7 +22,7 @@ use Rattle.block_trees.proofs.ExitLaws.{blocks_fit, none_left, past_left, some_l
 use Rattle.block_trees.proofs.LoopLaws.{block_form, block_hidden, enclosed_fits, for_form, for_hidden, loop_form, loop_hidden, looped_fits, resume_form, resume_hidden, return_form, return_hidden, rounds_fit}
 use Rattle.block_trees.proofs.StatementLaws.{assign_form, assign_hidden, declare_form, declare_hidden, extract_form, extract_hidden, if_fits, if_form, if_hidden, path_fits_by, select_form, select_hidden, value_fits_by}
 use Rattle.body_blocks.proofs.ListWalks.{case_fits, case_more, case_small, cases_end_hidden, cases_end_is, cases_hidden, exit_fits, exit_more, exits_end_hidden, exits_end_is, exits_hidden, stmt_fits, stmt_more, stmt_small, stmts_end_hidden, stmts_end_is, stmts_hidden}
-use Rattle.body_blocks.proofs.LoopWalks.{finish_hidden, finished_form, held_together, no_finish_hidden, rounds_same, unfinished_form, unless_fits, unless_same}
+use Rattle.body_blocks.proofs.LoopWalks.{body_fits, finish_hidden, finished_form, held_together, labels_fit, loop_body_fits, loop_exits_fit, loop_finish_fits, no_finish_hidden, rounds_same, unfinished_form, unless_fits, unless_same}
 use Rattle.body_blocks.proofs.RowWalks.{made_as, next_held, next_made, part_made, row_made, tail_among, tail_fits, whole_small}
 use Rattle.body_blocks.proofs.StatementWalks.{assign_same, both_same, case_same, cases_fit, cases_small, code_made, code_part, code_same, enclosed_same, ended_part, first_part, held_made, if_all_same, last_part, last_statement, length_made, looped_same, marked_form, marked_hidden, middle_part, perform_form, perform_hidden, repeat_form, repeat_hidden, select_same, selector_value, small_parts, words_made}
 use Rattle.body_blocks.proofs.TestWalks.{case_parts}
@@ -222,15 +222,15 @@ statements::block-caught_by-requires-clause-fits m c =
 
 pub statements::block-enclosed-requires-clause-fits : goal.statements::block-enclosed-requires-clause-fits
 statements::block-enclosed-requires-clause-fits m c =
-    ap excess (enclosed_same _ _ _ _ _ _ _ _ (held_made c.exits.result c.in_ok-parts-in-Block.held _ c.in_ok-parts-in-Block.ensures.1 c.exits.ensures.blocks) (ap (λ (p : List ArmBlock × Part). plain_arms p.0) c.in_ok-parts-in-Block.ensures.0 ∙ ap plain_arms c.in_ok-kept-in-Block.ensures.0 ∙ c.in_ok-arms-in-Block.ensures.blocks) (ap (λ (p : List ArmBlock × Part). plain p.1.block) c.in_ok-parts-in-Block.ensures.0 ∙ part_made c.blocks-in-Block.result c.in_ok-kept-in-Block.made _ c.in_ok-kept-in-Block.ensures.1 c.blocks-in-Block.ensures.block)) ∙ ended_part _ _ (ap excess (sym (block_form (coded c.args.routine.now) c.args.next.now c.args.s.now _ _ _ _ _ _ c.in-Block.is c.get-in-Block.ensures c.as_slice-in-Block.ensures c.as_slice-es.ensures c.caught_by.new.next c.blocks-in-Block.new.next c.in_ok-arms-in-Block.ensures.next (next_made c.blocks-in-Block.result c.in_ok-kept-in-Block.made _ _ c.in_ok-kept-in-Block.ensures.1 c.blocks-in-Block.ensures.next))) ∙ c.requires.fits)
+    ap excess (enclosed_same _ _ _ _ _ _ _ _ (held_made c.exits.result c.in_ok-parts-in-Block.held _ c.in_ok-parts-in-Block.ensures.1 c.exits.ensures.blocks) (ap (λ (p : List ArmBlock × Part). plain_arms p.0) c.in_ok-parts-in-Block.ensures.0 ∙ ap plain_arms c.in_ok-kept-in-Block.ensures.0 ∙ c.in_ok-arms-in-Block.ensures.blocks) (ap (λ (p : List ArmBlock × Part). plain p.1.block) c.in_ok-parts-in-Block.ensures.0 ∙ part_made c.blocks-in-Block.result c.in_ok-kept-in-Block.made _ c.in_ok-kept-in-Block.ensures.1 c.blocks-in-Block.ensures.block)) ∙ ended_part _ _ (ap excess (sym (block_form (coded c.args.routine.now) c.args.next.now c.args.s.now _ _ _ _ _ _ c.in-Block.is c.get-in-Block.ensures c.as_slice-ss.ensures c.as_slice-es.ensures c.caught_by.new.next c.blocks-in-Block.new.next c.in_ok-arms-in-Block.ensures.next (next_made c.blocks-in-Block.result c.in_ok-kept-in-Block.made _ _ c.in_ok-kept-in-Block.ensures.1 c.blocks-in-Block.ensures.next))) ∙ c.requires.fits)
 
 pub statements::block-returns-in_ok-parts-in-Block-clause-block : goal.statements::block-returns-in_ok-parts-in-Block-clause-block
 statements::block-returns-in_ok-parts-in-Block-clause-block m c =
-    made_as c.enclosed.result _ _ c.enclosed.ensures (ap (Ends (Here 0)) (enclosed_same _ _ _ _ _ _ _ _ (held_made c.exits.result c.in_ok-parts-in-Block.held _ c.in_ok-parts-in-Block.ensures.1 c.exits.ensures.blocks) (ap (λ (p : List ArmBlock × Part). plain_arms p.0) c.in_ok-parts-in-Block.ensures.0 ∙ ap plain_arms c.in_ok-kept-in-Block.ensures.0 ∙ c.in_ok-arms-in-Block.ensures.blocks) (ap (λ (p : List ArmBlock × Part). plain p.1.block) c.in_ok-parts-in-Block.ensures.0 ∙ part_made c.blocks-in-Block.result c.in_ok-kept-in-Block.made _ c.in_ok-kept-in-Block.ensures.1 c.blocks-in-Block.ensures.block)) ∙ sym (block_form (coded c.args.routine.now) c.args.next.now c.args.s.now _ _ _ _ _ _ c.in-Block.is c.get-in-Block.ensures c.as_slice-in-Block.ensures c.as_slice-es.ensures c.caught_by.new.next c.blocks-in-Block.new.next c.in_ok-arms-in-Block.ensures.next (next_made c.blocks-in-Block.result c.in_ok-kept-in-Block.made _ _ c.in_ok-kept-in-Block.ensures.1 c.blocks-in-Block.ensures.next)))
+    made_as c.enclosed.result _ _ c.enclosed.ensures (ap (Ends (Here 0)) (enclosed_same _ _ _ _ _ _ _ _ (held_made c.exits.result c.in_ok-parts-in-Block.held _ c.in_ok-parts-in-Block.ensures.1 c.exits.ensures.blocks) (ap (λ (p : List ArmBlock × Part). plain_arms p.0) c.in_ok-parts-in-Block.ensures.0 ∙ ap plain_arms c.in_ok-kept-in-Block.ensures.0 ∙ c.in_ok-arms-in-Block.ensures.blocks) (ap (λ (p : List ArmBlock × Part). plain p.1.block) c.in_ok-parts-in-Block.ensures.0 ∙ part_made c.blocks-in-Block.result c.in_ok-kept-in-Block.made _ c.in_ok-kept-in-Block.ensures.1 c.blocks-in-Block.ensures.block)) ∙ sym (block_form (coded c.args.routine.now) c.args.next.now c.args.s.now _ _ _ _ _ _ c.in-Block.is c.get-in-Block.ensures c.as_slice-ss.ensures c.as_slice-es.ensures c.caught_by.new.next c.blocks-in-Block.new.next c.in_ok-arms-in-Block.ensures.next (next_made c.blocks-in-Block.result c.in_ok-kept-in-Block.made _ _ c.in_ok-kept-in-Block.ensures.1 c.blocks-in-Block.ensures.next)))
 
 pub statements::block-returns-in_ok-parts-in-Block-clause-next : goal.statements::block-returns-in_ok-parts-in-Block-clause-next
 statements::block-returns-in_ok-parts-in-Block-clause-next m c =
-    next_held c.enclosed.result _ _ (omega (arith, block_hidden (coded c.args.routine.now) c.args.next.now c.args.s.now _ _ _ _ _ _ c.in-Block.is c.get-in-Block.ensures c.as_slice-in-Block.ensures c.as_slice-es.ensures, c.in_ok-arms-in-Block.ensures.next, (next_made c.blocks-in-Block.result c.in_ok-kept-in-Block.made _ _ c.in_ok-kept-in-Block.ensures.1 c.blocks-in-Block.ensures.next), next_made c.exits.result c.in_ok-parts-in-Block.held _ _ c.in_ok-parts-in-Block.ensures.1 c.exits.ensures.next))
+    next_held c.enclosed.result _ _ (omega (arith, block_hidden (coded c.args.routine.now) c.args.next.now c.args.s.now _ _ _ _ _ _ c.in-Block.is c.get-in-Block.ensures c.as_slice-ss.ensures c.as_slice-es.ensures, c.in_ok-arms-in-Block.ensures.next, (next_made c.blocks-in-Block.result c.in_ok-kept-in-Block.made _ _ c.in_ok-kept-in-Block.ensures.1 c.blocks-in-Block.ensures.next), next_made c.exits.result c.in_ok-parts-in-Block.held _ _ c.in_ok-parts-in-Block.ensures.1 c.exits.ensures.next))
 
 pub statements::block-returns-in_ok-kept-in-For-clause-block : goal.statements::block-returns-in_ok-kept-in-For-clause-block
 statements::block-returns-in_ok-kept-in-For-clause-block m c =
@@ -307,3 +307,63 @@ loops::a_loop-returns-in-None-clause-block m c =
 pub loops::a_loop-returns-in-None-clause-next : goal.loops::a_loop-returns-in-None-clause-next
 loops::a_loop-returns-in-None-clause-next m c =
     next_held c.looped-in-None.result _ _ (omega (arith, loop_hidden (coded c.args.routine.now) c.args.next.now (counter_of c.args.counter) c.args.l.now _ c.as_slice-es.ensures, c.in_ok-test.ensures.next, (next_made c.block.result c.in_ok-kept.made _ _ c.in_ok-kept.ensures.1 c.block.ensures.next), (next_made c.exits.result c.in_ok-turns.held _ _ c.in_ok-turns.ensures.1 c.exits.ensures.next), no_finish_hidden _ c.in-None.is))
+
+pub loops::a_loop-room_for_statement-requires-clause-room : goal.loops::a_loop-room_for_statement-requires-clause-room
+loops::a_loop-room_for_statement-requires-clause-room m c =
+    omega (arith, loop_hidden (coded c.args.routine.now) c.args.next.now (counter_of c.args.counter) c.args.l.now _ refl, c.in_ok-test.ensures.next, c.requires.room)
+
+pub loops::a_loop-room_for_statement-requires-clause-fits : goal.loops::a_loop-room_for_statement-requires-clause-fits
+loops::a_loop-room_for_statement-requires-clause-fits m c =
+    loop_body_fits (coded c.args.routine.now) c.args.next.now (counter_of c.args.counter) c.args.l.now c.requires.fits c.control.new.next c.in_ok-test.ensures.next
+
+pub loops::a_loop-room_for_exits-requires-clause-room : goal.loops::a_loop-room_for_exits-requires-clause-room
+loops::a_loop-room_for_exits-requires-clause-room m c =
+    omega (arith, loop_hidden (coded c.args.routine.now) c.args.next.now (counter_of c.args.counter) c.args.l.now _ c.as_slice-es.ensures, c.in_ok-test.ensures.next, (next_made c.block.result c.in_ok-kept.made _ _ c.in_ok-kept.ensures.1 c.block.ensures.next), c.requires.room)
+
+pub loops::a_loop-room_for_exits-requires-clause-fits : goal.loops::a_loop-room_for_exits-requires-clause-fits
+loops::a_loop-room_for_exits-requires-clause-fits m c =
+    loop_exits_fit (coded c.args.routine.now) c.args.next.now (counter_of c.args.counter) c.args.l.now c.requires.fits c.control.new.next c.block.new.next _ c.as_slice-es.ensures c.in_ok-test.ensures.next (next_made c.block.result c.in_ok-kept.made _ _ c.in_ok-kept.ensures.1 c.block.ensures.next)
+
+pub loops::a_loop-room_for_finish-requires-clause-room : goal.loops::a_loop-room_for_finish-requires-clause-room
+loops::a_loop-room_for_finish-requires-clause-room m c =
+    omega (arith, loop_hidden (coded c.args.routine.now) c.args.next.now (counter_of c.args.counter) c.args.l.now _ c.as_slice-es.ensures, c.in_ok-test.ensures.next, (next_made c.block.result c.in_ok-kept.made _ _ c.in_ok-kept.ensures.1 c.block.ensures.next), (next_made c.exits.result c.in_ok-turns.held _ _ c.in_ok-turns.ensures.1 c.exits.ensures.next), finish_hidden _ _ c.in-Some.is, c.requires.room)
+
+pub loops::a_loop-room_for_finish-requires-clause-fits : goal.loops::a_loop-room_for_finish-requires-clause-fits
+loops::a_loop-room_for_finish-requires-clause-fits m c =
+    loop_finish_fits (coded c.args.routine.now) c.args.next.now (counter_of c.args.counter) c.args.l.now c.requires.fits c.control.new.next c.block.new.next c.exits.new.next _ _ _ c.is_empty-jumps.result c.as_slice-es.ensures c.in_ok-test.ensures.next (next_made c.block.result c.in_ok-kept.made _ _ c.in_ok-kept.ensures.1 c.block.ensures.next) (next_made c.exits.result c.in_ok-turns.held _ _ c.in_ok-turns.ensures.1 c.exits.ensures.next) c.in-Some.is c.is_endless-endless.ensures c.is_empty-jumps.ensures
+
+pub statements::block-room_for_cases-requires-clause-room : goal.statements::block-room_for_cases-requires-clause-room
+statements::block-room_for_cases-requires-clause-room m c =
+    omega (arith, select_hidden (coded c.args.routine.now) c.args.next.now c.args.s.now _ _ _ _ _ c.in-Select.is c.as_slice-rest.ensures c.get-otherwise-in-Select.ensures, c.in_ok-selector-in-Select.ensures.next, c.requires.room)
+
+pub statements::block-room_for_cases-requires-clause-fits : goal.statements::block-room_for_cases-requires-clause-fits
+statements::block-room_for_cases-requires-clause-fits m c =
+    ap (λ b. excess_among (case_blocks (coded c.args.routine.now) c.value-in-Select.new.next c.args.next.now (not b) (chain (map case c.as_slice-rest.result.now) (t.Otherwise t.Null)))) c.is_null-passes.ensures ∙ cases_fit (coded c.args.routine.now) c.args.next.now c.args.s.now _ _ _ (c.args.next.now + 1) c.value-in-Select.new.next c.get-otherwise-in-Select.ensures refl c.in_ok-selector-in-Select.ensures.next c.requires.fits _ _ c.in-Select.is c.as_slice-rest.ensures
+
+pub statements::block-room_for_cases-requires-clause-small : goal.statements::block-room_for_cases-requires-clause-small
+statements::block-room_for_cases-requires-clause-small m c =
+    omega (arith, ap (λ b. sizes_in (case_blocks (coded c.args.routine.now) c.value-in-Select.new.next c.args.next.now (not b) (chain (map case c.as_slice-rest.result.now) (t.Otherwise t.Null)))) c.is_null-passes.ensures, cases_small (coded c.args.routine.now) c.args.next.now c.args.s.now _ _ _ (c.args.next.now + 1) c.value-in-Select.new.next c.get-otherwise-in-Select.ensures refl c.in_ok-selector-in-Select.ensures.next c.requires.fits _ _ c.in-Select.is c.as_slice-rest.ensures)
+
+pub statements::block-room_for_statement-requires-clause-room : goal.statements::block-room_for_statement-requires-clause-room
+statements::block-room_for_statement-requires-clause-room m c =
+    omega (arith, select_hidden (coded c.args.routine.now) c.args.next.now c.args.s.now _ _ _ _ _ c.in-Select.is c.as_slice-rest.ensures c.get-otherwise-in-Select.ensures, c.in_ok-selector-in-Select.ensures.next, (next_made c.cases.result c.in_ok-kept-in-Select.row _ _ c.in_ok-kept-in-Select.ensures.1 c.cases.ensures.next), c.requires.room)
+
+pub statements::block-room_for_statement-requires-clause-fits : goal.statements::block-room_for_statement-requires-clause-fits
+statements::block-room_for_statement-requires-clause-fits m c =
+    last_statement (coded c.args.routine.now) c.args.next.now (c.args.next.now + 1) c.value-in-Select.new.next c.cases.new.next c.args.s.now _ _ _ c.get-otherwise-in-Select.ensures refl c.in_ok-selector-in-Select.ensures.next c.requires.fits _ _ c.in-Select.is c.as_slice-rest.ensures (next_made c.cases.result c.in_ok-kept-in-Select.row _ _ c.in_ok-kept-in-Select.ensures.1 c.cases.ensures.next)
+
+pub statements::block-room_for_statements-requires-clause-room : goal.statements::block-room_for_statements-requires-clause-room
+statements::block-room_for_statements-requires-clause-room m c =
+    omega (arith, block_hidden (coded c.args.routine.now) c.args.next.now c.args.s.now _ _ _ _ _ _ c.in-Block.is c.get-in-Block.ensures c.as_slice-ss.ensures refl, c.in_ok-arms-in-Block.ensures.next, c.requires.room)
+
+pub statements::block-room_for_statements-requires-clause-fits : goal.statements::block-room_for_statements-requires-clause-fits
+statements::block-room_for_statements-requires-clause-fits m c =
+    body_fits (coded c.args.routine.now) c.args.next.now c.args.s.now _ _ _ c.in-Block.is c.requires.fits c.caught_by.new.next _ _ c.get-in-Block.ensures c.as_slice-ss.ensures c.in_ok-arms-in-Block.ensures.next
+
+pub statements::block-room_for_exits-requires-clause-room : goal.statements::block-room_for_exits-requires-clause-room
+statements::block-room_for_exits-requires-clause-room m c =
+    omega (arith, block_hidden (coded c.args.routine.now) c.args.next.now c.args.s.now _ _ _ _ _ _ c.in-Block.is c.get-in-Block.ensures c.as_slice-ss.ensures c.as_slice-es.ensures, c.in_ok-arms-in-Block.ensures.next, (next_made c.blocks-in-Block.result c.in_ok-kept-in-Block.made _ _ c.in_ok-kept-in-Block.ensures.1 c.blocks-in-Block.ensures.next), c.requires.room)
+
+pub statements::block-room_for_exits-requires-clause-fits : goal.statements::block-room_for_exits-requires-clause-fits
+statements::block-room_for_exits-requires-clause-fits m c =
+    labels_fit (coded c.args.routine.now) c.args.next.now c.args.s.now _ _ _ c.in-Block.is c.requires.fits c.caught_by.new.next c.blocks-in-Block.new.next _ _ _ c.get-in-Block.ensures c.as_slice-ss.ensures c.as_slice-es.ensures c.in_ok-arms-in-Block.ensures.next (next_made c.blocks-in-Block.result c.in_ok-kept-in-Block.made _ _ c.in_ok-kept-in-Block.ensures.1 c.blocks-in-Block.ensures.next)
