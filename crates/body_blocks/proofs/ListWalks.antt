@@ -26,7 +26,7 @@ use Rattle.block_trees.specs.Rows.{excess_among, sizes_in}
 use Rattle.block_trees.proofs.StatementSplits.{cases_split, exits_split, stmts_split, targets_split}
 use Rattle.block_trees.proofs.CaseLaws.{on_left}
 use Rattle.block_trees.proofs.TargetLaws.{first_target, newest, no_path}
-use Rattle.body_blocks.proofs.RowWalks.{first_fits, first_more, first_small, firsts_fit, firsts_more, firsts_small, item_fits, item_more, item_small, none_more, one_fewer, all_fits}
+use Rattle.body_blocks.proofs.RowWalks.{first_fits, first_more, first_small, firsts_fit, firsts_more, firsts_small, item_fits, item_more, item_small, none_more}
 
 -- statements
 

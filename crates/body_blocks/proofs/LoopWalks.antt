@@ -1,5 +1,5 @@
 -- What is done behind the rounds of a loop, and the statements of labels.
-use Rattle.std.proofs.Common.{◌≡◌, refl, sym, ap, ◌∙◌, ℕ, ◌+◌, ◌≤◌, List, [], ◌∷◌, length, map, Bool, true, false, not, arith}
+use Rattle.std.proofs.Common.{◌≡◌, refl, sym, ap, ◌∙◌, ℕ, ◌+◌, List, [], ◌∷◌, length, map, Bool, true, false, not, arith}
 use Rattle.std.specs.Prelude.{Option, Some, None, option_map, nat_eq}
 use Rattle.mesa_types.specs.Chain.{chain}
 use Rattle.mesa_types.specs.Counts.{hidden, hidden_condition, hidden_exits, hidden_finish, hidden_loop, hidden_phrase, hidden_stmts}

@@ -16,7 +16,7 @@ use Rattle.code_forms.specs.declared.instruction.Instruction.{Instruction}
 use Rattle.code_relation.specs.Loops as loops
 use Rattle.code_relation.specs.OwnCode.{pop_code}
 use Rattle.code_relation.specs.Reading.{Coded}
-use Rattle.code_blocks.specs.Blocks.{ArmBlocks, Block, Both, Does, Ends, Goes, Here, Mark, Statement}
+use Rattle.code_blocks.specs.Blocks.{ArmBlocks, Block, Both, Does, Ends, Mark, Statement}
 use Rattle.code_blocks.specs.Sizes.{size}
 use Rattle.code_blocks.specs.Translation as spec
 use Rattle.block_trees.specs.Excess.{excess, excess_in}

@@ -1,30 +1,29 @@
-use Rattle.std.proofs.Common.{◌≡◌, refl, sym, ap, ◌∙◌, subst, ℕ, ◌+◌, ◌-◌, List, [], ◌∷◌, ◌++◌, length, drop, map, Bool, true, false, arith}
+use Rattle.std.proofs.Common.{◌≡◌, refl, sym, ap, ◌∙◌, subst, ◌+◌, List, drop, map, arith}
 use Rattle.std.specs.Prelude.{not, OnOk}
 use Rattle.std.proofs.lemmas.Bool.{false≢true}
 use Rattle.mesa_types.specs.Chain.{chain}
-use Rattle.mesa_types.specs.Counts.{hidden, hidden_tests}
-use Rattle.mesa_types.specs.Plain.{case, exit, stmt, suffix, test}
+use Rattle.mesa_types.specs.Counts.{hidden_tests}
+use Rattle.mesa_types.specs.Plain.{case, stmt, suffix, test}
 use Rattle.mesa_types.specs.Typed as t
-use Rattle.code_forms.specs.declared.instruction.Instruction.TheVariants as i
 use Rattle.code_relation.specs.OwnCode.{pop_code}
-use Rattle.code_blocks.specs.Blocks.{Does, Ends, Here, Statement}
+use Rattle.code_blocks.specs.Blocks.{Does, Ends, Here}
 use Rattle.code_blocks.specs.Translation as spec
 use Rattle.block_trees.specs.Excess.{excess}
-use Rattle.block_trees.specs.Forms.{blocks_of, case_blocks, counter_of, goes_on, if_of, past_if}
-use Rattle.block_trees.specs.Plain.{in_order, off_in_arms, plain, plain_arms, plain_blocks}
+use Rattle.block_trees.specs.Forms.{blocks_of, case_blocks, counter_of, goes_on, past_if}
+use Rattle.block_trees.specs.Plain.{in_order, plain, plain_arms, plain_blocks}
 use Rattle.block_trees.specs.Routines.{coded}
 use Rattle.block_trees.specs.Rows.{excess_among, sizes_in}
 use Rattle.block_trees.specs.declared.block.ArmBlock.{ArmBlock}
 use Rattle.block_trees.specs.declared.held_parts.Held.{Held}
 use Rattle.block_trees.specs.declared.part.Part.{Part}
 use Rattle.block_trees.specs.declared.part.Row.{Row}
-use Rattle.block_trees.proofs.ExitLaws.{blocks_fit, none_left, past_left, some_left}
+use Rattle.block_trees.proofs.ExitLaws.{none_left, past_left, some_left}
 use Rattle.block_trees.proofs.LoopLaws.{block_form, block_hidden, enclosed_fits, for_form, for_hidden, loop_form, loop_hidden, looped_fits, resume_form, resume_hidden, return_form, return_hidden, rounds_fit}
-use Rattle.block_trees.proofs.StatementLaws.{assign_form, assign_hidden, declare_form, declare_hidden, extract_form, extract_hidden, if_fits, if_form, if_hidden, path_fits_by, select_form, select_hidden, value_fits_by}
-use Rattle.body_blocks.proofs.ListWalks.{case_fits, case_more, case_small, cases_end_hidden, cases_end_is, cases_hidden, exit_fits, exit_more, exits_end_hidden, exits_end_is, exits_hidden, stmt_fits, stmt_more, stmt_small, stmts_end_hidden, stmts_end_is, stmts_hidden}
-use Rattle.body_blocks.proofs.LoopWalks.{body_fits, finish_hidden, finished_form, held_together, labels_fit, loop_body_fits, loop_exits_fit, loop_finish_fits, no_finish_hidden, rounds_same, unfinished_form, unless_fits, unless_same}
+use Rattle.block_trees.proofs.StatementLaws.{assign_form, assign_hidden, declare_form, declare_hidden, extract_form, extract_hidden, if_form, if_hidden, path_fits_by, select_form, select_hidden, value_fits_by}
+use Rattle.body_blocks.proofs.ListWalks.{case_more, case_small, cases_end_hidden, cases_end_is, cases_hidden, exit_more, exits_end_hidden, exits_end_is, exits_hidden, stmt_more, stmt_small, stmts_end_hidden, stmts_end_is, stmts_hidden}
+use Rattle.body_blocks.proofs.LoopWalks.{body_fits, finish_hidden, finished_form, held_together, labels_fit, loop_body_fits, loop_exits_fit, loop_finish_fits, no_finish_hidden, rounds_same, unfinished_form, unless_same}
 use Rattle.body_blocks.proofs.RowWalks.{made_as, next_held, next_made, part_made, row_made, tail_among, tail_fits, whole_small}
-use Rattle.body_blocks.proofs.StatementWalks.{assign_same, both_same, case_same, cases_fit, cases_small, code_made, code_part, code_same, enclosed_same, ended_part, first_part, held_made, if_all_same, last_part, last_statement, length_made, looped_same, marked_form, marked_hidden, middle_part, perform_form, perform_hidden, repeat_form, repeat_hidden, select_same, selector_value, small_parts, words_made}
+use Rattle.body_blocks.proofs.StatementWalks.{assign_same, both_same, case_same, cases_fit, cases_small, code_made, code_part, code_same, enclosed_same, ended_part, first_part, held_made, if_all_same, last_part, last_statement, looped_same, middle_part, perform_form, perform_hidden, repeat_form, repeat_hidden, select_same, selector_value, words_made}
 use Rattle.body_blocks.proofs.TestWalks.{case_parts}
 use Rattle.body_blocks.proofs.+blocks.Goals as goal
 

@@ -1,10 +1,5 @@
-use Rattle.std.proofs.Common.{sym, ap, ◌∙◌, ◌+◌, ◌-◌, drop, map, nat_eq, arith}
+use Rattle.std.proofs.Common.{sym, ap, ◌∙◌, arith}
 use Rattle.std.specs.Prelude.{not}
-use Rattle.mesa_types.specs.Chain.{chain}
-use Rattle.mesa_types.specs.Plain.{test}
-use Rattle.mesa_types.specs.Typed as t
-use Rattle.block_trees.specs.Excess.{excess}
-use Rattle.block_trees.specs.Forms.{test_of}
 use Rattle.block_trees.specs.Plain.{plain_blocks}
 use Rattle.block_trees.specs.Routines.{coded}
 use Rattle.block_trees.specs.declared.part.Row.{Row}

@@ -1,4 +1,4 @@
-use Rattle.std.proofs.Common.{◌≡◌, sym, ap, ◌∙◌, ℕ, ◌+◌, List, map, arith}
+use Rattle.std.proofs.Common.{◌≡◌, ap, ◌∙◌, ℕ, ◌+◌, List, map, arith}
 use Rattle.std.specs.Prelude.{Result, Ok, IfOk, OnOk}
 use Rattle.mesa_types.specs.Chain.{chain}
 use Rattle.mesa_types.specs.Counts.{hidden_suffixes}
@@ -6,7 +6,6 @@ use Rattle.mesa_types.specs.Plain.{suffix}
 use Rattle.mesa_types.specs.Typed as t
 use Rattle.mesa_types.specs.declared.typed_tree.Suffix.{Suffix}
 use Rattle.code_relation.specs.Reading.{Coded}
-use Rattle.code_blocks.specs.Blocks.{Block}
 use Rattle.code_blocks.specs.Translation as spec
 use Rattle.block_trees.specs.Excess.{excess}
 use Rattle.block_trees.specs.Plain.{plain, plain_blocks}
