@@ -1,19 +1,28 @@
 //! Types as they are written, part by part.
-ghost use Rattle.std.specs.Prelude.{option_map};
-ghost use Rattle.std.specs.Option.{option_copied};
+ghost use Rattle.std.specs.Prelude.{[]};
 ghost use Rattle.mesa_types.specs.PlainSyntax as syntax;
 ghost use Rattle.checking_rules.specs.Checking as spec;
 ghost use Rattle.checking_rules.specs.PlainTypes.{plain};
 ghost use Rattle.check_words.specs.Gives.{Gives};
 ghost use Rattle.check_words.specs.Views as words;
 
+use crate::fields::and_fields;
+use crate::intervals::{first_of_type, ranged};
+use crate::made_types::{array_of, enumeration, record_of};
+use check_declared::different;
 use check_expressions::{Checker, Phrases};
-use check_words::{Around, State};
-use checking_rules::CheckFault;
-use mesa_types::syntax::{FieldList, Interval, TypeExp};
-use mesa_types::{Fields, TypeTree};
+use check_scopes::Names;
+use check_types::{is_index, limited};
+use check_words::{Around, State, type_named};
+use checking_rules::{Cause, CheckFault};
+use held_trees::{LetGo, both, pushed};
+use mesa_base::{Identifiers, List};
+use mesa_types::syntax::{FieldList, Labeled, TypeExp};
+use mesa_types::{FieldType, Fields, TypeTree};
 
 /// The type that is written.
+#[cycle(types)]
+#[tactic(auto, using(mesa_types::proofs::PlainForms::type_exp_forms, check_words::proofs::TypeForms::type_forms, crate::proofs::Clauses::clauses))]
 pub fn type_exp<P: Phrases>(
     e: &TypeExp,
     checker: &Checker<P>,
@@ -23,10 +32,36 @@ pub fn type_exp<P: Phrases>(
     requires { P.ask checker.now.phrases }
     ensures { Gives plain (spec.type_exp (words.around around.now) (syntax.type_exp e.now) (words.state state.old)) result (words.state state.new) }
 {
-    Err(CheckFault::Memory)
+    match e {
+        TypeExp::Integer(_) => Ok(TypeTree::Integer),
+        TypeExp::Cardinal(_) => Ok(TypeTree::Cardinal),
+        TypeExp::Boolean(_) => Ok(TypeTree::Boolean),
+        TypeExp::Character(_) => Ok(TypeTree::Character),
+        TypeExp::String(_) => Ok(TypeTree::String),
+        TypeExp::Called(name) => type_named(checker.alloc, around, state, name),
+        TypeExp::Enumeration(place, elements) => {
+            enumeration(elements.as_slice(), *place, checker.alloc, around, state)
+        }
+        TypeExp::Subrange(base, interval) => ranged(interval, checker, around, state, base),
+        TypeExp::Array(place, index, element) => {
+            let kind = type_exp(index.get(), checker, around, state)?;
+            if !is_index(&kind) {
+                kind.let_go();
+                return Err(CheckFault::At(Cause::TypeMismatch, first_of_type(index.get())));
+            }
+            let (kind, element) = both(kind, type_exp(element.get(), checker, around, state))?;
+            limited(*place, array_of(checker.alloc, kind, element)?)
+        }
+        TypeExp::Record(place, fields) => {
+            let fields = fields_of(fields, checker, around, state)?;
+            limited(*place, record_of(*place, checker.alloc, around, fields)?)
+        }
+    }
 }
 
-/// The fields of a record.
+/// The fields of a record. No name stands twice.
+#[cycle(types)]
+#[tactic(auto, using(mesa_types::proofs::PlainForms::field_list_forms, crate::proofs::Clauses::named_is, crate::proofs::Clauses::unnamed_is))]
 pub fn fields_of<P: Phrases>(
     fields: &FieldList,
     checker: &Checker<P>,
@@ -36,10 +71,36 @@ pub fn fields_of<P: Phrases>(
     requires { P.ask checker.now.phrases }
     ensures { Gives words.fields (spec.fields_of (words.around around.now) (syntax.field_list fields.now) (words.state state.old)) result (words.state state.new) }
 {
-    Err(CheckFault::Memory)
+    match fields {
+        FieldList::WithNames(all) => named_fields(all.as_slice(), checker, around, state),
+        FieldList::Unnamed(all) => unnamed_fields(all.as_slice(), checker, around, state),
+    }
+}
+
+#[cycle(types)]
+fn named_fields<P: Phrases>(
+    all: &[Labeled<Identifiers, TypeExp>],
+    checker: &Checker<P>,
+    around: &Around<'_>,
+    state: &mut State,
+) -> Result<Fields, CheckFault>
+    requires { P.ask checker.now.phrases }
+    ensures { Gives words.fields (spec.named_fields (words.around around.now) [] (syntax.named_fields all.now) (words.state state.old)) result (words.state state.new) }
+{
+    let alloc = checker.alloc;
+    let mut taken = Names::new(alloc);
+    let mut done = List::new(alloc);
+    for one in all {
+        let names = one.labels.as_slice();
+        let (held, _) = both(done, different(names, alloc, &mut taken))?;
+        let (held, kind) = both(held, type_exp(&one.item, checker, around, state))?;
+        done = and_fields(names, alloc, kind, held)?;
+    }
+    Ok(done)
 }
 
 /// Fields, parameters or results without names.
+#[cycle(types)]
 pub fn unnamed_fields<P: Phrases>(
     all: &[TypeExp],
     checker: &Checker<P>,
@@ -49,19 +110,10 @@ pub fn unnamed_fields<P: Phrases>(
     requires { P.ask checker.now.phrases }
     ensures { Gives words.fields (spec.unnamed_fields (words.around around.now) (syntax.types all.now) (words.state state.old)) result (words.state state.new) }
 {
-    Err(CheckFault::Memory)
-}
-
-/// The type of an interval whose bounds are of this type, if one is said.
-pub fn of_interval<P: Phrases>(
-    interval: &Interval,
-    checker: &Checker<P>,
-    around: &Around<'_>,
-    state: &mut State,
-    said: Option<&TypeTree>,
-) -> Result<TypeTree, CheckFault>
-    requires { P.ask checker.now.phrases }
-    ensures { Gives plain (spec.of_interval (words.around around.now) (option_map plain (option_copied said.entry)) (syntax.interval interval.now) (words.state state.old)) result (words.state state.new) }
-{
-    Err(CheckFault::Memory)
+    let mut done = List::new(checker.alloc);
+    for one in all {
+        let (held, kind) = both(done, type_exp(one, checker, around, state))?;
+        done = pushed(held, FieldType { name: None, kind })?;
+    }
+    Ok(done)
 }

@@ -1,0 +1,4 @@
+pub mod AgainLaws
+pub mod DefinedLaws
+pub mod HeadingLaws
+pub mod ItemLaws

@@ -1,0 +1,8 @@
+use Rattle.std.proofs.Common.{◌≡◌, ◌++◌, drop}
+use Rattle.checking_rules.specs.Parts.{each_of}
+use Rattle.checking_rules.specs.PlainTypes.{plain}
+use Rattle.check_words.specs.Views.{fields}
+use Rattle.check_written_types.proofs.fields.add_fields.Given as goal
+
+abbrev pub invariant-loop-name : goal.invariant-loop-name
+invariant-loop-name l = fields l.fn.fields ++ each_of (plain l.kind) l.names ≡ fields l.fields ++ each_of (plain l.kind) (drop l.name-index l.names)
