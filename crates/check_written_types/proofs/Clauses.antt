@@ -12,7 +12,7 @@ use Rattle.checking_rules.specs.Names.{type_named}
 use Rattle.checking_rules.specs.Parts.{first, first_of_type}
 use Rattle.checking_rules.specs.PlainTypes as v
 use Rattle.checking_rules.specs.PlainTypes.{PlainType}
-use Rattle.checking_rules.specs.Steps.{State, Check, ◌>>=◌, and_then, pure, lift, ensure, or_refuse}
+use Rattle.checking_rules.specs.Steps.{State, ◌>>=◌, and_then, pure, lift, ensure, or_refuse}
 use Rattle.checking_rules.specs.TypeRules.{bound, elements, few, interval_base, is_index, limited, subrange}
 use Rattle.checking_rules.specs.Values.{bound_aim}
 use Rattle.checking_rules.specs.declared.fault.Cause.TheVariants.{TypeMismatch}

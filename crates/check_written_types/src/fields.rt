@@ -1,5 +1,5 @@
 //! Fields with names, which have one type.
-ghost use Rattle.std.specs.Prelude.{◌≡◌, ◌++◌, Some, IfOk, OnOk};
+ghost use Rattle.std.specs.Prelude.{◌≡◌, ◌++◌, Some, None, IfOk, OnOk};
 ghost use Rattle.checking_rules.specs.Parts as parts;
 ghost use Rattle.checking_rules.specs.PlainTypes.{plain, plain_field};
 ghost use Rattle.check_words.specs.Views as words;
@@ -17,6 +17,13 @@ fn named_field(name: &Identifier, alloc: Global, kind: &TypeTree) -> Result<Fiel
         name: Some(name.name.copy(alloc)?),
         kind: kind.copy(alloc)?,
     })
+}
+
+#[tactic(auto, using(check_words::proofs::TypeForms::parts_of_field))]
+pub(crate) fn unnamed_field(kind: TypeTree) -> FieldType
+    ensures { plain_field result ≡ record { name = None; kind = plain kind } }
+{
+    FieldType { name: None, kind }
 }
 
 fn add_fields(

@@ -6,7 +6,7 @@ ghost use Rattle.checking_rules.specs.PlainTypes.{plain};
 ghost use Rattle.check_words.specs.Gives.{Gives};
 ghost use Rattle.check_words.specs.Views as words;
 
-use crate::fields::and_fields;
+use crate::fields::{and_fields, unnamed_field};
 use crate::intervals::{first_of_type, ranged};
 use crate::made_types::{array_of, enumeration, record_of};
 use check_declared::different;
@@ -18,7 +18,7 @@ use checking_rules::{Cause, CheckFault};
 use held_trees::{LetGo, both, pushed};
 use mesa_base::{Identifiers, List};
 use mesa_types::syntax::{FieldList, Labeled, TypeExp};
-use mesa_types::{FieldType, Fields, TypeTree};
+use mesa_types::{Fields, TypeTree};
 
 /// The type that is written.
 #[cycle(types)]
@@ -113,7 +113,7 @@ pub fn unnamed_fields<P: Phrases>(
     let mut done = List::new(checker.alloc);
     for one in all {
         let (held, kind) = both(done, type_exp(one, checker, around, state))?;
-        done = pushed(held, FieldType { name: None, kind })?;
+        done = pushed(held, unnamed_field(kind))?;
     }
     Ok(done)
 }
