@@ -8,7 +8,7 @@ ghost use Rattle.check_words.specs.Views as words;
 ghost use Rattle.check_heads.specs.Forms as form;
 ghost use Rattle.check_heads.specs.Views as view;
 
-use crate::headings::heading;
+use crate::headings::heading_of;
 use crate::items::item_names;
 use check_declared::{constant_meaning, few_operands, first_name};
 use check_expressions::{Checker, Phrases};
@@ -44,7 +44,7 @@ fn item<P: Phrases>(
     ensures { Gives view.defined (form.item (words.around around.now) kind names.now (syntax.maybe_fields takes.now) (syntax.maybe_fields gives.now) (words.state state.old)) result (words.state state.new) }
 {
     let alloc = checker.alloc;
-    let head = heading(takes, gives, checker, around, state)?;
+    let head = heading_of(takes, gives, checker, around, state)?;
     let items = item_names(names, alloc, state, kind, &head)?;
     Ok(DefinedNames {
         items,

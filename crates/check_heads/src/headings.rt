@@ -66,6 +66,7 @@ fn parameters<P: Phrases>(
 }
 
 /// Closes the scope, hands over what was coming in it, and this is coming from here on.
+#[tactic(auto, unfolding(check_words::specs::Views::state))]
 fn leave(alloc: Global, state: &mut State, outside: Names<Meaning>) -> Names<Meaning>
     ensures names { words.names result ≡ (words.state state.old).coming }
     ensures state { words.state state.new ≡ record (words.state state.old) { scopes = outer (words.state state.old).scopes; coming = words.names outside } }
@@ -94,7 +95,7 @@ fn made(
 
 /// The head of a procedure, signal or error. No name of its parameters and results stands twice; the types in it do not see
 /// them.
-pub fn heading<P: Phrases>(
+pub fn heading_of<P: Phrases>(
     takes: &Option<FieldList>,
     gives: &Option<FieldList>,
     checker: &Checker<P>,

@@ -29,6 +29,7 @@ pub trait Starts {
 }
 
 /// A declaration of an interface behind those that have no fault.
+#[derive(Drop)]
 struct Behind<'a, P, S> {
     checker: &'a Checker<P>,
     around: &'a Around<'a>,

@@ -11,7 +11,7 @@ mod scopes;
 
 pub use again::{Tries, second_fault};
 pub use definitions::{DefinedNames, definition};
-pub use headings::{Heading, heading};
+pub use headings::{Heading, heading_of};
 pub use interfaces::{Starts, all_defined};
 pub use items::named_item;
 pub use scopes::{head_names, pass_over};
