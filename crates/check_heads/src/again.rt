@@ -128,7 +128,12 @@ fn retried<D, T: Tries<D>>(
     requires { T.ask tries.now }
     ensures { GivesOnly (λ _. tt) (again.outcome_alone (again.retried T.named (T.rule tries.now) (words.around around.now) one.now others.now (T.before tries.now))) result }
 {
-    Err(CheckFault::Memory)
+    let state = behind_all(tries, alloc, around, one, others)?;
+    let heads = head_names(alloc, state)?;
+    let mut state = tries.begin()?;
+    let near = *around;
+    let around = with_heads(&heads, &near);
+    tries.declare(one, &around, &mut state)
 }
 
 /// The fault of the declaration in hand before these others, once it has one: that of the second try, if that has one too.

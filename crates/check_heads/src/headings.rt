@@ -95,6 +95,7 @@ fn made(
 
 /// The head of a procedure, signal or error. No name of its parameters and results stands twice; the types in it do not see
 /// them.
+#[tactic(auto, unfolding(checking_rules::specs::Programs::heading))]
 pub fn heading_of<P: Phrases>(
     takes: &Option<FieldList>,
     gives: &Option<FieldList>,

@@ -1,4 +1,4 @@
-use Rattle.std.proofs.Common.{rules}
+use Rattle.std.proofs.Common.{map, rules, ap, ◌∙◌}
 use Rattle.checking_rules.specs.Definitions.{item_meaning}
 use Rattle.checking_rules.specs.PlainTypes.{plain_item}
 use Rattle.checking_rules.specs.Programs.{named_item}
@@ -10,6 +10,6 @@ pub loop-name-preserved : goal.loop-name-preserved
 loop-name-preserved c =
     let named = named_item c.args.kind (view.heading c.args.head.now) in
     record {
-      items = map_more named plain_item c.args.names.now c.loop-name.items c.loop-name.name-index c.name-item.result c.in_ok-held.item (search rules) (search rules) c.loop-name.invariant.items (search rules);
+      items = ap (map plain_item) (search rules) ∙ map_more named plain_item c.args.names.now c.loop-name.items c.loop-name.name-index c.name-item.result c.in_ok-held.item (search rules) (search rules) c.loop-name.invariant.items (search rules);
       state = rw c.loop-name.invariant.state (rw (mean_at named (item_meaning c.args.kind) c.args.names.now c.loop-name.name-index c.name-item.result _ (search rules) (search rules)) (search rules));
     }
