@@ -1,3 +1,4 @@
 pub mod Rules
+pub mod Spots
 pub mod Views
 pub mod Whole

@@ -1,18 +1,21 @@
 -- The rules of statements that hold no statement, inside of what counts their operands, and of single parts of lists.
-use Rattle.std.specs.Prelude.{ℕ, ◌+◌, Bool, List, Option, Some, None, Ok, length, false}
+use Rattle.std.specs.Prelude.{ℕ, ◌+◌, Bool, false, not, List, [], length, nat_eq, Ok}
+use Rattle.mesa_base.specs.declared.identifier.Identifier.{Identifier}
 use Rattle.mesa_base.specs.declared.place.Place.{Place}
 use Rattle.mesa_types.specs.Syntax as s
 use Rattle.checking_rules.specs.Typed as t
 use Rattle.checking_rules.specs.Around.{Around, return, resumed}
 use Rattle.checking_rules.specs.Checking as spec
 use Rattle.checking_rules.specs.Names.{named}
-use Rattle.checking_rules.specs.Parts.{Found, first, first_of_interval}
+use Rattle.checking_rules.specs.Parts.{Found, field_named, first, first_of_interval}
 use Rattle.checking_rules.specs.PlainTypes as v
 use Rattle.checking_rules.specs.PlainTypes.{PlainField, words_of}
-use Rattle.checking_rules.specs.Ranges.{Typed, Aim, Free, Into, Several}
-use Rattle.checking_rules.specs.Reached.{Perform, Store, reached, performed, stored, Target}
-use Rattle.checking_rules.specs.Statements.{Rounds, rounds, extracted, returned, source, tested, tested_inside}
-use Rattle.checking_rules.specs.Steps.{Check, ◌>>=◌, pure, lift}
+use Rattle.checking_rules.specs.Ranges.{Typed, Free, Into, Several}
+use Rattle.checking_rules.specs.Reached.{Perform, reached, performed}
+use Rattle.checking_rules.specs.Scopes.{has}
+use Rattle.checking_rules.specs.Statements.{By, Counted, Rounds, counter, given, rounds, extracted, returned, source, tested, tested_inside}
+use Rattle.checking_rules.specs.Steps.{Check, Checked, and_then, ◌>>=◌, ensure, hide, lift, only, or_refuse, pure}
+use Rattle.checking_rules.specs.declared.fault.Cause.TheVariants.{TwiceDeclared, WrongCount}
 
 -- what is stored
 unfoldable pub assigned : Around → s.Left → s.Expr → Check t.Stmt
@@ -58,6 +61,10 @@ resumed_with a p q items = do
   x ← spec.arguments a fs q items
   pure (t.Resume x.places x.values)
 
+-- RESUME without values
+unfoldable pub resumed_bare : Around → Place → Checked t.Stmt
+resumed_bare a p = and_then (resumed a p) (λ fs. and_then (only (nat_eq 0 (length fs)) WrongCount p) (λ _. Ok (t.Resume [] t.NoExprs)))
+
 -- the value of a test
 abbrev pub truth_of : Around → s.Expr → Check t.Expr
 truth_of a e = spec.check a (Into v.Boolean (first e)) e >>= (λ x. pure x.value)
@@ -66,9 +73,30 @@ truth_of a e = spec.check a (Into v.Boolean (first e)) e >>= (λ x. pure x.value
 unfoldable pub bounds : Around → s.Interval → Check Rounds
 bounds a i = spec.interval a i >>= (λ ends. lift (rounds (first_of_interval i) ends))
 
+-- FOR, behind its word
+unfoldable pub counted_for : Around → Identifier → Bool → s.Interval → Check Counted
+counted_for a x down i = do
+  m ← named a x
+  c ← lift (counter x.place m)
+  r ← bounds a i
+  g ← lift (given (first_of_interval i) c r)
+  _ ← hide 3
+  pure (By g down r)
+
 -- one target, for this field
 unfoldable pub target_for : Around → Place → Found → s.Left → Check (t.Targets → t.Targets)
 target_for a q f l = spec.target a l >>= (λ x. lift (extracted q f x))
+
+-- one target in order, with so many words before the next
+unfoldable pub next_target : Around → Place → ℕ → ℕ → PlainField → s.Left → Check ((t.Targets → t.Targets) × ℕ)
+next_target a q n offset f l = target_for a q (record { number = n; offset = offset; kind = f.kind }) l >>= (λ put. pure (put, offset + words_of f.kind))
+
+-- one target with a key, where these keys are taken
+unfoldable pub keyed_target : Around → Place → List PlainField → List (List ℕ) → Identifier → s.Left → Check (t.Targets → t.Targets)
+keyed_target a q fs taken x l = do
+  _ ← ensure (not (has x.name taken)) TwiceDeclared x.place
+  f ← lift (or_refuse (field_named fs x) WrongCount x.place)
+  target_for a q f l
 
 -- the first of some tests
 unfoldable pub first_test : Around → Typed → s.Tests → Check (t.Tests → t.Tests)

@@ -37,6 +37,10 @@ begun a has_phrase before p outside = record {
 abbrev pub counted : ℕ → Place → ℕ → Check (Unit {0})
 counted before p outside = λ s. and_then (only (nat_le (before + s.operands) OPERAND_WORDS) FrameTooLarge p) (λ _. Ok (tt, record s { operands = outside }))
 
+-- all that it counts from its start to its end
+abbrev pub counting : {A : Type 0} → ℕ → Place → Check A → Check A
+counting before p m = λ s. and_then (m (record s { operands = 0 })) (λ r. and_then (counted before p s.operands r.1) (λ u. Ok (r.0, u.1)))
+
 abbrev pub marked : Option ℕ → t.Stmt → t.Stmt
 marked None x = x
 marked (Some n) x = t.Marked n x

@@ -2,12 +2,16 @@
 #![tactic(auto)]
 
 mod controls;
+mod holding;
+mod inner;
 mod selecting;
+mod spots;
 mod statements;
 mod targets;
 mod whole;
 
 pub use controls::{Controlled, Counted, control, looped, truth_of};
+pub use holding::cases_hold;
 pub use selecting::tests;
 pub use statements::{assign, call, extract, raise_statement, resume_statement, return_statement};
 pub use targets::{target, targets};

@@ -1,15 +1,17 @@
 //! A statement from its start to its end: its operands are counted, and it has a number where a phrase belongs to it.
 ghost use Rattle.std.specs.Prelude.{◌≡◌, IfOk};
 ghost use Rattle.mesa_types.specs.Plain.{stmt};
+ghost use Rattle.mesa_types.specs.Typed as t;
 ghost use Rattle.check_words.specs.Gives.{Gives};
 ghost use Rattle.check_words.specs.Views as words;
 ghost use Rattle.check_clauses.specs.Views as view;
 ghost use Rattle.check_clauses.specs.Whole as steps;
 
+use check_declared::few_operands;
 use check_words::{Around, State};
 use checking_rules::CheckFault;
-use held_trees::LetGo;
-use mesa_base::{OutOfMemory, Place};
+use held_trees::{both, boxed};
+use mesa_base::{Boxed, OutOfMemory, Place};
 use mesa_types::TypedStmt;
 use std::alloc::Global;
 
@@ -26,8 +28,26 @@ pub struct Whole<'a> {
     pub outside: u64,
 }
 
+#[tactic(auto, unfolding(check_words::specs::Views::around))]
+fn around_if<'a>(around: &Around<'a>, has_phrase: bool) -> Result<Around<'a>, OutOfMemory>
+    ensures { IfOk result (λ inner. words.around inner ≡ steps.around_if has_phrase (words.around around.now)) }
+{
+    if has_phrase {
+        around.in_statement()
+    } else {
+        Ok(*around)
+    }
+}
+
+fn marked(number: u32, made: Boxed<TypedStmt>) -> TypedStmt
+    ensures { stmt result ≡ t.Marked number (stmt made) }
+{
+    TypedStmt::Marked(number, made)
+}
+
 impl<'a> Whole<'a> {
     /// A statement begins at this place, for which so many words of operands were counted before.
+    #[tactic(auto, unfolding(check_words::specs::Views::around))]
     pub fn begin(
         around: &Around<'a>,
         state: &mut State,
@@ -38,8 +58,19 @@ impl<'a> Whole<'a> {
         ensures whole { IfOk result (λ made. view.whole made ≡ steps.begun (words.around around.now) has_phrase before place (words.state state.old).operands) }
         ensures state { words.state state.new ≡ record (words.state state.old) { operands = 0 } }
     {
-        let _ = state.count_from(0);
-        Err(OutOfMemory)
+        let outside = state.count_from(0);
+        let number = if has_phrase {
+            Some(around.marked)
+        } else {
+            None
+        };
+        Ok(Whole {
+            inner: around_if(around, has_phrase)?,
+            number,
+            before,
+            place,
+            outside,
+        })
     }
 
     /// The statement that is checked so far ends. Too many words of operands are refused at its place.
@@ -51,8 +82,12 @@ impl<'a> Whole<'a> {
     ) -> Result<TypedStmt, CheckFault>
         ensures { Gives stmt (steps.ended (view.whole self.now) (stmt made) (words.state state.old)) result (words.state state.new) }
     {
-        made.let_go();
-        Err(CheckFault::Memory)
+        let few = count_ended(state, self.before, self.place, self.outside);
+        let (made, _) = both(made, few)?;
+        match self.number {
+            None => Ok(made),
+            Some(number) => Ok(marked(number, boxed(alloc, made)?)),
+        }
     }
 }
 
@@ -65,5 +100,6 @@ pub fn count_ended(
 ) -> Result<(), CheckFault>
     ensures { Gives (λ _. tt) (steps.counted before place outside (words.state state.old)) result (words.state state.new) }
 {
-    Err(CheckFault::Memory)
+    let counted = state.count_from(outside);
+    few_operands(before, counted, place)
 }

@@ -6,8 +6,8 @@ use Rattle.mesa_types.specs.declared.typed_tree.TypedStmt.{TypedStmt}
 use Rattle.checking_rules.specs.PlainTypes.{plain}
 use Rattle.checking_rules.specs.Statements as rule
 use Rattle.check_words.specs.Views.{names}
-use Rattle.check_locals.specs.declared.heads.Headed.{Headed}
-use Rattle.check_locals.specs.declared.heads.Headed.TheVariants.{Nothing, Variables}
+use Rattle.check_locals.specs.declared.headed.Headed.{Headed}
+use Rattle.check_locals.specs.declared.headed.Headed.TheVariants.{Nothing, Variables}
 
 abbrev pub headed : Headed → rule.Headed
 headed Nothing = rule.Nothing

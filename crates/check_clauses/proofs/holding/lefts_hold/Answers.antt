@@ -1,0 +1,9 @@
+use Rattle.std.proofs.Common.{rules, sym, ◌∙◌}
+use Rattle.check_clauses.proofs.HoldingLaws.{lefts_at, lefts_out}
+use Rattle.check_clauses.proofs.holding.lefts_hold.Goals as goal
+
+pub loop-left-preserved : goal.loop-left-preserved
+loop-left-preserved c = rw c.loop-left.invariant (rw (lefts_at c.args.all.now c.loop-left.left-index c.left-item.result (search rules) (search rules)) (search rules))
+
+pub returns : goal.returns
+returns c = sym (c.loop-left.invariant ∙ lefts_out c.args.all.now c.loop-left.left-index (search rules))

@@ -1,0 +1,9 @@
+use Rattle.std.proofs.Common.{rules, sym, ◌∙◌}
+use Rattle.check_clauses.proofs.HoldingLaws.{tests_at, tests_out}
+use Rattle.check_clauses.proofs.holding.tests_hold.Goals as goal
+
+pub loop-test-preserved : goal.loop-test-preserved
+loop-test-preserved c = rw c.loop-test.invariant (rw (tests_at c.args.all.now c.loop-test.test-index c.test-item.result (search rules) (search rules)) (search rules))
+
+pub returns : goal.returns
+returns c = sym (c.loop-test.invariant ∙ tests_out c.args.all.now c.loop-test.test-index (search rules))
