@@ -72,7 +72,7 @@ fn rolled(alloc: Global, first: u32, places: &[u32], sizes: &[u64]) -> Result<Co
 
 /// The values were evaluated in the order of the text. Those that lie in order at the beginning stay; then for each further
 /// place its value is brought to the top.
-pub(crate) fn arranged(alloc: Global, places: &[u32], sizes: &[u64]) -> Result<Code, OutOfMemory>
+pub fn arranged(alloc: Global, places: &[u32], sizes: &[u64]) -> Result<Code, OutOfMemory>
     requires { excess_in (own.arrange_code places.now sizes.now) ≡ 0 }
     ensures { IfOk result (λ code. code ≡ own.arrange_code places.now sizes.now) }
 {

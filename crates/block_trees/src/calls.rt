@@ -17,7 +17,7 @@ use std::alloc::Global;
 
 /// The values come into the order of their places. With their words.
 #[tactic(auto, unfolding(crate::specs::Excess::excess))]
-pub(crate) fn constructed(
+pub fn constructed(
     alloc: Global,
     values: Part,
     places: &[u32],
@@ -42,7 +42,7 @@ fn arguments(alloc: Global, places: &[u32], sizes: &[u64]) -> Result<(Code, u64)
 
 /// Behind the values stands the call or raise that takes them, with the arms of its phrase.
 #[tactic(auto, unfolding(crate::specs::Excess::excess))]
-pub(crate) fn called(
+pub fn called(
     alloc: Global,
     values: Part,
     places: &[u32],

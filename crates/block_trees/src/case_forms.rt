@@ -27,7 +27,7 @@ use mesa_base::{List, OutOfMemory};
 use mesa_types::{Base, Bases, Interval, Range, Relation, TypedStmt};
 use std::alloc::Global;
 
-pub(crate) fn is_null(s: &TypedStmt) -> bool
+pub fn is_null(s: &TypedStmt) -> bool
     ensures { result ≡ is_null (stmt s.now) }
 {
     match s {
@@ -54,7 +54,7 @@ pub(crate) fn is_null(s: &TypedStmt) -> bool
 
 /// A jump out where the condition fails, the statement, and the other one, past which the first jumps where it is to.
 #[tactic(auto, unfolding(crate::specs::Excess::excess))]
-pub(crate) fn branches(
+pub fn branches(
     alloc: Global,
     test: Part,
     statement: Part,
@@ -86,12 +86,7 @@ fn first_branch(
 
 /// The tests of a case and its statement.
 #[tactic(auto, unfolding(crate::specs::Excess::excess))]
-pub(crate) fn tested(
-    alloc: Global,
-    tests: Part,
-    statement: Part,
-    jumps: bool,
-) -> Result<Part, OutOfMemory>
+pub fn tested(alloc: Global, tests: Part, statement: Part, jumps: bool) -> Result<Part, OutOfMemory>
     requires { excess (spec.a_case (plain tests.block) (plain statement.block) (past_if jumps 1)) ≡ 0 }
     ensures { IfOk result (λ made. plain made.block ≡ spec.a_case (plain tests.block) (plain statement.block) (past_if jumps 1)) }
 {
@@ -117,7 +112,7 @@ fn part_of(last: bool) -> u32
 
 /// A test of the selector by a relation.
 #[tactic(auto, unfolding(crate::specs::Excess::excess))]
-pub(crate) fn related(
+pub fn related(
     alloc: Global,
     slot: u16,
     range: Range,
@@ -171,7 +166,7 @@ fn leaps_where(negated: bool, last: bool) -> bool
 
 /// A test whether the selector lies within an interval.
 #[tactic(auto, unfolding(crate::specs::Excess::excess))]
-pub(crate) fn within(
+pub fn within(
     alloc: Global,
     routine: &Routine,
     slot: u16,
@@ -199,7 +194,7 @@ pub(crate) fn within(
 
 /// A value that nothing reads.
 #[tactic(auto, unfolding(crate::specs::Excess::excess))]
-pub(crate) fn dropped(alloc: Global, of: Part, words: u64) -> Result<Part, OutOfMemory>
+pub fn dropped(alloc: Global, of: Part, words: u64) -> Result<Part, OutOfMemory>
     requires { excess (tree.Both (plain of.block) (tree.Does (pop_code words))) ≡ 0 }
     ensures { IfOk result (λ made. plain made.block ≡ tree.Both (plain of.block) (tree.Does (pop_code words))) }
 {
@@ -222,7 +217,7 @@ fn unselected(alloc: Global, words: u64, selector: Part, last: Part) -> Result<P
 
 /// The selector, which goes to its slot, and the cases with the last one, which has no test; or without cases the last one alone.
 #[tactic(auto, unfolding(crate::specs::Excess::excess, crate::specs::Excess::excess_in, crate::specs::Excess::excess_of), using(crate::proofs::RowLaws::size_in_order, crate::proofs::RowFits::row_size))]
-pub(crate) fn selected(
+pub fn selected(
     alloc: Global,
     slot: u16,
     words: u64,

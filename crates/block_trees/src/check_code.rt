@@ -8,7 +8,7 @@ use code_forms::Instruction;
 use mesa_base::OutOfMemory;
 use mesa_types::{Base, Extent, Range, Relation};
 
-pub(crate) fn put_check(code: &mut Code, range: Range) -> Result<(), OutOfMemory>
+pub fn put_check(code: &mut Code, range: Range) -> Result<(), OutOfMemory>
     ensures { OnOk result (code.new ≡ code.old ++ own.check_code range) }
 {
     match range {
@@ -34,7 +34,7 @@ fn put_first(code: &mut Code, first: u16) -> Result<(), OutOfMemory>
 
 /// The offset so far and the index are on the operand stack.
 #[tactic(auto, unfolding(crate::specs::Excess::excess_in, crate::specs::Excess::excess_of), using(crate::proofs::OwnCode::excess_both))]
-pub(crate) fn put_index(code: &mut Code, extent: Extent) -> Result<(), OutOfMemory>
+pub fn put_index(code: &mut Code, extent: Extent) -> Result<(), OutOfMemory>
     requires { excess_in (own.index_code extent.check extent.first extent.elements extent.words) ≡ 0 }
     ensures { OnOk result (code.new ≡ code.old ++ own.index_code extent.check extent.first extent.elements extent.words) }
 {
@@ -47,7 +47,7 @@ pub(crate) fn put_index(code: &mut Code, extent: Extent) -> Result<(), OutOfMemo
     Ok(())
 }
 
-pub(crate) fn less(base: Base) -> Instruction
+pub fn less(base: Base) -> Instruction
     ensures { result ≡ own.less base }
 {
     match base {
@@ -57,11 +57,7 @@ pub(crate) fn less(base: Base) -> Instruction
 }
 
 /// A relation, or its opposite.
-pub(crate) fn put_comparison(
-    code: &mut Code,
-    base: Base,
-    relation: Relation,
-) -> Result<(), OutOfMemory>
+pub fn put_comparison(code: &mut Code, base: Base, relation: Relation) -> Result<(), OutOfMemory>
     ensures { OnOk result (code.new ≡ code.old ++ own.comparison base relation) }
 {
     match relation {
@@ -74,7 +70,7 @@ pub(crate) fn put_comparison(
     Ok(())
 }
 
-pub(crate) fn is_opposite(relation: Relation) -> bool
+pub fn is_opposite(relation: Relation) -> bool
     ensures { result ≡ own.is_opposite relation }
 {
     match relation {
@@ -83,11 +79,7 @@ pub(crate) fn is_opposite(relation: Relation) -> bool
     }
 }
 
-pub(crate) fn put_relation(
-    code: &mut Code,
-    base: Base,
-    relation: Relation,
-) -> Result<(), OutOfMemory>
+pub fn put_relation(code: &mut Code, base: Base, relation: Relation) -> Result<(), OutOfMemory>
     ensures { OnOk result (code.new ≡ code.old ++ own.relation_code base relation) }
 {
     put_comparison(code, base, relation)?;

@@ -20,7 +20,7 @@ use std::alloc::Global;
 
 /// Out to the end of a part where a relation holds, or where it does not.
 #[tactic(auto, unfolding(mesa_types::specs::Operators::differ, crate::specs::Excess::excess, crate::specs::Excess::excess_in, crate::specs::Excess::excess_of))]
-pub(crate) fn where_related(
+pub fn where_related(
     alloc: Global,
     base: Base,
     relation: Relation,
@@ -37,7 +37,7 @@ pub(crate) fn where_related(
 
 /// Jumps that lead past those given, which lead to the end of part 0.
 #[tactic(auto, unfolding(crate::specs::Excess::excess, crate::specs::Excess::excess_in, crate::specs::Excess::excess_of))]
-pub(crate) fn turned(alloc: Global, jumps: Part, part: u32) -> Result<Part, OutOfMemory>
+pub fn turned(alloc: Global, jumps: Part, part: u32) -> Result<Part, OutOfMemory>
     requires { excess (tree.Ends (tree.Here 0) (tree.Both (plain jumps.block) (tree.Out tree.Anyhow (part + 1)))) ≡ 0 }
     ensures { IfOk result (λ made. plain made.block ≡ tree.Ends (tree.Here 0) (tree.Both (plain jumps.block) (tree.Out tree.Anyhow (part + 1)))) }
 {
@@ -47,12 +47,7 @@ pub(crate) fn turned(alloc: Global, jumps: Part, part: u32) -> Result<Part, OutO
 
 /// The value of jumps: the second word where they lead past the first.
 #[tactic(auto, unfolding(crate::specs::Excess::excess, crate::specs::Excess::excess_in, crate::specs::Excess::excess_of))]
-pub(crate) fn answer(
-    alloc: Global,
-    jumps: Part,
-    word: u16,
-    jumped: u16,
-) -> Result<Part, OutOfMemory>
+pub fn answer(alloc: Global, jumps: Part, word: u16, jumped: u16) -> Result<Part, OutOfMemory>
     requires { excess (spec.answer (plain jumps.block) word jumped) ≡ 0 }
     ensures { IfOk result (λ made. plain made.block ≡ spec.answer (plain jumps.block) word jumped) }
 {

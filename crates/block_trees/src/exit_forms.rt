@@ -19,7 +19,7 @@ use mesa_types::Exit;
 use std::alloc::Global;
 
 /// A jump to the end of a part around, or nothing where control falls there.
-pub(crate) fn past_if(alloc: Global, jumps: bool, part: u32) -> Part
+pub fn past_if(alloc: Global, jumps: bool, part: u32) -> Part
     ensures { plain result.block ≡ past_if jumps part }
 {
     if jumps {
@@ -30,7 +30,7 @@ pub(crate) fn past_if(alloc: Global, jumps: bool, part: u32) -> Part
 }
 
 /// Past the statements of labels, if there are any.
-pub(crate) fn past_exits(alloc: Global, exits: &[Exit]) -> Part
+pub fn past_exits(alloc: Global, exits: &[Exit]) -> Part
     ensures { plain result.block ≡ spec.past_exits (chain (map exit exits.now) t.NoExits) 0 }
 {
     match exits {
@@ -62,7 +62,7 @@ fn with_exit(
 
 /// A part in which a phrase is enabled, if there is one.
 #[tactic(auto, using(crate::proofs::ArmLaws::no_arms, crate::proofs::ArmLaws::some_arms))]
-pub(crate) fn enabled(alloc: Global, arms: ArmBlocks, part: Part) -> Result<Part, OutOfMemory>
+pub fn enabled(alloc: Global, arms: ArmBlocks, part: Part) -> Result<Part, OutOfMemory>
     requires { off_in_arms arms ≡ 0 }
     ensures { IfOk result (λ made. plain made.block ≡ spec.enabled (plain_arms arms) (plain part.block)) }
 {
@@ -75,7 +75,7 @@ pub(crate) fn enabled(alloc: Global, arms: ArmBlocks, part: Part) -> Result<Part
 }
 
 /// The statements of labels behind what stands before the first of them: there are as many as labels.
-pub(crate) fn with_exits(
+pub fn with_exits(
     alloc: Global,
     before: Part,
     exits: &[Exit],
@@ -107,7 +107,7 @@ pub(crate) fn with_exits(
 }
 
 /// What stands before the statements of labels, these behind it, and the end of all.
-pub(crate) fn with_labels(
+pub fn with_labels(
     alloc: Global,
     before: Part,
     exits: &[Exit],
@@ -122,7 +122,7 @@ pub(crate) fn with_labels(
 }
 
 /// A block with its phrase and its labels.
-pub(crate) fn enclosed(
+pub fn enclosed(
     alloc: Global,
     arms: ArmBlocks,
     part: Part,

@@ -25,7 +25,7 @@ use std::alloc::Global;
 
 /// One instruction.
 #[tactic(auto, using(crate::proofs::SizeFits::instruction_bytes))]
-pub(crate) fn single(alloc: Global, instruction: Instruction) -> Result<Part, OutOfMemory>
+pub fn single(alloc: Global, instruction: Instruction) -> Result<Part, OutOfMemory>
     ensures { IfOk result (λ made. plain made.block ≡ tree.Does (instruction ∷ [])) }
 {
     let code = List::of(alloc, instruction)?;
@@ -34,7 +34,7 @@ pub(crate) fn single(alloc: Global, instruction: Instruction) -> Result<Part, Ou
 
 /// One behind the other.
 #[tactic(auto, unfolding(crate::specs::Excess::excess))]
-pub(crate) fn followed(alloc: Global, first: Part, second: Part) -> Result<Part, OutOfMemory>
+pub fn followed(alloc: Global, first: Part, second: Part) -> Result<Part, OutOfMemory>
     requires { excess (tree.Both (plain first.block) (plain second.block)) ≡ 0 }
     ensures { IfOk result (λ made. plain made.block ≡ tree.Both (plain first.block) (plain second.block)) }
 {
@@ -43,11 +43,7 @@ pub(crate) fn followed(alloc: Global, first: Part, second: Part) -> Result<Part,
 
 /// An instruction behind a value.
 #[tactic(auto, unfolding(crate::specs::Excess::excess))]
-pub(crate) fn instructed(
-    alloc: Global,
-    value: Part,
-    instruction: Instruction,
-) -> Result<Part, OutOfMemory>
+pub fn instructed(alloc: Global, value: Part, instruction: Instruction) -> Result<Part, OutOfMemory>
     requires { excess (tree.Both (plain value.block) (tree.Does (instruction ∷ []))) ≡ 0 }
     ensures { IfOk result (λ made. plain made.block ≡ tree.Both (plain value.block) (tree.Does (instruction ∷ []))) }
 {
@@ -57,7 +53,7 @@ pub(crate) fn instructed(
 
 /// A check of a value.
 #[tactic(auto, unfolding(crate::specs::Excess::excess))]
-pub(crate) fn checked(alloc: Global, value: Part, range: Range) -> Result<Part, OutOfMemory>
+pub fn checked(alloc: Global, value: Part, range: Range) -> Result<Part, OutOfMemory>
     requires { excess (tree.Both (plain value.block) (tree.Does (own.check_code range))) ≡ 0 }
     ensures { IfOk result (λ made. plain made.block ≡ tree.Both (plain value.block) (tree.Does (own.check_code range))) }
 {
@@ -67,7 +63,7 @@ pub(crate) fn checked(alloc: Global, value: Part, range: Range) -> Result<Part, 
 
 /// Of a value of so many words the last of some fields, each a field of the one before. With its words.
 #[tactic(auto, unfolding(crate::specs::Excess::excess))]
-pub(crate) fn field_of(
+pub fn field_of(
     alloc: Global,
     value: Part,
     words: u64,
@@ -84,7 +80,7 @@ pub(crate) fn field_of(
 
 /// An instruction behind two values.
 #[tactic(auto, unfolding(crate::specs::Excess::excess))]
-pub(crate) fn two_instructed(
+pub fn two_instructed(
     alloc: Global,
     first: Part,
     second: Part,
@@ -99,7 +95,7 @@ pub(crate) fn two_instructed(
 
 /// Whether a relation holds between two values.
 #[tactic(auto, unfolding(crate::specs::Excess::excess))]
-pub(crate) fn related(
+pub fn related(
     alloc: Global,
     left: Part,
     right: Part,
@@ -116,7 +112,7 @@ pub(crate) fn related(
 
 /// Out to the end of a part where a relation holds between two values, or where it does not.
 #[tactic(auto, unfolding(crate::specs::Excess::excess))]
-pub(crate) fn leapt_where_related(
+pub fn leapt_where_related(
     alloc: Global,
     left: Part,
     right: Part,
@@ -135,7 +131,7 @@ pub(crate) fn leapt_where_related(
 
 /// Out to the end of a part where a value is true, or where it is not.
 #[tactic(auto, unfolding(crate::specs::Excess::excess))]
-pub(crate) fn leapt(alloc: Global, value: Part, sense: bool, part: u32) -> Result<Part, OutOfMemory>
+pub fn leapt(alloc: Global, value: Part, sense: bool, part: u32) -> Result<Part, OutOfMemory>
     requires { excess (tree.Both (plain value.block) (tree.Out (tree.Where sense) part)) ≡ 0 }
     ensures { IfOk result (λ made. plain made.block ≡ tree.Both (plain value.block) (tree.Out (tree.Where sense) part)) }
 {
@@ -144,7 +140,7 @@ pub(crate) fn leapt(alloc: Global, value: Part, sense: bool, part: u32) -> Resul
 
 /// Whether a value lies in an interval, by its bounds.
 #[tactic(auto, unfolding(crate::specs::Excess::excess))]
-pub(crate) fn lying_within(
+pub fn lying_within(
     alloc: Global,
     routine: &Routine,
     value: Part,

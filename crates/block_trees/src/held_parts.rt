@@ -10,7 +10,7 @@ use std::alloc::{AllocFailed, Global};
 use std::collections::VecDeque;
 
 /// Parts in order, which are taken out one by one.
-pub(crate) struct Held {
+pub struct Held {
     pub parts: VecDeque<Part>,
 }
 
@@ -25,7 +25,7 @@ impl LetGo for Held {
 }
 
 #[tactic(auto, unfolding(crate::specs::Forms::blocks_of))]
-pub(crate) fn nothing_held(alloc: Global) -> Held
+pub fn nothing_held(alloc: Global) -> Held
     ensures { blocks_of result.parts.items ≡ [] }
 {
     Held {
@@ -35,7 +35,7 @@ pub(crate) fn nothing_held(alloc: Global) -> Held
 
 /// A part more at the end.
 #[tactic(auto, using(crate::proofs::HeldLaws::one_more))]
-pub(crate) fn hold(mut before: Held, part: Part) -> Result<Held, OutOfMemory>
+pub fn hold(mut before: Held, part: Part) -> Result<Held, OutOfMemory>
     ensures { IfOk result (λ longer. blocks_of longer.parts.items ≡ blocks_of before.parts.items ++ plain part.block ∷ []) }
 {
     match before.parts.push_back(part) {

@@ -8,7 +8,7 @@ use mesa_base::{List, OutOfMemory};
 use mesa_types::{Callee, Raised};
 use std::alloc::Global;
 
-pub(crate) fn call_code(links: &Links, callee: Callee) -> Result<Instruction, OutOfMemory>
+pub fn call_code(links: &Links, callee: Callee) -> Result<Instruction, OutOfMemory>
     ensures { IfOk result (λ call. call ≡ coding.call_code links.now.imports.now callee) }
 {
     match callee {
@@ -20,7 +20,7 @@ pub(crate) fn call_code(links: &Links, callee: Callee) -> Result<Instruction, Ou
     }
 }
 
-pub(crate) fn raise_code(links: &Links, raised: Raised) -> Result<Instruction, OutOfMemory>
+pub fn raise_code(links: &Links, raised: Raised) -> Result<Instruction, OutOfMemory>
     ensures { IfOk result (λ raise. raise ≡ coding.raise_code links.now.imports.now raised) }
 {
     match raised {
@@ -51,7 +51,7 @@ fn label_code(links: &Links, label: mesa_types::Label) -> Result<code_forms::Lab
 }
 
 /// The labels of an arm.
-pub(crate) fn labels(
+pub fn labels(
     alloc: Global,
     links: &Links,
     labels: &[mesa_types::Label],

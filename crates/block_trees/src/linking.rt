@@ -10,7 +10,7 @@ use mesa_types::{Import, Imports};
 use std::alloc::Global;
 
 /// The sum of two numbers of links; where it has no place in 32 bits, that is want of memory.
-pub(crate) fn sum(first: u32, second: u32) -> Result<u32, OutOfMemory>
+pub fn sum(first: u32, second: u32) -> Result<u32, OutOfMemory>
     ensures { IfOk result (λ both. both ≡ first + second) }
 {
     match first.checked_add(second) {
@@ -56,7 +56,7 @@ fn ranks(alloc: Global, items: usize, used: &[u32]) -> Result<Numbers, OutOfMemo
 }
 
 /// How many numbers stand before one, found by going through them.
-pub(crate) fn rank_of(used: &[u32], item: u32) -> Result<u32, OutOfMemory>
+pub fn rank_of(used: &[u32], item: u32) -> Result<u32, OutOfMemory>
     ensures { IfOk result (λ found. found ≡ rank item used.now) }
 {
     let mut before = 0u32;

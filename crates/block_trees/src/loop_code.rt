@@ -102,12 +102,7 @@ fn put_open(
 
 /// Before the first round: the bounds are on the operand stack.
 #[tactic(auto, using(crate::proofs::IntervalLaws::start_of_is))]
-pub(crate) fn start(
-    alloc: Global,
-    slot: u16,
-    base: Base,
-    range: &Interval,
-) -> Result<Code, OutOfMemory>
+pub fn start(alloc: Global, slot: u16, base: Base, range: &Interval) -> Result<Code, OutOfMemory>
     requires { slot + 2 ≤ 65535 }
     ensures { IfOk result (λ code. code ≡ spec.start_of slot base (interval range.now)) }
 {
@@ -171,7 +166,7 @@ fn put_step(code: &mut Code, counter: Counter) -> Result<(), OutOfMemory>
     }
 }
 
-pub(crate) fn step(alloc: Global, counter: Counter) -> Result<Code, OutOfMemory>
+pub fn step(alloc: Global, counter: Counter) -> Result<Code, OutOfMemory>
     requires { excess_in (loops.step_code (counter_of counter)) ≡ 0 }
     ensures { IfOk result (λ code. code ≡ loops.step_code (counter_of counter)) }
 {
@@ -182,7 +177,7 @@ pub(crate) fn step(alloc: Global, counter: Counter) -> Result<Code, OutOfMemory>
 
 /// At the head of a round: out to the end of part 0 where none is left.
 #[tactic(auto, unfolding(crate::specs::Excess::excess, crate::specs::Excess::excess_in, crate::specs::Excess::excess_of))]
-pub(crate) fn head(alloc: Global, counter: Counter) -> Result<Part, OutOfMemory>
+pub fn head(alloc: Global, counter: Counter) -> Result<Part, OutOfMemory>
     requires { excess (spec.head_code (counter_of counter)) ≡ 0 }
     ensures { IfOk result (λ made. plain made.block ≡ spec.head_code (counter_of counter)) }
 {
@@ -211,11 +206,7 @@ fn next_slot(slot: u16, down: bool) -> u16
 
 /// The next number is given to the variable.
 #[tactic(auto, unfolding(crate::specs::Excess::excess, crate::specs::Excess::excess_in, crate::specs::Excess::excess_of))]
-pub(crate) fn given_next(
-    alloc: Global,
-    routine: &Routine,
-    counter: Counter,
-) -> Result<Part, OutOfMemory>
+pub fn given_next(alloc: Global, routine: &Routine, counter: Counter) -> Result<Part, OutOfMemory>
     requires room { excess (spec.head_code (counter_of counter)) ≡ 0 }
     requires fits { excess (spec.gives_next (coded routine.now) (counter_of counter)) ≡ 0 }
     ensures { IfOk result (λ made. plain made.block ≡ spec.gives_next (coded routine.now) (counter_of counter)) }

@@ -25,7 +25,7 @@ use mesa_types::{Base, Condition, Exit, Interval};
 use std::alloc::Global;
 
 /// What an endless loop without a count would do at its end is never done.
-pub(crate) fn is_endless(counter: Counter, control: &Condition) -> bool
+pub fn is_endless(counter: Counter, control: &Condition) -> bool
     ensures { result ≡ spec.is_endless (counter_of counter) (condition control.now) }
 {
     match (counter, control) {
@@ -65,7 +65,7 @@ fn counted(
 
 /// The rounds of a loop.
 #[tactic(auto, unfolding(crate::specs::Excess::excess))]
-pub(crate) fn repeating(
+pub fn repeating(
     alloc: Global,
     routine: &Routine,
     counter: Counter,
@@ -84,7 +84,7 @@ pub(crate) fn repeating(
 
 /// A counted loop behind its bounds.
 #[tactic(auto, unfolding(crate::specs::Excess::excess))]
-pub(crate) fn started(
+pub fn started(
     alloc: Global,
     slot: u16,
     base: Base,
@@ -111,7 +111,7 @@ fn concluded(alloc: Global, rounds: Part, finish: Part) -> Result<Part, OutOfMem
 }
 
 /// The rounds of a loop, what is done behind the last one, and the statements of its labels.
-pub(crate) fn looped(
+pub fn looped(
     alloc: Global,
     rounds: Part,
     finish: Part,

@@ -26,7 +26,7 @@ fn bytes_of(code: &[Instruction]) -> u32
 }
 
 #[tactic(auto, unfolding(crate::specs::Plain::plain, crate::specs::Plain::off))]
-pub(crate) fn does(code: Code) -> Part
+pub fn does(code: Code) -> Part
     requires { bytes_in code ≤ 4294967295 }
     ensures { plain result.block ≡ tree.Does code }
 {
@@ -39,7 +39,7 @@ pub(crate) fn does(code: Code) -> Part
 
 /// One behind the other.
 #[tactic(auto, unfolding(crate::specs::Plain::plain, crate::specs::Plain::off))]
-pub(crate) fn pair(alloc: Global, first: Part, second: Part) -> Result<Part, OutOfMemory>
+pub fn pair(alloc: Global, first: Part, second: Part) -> Result<Part, OutOfMemory>
     requires { size (plain first.block) + size (plain second.block) ≤ 4294967295 }
     ensures { IfOk result (λ made. plain made.block ≡ tree.Both (plain first.block) (plain second.block)) }
 {
@@ -61,7 +61,7 @@ pub(crate) fn pair(alloc: Global, first: Part, second: Part) -> Result<Part, Out
 }
 
 /// Instructions behind a block.
-pub(crate) fn then(alloc: Global, first: Part, code: Code) -> Result<Part, OutOfMemory>
+pub fn then(alloc: Global, first: Part, code: Code) -> Result<Part, OutOfMemory>
     requires bytes { bytes_in code ≤ 4294967295 }
     requires both { size (plain first.block) + bytes_in code ≤ 4294967295 }
     ensures { IfOk result (λ made. plain made.block ≡ tree.Both (plain first.block) (tree.Does code)) }
@@ -70,7 +70,7 @@ pub(crate) fn then(alloc: Global, first: Part, code: Code) -> Result<Part, OutOf
 }
 
 #[tactic(auto, unfolding(crate::specs::Plain::plain, crate::specs::Plain::off, crate::specs::Plain::plain_arms, crate::specs::Plain::off_in_arms))]
-pub(crate) fn calls(call: Instruction, takes: u32, puts: u32, arms: ArmBlocks) -> Part
+pub fn calls(call: Instruction, takes: u32, puts: u32, arms: ArmBlocks) -> Part
     requires { off_in_arms arms ≡ 0 }
     ensures { plain result.block ≡ tree.Calls call takes puts (plain_arms arms) }
 {
@@ -81,7 +81,7 @@ pub(crate) fn calls(call: Instruction, takes: u32, puts: u32, arms: ArmBlocks) -
 }
 
 #[tactic(auto, unfolding(crate::specs::Plain::plain, crate::specs::Plain::off))]
-pub(crate) fn ends(alloc: Global, mark: Mark, part: Part) -> Result<Part, OutOfMemory>
+pub fn ends(alloc: Global, mark: Mark, part: Part) -> Result<Part, OutOfMemory>
     ensures { IfOk result (λ made. plain made.block ≡ tree.Ends (mark_of mark) (plain part.block)) }
 {
     let Part { block, bytes } = part;
@@ -93,7 +93,7 @@ pub(crate) fn ends(alloc: Global, mark: Mark, part: Part) -> Result<Part, OutOfM
 }
 
 #[tactic(auto, unfolding(crate::specs::Plain::plain, crate::specs::Plain::off))]
-pub(crate) fn out(leap: Leap, part: u32) -> Part
+pub fn out(leap: Leap, part: u32) -> Part
     ensures { plain result.block ≡ tree.Out (leap_of leap) part }
 {
     Part {
@@ -103,7 +103,7 @@ pub(crate) fn out(leap: Leap, part: u32) -> Part
 }
 
 #[tactic(auto, unfolding(crate::specs::Plain::plain, crate::specs::Plain::off))]
-pub(crate) fn goes(arms: u16, point: Point) -> Part
+pub fn goes(arms: u16, point: Point) -> Part
     ensures { plain result.block ≡ tree.Goes arms (point_of point) }
 {
     let bytes = match (arms, point) {
@@ -119,7 +119,7 @@ pub(crate) fn goes(arms: u16, point: Point) -> Part
 }
 
 #[tactic(auto, unfolding(crate::specs::Plain::plain, crate::specs::Plain::off))]
-pub(crate) fn rounds(alloc: Global, part: Part) -> Result<Part, OutOfMemory>
+pub fn rounds(alloc: Global, part: Part) -> Result<Part, OutOfMemory>
     requires { size (plain part.block) + 5 ≤ 4294967295 }
     ensures { IfOk result (λ made. plain made.block ≡ tree.Rounds (plain part.block)) }
 {
@@ -132,7 +132,7 @@ pub(crate) fn rounds(alloc: Global, part: Part) -> Result<Part, OutOfMemory>
 }
 
 #[tactic(auto, unfolding(crate::specs::Plain::plain, crate::specs::Plain::off, crate::specs::Plain::plain_arms, crate::specs::Plain::off_in_arms))]
-pub(crate) fn enables(alloc: Global, arms: ArmBlocks, part: Part) -> Result<Part, OutOfMemory>
+pub fn enables(alloc: Global, arms: ArmBlocks, part: Part) -> Result<Part, OutOfMemory>
     requires { off_in_arms arms ≡ 0 }
     ensures { IfOk result (λ made. plain made.block ≡ tree.Enables (plain_arms arms) (plain part.block)) }
 {
@@ -145,7 +145,7 @@ pub(crate) fn enables(alloc: Global, arms: ArmBlocks, part: Part) -> Result<Part
 }
 
 #[tactic(auto, unfolding(crate::specs::Plain::plain_blocks, crate::specs::Plain::all_off, crate::specs::Rows::sizes_in))]
-pub(crate) fn no_row(alloc: Global) -> Row
+pub fn no_row(alloc: Global) -> Row
     ensures { plain_blocks result.blocks ≡ [] }
 {
     Row {
@@ -156,7 +156,7 @@ pub(crate) fn no_row(alloc: Global) -> Row
 
 /// A block more at the end.
 #[tactic(auto, unfolding(crate::specs::Plain::plain, crate::specs::Plain::off), using(crate::proofs::RowLaws::plain_more, crate::proofs::RowLaws::off_more, crate::proofs::RowLaws::sizes_more))]
-pub(crate) fn joined(row: Row, part: Part) -> Result<Row, OutOfMemory>
+pub fn joined(row: Row, part: Part) -> Result<Row, OutOfMemory>
     requires { sizes_in (plain_blocks row.blocks) + size (plain part.block) ≤ 4294967295 }
     ensures { IfOk result (λ longer. plain_blocks longer.blocks ≡ plain_blocks row.blocks ++ plain part.block ∷ []) }
 {
@@ -171,7 +171,7 @@ pub(crate) fn joined(row: Row, part: Part) -> Result<Row, OutOfMemory>
 
 /// The blocks, and behind them the last one.
 #[tactic(auto, using(crate::proofs::RowLaws::sequence_plain, crate::proofs::RowLaws::sequence_size, crate::proofs::RowLaws::sequence_off))]
-pub(crate) fn closed(alloc: Global, row: Row, last: Part) -> Result<Part, OutOfMemory>
+pub fn closed(alloc: Global, row: Row, last: Part) -> Result<Part, OutOfMemory>
     requires { sizes_in (plain_blocks row.blocks) + size (plain last.block) ≤ 4294967295 }
     ensures { IfOk result (λ made. plain made.block ≡ in_order (plain_blocks row.blocks) (plain last.block)) }
 {
@@ -186,7 +186,7 @@ pub(crate) fn closed(alloc: Global, row: Row, last: Part) -> Result<Part, OutOfM
 }
 
 /// A value more at the end.
-pub(crate) fn valued(values: Values, part: Part, words: u64) -> Result<Values, OutOfMemory>
+pub fn valued(values: Values, part: Part, words: u64) -> Result<Values, OutOfMemory>
     requires { sizes_in (plain_blocks values.row.blocks) + size (plain part.block) ≤ 4294967295 }
     ensures blocks { IfOk result (λ longer. plain_blocks longer.row.blocks ≡ plain_blocks values.row.blocks ++ plain part.block ∷ []) }
     ensures sizes { IfOk result (λ longer. longer.sizes ≡ values.sizes ++ words ∷ []) }

@@ -85,11 +85,7 @@ fn put_character_difference(code: &mut Code, scratch: u16, base: Base) -> Result
     }
 }
 
-pub(crate) fn put_operator(
-    code: &mut Code,
-    scratch: u16,
-    operator: Operator,
-) -> Result<(), OutOfMemory>
+pub fn put_operator(code: &mut Code, scratch: u16, operator: Operator) -> Result<(), OutOfMemory>
     ensures { OnOk result (code.new ≡ code.old ++ own.operator_code scratch operator) }
 {
     match operator {
@@ -173,7 +169,7 @@ fn put_bound(
 }
 
 /// The number and the two bounds go to three scratch words.
-pub(crate) fn put_within(
+pub fn put_within(
     code: &mut Code,
     scratch: u16,
     bases: Bases,

@@ -16,7 +16,7 @@ use mesa_base::{List, OutOfMemory};
 use mesa_types::{Base, Bases, Extent, Operator, Part, Range, Relation};
 use std::alloc::Global;
 
-pub(crate) fn check(alloc: Global, range: Range) -> Result<Code, OutOfMemory>
+pub fn check(alloc: Global, range: Range) -> Result<Code, OutOfMemory>
     ensures { IfOk result (λ code. code ≡ own.check_code range) }
 {
     let mut code = List::new(alloc);
@@ -24,7 +24,7 @@ pub(crate) fn check(alloc: Global, range: Range) -> Result<Code, OutOfMemory>
     Ok(code)
 }
 
-pub(crate) fn index(alloc: Global, extent: Extent) -> Result<Code, OutOfMemory>
+pub fn index(alloc: Global, extent: Extent) -> Result<Code, OutOfMemory>
     requires { excess_in (own.index_code extent.check extent.first extent.elements extent.words) ≡ 0 }
     ensures { IfOk result (λ code. code ≡ own.index_code extent.check extent.first extent.elements extent.words) }
 {
@@ -33,7 +33,7 @@ pub(crate) fn index(alloc: Global, extent: Extent) -> Result<Code, OutOfMemory>
     Ok(code)
 }
 
-pub(crate) fn relation(alloc: Global, base: Base, how: Relation) -> Result<Code, OutOfMemory>
+pub fn relation(alloc: Global, base: Base, how: Relation) -> Result<Code, OutOfMemory>
     ensures { IfOk result (λ code. code ≡ own.relation_code base how) }
 {
     let mut code = List::new(alloc);
@@ -42,12 +42,7 @@ pub(crate) fn relation(alloc: Global, base: Base, how: Relation) -> Result<Code,
 }
 
 /// Of a value of so many words the last of some fields, which has so many.
-pub(crate) fn last_field(
-    alloc: Global,
-    words: u64,
-    parts: &[Part],
-    last: u64,
-) -> Result<Code, OutOfMemory>
+pub fn last_field(alloc: Global, words: u64, parts: &[Part], last: u64) -> Result<Code, OutOfMemory>
     requires { excess_in (own.field_code (words_before_last parts.now) last (words - (words_before_last parts.now + last))) ≡ 0 }
     ensures { IfOk result (λ code. code ≡ own.field_code (words_before_last parts.now) last (words - (words_before_last parts.now + last))) }
 {
@@ -58,7 +53,7 @@ pub(crate) fn last_field(
     Ok(code)
 }
 
-pub(crate) fn operator(alloc: Global, routine: &Routine, how: Operator) -> Result<Code, OutOfMemory>
+pub fn operator(alloc: Global, routine: &Routine, how: Operator) -> Result<Code, OutOfMemory>
     ensures { IfOk result (λ code. code ≡ own.operator_code (scratch (coded routine.now)) how) }
 {
     let mut code = List::new(alloc);
@@ -68,7 +63,7 @@ pub(crate) fn operator(alloc: Global, routine: &Routine, how: Operator) -> Resul
 
 /// The number and the bounds are on the operand stack.
 #[tactic(auto, using(crate::proofs::WithinRoom::within_room))]
-pub(crate) fn within(
+pub fn within(
     alloc: Global,
     routine: &Routine,
     bases: Bases,

@@ -23,7 +23,7 @@ impl LetGo for Part {
 }
 
 /// Blocks one behind the other, with the bytes of their code.
-pub(crate) struct Row {
+pub struct Row {
     pub blocks: Blocks,
     pub bytes: u32,
     pub ghost bytes_are: { bytes ≡ sizes_in (plain_blocks blocks) },
@@ -38,7 +38,7 @@ impl LetGo for Row {
 }
 
 /// Values one behind the other, with the words of each.
-pub(crate) struct Values {
+pub struct Values {
     pub row: Row,
     pub sizes: List<u64>,
 }

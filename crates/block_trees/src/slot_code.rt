@@ -13,7 +13,7 @@ use mesa_types::Home;
 
 /// So many words of a variable, from some offset in it on.
 #[tactic(auto, unfolding(crate::specs::Excess::excess_of))]
-pub(crate) fn load(routine: &Routine, home: Home, offset: u64, words: u64) -> Instruction
+pub fn load(routine: &Routine, home: Home, offset: u64, words: u64) -> Instruction
     requires { excess_of (slots.load (coded routine.now) home offset words) ≡ 0 }
     ensures { result ≡ slots.load (coded routine.now) home offset words }
 {
@@ -31,7 +31,7 @@ pub(crate) fn load(routine: &Routine, home: Home, offset: u64, words: u64) -> In
 }
 
 #[tactic(auto, unfolding(crate::specs::Excess::excess_of))]
-pub(crate) fn store(routine: &Routine, home: Home, offset: u64, words: u64) -> Instruction
+pub fn store(routine: &Routine, home: Home, offset: u64, words: u64) -> Instruction
     requires { excess_of (slots.store (coded routine.now) home offset words) ≡ 0 }
     ensures { result ≡ slots.store (coded routine.now) home offset words }
 {
@@ -50,7 +50,7 @@ pub(crate) fn store(routine: &Routine, home: Home, offset: u64, words: u64) -> I
 
 /// From the offset on the operand stack on, within the variable.
 #[tactic(auto, unfolding(crate::specs::Excess::excess_of))]
-pub(crate) fn load_within(routine: &Routine, home: Home, words: u64) -> Instruction
+pub fn load_within(routine: &Routine, home: Home, words: u64) -> Instruction
     requires { excess_of (slots.load_within (coded routine.now) home words) ≡ 0 }
     ensures { result ≡ slots.load_within (coded routine.now) home words }
 {
@@ -70,7 +70,7 @@ pub(crate) fn load_within(routine: &Routine, home: Home, words: u64) -> Instruct
 }
 
 #[tactic(auto, unfolding(crate::specs::Excess::excess_of))]
-pub(crate) fn store_within(routine: &Routine, home: Home, words: u64) -> Instruction
+pub fn store_within(routine: &Routine, home: Home, words: u64) -> Instruction
     requires { excess_of (slots.store_within (coded routine.now) home words) ≡ 0 }
     ensures { result ≡ slots.store_within (coded routine.now) home words }
 {
@@ -109,7 +109,7 @@ fn clear(routine: &Routine, home: Home, words: u64) -> Instruction
 
 /// Each variable is set to zero.
 #[tactic(auto, unfolding(crate::specs::Excess::excess_in))]
-pub(crate) fn put_zeros(
+pub fn put_zeros(
     code: &mut Code,
     routine: &Routine,
     homes: &[Home],
@@ -145,7 +145,7 @@ fn put_copies(
 
 /// Each variable is set to the value on the operand stack.
 #[tactic(auto, unfolding(crate::specs::Excess::excess_in))]
-pub(crate) fn put_spread(
+pub fn put_spread(
     code: &mut Code,
     routine: &Routine,
     homes: &[Home],

@@ -8,7 +8,7 @@ use code_forms::Instruction;
 use mesa_base::OutOfMemory;
 
 #[tactic(auto, unfolding(crate::specs::Excess::excess_in, crate::specs::Excess::excess_of), using(crate::proofs::OwnCode::popped))]
-pub(crate) fn put_pop(code: &mut Code, words: u64) -> Result<(), OutOfMemory>
+pub fn put_pop(code: &mut Code, words: u64) -> Result<(), OutOfMemory>
     requires { excess_in (pop_code words) ≡ 0 }
     ensures { OnOk result (code.new ≡ code.old ++ pop_code words) }
 {
@@ -22,7 +22,7 @@ pub(crate) fn put_pop(code: &mut Code, words: u64) -> Result<(), OutOfMemory>
 
 /// The words under so many others come to the top.
 #[tactic(auto, unfolding(crate::specs::Excess::excess_in, crate::specs::Excess::excess_of), using(crate::proofs::OwnCode::lifted))]
-pub(crate) fn put_lift(code: &mut Code, words: u64, over: u64) -> Result<(), OutOfMemory>
+pub fn put_lift(code: &mut Code, words: u64, over: u64) -> Result<(), OutOfMemory>
     requires { excess_in (lift_code words over) ≡ 0 }
     ensures { OnOk result (code.new ≡ code.old ++ lift_code words over) }
 {
@@ -37,7 +37,7 @@ pub(crate) fn put_lift(code: &mut Code, words: u64, over: u64) -> Result<(), Out
 
 /// The words under so many others are dropped.
 #[tactic(auto, unfolding(crate::specs::Excess::excess_in, crate::specs::Excess::excess_of), using(crate::proofs::OwnCode::dropped, crate::proofs::OwnCode::excess_both))]
-pub(crate) fn put_drop(code: &mut Code, words: u64, over: u64) -> Result<(), OutOfMemory>
+pub fn put_drop(code: &mut Code, words: u64, over: u64) -> Result<(), OutOfMemory>
     requires { excess_in (drop_code words over) ≡ 0 }
     ensures { OnOk result (code.new ≡ code.old ++ drop_code words over) }
 {
@@ -52,12 +52,7 @@ pub(crate) fn put_drop(code: &mut Code, words: u64, over: u64) -> Result<(), Out
 
 /// Of a value, so many words after so many.
 #[tactic(auto, unfolding(crate::specs::Excess::excess_in, crate::specs::Excess::excess_of), using(crate::proofs::OwnCode::excess_both))]
-pub(crate) fn put_field(
-    code: &mut Code,
-    before: u64,
-    words: u64,
-    after: u64,
-) -> Result<(), OutOfMemory>
+pub fn put_field(code: &mut Code, before: u64, words: u64, after: u64) -> Result<(), OutOfMemory>
     requires { excess_in (field_code before words after) ≡ 0 }
     ensures { OnOk result (code.new ≡ code.old ++ field_code before words after) }
 {

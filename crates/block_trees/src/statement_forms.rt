@@ -61,7 +61,7 @@ fn spreads(
 
 /// Variables of a type, set to zero.
 #[tactic(auto, unfolding(crate::specs::Excess::excess))]
-pub(crate) fn declared(
+pub fn declared(
     alloc: Global,
     routine: &Routine,
     homes: &[Home],
@@ -75,7 +75,7 @@ pub(crate) fn declared(
 
 /// Variables of a type, set to zero and then to a value.
 #[tactic(auto, unfolding(crate::specs::Excess::excess))]
-pub(crate) fn declared_as(
+pub fn declared_as(
     alloc: Global,
     routine: &Routine,
     homes: &[Home],
@@ -110,7 +110,7 @@ fn assigned_within(
 
 /// An assignment to a variable or a part of it; the path to the part has no code where there is no index on it.
 #[tactic(auto, unfolding(crate::specs::Excess::excess, crate::specs::Excess::excess_in))]
-pub(crate) fn assigned(
+pub fn assigned(
     alloc: Global,
     routine: &Routine,
     home: Home,
@@ -133,7 +133,7 @@ pub(crate) fn assigned(
 }
 
 #[tactic(auto, unfolding(mesa_types::specs::Typed::point_of))]
-pub(crate) fn point_of(goal: Goal) -> Point
+pub fn point_of(goal: Goal) -> Point
     ensures { point_of result ≡ t.point_of goal }
 {
     match goal {
@@ -144,7 +144,7 @@ pub(crate) fn point_of(goal: Goal) -> Point
 }
 
 /// A jump out of so many arms. In the code they have 16 bits: where there are more around one another, memory has no room for them.
-pub(crate) fn goes_out(arms: u32, point: Point) -> Result<Part, OutOfMemory>
+pub fn goes_out(arms: u32, point: Point) -> Result<Part, OutOfMemory>
     ensures { IfOk result (λ made. plain made.block ≡ tree.Goes arms (point_of point)) }
 {
     if arms <= 65535 {
@@ -156,7 +156,7 @@ pub(crate) fn goes_out(arms: u32, point: Point) -> Result<Part, OutOfMemory>
 
 /// The results in order, which go to their variables, and the jump to the return.
 #[tactic(auto, unfolding(crate::specs::Excess::excess, crate::specs::Excess::excess_in, crate::specs::Excess::excess_of), using(crate::proofs::OwnCode::excess_both))]
-pub(crate) fn returned(
+pub fn returned(
     alloc: Global,
     routine: &Routine,
     arms: u32,
@@ -180,7 +180,7 @@ pub(crate) fn returned(
 
 /// The values in order, for the raiser.
 #[tactic(auto, unfolding(crate::specs::Excess::excess, crate::specs::Excess::excess_in, crate::specs::Excess::excess_of), using(crate::proofs::OwnCode::excess_both))]
-pub(crate) fn resumed(alloc: Global, of: Part, code: Code, words: u64) -> Result<Part, OutOfMemory>
+pub fn resumed(alloc: Global, of: Part, code: Code, words: u64) -> Result<Part, OutOfMemory>
     requires { excess (tree.Both (plain of.block) (tree.Does (code ++ i.Resume words ∷ []))) ≡ 0 }
     ensures { IfOk result (λ made. plain made.block ≡ tree.Both (plain of.block) (tree.Does (code ++ i.Resume words ∷ []))) }
 {
@@ -205,18 +205,14 @@ fn longer(mut code: Code, last: Instruction) -> Result<Code, OutOfMemory>
 }
 
 /// The end of an arm that rejects.
-pub(crate) fn rejected(alloc: Global) -> Result<Part, OutOfMemory>
+pub fn rejected(alloc: Global) -> Result<Part, OutOfMemory>
     ensures { IfOk result (λ made. plain made.block ≡ tree.Does (i.ArmEnd ∷ [])) }
 {
     single(alloc, Instruction::ArmEnd)
 }
 
 /// The code that brings values into the order of their places, and their words together.
-pub(crate) fn given(
-    alloc: Global,
-    places: &[u32],
-    sizes: &[u64],
-) -> Result<(Code, u64), OutOfMemory>
+pub fn given(alloc: Global, places: &[u32], sizes: &[u64]) -> Result<(Code, u64), OutOfMemory>
     requires { excess_in (own.arrange_code places.now sizes.now) ≡ 0 }
     ensures code { IfOk result (λ made. made.0 ≡ own.arrange_code places.now sizes.now) }
     ensures words { IfOk result (λ made. made.1 ≡ own.total sizes.now) }

@@ -25,7 +25,7 @@ use mesa_types::{Extent, Suffix};
 use std::alloc::Global;
 
 /// Whether there is an index among suffixes.
-pub(crate) fn has_index(suffixes: &[Suffix]) -> bool
+pub fn has_index(suffixes: &[Suffix]) -> bool
     ensures { result ≡ spec.has_index (chain (map suffix suffixes.now) t.NoSuffix) }
 {
     for suffix in suffixes {
@@ -37,7 +37,7 @@ pub(crate) fn has_index(suffixes: &[Suffix]) -> bool
 }
 
 /// The words of the fields among suffixes.
-pub(crate) fn fields_of(suffixes: &[Suffix]) -> Result<u64, OutOfMemory>
+pub fn fields_of(suffixes: &[Suffix]) -> Result<u64, OutOfMemory>
     ensures { IfOk result (λ words. words ≡ slots.fields_of (chain (map suffix suffixes.now) t.NoSuffix)) }
 {
     let mut words = 0u64;
@@ -51,11 +51,7 @@ pub(crate) fn fields_of(suffixes: &[Suffix]) -> Result<u64, OutOfMemory>
 
 /// With an index the offset of the fields is on the operand stack before what follows.
 #[tactic(auto, unfolding(crate::specs::Excess::excess, crate::specs::Excess::excess_in, crate::specs::Excess::excess_of))]
-pub(crate) fn at_element(
-    alloc: Global,
-    suffixes: &[Suffix],
-    path: Part,
-) -> Result<Part, OutOfMemory>
+pub fn at_element(alloc: Global, suffixes: &[Suffix], path: Part) -> Result<Part, OutOfMemory>
     requires { excess (spec.at_element (chain (map suffix suffixes.now) t.NoSuffix) (plain path.block)) ≡ 0 }
     ensures { IfOk result (λ made. plain made.block ≡ spec.at_element (chain (map suffix suffixes.now) t.NoSuffix) (plain path.block)) }
 {
@@ -74,12 +70,7 @@ pub(crate) fn at_element(
 
 /// An index more: its value, and behind it the steps to the element.
 #[tactic(auto, unfolding(crate::specs::Rows::sizes_in), using(crate::proofs::RowLaws::sizes_more, crate::proofs::RowLaws::two_more))]
-pub(crate) fn indexed(
-    alloc: Global,
-    row: Row,
-    value: Part,
-    extent: Extent,
-) -> Result<Row, OutOfMemory>
+pub fn indexed(alloc: Global, row: Row, value: Part, extent: Extent) -> Result<Row, OutOfMemory>
     requires fits { excess_in (own.index_code extent.check extent.first extent.elements extent.words) ≡ 0 }
     requires small { sizes_in (plain_blocks row.blocks) + (size (plain value.block) + bytes_in (own.index_code extent.check extent.first extent.elements extent.words)) ≤ 4294967295 }
     ensures { IfOk result (λ longer. plain_blocks longer.blocks ≡ plain_blocks row.blocks ++ plain value.block ∷ tree.Does (own.index_code extent.check extent.first extent.elements extent.words) ∷ []) }

@@ -8,7 +8,7 @@ use mesa_base::OutOfMemory;
 use mesa_types::Part;
 
 /// Where the sum has no place in 64 bits, that is want of memory.
-pub(crate) fn together(first: u64, second: u64) -> Result<u64, OutOfMemory>
+pub fn together(first: u64, second: u64) -> Result<u64, OutOfMemory>
     ensures { IfOk result (λ both. both ≡ first + second) }
 {
     match first.checked_add(second) {
@@ -18,7 +18,7 @@ pub(crate) fn together(first: u64, second: u64) -> Result<u64, OutOfMemory>
 }
 
 /// The words of values together.
-pub(crate) fn total(sizes: &[u64]) -> Result<u64, OutOfMemory>
+pub fn total(sizes: &[u64]) -> Result<u64, OutOfMemory>
     ensures { IfOk result (λ words. words ≡ own.total sizes.now) }
 {
     let mut words = 0u64;
@@ -29,7 +29,7 @@ pub(crate) fn total(sizes: &[u64]) -> Result<u64, OutOfMemory>
 }
 
 /// The words before a field, each a field of the one before it.
-pub(crate) fn words_before(parts: &[Part]) -> Result<u64, OutOfMemory>
+pub fn words_before(parts: &[Part]) -> Result<u64, OutOfMemory>
     ensures { IfOk result (λ words. words ≡ words_before_last parts.now) }
 {
     let mut words = 0u64;
@@ -41,7 +41,7 @@ pub(crate) fn words_before(parts: &[Part]) -> Result<u64, OutOfMemory>
 
 /// The words of the last one; none where there is none.
 #[tactic(auto, unfolding(mesa_types::specs::Counts::last_words), using(crate::proofs::LastWords::of_last))]
-pub(crate) fn words_of_last(parts: &[Part]) -> u64
+pub fn words_of_last(parts: &[Part]) -> u64
     ensures { result ≡ last_words parts.now }
 {
     match parts {

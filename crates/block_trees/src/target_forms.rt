@@ -32,7 +32,7 @@ use mesa_types::{Parts, Range, Target};
 use std::alloc::Global;
 
 /// The blocks of targets, with the parts that they take in order.
-pub(crate) struct Taking {
+pub struct Taking {
     pub row: Row,
     pub taken: Parts,
 }
@@ -190,7 +190,7 @@ fn put_part(taken: &mut Parts, part: mesa_types::Part) -> Result<(), OutOfMemory
 
 /// A target more at the end.
 #[tactic(auto, unfolding(crate::specs::Rows::sizes_in))]
-pub(crate) fn take(
+pub fn take(
     alloc: Global,
     routine: &Routine,
     held: Taking,
@@ -231,7 +231,7 @@ fn without_words(alloc: Global, words: u64) -> Result<Part, OutOfMemory>
 }
 
 /// The targets, and behind them the words that none takes are dropped.
-pub(crate) fn taken(alloc: Global, held: Taking, all: u64) -> Result<Part, OutOfMemory>
+pub fn taken(alloc: Global, held: Taking, all: u64) -> Result<Part, OutOfMemory>
     requires { excess (in_order (plain_blocks held.row.blocks) (tree.Does (pop_code (all - relation.words_taken (reverse held.taken))))) ≡ 0 }
     ensures { IfOk result (λ made. plain made.block ≡ in_order (plain_blocks held.row.blocks) (tree.Does (pop_code (all - relation.words_taken (reverse held.taken))))) }
 {
