@@ -1,6 +1,5 @@
 -- What is put before the rest of a list, part by part.
-use Rattle.std.proofs.Common.{◌≡◌, List, [], ◌∷◌, ◌++◌, map, Ok, Err, refl, ap}
-use Rattle.std.proofs.lemmas.List.{map-append}
+use Rattle.std.proofs.Common.{◌≡◌, List, [], ◌∷◌, ◌++◌, Ok, Err, refl, ap}
 use Rattle.mesa_types.specs.Plain.{chain}
 use Rattle.checking_rules.specs.Steps.{Checked, State, and_then}
 
@@ -34,7 +33,3 @@ pub onto_next : {T N : Type 0} (done : List (T → T)) (p : Checked (((T → T) 
     → onto done (and_then p (λ r. before_rest r.0.0 (rest r.0.1 r.1))) ≡ and_then p (λ r. onto (done ++ r.0.0 ∷ []) (rest r.0.1 r.1))
 onto_next done (Ok r) rest = onto_rest done r.0.0 (rest r.0.1 r.1)
 onto_next done (Err e) rest = refl
-
--- one more behind those that are there, seen through a view
-pub view_more : {X T : Type 0} (view : X → T → T) (done : List X) (x : X) → map view (done ++ x ∷ []) ≡ map view done ++ view x ∷ []
-view_more view done x = map-append view done (x ∷ [])

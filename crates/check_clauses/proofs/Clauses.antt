@@ -1,9 +1,10 @@
 -- What checking each statement that holds no statement is, as the code takes its steps.
-use Rattle.std.proofs.Common.{◌≡◌, ℕ, Bool, true, false, List, [], length, Ok, Err, refl, sym}
+use Rattle.std.proofs.Common.{◌≡◌, ◌≢◌, ℕ, Bool, true, false, List, [], ◌∷◌, length, map, Ok, Err, refl, sym, arith}
 use Rattle.std.specs.Prelude.{◌||◌, nat_eq}
 use Rattle.mesa_base.specs.declared.identifier.Identifier.{Identifier}
 use Rattle.mesa_base.specs.declared.place.Place.{Place}
 use Rattle.mesa_types.specs.Syntax as s
+use Rattle.mesa_types.specs.declared.types.FieldType.{FieldType}
 use Rattle.checking_rules.specs.Typed as t
 use Rattle.checking_rules.specs.Around.{Around, return, resumed}
 use Rattle.checking_rules.specs.Checking as spec
@@ -11,10 +12,10 @@ use Rattle.checking_rules.specs.Names.{named}
 use Rattle.checking_rules.specs.Parts.{are_fields, count_lefts, first, first_of_interval, keys_of_lefts}
 use Rattle.checking_rules.specs.Phrases.{holds, in_items, in_left, in_raise, in_targets}
 use Rattle.checking_rules.specs.PlainTypes as v
-use Rattle.checking_rules.specs.PlainTypes.{PlainField}
-use Rattle.checking_rules.specs.Ranges.{Into}
+use Rattle.checking_rules.specs.PlainTypes.{PlainField, plain_field}
+use Rattle.checking_rules.specs.Ranges.{Arguments, Into}
 use Rattle.checking_rules.specs.Reached.{Perform, Store, reached, performed, stored}
-use Rattle.checking_rules.specs.Statements.{By, NotCounted, counter, given, rounds}
+use Rattle.checking_rules.specs.Statements.{By, NotCounted, counter, given, returned_by, rounds}
 use Rattle.checking_rules.specs.Steps.{Check, Checked, State, ◌>>=◌, and_then, ensure, hide, lift, only, pure}
 use Rattle.checking_rules.specs.declared.fault.Cause.TheVariants.{WrongCount}
 use Rattle.check_expressions.proofs.Folding.{in_turn}
@@ -67,6 +68,15 @@ pub resume_some : (a : Around) (p q : Place) (items : s.Items)
 unfolding spec.check resumed_with
 resume_some a p q items = whole_is a p (in_items items) (λ a. resumed_with a p q items)
 
+pub returned_none : (fs : List FieldType) (a : Around) (j : t.Stmt) (x : Arguments) → length fs ≡ 0 → returned_by (map plain_field fs) a j x ≡ j
+returned_none [] a j x e = refl
+returned_none (f ∷ fs) a j x e = absurd (omega (arith, e))
+
+pub returned_some : (fs : List FieldType) (a : Around) (j : t.Stmt) (x : Arguments) → length fs ≢ 0
+    → returned_by (map plain_field fs) a j x ≡ t.ReturnWith a.arms (length a.takes) x.places x.values
+returned_some [] a j x e = absurd (e refl)
+returned_some (f ∷ fs) a j x e = refl
+
 -- ---- targets
 
 pub target_is : (a : Around) (x : Identifier) (ss : s.Suffixes) → spec.target a (s.LeftOf x ss) ≡ (do
@@ -96,7 +106,7 @@ targets_keyed a p q fs ls = refl
 
 -- a step with what is asked of it alone
 regroup : {A B C : Type 0} (m : Check A) (f : A → Checked B) (g : B → Check C) → m >>= (λ x. lift (f x) >>= g) ≡ (m >>= (λ x. lift (f x))) >>= g
-regroup m f g = λ i σ. sym (in_turn (m σ) (λ r. and_then (f r.0) (λ b. Ok (b, r.1))) (λ r. g r.0 r.1)) i
+regroup {A} {B} {C} m f g = λ i σ. sym (in_turn {A = A × State} {B = B × State} {C = C × State} (m σ) (λ r. and_then (f r.0) (λ b. Ok (b, r.1))) (λ r. g r.0 r.1)) i
 
 pub control_is : (a : Around) (n : s.Count) (c : s.Condition) → spec.control a (s.ControlOf n c) ≡ (do
   x ← spec.counted a n
@@ -127,8 +137,8 @@ condition_none a = refl
 
 pub condition_while : (a : Around) (p : Place) (e : s.Expr) → spec.condition a (s.While p e) ≡ truth_of a e >>= (λ x. pure (t.While x))
 unfolding spec.check
-condition_while a p e = λ i σ. sym (in_turn {C = t.Condition × State} (spec.check a (Into v.Boolean (first e)) e σ) (λ r. Ok (r.0.value, r.1)) (λ r. Ok (t.While r.0, r.1))) i
+condition_while a p e = λ i σ. sym (in_turn {B = t.Expr × State} {C = t.Condition × State} (spec.check a (Into v.Boolean (first e)) e σ) (λ r. Ok (r.0.value, r.1)) (λ r. Ok (t.While r.0, r.1))) i
 
 pub condition_until : (a : Around) (p : Place) (e : s.Expr) → spec.condition a (s.Until p e) ≡ truth_of a e >>= (λ x. pure (t.Until x))
 unfolding spec.check
-condition_until a p e = λ i σ. sym (in_turn {C = t.Condition × State} (spec.check a (Into v.Boolean (first e)) e σ) (λ r. Ok (r.0.value, r.1)) (λ r. Ok (t.Until r.0, r.1))) i
+condition_until a p e = λ i σ. sym (in_turn {B = t.Expr × State} {C = t.Condition × State} (spec.check a (Into v.Boolean (first e)) e σ) (λ r. Ok (r.0.value, r.1)) (λ r. Ok (t.Until r.0, r.1))) i

@@ -1,15 +1,18 @@
 -- Whether one of a list holds a catch phrase, one after the other.
-use Rattle.std.proofs.Common.{◌≡◌, ◌<◌, ◌≤◌, ◌+◌, ℕ, false, List, ◌∷◌, drop, length, get_or, ap, ◌∙◌}
+use Rattle.std.proofs.Common.{◌≡◌, ◌<◌, ◌≤◌, ◌+◌, ℕ, Bool, false, List, ◌∷◌, drop, length, get_or, ap, ◌∙◌}
 use Rattle.std.specs.Prelude.{◌||◌}
 use Rattle.std.proofs.lemmas.List.{drop_all}
+use Rattle.mesa_base.specs.declared.place.Place.{Place}
 use Rattle.mesa_types.specs.PlainSyntax as plain
 use Rattle.mesa_types.specs.Syntax as s
 use Rattle.mesa_types.specs.declared.syntax.Case.{Case, out-Case}
 use Rattle.mesa_types.specs.declared.syntax.Keyed.{Keyed}
 use Rattle.mesa_types.specs.declared.syntax.Left.{Left}
+use Rattle.mesa_types.specs.declared.syntax.Interval.{Interval}
 use Rattle.mesa_types.specs.declared.syntax.Test.{Test}
-use Rattle.mesa_types.proofs.PlainForms.{parts_of_case}
-use Rattle.checking_rules.specs.Phrases.{in_cases, in_keyed_lefts, in_left, in_lefts, in_tests}
+use Rattle.mesa_types.specs.declared.syntax.Test.TheVariants.{Inside}
+use Rattle.mesa_types.proofs.PlainForms.{of_inside, parts_of_case}
+use Rattle.checking_rules.specs.Phrases.{in_cases, in_interval, in_keyed_lefts, in_left, in_lefts, in_tests}
 use Rattle.check_jumps.proofs.Tests.{at_drop}
 
 pub lefts_at : (all : List Left) (i : ℕ) (x : Left) → i < length all → x ≡ get_or all i x
@@ -48,3 +51,8 @@ cases_at all i x inside here =
 pub cases_out : (all : List Case) (i : ℕ) → length all ≤ i → in_cases (plain.cases (drop i all)) ≡ false
 unfolding in_cases
 cases_out all i outside = ap (λ xs. in_cases (plain.cases xs)) (drop_all i all outside)
+
+pub inside_holds : (b : Bool) (p : Place) (i : Interval) (rest : s.Tests)
+    → in_tests (plain.test (Inside b p i) rest) ≡ (in_interval (plain.interval i) || in_tests rest)
+unfolding in_tests
+inside_holds b p i rest = ap (λ (f : s.Tests → s.Tests). in_tests (f rest)) (of_inside b p i)

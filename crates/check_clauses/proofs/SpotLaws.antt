@@ -42,14 +42,15 @@ one_behind index n offset label k fs y x e =
     (found x (n + 1) (offset + words_of k) fs) (named_spot label y x)
     (ap (λ z. if has_name x label then Some z else found x (n + 1) (offset + words_of k) fs) e ∙ by_label x label y (found x (n + 1) (offset + words_of k) fs))
 
-pub index_at : (all : List FieldType) (i n offset : ℕ) (f : FieldType) (index : Scope Spot) (y : Spot) (x : List ℕ) → i < length all → f ≡ get_or all i f
-    → record { number = n; offset = offset; kind = plain (out-FieldType f).kind } ≡ spot y
+pub index_at : (all : List FieldType) (i n offset : ℕ) (f : FieldType) (index new : Scope Spot) (y : Spot) (x : List ℕ) → i < length all → f ≡ get_or all i f
+    → new ≡ over index (named_spot (out-FieldType f).name y) → record { number = n; offset = offset; kind = plain (out-FieldType f).kind } ≡ spot y
     → or_behind index n offset (map plain_field (drop i all)) x
-    ≡ or_behind (over index (named_spot (out-FieldType f).name y)) (n + 1) (offset + words_of (plain (out-FieldType f).kind)) (map plain_field (drop (i + 1) all)) x
-index_at all i n offset f index y x inside here e =
+    ≡ or_behind new (n + 1) (offset + words_of (plain (out-FieldType f).kind)) (map plain_field (drop (i + 1) all)) x
+index_at all i n offset f index new y x inside here declared e =
     ap (λ fs. or_behind index n offset (map plain_field fs) x) (at_drop all i f inside here)
     ∙ ap (λ g. or_behind index n offset (g ∷ map plain_field (drop (i + 1) all)) x) (parts_of_field f)
     ∙ one_behind index n offset (out-FieldType f).name (plain (out-FieldType f).kind) (map plain_field (drop (i + 1) all)) y x e
+    ∙ ap (λ s. or_behind s (n + 1) (offset + words_of (plain (out-FieldType f).kind)) (map plain_field (drop (i + 1) all)) x) (sym declared)
 
 or_none : {X : Type 0} (o : Option X) → option_or o None ≡ o
 or_none None = refl

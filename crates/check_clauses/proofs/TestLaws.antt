@@ -1,11 +1,11 @@
 -- Tests of a SELECT, one after the other.
-use Rattle.std.proofs.Common.{◌≡◌, ◌<◌, ◌≤◌, ◌+◌, ℕ, List, [], ◌∷◌, ◌++◌, drop, length, get_or, Ok, sym, ap, ◌∙◌}
+use Rattle.std.proofs.Common.{◌≡◌, ◌<◌, ◌≤◌, ◌+◌, ℕ, Bool, List, [], ◌∷◌, ◌++◌, map, drop, length, get_or, Ok, sym, ap, ◌∙◌}
 use Rattle.std.specs.Prelude.{false}
-use Rattle.std.proofs.lemmas.List.{drop_all}
-use Rattle.mesa_types.specs.Plain.{chain}
+use Rattle.std.proofs.lemmas.List.{drop_all, map-append}
+use Rattle.mesa_base.specs.declared.place.Place.{Place}
+use Rattle.mesa_types.specs.Plain.{chain, test}
 use Rattle.mesa_types.specs.PlainSyntax as plain
 use Rattle.mesa_types.specs.Syntax as s
-use Rattle.mesa_types.specs.Typed as t
 use Rattle.mesa_types.specs.declared.syntax.Condition.{Condition}
 use Rattle.mesa_types.specs.declared.syntax.Count.{Count}
 use Rattle.mesa_types.specs.declared.syntax.Expr.{Expr}
@@ -24,14 +24,17 @@ use Rattle.mesa_types.specs.declared.syntax.Interval.{Interval}
 use Rattle.mesa_types.specs.declared.syntax.Left.{Left}
 use Rattle.mesa_types.specs.declared.syntax.Operation.{Operation}
 use Rattle.mesa_types.specs.declared.syntax.Test.{Test, roll-Test, out-Test, roll-out-Test}
+use Rattle.mesa_types.specs.declared.syntax.Test.TheVariants.{Inside}
+use Rattle.mesa_types.specs.declared.typed_tree.Test.{Test as TypedTest}
 use Rattle.mesa_types.specs.declared.syntax.Condition.TheOpen.{Test-F}
-use Rattle.mesa_types.proofs.PlainForms.{test_at}
+use Rattle.mesa_types.proofs.PlainForms.{of_inside, test_at}
+use Rattle.checking_rules.specs.Typed as t
 use Rattle.checking_rules.specs.Around.{Around}
 use Rattle.checking_rules.specs.Checking as spec
 use Rattle.checking_rules.specs.Parts.{first}
 use Rattle.checking_rules.specs.Ranges.{Typed, Free}
 use Rattle.checking_rules.specs.Statements.{tested, tested_inside}
-use Rattle.checking_rules.specs.Steps.{State, and_then}
+use Rattle.checking_rules.specs.Steps.{Checked, State, and_then, ◌>>=◌, lift}
 use Rattle.check_jumps.proofs.Tests.{at_drop}
 use Rattle.check_expressions.proofs.Folding.{in_turn}
 use Rattle.check_clauses.specs.Rules.{first_test}
@@ -41,7 +44,7 @@ abbrev Test-Layer : Type 0
 Test-Layer = Test-F Condition Count Expr FieldList PlainItem Raise Statement Suffix Test TypeExp Arm Block Brackets Case Control Interval Left Operation
 
 module _ (a : Around) (sel : Typed) where
-  abbrev then_rest : s.Tests → (t.Tests → t.Tests) × State → _
+  abbrev then_rest : s.Tests → (t.Tests → t.Tests) × State → Checked (t.Tests × State)
   then_rest rest r = before_rest r.0 (spec.tests a sel rest r.1)
 
   split_form : (y : Test-Layer) (x : Test) → roll-Test y ≡ x → (rest : s.Tests) (σ : State)
@@ -69,3 +72,11 @@ module _ (a : Around) (sel : Typed) where
       → onto done (spec.tests a sel (plain.tests (drop i all)) σ) ≡ Ok (chain done t.NoTests, σ)
   unfolding spec.check
   tests_end done all i σ outside = ap (λ xs. onto done (spec.tests a sel (plain.tests xs) σ)) (drop_all i all outside)
+
+pub tests_more : (done : List TypedTest) (x : TypedTest) → map test (done ++ x ∷ []) ≡ map test done ++ test x ∷ []
+tests_more done x = map-append test done (x ∷ [])
+
+pub inside_first : (a : Around) (sel : Typed) (b : Bool) (p : Place) (i : Interval)
+    → first_test a sel (plain.test (Inside b p i) s.NoTests) ≡ spec.interval a (plain.interval i) >>= (λ ends. lift (tested_inside b p sel ends))
+unfolding first_test
+inside_first a sel b p i = ap (λ (f : s.Tests → s.Tests). first_test a sel (f s.NoTests)) (of_inside b p i)

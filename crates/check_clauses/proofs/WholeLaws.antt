@@ -20,8 +20,17 @@ measured_at outside r = Ok ((r.0, r.1.operands), record r.1 { operands = outside
 abbrev judged : {A : Type 0} → ℕ → Place → (A × ℕ) × State → Checked (A × State)
 judged before p r = (ensure (nat_le (before + r.0.1) OPERAND_WORDS) FrameTooLarge p >>= (λ _. pure r.0.0)) r.1
 
+abbrev at : State → Unit {0} → Checked (Unit {0} × State)
+at σ u = Ok (u, σ)
+
+abbrev nothing_at : State → Unit {0} → Checked (Unit {0} × State)
+nothing_at σ u = Ok (tt, σ)
+
+abbrev kept : {A : Type 0} → A → Unit {0} × State → Checked (A × State)
+kept x u = Ok (x, u.1)
+
 few_or_not : {A : Type 0} (b : Bool) (p : Place) (x : A) (σ : State)
-    → and_then (and_then (only b FrameTooLarge p) (λ u. Ok (u, σ))) (λ u. Ok (x, u.1)) ≡ and_then (and_then (only b FrameTooLarge p) (λ u. Ok (tt, σ))) (λ u. Ok (x, u.1))
+    → and_then (and_then (only b FrameTooLarge p) (at σ)) (kept x) ≡ and_then (and_then (only b FrameTooLarge p) (nothing_at σ)) (kept x)
 few_or_not true p x σ = refl
 few_or_not false p x σ = refl
 
@@ -33,8 +42,11 @@ ends before p outside (Err e) = refl
 pub within_is : {A : Type 0} (before : ℕ) (p : Place) (m : Check A) → within_operands before p m ≡ counting before p m
 within_is before p m = λ i σ. ends before p σ.operands (m (record σ { operands = 0 })) i
 
+abbrev marked_at : ℕ → t.Stmt × State → Checked (t.Stmt × State)
+marked_at n r = Ok (t.Marked n r.0, r.1)
+
 mark_then : {B : Type 0} (n : ℕ) (o : Checked (t.Stmt × State)) (f : t.Stmt × State → Checked B)
-    → and_then (and_then o (λ r. Ok (t.Marked n r.0, r.1))) f ≡ and_then o (λ r. f (t.Marked n r.0, r.1))
+    → and_then (and_then o (marked_at n)) f ≡ and_then o (λ r. f (t.Marked n r.0, r.1))
 mark_then n (Ok r) f = refl
 mark_then n (Err e) f = refl
 

@@ -1,5 +1,5 @@
 -- The rules of statements that hold no statement, inside of what counts their operands, and of single parts of lists.
-use Rattle.std.specs.Prelude.{ℕ, ◌+◌, Bool, false, not, List, [], length, nat_eq, Ok}
+use Rattle.std.specs.Prelude.{ℕ, ◌+◌, Bool, false, not, List, [], length, nat_eq, Ok, is_some}
 use Rattle.mesa_base.specs.declared.identifier.Identifier.{Identifier}
 use Rattle.mesa_base.specs.declared.place.Place.{Place}
 use Rattle.mesa_types.specs.Syntax as s
@@ -12,7 +12,7 @@ use Rattle.checking_rules.specs.PlainTypes as v
 use Rattle.checking_rules.specs.PlainTypes.{PlainField, words_of}
 use Rattle.checking_rules.specs.Ranges.{Typed, Free, Into, Several}
 use Rattle.checking_rules.specs.Reached.{Perform, reached, performed}
-use Rattle.checking_rules.specs.Scopes.{has}
+use Rattle.checking_rules.specs.Scopes.{Scope}
 use Rattle.checking_rules.specs.Statements.{By, Counted, Rounds, counter, given, rounds, extracted, returned, source, tested, tested_inside}
 use Rattle.checking_rules.specs.Steps.{Check, Checked, and_then, ◌>>=◌, ensure, hide, lift, only, or_refuse, pure}
 use Rattle.checking_rules.specs.declared.fault.Cause.TheVariants.{TwiceDeclared, WrongCount}
@@ -92,9 +92,9 @@ unfoldable pub next_target : Around → Place → ℕ → ℕ → PlainField →
 next_target a q n offset f l = target_for a q (record { number = n; offset = offset; kind = f.kind }) l >>= (λ put. pure (put, offset + words_of f.kind))
 
 -- one target with a key, where these keys are taken
-unfoldable pub keyed_target : Around → Place → List PlainField → List (List ℕ) → Identifier → s.Left → Check (t.Targets → t.Targets)
+unfoldable pub keyed_target : Around → Place → List PlainField → Scope Bool → Identifier → s.Left → Check (t.Targets → t.Targets)
 keyed_target a q fs taken x l = do
-  _ ← ensure (not (has x.name taken)) TwiceDeclared x.place
+  _ ← ensure (not (is_some (taken x.name))) TwiceDeclared x.place
   f ← lift (or_refuse (field_named fs x) WrongCount x.place)
   target_for a q f l
 

@@ -53,6 +53,7 @@ impl LetGo for Controlled {
 }
 
 /// The value of a test, which is BOOLEAN.
+#[tactic(auto, using(check_words::proofs::TypeForms::type_forms))]
 pub fn truth_of<P: Phrases>(
     checker: &Checker<P>,
     e: &Expr,
@@ -62,9 +63,10 @@ pub fn truth_of<P: Phrases>(
     requires { P.ask checker.now.phrases }
     ensures { Gives expr (rules.truth_of (words.around around.now) (plain.expr e.now) (words.state state.old)) result (words.state state.new) }
 {
-    let aim = Aim::Into(&TypeTree::Boolean, first(e));
-    let found = checker.check(e, around, state, aim)?;
-    Ok(found.into_value())
+    let boolean = TypeTree::Boolean;
+    let found = checker.check(e, around, state, Aim::Into(&boolean, first(e)));
+    boolean.let_go();
+    Ok(found?.into_value())
 }
 
 fn lasting(value: TypedExpr) -> Condition
@@ -158,7 +160,7 @@ fn counted_for<P: Phrases>(
 
 /// FOR or THROUGH, or none of both.
 #[tactic(auto, using(mesa_types::proofs::PlainForms::count_forms, crate::proofs::Clauses::counted_none, crate::proofs::Clauses::counted_through, crate::proofs::Clauses::counted_by))]
-fn counted<P: Phrases>(
+fn count_of<P: Phrases>(
     checker: &Checker<P>,
     of: &Option<Count>,
     around: &Around<'_>,
@@ -194,7 +196,7 @@ pub fn control<P: Phrases>(
     requires { P.ask checker.now.phrases }
     ensures { Gives view.controlled (spec.control (words.around around.now) (plain.control control.now) (words.state state.old)) result (words.state state.new) }
 {
-    let count = counted(checker, &control.count, around, state)?;
+    let count = count_of(checker, &control.count, around, state)?;
     let condition = condition(checker, &control.condition, around, state);
     let (count, condition) = both(count, condition)?;
     Ok(Controlled { count, condition })

@@ -12,7 +12,7 @@ ghost use Rattle.check_reached.specs.Views as reaching;
 ghost use Rattle.check_clauses.specs.Rules as rules;
 ghost use Rattle.check_clauses.specs.Views as view;
 
-use crate::targets::{target, targets};
+use crate::storing::{target, targets};
 use check_declared::{Source, source_of};
 use check_expressions::{Checker, Phrases};
 use check_jumps::{resumed, return_jump};
@@ -145,7 +145,7 @@ fn give_back(arms: u32, first: u16, given: Arguments) -> TypedStmt
 }
 
 /// RETURN with values, in a procedure with results; the jump is that of one without.
-#[tactic(auto, unfolding(check_words::specs::Views::around))]
+#[tactic(auto, using(crate::proofs::Clauses::returned_none, crate::proofs::Clauses::returned_some), unfolding(check_words::specs::Views::around))]
 fn returned(
     around: &Around<'_>,
     jump: TypedStmt,

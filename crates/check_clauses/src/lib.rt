@@ -7,12 +7,12 @@ mod inner;
 mod selecting;
 mod spots;
 mod statements;
-mod targets;
+mod storing;
 mod whole;
 
 pub use controls::{Controlled, Counted, control, looped, truth_of};
 pub use holding::cases_hold;
 pub use selecting::tests;
 pub use statements::{assign, call, extract, raise_statement, resume_statement, return_statement};
-pub use targets::{target, targets};
+pub use storing::{target, targets};
 pub use whole::{Whole, count_ended};

@@ -38,7 +38,7 @@ fn and_spot<'a>(
     label: &Option<Name>,
     spot: Spot<'a>,
 ) -> Result<(), OutOfMemory>
-    ensures { OnOk result (means index.new ≡ over (means index.old) (view.named_spot label.now spot)) }
+    ensures { OnOk result (means index.new ≡ over (means index.old) (view.named_spot label.now spot.entry)) }
 {
     match label {
         Some(label) => index.declare_first(alloc, label.bytes(), spot),
@@ -65,16 +65,17 @@ fn index_of<'a>(alloc: Global, fields: &'a [FieldType]) -> Result<Names<Spot<'a>
     Ok(index)
 }
 
-/// An index of fields: for each name the first that has it.
+/// Fields with an index of them: for each name the first that has it.
+#[derive(Drop)]
 pub(crate) struct Spots<'a> {
-    fields: &'a [FieldType],
-    index: Names<Spot<'a>>,
-    ghost finds: { (x : List ℕ) → option_map view.spot (means index x) ≡ parts.found x 0 0 (words.fields fields.now) },
+    pub(crate) fields: &'a [FieldType],
+    pub(crate) index: Names<Spot<'a>>,
 }
 
 impl<'a> Spots<'a> {
     pub(crate) fn of(alloc: Global, fields: &'a [FieldType]) -> Result<Spots<'a>, OutOfMemory>
-        ensures { IfOk result (λ made. made.fields.now ≡ fields.now) }
+        ensures fields { IfOk result (λ made. made.fields.now ≡ fields.now) }
+        ensures finds { IfOk result (λ made. view.Finds made) }
     {
         let index = index_of(alloc, fields)?;
         Ok(Spots { fields, index })
@@ -82,6 +83,7 @@ impl<'a> Spots<'a> {
 
     /// The first field with this name.
     pub(crate) fn find(&self, name: &Identifier) -> Option<Spot<'a>>
+        requires { view.Finds self.now }
         ensures { option_map view.spot result ≡ parts.field_named (words.fields self.now.fields.now) name.now }
     {
         self.index.get(name.name.bytes()).copied()

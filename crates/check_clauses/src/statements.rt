@@ -1,9 +1,10 @@
 //! Statements that hold no statement, each whole: with its operands counted and its number.
-ghost use Rattle.std.specs.Prelude.{◌≡◌};
+ghost use Rattle.std.specs.Prelude.{◌≡◌, ◌||◌};
 ghost use Rattle.mesa_types.specs.Plain.{stmt};
 ghost use Rattle.mesa_types.specs.PlainSyntax as plain;
 ghost use Rattle.mesa_types.specs.Syntax as s;
 ghost use Rattle.checking_rules.specs.Checking as spec;
+ghost use Rattle.checking_rules.specs.Phrases as phrases;
 ghost use Rattle.check_words.specs.Gives.{Gives};
 ghost use Rattle.check_words.specs.Views as words;
 
@@ -37,6 +38,18 @@ fn start_of_raise(of: &Raise) -> Place
     }
 }
 
+fn assign_holds(left: &Left, e: &Expr) -> bool
+    ensures { result ≡ (phrases.in_left (plain.left left.now) || phrases.holds (plain.expr e.now)) }
+{
+    left_holds(left) || holds(e)
+}
+
+fn extract_holds(all: &Entries<Left>, e: &Expr) -> bool
+    ensures { result ≡ (phrases.in_targets (plain.targets all.now) || phrases.holds (plain.expr e.now)) }
+{
+    targets_hold(all) || holds(e)
+}
+
 /// An assignment.
 #[tactic(auto, using(crate::proofs::Clauses::assign_is))]
 pub fn assign<P: Phrases>(
@@ -49,7 +62,7 @@ pub fn assign<P: Phrases>(
     requires { P.ask checker.now.phrases }
     ensures { Gives stmt (spec.statement (words.around around.now) (s.Assign (plain.left left.now) (plain.expr e.now)) (words.state state.old)) result (words.state state.new) }
 {
-    let has_phrase = left_holds(left) || holds(e);
+    let has_phrase = assign_holds(left, e);
     let whole = Whole::begin(around, state, has_phrase, 0, start_of(left))?;
     let made = assigned(checker, left, e, &whole.inner, state)?;
     whole.end(checker.alloc, state, made)
@@ -68,7 +81,7 @@ pub fn extract<P: Phrases>(
     requires { P.ask checker.now.phrases }
     ensures { Gives stmt (spec.statement (words.around around.now) (s.Extract place (plain.targets all.now) (plain.expr e.now)) (words.state state.old)) result (words.state state.new) }
 {
-    let has_phrase = targets_hold(all) || holds(e);
+    let has_phrase = extract_holds(all, e);
     let whole = Whole::begin(around, state, has_phrase, 0, place)?;
     let made = taken(checker, all, e, &whole.inner, state, place)?;
     whole.end(checker.alloc, state, made)

@@ -4,7 +4,6 @@ ghost use Rattle.mesa_types.specs.Plain.{stmt};
 ghost use Rattle.mesa_types.specs.Typed as t;
 ghost use Rattle.check_words.specs.Gives.{Gives};
 ghost use Rattle.check_words.specs.Views as words;
-ghost use Rattle.check_clauses.specs.Views as view;
 ghost use Rattle.check_clauses.specs.Whole as steps;
 
 use check_declared::few_operands;
@@ -55,7 +54,11 @@ impl<'a> Whole<'a> {
         before: u64,
         place: Place,
     ) -> Result<Whole<'a>, OutOfMemory>
-        ensures whole { IfOk result (λ made. view.whole made ≡ steps.begun (words.around around.now) has_phrase before place (words.state state.old).operands) }
+        ensures inner { IfOk result (λ made. words.around made.inner ≡ steps.around_if has_phrase (words.around around.now)) }
+        ensures number { IfOk result (λ made. made.number ≡ steps.number_if has_phrase (words.around around.now)) }
+        ensures before { IfOk result (λ made. made.before ≡ before) }
+        ensures place { IfOk result (λ made. made.place ≡ place) }
+        ensures outside { IfOk result (λ made. made.outside ≡ (words.state state.old).operands) }
         ensures state { words.state state.new ≡ record (words.state state.old) { operands = 0 } }
     {
         let outside = state.count_from(0);
@@ -80,7 +83,7 @@ impl<'a> Whole<'a> {
         state: &mut State,
         made: TypedStmt,
     ) -> Result<TypedStmt, CheckFault>
-        ensures { Gives stmt (steps.ended (view.whole self.now) (stmt made) (words.state state.old)) result (words.state state.new) }
+        ensures { Gives stmt (steps.ended self.now.number self.now.before self.now.place self.now.outside (stmt made) (words.state state.old)) result (words.state state.new) }
     {
         let few = count_ended(state, self.before, self.place, self.outside);
         let (made, _) = both(made, few)?;

@@ -66,7 +66,7 @@ constant_is a xs e x = λ i. announce xs >>= (λ _.
 
 pub head_constant : (a : Around) (xs : List Identifier) (e : s.TypeExp) (x : s.Expr) → spec.head a xs (s.Constant e x) ≡ counting 0 (first_name xs) (constant_head a xs e x)
 unfolding spec.check
-head_constant a xs e x = (λ i. within_operands 0 (first_name xs) (constant_is a xs e x (~ i))) ∙ within_is 0 (first_name xs) (constant_head a xs e x)
+head_constant a xs e x = sym (λ i. within_operands 0 (first_name xs) (constant_is a xs e x i)) ∙ within_is 0 (first_name xs) (constant_head a xs e x)
 
 pub ruleset head_clauses = (head_type, head_variable, head_initial, head_constant)
 
@@ -92,12 +92,16 @@ pub initial_variable : (a : Around) (xs : List Identifier) (e : s.TypeExp) (hs :
 unfolding spec.check
 initial_variable a xs e hs k seen words = refl
 
+abbrev put_at : t.Stmt × State → Checked ((t.Stmts → t.Stmts) × State)
+put_at r = Ok (t.AndStmt r.0, r.1)
+
+abbrev back_at : {A : Type 0} → State → A × State → Checked (A × State)
+back_at σ r = Ok (r.0, with_top (innermost σ.scopes) r.1)
+
 after_seeing : (seen : Scope Meaning) (m : Check t.Stmt) → seeing seen (m >>= (λ x. pure (t.AndStmt x))) ≡ seeing seen m >>= (λ x. pure (t.AndStmt x))
 after_seeing seen m = λ i σ. put_back σ (m (with_top seen σ)) i
   where
-    put_back : (σ : State) (o : Checked (t.Stmt × State))
-        → and_then (and_then o (λ r. Ok (t.AndStmt r.0, r.1))) (λ r. Ok (r.0, with_top (innermost σ.scopes) r.1))
-        ≡ and_then (and_then o (λ r. Ok (r.0, with_top (innermost σ.scopes) r.1))) (λ r. Ok (t.AndStmt r.0, r.1))
+    put_back : (σ : State) (o : Checked (t.Stmt × State)) → and_then (and_then o put_at) (back_at σ) ≡ and_then (and_then o (back_at σ)) put_at
     put_back σ (Ok r) = refl
     put_back σ (Err e) = refl
 

@@ -1,5 +1,5 @@
 //! What a declaration leaves behind when its head is read.
-ghost use Rattle.std.specs.Prelude.{◌≡◌, IfOk};
+ghost use Rattle.std.specs.Prelude.{◌≡◌, IfOk, OnOk};
 ghost use Rattle.checking_rules.specs.PlainTypes.{plain};
 ghost use Rattle.checking_rules.specs.Scopes.{innermost};
 ghost use Rattle.checking_rules.specs.Statements as rule;
@@ -45,8 +45,9 @@ impl InList for Headed {
 }
 
 /// The innermost scope as it is now. Names cannot be shared yet, so this wants memory.
-fn scope_now(_alloc: Global, _state: &State) -> Result<Names<Meaning>, OutOfMemory>
-    ensures { IfOk result (λ seen. words.names seen ≡ innermost (words.state _state.now).scopes) }
+fn scope_now(_alloc: Global, state: &mut State) -> Result<Names<Meaning>, OutOfMemory>
+    ensures seen { IfOk result (λ seen. words.names seen ≡ innermost (words.state state.old).scopes) }
+    ensures state { OnOk result (words.state state.new ≡ words.state state.old) }
 {
     Err(OutOfMemory)
 }

@@ -7,3 +7,6 @@ loop-one-preserved c = rw c.loop-one.invariant (rw (keyed_at c.args.all.now c.lo
 
 pub returns : goal.returns
 returns c = sym (c.loop-one.invariant ∙ keyed_out c.args.all.now c.loop-one.one-index (search rules))
+
+pub returns-then-left_holds : goal.returns-then-left_holds
+returns-then-left_holds c = rw c.loop-one.invariant (rw (keyed_at c.args.all.now c.loop-one.one-index c.one-item.result (search rules) (search rules)) (search rules))

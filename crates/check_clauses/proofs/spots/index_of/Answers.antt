@@ -9,7 +9,7 @@ loop-field-init c x = rw c.new-index.ensures refl
 pub loop-field-preserved : goal.loop-field-preserved
 loop-field-preserved c x =
     c.loop-field.invariant x
-    ∙ index_at c.args.fields.now c.loop-field.field-index c.loop-field.number c.loop-field.offset c.field-item.result (means c.loop-field.index) _ x (search rules) (search rules) refl
+    ∙ index_at c.args.fields.now c.loop-field.field-index c.loop-field.number c.loop-field.offset c.field-item.result (means c.loop-field.index) (means c.and_spot.new.index) _ x (search rules) (search rules) c.in_ok-and_spot.ensures refl
     ∙ search rules
 
 pub returns : goal.returns

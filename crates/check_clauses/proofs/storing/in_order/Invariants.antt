@@ -5,7 +5,7 @@ use Rattle.checking_rules.specs.Checking as spec
 use Rattle.checking_rules.specs.PlainTypes.{plain_field}
 use Rattle.check_words.specs.Views as words
 use Rattle.check_clauses.proofs.Chains.{onto}
-use Rattle.check_clauses.proofs.targets.in_order.Given as goal
+use Rattle.check_clauses.proofs.storing.in_order.Given as goal
 
 abbrev pub invariant-loop-i : goal.invariant-loop-i
 invariant-loop-i g l =

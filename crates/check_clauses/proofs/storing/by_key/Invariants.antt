@@ -6,7 +6,7 @@ use Rattle.check_declared.specs.Naming.{HasNames}
 use Rattle.check_words.specs.Views as words
 use Rattle.check_clauses.proofs.Chains.{onto}
 use Rattle.check_clauses.proofs.TargetLaws.{taken_at}
-use Rattle.check_clauses.proofs.targets.by_key.Given as goal
+use Rattle.check_clauses.proofs.storing.by_key.Given as goal
 
 abbrev pub invariant-loop-one : goal.invariant-loop-one
 invariant-loop-one g l = record {

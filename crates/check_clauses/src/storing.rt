@@ -1,10 +1,10 @@
 //! Variables into which is stored, one or several.
-ghost use Rattle.std.specs.Prelude.{◌≡◌, [], ◌∷◌, length, nat_eq, not, List, ℕ, OnOk};
+ghost use Rattle.std.specs.Prelude.{◌≡◌, [], length, nat_eq, not, true, is_some, OnOk};
 ghost use Rattle.mesa_types.specs.Plain as tree;
 ghost use Rattle.mesa_types.specs.PlainSyntax as plain;
 ghost use Rattle.mesa_types.specs.Typed as t;
-ghost use Rattle.check_declared.specs.Naming.{HasNames};
-ghost use Rattle.check_scopes.specs.Scopes.{has};
+ghost use Rattle.check_scopes.specs.Scopes.{with_name};
+ghost use Rattle.check_scopes.specs.Shows.{means};
 ghost use Rattle.checking_rules.specs.Checking as spec;
 ghost use Rattle.checking_rules.specs.Parts as parts;
 ghost use Rattle.checking_rules.specs.PlainTypes.{plain_field};
@@ -15,7 +15,7 @@ ghost use Rattle.check_words.specs.Gives.{Gives, GivesOnly};
 ghost use Rattle.check_words.specs.Views as words;
 ghost use Rattle.check_reached.specs.Views as reaching;
 ghost use Rattle.check_clauses.specs.Rules as rules;
-ghost use Rattle.check_clauses.specs.Spots as spots;
+ghost use Rattle.check_clauses.specs.Spots as known;
 ghost use Rattle.check_clauses.specs.Views as view;
 
 use crate::spots::{Spot, Spots, past};
@@ -70,7 +70,7 @@ fn target_of(part: Part, to: (Home, Suffixes), check: Range) -> TypedTarget
 /// The part of what is taken that goes to a target, which must fit.
 #[tactic(auto, unfolding(checking_rules::specs::Statements::extracted))]
 fn extracted(place: Place, from: Spot<'_>, to: Target) -> Result<TypedTarget, CheckFault>
-    ensures { GivesOnly tree.target (rule.extracted place (spots.spot from) (reaching.target to)) result }
+    ensures { GivesOnly tree.target (rule.extracted place (known.spot from.entry) (reaching.target to)) result }
 {
     let Target {
         home,
@@ -103,7 +103,7 @@ fn target_for<P: Phrases>(
     spot: Spot<'_>,
 ) -> Result<TypedTarget, CheckFault>
     requires { P.ask checker.now.phrases }
-    ensures { Gives tree.target (rules.target_for (words.around around.now) start (spots.spot spot) (plain.left left.now) (words.state state.old)) result (words.state state.new) }
+    ensures { Gives tree.target (rules.target_for (words.around around.now) start (known.spot spot.entry) (plain.left left.now) (words.state state.old)) result (words.state state.new) }
 {
     let found = target(checker, left, around, state)?;
     extracted(start, spot, found)
@@ -156,6 +156,7 @@ fn in_order<P: Phrases>(
     Ok(done)
 }
 
+#[tactic(auto, using(crate::proofs::TargetLaws::lefts_counted))]
 fn same_count(all: &[Left], fields: &[FieldType], place: Place) -> Result<(), CheckFault>
     ensures { GivesOnly (λ _. tt) (only (nat_eq (parts.count_lefts (plain.lefts all.now)) (length (words.fields fields.now))) WrongCount place) result }
 {
@@ -167,6 +168,7 @@ fn same_count(all: &[Left], fields: &[FieldType], place: Place) -> Result<(), Ch
 }
 
 fn are_fields(all: &[Keyed<Left>], spots: &Spots<'_>) -> bool
+    requires { known.Finds spots.now }
     ensures { result ≡ parts.are_fields (words.fields spots.now.fields.now) (parts.keys_of_lefts (plain.keyed_lefts all.now)) }
 {
     for one in all {
@@ -179,8 +181,8 @@ fn are_fields(all: &[Keyed<Left>], spots: &Spots<'_>) -> bool
 
 /// The key stands for the first time, and is taken from here on.
 fn take(alloc: Global, taken: &mut Names<bool>, key: &Identifier) -> Result<(), CheckFault>
-    ensures outcome { (before : List (List ℕ)) → HasNames taken.old before → GivesOnly (λ _. tt) (only (not (has key.now.name before)) TwiceDeclared key.now.place) result }
-    ensures taken { (before : List (List ℕ)) → HasNames taken.old before → OnOk result (HasNames taken.new (key.now.name ∷ before)) }
+    ensures outcome { GivesOnly (λ _. tt) (only (not (is_some (means taken.old key.now.name))) TwiceDeclared key.now.place) result }
+    ensures taken { OnOk result (means taken.new ≡ with_name key.now.name true (means taken.old)) }
 {
     if taken.has(key.name.bytes()) {
         return Err(CheckFault::At(Cause::TwiceDeclared, key.place));
@@ -200,9 +202,10 @@ fn keyed_target<P: Phrases>(
     spots: &Spots<'_>,
     taken: &mut Names<bool>,
 ) -> Result<TypedTarget, CheckFault>
-    requires { P.ask checker.now.phrases }
-    ensures outcome { (before : List (List ℕ)) → HasNames taken.old before → Gives tree.target (rules.keyed_target (words.around around.now) start (words.fields spots.now.fields.now) before one.now.key (plain.left one.now.item) (words.state state.old)) result (words.state state.new) }
-    ensures taken { (before : List (List ℕ)) → HasNames taken.old before → OnOk result (HasNames taken.new (one.now.key.name ∷ before)) }
+    requires asked { P.ask checker.now.phrases }
+    requires finds { known.Finds spots.now }
+    ensures outcome { Gives tree.target (rules.keyed_target (words.around around.now) start (words.fields spots.now.fields.now) (means taken.old) one.now.key (plain.left one.now.item) (words.state state.old)) result (words.state state.new) }
+    ensures taken { OnOk result (means taken.new ≡ with_name one.now.key.name true (means taken.old)) }
 {
     take(checker.alloc, taken, &one.key)?;
     match spots.find(&one.key) {
@@ -220,7 +223,8 @@ fn by_key<P: Phrases>(
     start: Place,
     spots: &Spots<'_>,
 ) -> Result<Targets, CheckFault>
-    requires { P.ask checker.now.phrases }
+    requires asked { P.ask checker.now.phrases }
+    requires finds { known.Finds spots.now }
     ensures { Gives view.targets (spec.targets_by_key (words.around around.now) start (words.fields spots.now.fields.now) [] (plain.keyed_lefts all.now) (words.state state.old)) result (words.state state.new) }
 {
     let mut taken = Names::new(checker.alloc);
@@ -234,7 +238,7 @@ fn by_key<P: Phrases>(
 }
 
 /// The targets of an extractor, at its bracket and the start of its right side, which has these fields.
-#[tactic(auto, using(crate::proofs::Clauses::targets_none, crate::proofs::Clauses::targets_ordered, crate::proofs::Clauses::targets_keyed))]
+#[tactic(auto, using(crate::proofs::Clauses::targets_none, crate::proofs::Clauses::targets_ordered, crate::proofs::Clauses::targets_keyed, crate::proofs::TargetLaws::no_targets))]
 pub fn targets<P: Phrases>(
     checker: &Checker<P>,
     all: &Entries<Left>,

@@ -2,7 +2,7 @@ use Rattle.std.proofs.Common.{◌≡◌, drop}
 use Rattle.mesa_types.specs.PlainSyntax as plain
 use Rattle.checking_rules.specs.Parts.{are_fields, keys_of_lefts}
 use Rattle.check_words.specs.Views as words
-use Rattle.check_clauses.proofs.targets.are_fields.Given as goal
+use Rattle.check_clauses.proofs.storing.are_fields.Given as goal
 
 abbrev pub invariant-loop-one : goal.invariant-loop-one
 invariant-loop-one l =
