@@ -1,5 +1,5 @@
 -- What checking each statement that holds no statement is, as the code takes its steps.
-use Rattle.std.proofs.Common.{◌≡◌, ◌≢◌, ℕ, Bool, true, false, List, [], ◌∷◌, length, map, Ok, Err, refl, sym, arith}
+use Rattle.std.proofs.Common.{◌≡◌, ◌≢◌, Bool, true, false, List, [], ◌∷◌, length, map, Ok, Err, refl, sym, arith}
 use Rattle.std.specs.Prelude.{◌||◌, nat_eq}
 use Rattle.mesa_base.specs.declared.identifier.Identifier.{Identifier}
 use Rattle.mesa_base.specs.declared.place.Place.{Place}
@@ -14,7 +14,7 @@ use Rattle.checking_rules.specs.Phrases.{holds, in_items, in_left, in_raise, in_
 use Rattle.checking_rules.specs.PlainTypes as v
 use Rattle.checking_rules.specs.PlainTypes.{PlainField, plain_field}
 use Rattle.checking_rules.specs.Ranges.{Arguments, Into}
-use Rattle.checking_rules.specs.Reached.{Perform, Store, reached, performed, stored}
+use Rattle.checking_rules.specs.Reached.{Store, reached, stored}
 use Rattle.checking_rules.specs.Statements.{By, NotCounted, counter, given, returned_by, rounds}
 use Rattle.checking_rules.specs.Steps.{Check, Checked, State, ◌>>=◌, and_then, ensure, hide, lift, only, pure}
 use Rattle.checking_rules.specs.declared.fault.Cause.TheVariants.{WrongCount}

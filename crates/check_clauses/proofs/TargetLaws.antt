@@ -44,7 +44,7 @@ module _ (a : Around) (q : Place) where
   one_in_order done n offset f fs l ls σ =
       let spot : Found = record { number = n; offset = offset; kind = f.kind } in
       ap (onto done) (sym (in_turn (spec.target a l σ) (λ x. and_then (extracted q spot x.0) (λ put. Ok (put, x.1)))
-          (λ r. before_rest r.0 (in_order (n + 1) (offset + words_of f.kind) fs ls r.1))))
+      (λ r. before_rest r.0 (in_order (n + 1) (offset + words_of f.kind) fs ls r.1))))
       ∙ onto_one done (target_for a q spot l σ) (in_order (n + 1) (offset + words_of f.kind) fs ls)
       ∙ sym (in_turn (target_for a q spot l σ) (λ r. Ok ((r.0, offset + words_of f.kind), r.1)) (λ r. onto (done ++ r.0.0 ∷ []) (in_order (n + 1) r.0.1 fs ls r.1)))
 
@@ -52,7 +52,7 @@ module _ (a : Around) (q : Place) where
       → i < length all → x ≡ get_or all i x → i < length fields → f ≡ get_or fields i f
       → onto done (spec.targets_in_order a q i offset (map plain_field (drop i fields)) (plain.lefts (drop i all)) σ)
       ≡ and_then (next_target a q i offset (plain_field f) (plain.left x) σ)
-        (λ r. onto (done ++ r.0.0 ∷ []) (spec.targets_in_order a q (i + 1) r.0.1 (map plain_field (drop (i + 1) fields)) (plain.lefts (drop (i + 1) all)) r.1))
+      (λ r. onto (done ++ r.0.0 ∷ []) (spec.targets_in_order a q (i + 1) r.0.1 (map plain_field (drop (i + 1) fields)) (plain.lefts (drop (i + 1) all)) r.1))
   in_order_at done offset all fields i x f σ inside here among there =
       ap (λ xs. onto done (in_order i offset (map plain_field (drop i fields)) (plain.lefts xs) σ)) (at_drop all i x inside here)
       ∙ ap (λ fs. onto done (in_order i offset (map plain_field fs) (plain.lefts (x ∷ drop (i + 1) all)) σ)) (at_drop fields i f among there)
@@ -110,13 +110,13 @@ module _ (a : Around) (q : Place) where
       ∙ in_turn (new_key (has x.name taken) x σ) (λ u. and_then (spot_of fs x u.1) (λ f. target_for a q f.0 l f.1)) rest
       ∙ (λ i. and_then (new_key (has x.name taken) x σ) (λ u. in_turn (spot_of fs x u.1) (λ f. target_for a q f.0 l f.1) rest i))
       ∙ (λ i. and_then (new_key (has x.name taken) x σ) (λ u. and_then (spot_of fs x u.1) (λ f.
-          in_turn (spec.target a l f.1) (λ y. and_then (extracted q f.0 y.0) (λ put. Ok (put, y.1))) rest i))))
+      in_turn (spec.target a l f.1) (λ y. and_then (extracted q f.0 y.0) (λ put. Ok (put, y.1))) rest i))))
 
   pub by_key_at : (done : List (t.Targets → t.Targets)) (fs : List PlainField) (taken : List (List ℕ)) (index : Names Bool) (all : List (Keyed Left)) (i : ℕ) (x : Keyed Left) (σ : State)
       → HasNames index taken → i < length all → x ≡ get_or all i x
       → onto done (spec.targets_by_key a q fs taken (plain.keyed_lefts (drop i all)) σ)
       ≡ and_then (keyed_target a q fs (means index) x.key (plain.left x.item) σ)
-        (λ r. onto (done ++ r.0 ∷ []) (spec.targets_by_key a q fs (x.key.name ∷ taken) (plain.keyed_lefts (drop (i + 1) all)) r.1))
+      (λ r. onto (done ++ r.0 ∷ []) (spec.targets_by_key a q fs (x.key.name ∷ taken) (plain.keyed_lefts (drop (i + 1) all)) r.1))
   unfolding keyed_target
   by_key_at done fs taken index all i x σ knows inside here =
       ap (λ xs. onto done (by_key fs taken (plain.keyed_lefts xs) σ)) (at_drop all i x inside here)
@@ -188,11 +188,11 @@ by_other_count m n p e = rw (is_not m n e) refl
 
 pub counts_agree : (all : List Left) (fs : List FieldType) (p : Place) → length all ≡ length fs
     → only (nat_eq (count_lefts (plain.lefts all)) (length (map plain_field fs))) WrongCount p ≡ Ok tt
-counts_agree all fs p e = by_count _ _ p (lefts_counted all ∙ e ∙ sym (length-map plain_field fs))
+counts_agree all fs p e = by_count _ _ p (lefts_counted all ∙ e ∙ sym (length-map fs plain_field))
 
 pub counts_differ : (all : List Left) (fs : List FieldType) (p : Place) → length all ≢ length fs
     → only (nat_eq (count_lefts (plain.lefts all)) (length (map plain_field fs))) WrongCount p ≡ refuse WrongCount p
-counts_differ all fs p e = by_other_count _ _ p (λ h. e (sym (lefts_counted all) ∙ h ∙ length-map plain_field fs))
+counts_differ all fs p e = by_other_count _ _ p (λ h. e (sym (lefts_counted all) ∙ h ∙ length-map fs plain_field))
 
 pub no_targets : view.targets [] ≡ t.NoTargets
 unfolding view.targets

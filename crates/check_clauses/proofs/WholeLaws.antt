@@ -1,12 +1,12 @@
 -- A statement whose operands are counted, from its start to its end.
 use Rattle.std.proofs.Common.{◌≡◌, ℕ, ◌+◌, Bool, true, false, Ok, Err, refl, ◌∙◌}
-use Rattle.std.specs.Prelude.{nat_le, if◌then◌else◌}
+use Rattle.std.specs.Prelude.{nat_le}
 use Rattle.mesa_base.specs.declared.limits.TheConstants.{OPERAND_WORDS}
 use Rattle.mesa_base.specs.declared.place.Place.{Place}
 use Rattle.checking_rules.specs.Typed as t
 use Rattle.checking_rules.specs.Around.{Around, in_statement}
 use Rattle.checking_rules.specs.Statements.{numbered, whole}
-use Rattle.checking_rules.specs.Steps.{Check, Checked, State, and_then, ◌>>=◌, pure, ensure, measured, only, within_operands}
+use Rattle.checking_rules.specs.Steps.{Check, Checked, State, and_then, ◌>>=◌, pure, ensure, only, within_operands}
 use Rattle.checking_rules.specs.declared.fault.Cause.TheVariants.{FrameTooLarge}
 use Rattle.check_clauses.specs.Whole.{counted, counting, from_start}
 

@@ -176,12 +176,14 @@ fn count_of<P: Phrases>(
             let (rounds, _) = both(rounds, state.hide(3))?;
             Ok(Counted::By(Given::NoVariable, false, rounds))
         }
-        Some(Count::For {
-            place: _,
-            variable,
-            is_decreasing,
-            interval,
-        }) => counted_for(checker, variable, around, state, *is_decreasing, interval),
+        Some(
+            Count::For {
+                place: _,
+                variable,
+                is_decreasing,
+                interval,
+            },
+        ) => counted_for(checker, variable, around, state, *is_decreasing, interval),
     }
 }
 

@@ -33,7 +33,14 @@ fn one_test<P: Phrases>(
     match one {
         Test::Value(e) => {
             let found = checker.check(e, around, state, Aim::Free)?;
-            tested(false, Relation::Equal, first(e), checker.alloc, selector, found)
+            tested(
+                false,
+                Relation::Equal,
+                first(e),
+                checker.alloc,
+                selector,
+                found,
+            )
         }
         Test::Compared {
             is_negated,
@@ -42,7 +49,14 @@ fn one_test<P: Phrases>(
             right,
         } => {
             let found = checker.check(right, around, state, Aim::Free)?;
-            tested(*is_negated, *relation, *place, checker.alloc, selector, found)
+            tested(
+                *is_negated,
+                *relation,
+                *place,
+                checker.alloc,
+                selector,
+                found,
+            )
         }
         Test::Inside {
             is_negated,

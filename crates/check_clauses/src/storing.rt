@@ -148,7 +148,15 @@ fn in_order<P: Phrases>(
     let mut done = List::new(checker.alloc);
     let mut offset = 0u32;
     for i in 0..all.len().min(fields.len()) {
-        let made = next_target(checker, &all[i], around, state, start, (i, offset), &fields[i]);
+        let made = next_target(
+            checker,
+            &all[i],
+            around,
+            state,
+            start,
+            (i, offset),
+            &fields[i],
+        );
         let (held, (made, past)) = both(done, made)?;
         done = pushed(held, made)?;
         offset = past;

@@ -12,7 +12,7 @@ abbrev pub invariant-loop-one : goal.invariant-loop-one
 invariant-loop-one g l = record {
   taken : HasNames l.taken (taken_at l.all l.one-index);
   so_far :
-    spec.targets_by_key (words.around l.around) l.start (words.fields l.spots.fields.now) [] (plain.keyed_lefts l.all) (words.state l.fn.state)
-    ≡ onto (map target l.done)
-      (spec.targets_by_key (words.around l.around) l.start (words.fields l.spots.fields.now) (taken_at l.all l.one-index) (plain.keyed_lefts (drop l.one-index l.all)) (words.state l.state))
+      spec.targets_by_key (words.around l.around) l.start (words.fields l.spots.fields.now) [] (plain.keyed_lefts l.all) (words.state l.fn.state)
+      ≡ onto (map target l.done)
+      (spec.targets_by_key (words.around l.around) l.start (words.fields l.spots.fields.now) (taken_at l.all l.one-index) (plain.keyed_lefts (drop l.one-index l.all)) (words.state l.state));
 }

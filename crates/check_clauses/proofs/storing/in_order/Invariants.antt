@@ -11,4 +11,4 @@ abbrev pub invariant-loop-i : goal.invariant-loop-i
 invariant-loop-i g l =
     spec.targets_in_order (words.around l.around) l.start 0 0 (map plain_field l.fields) (plain.lefts l.all) (words.state l.fn.state)
     ≡ onto (map target l.done)
-      (spec.targets_in_order (words.around l.around) l.start l.i l.offset (map plain_field (drop l.i l.fields)) (plain.lefts (drop l.i l.all)) (words.state l.state))
+    (spec.targets_in_order (words.around l.around) l.start l.i l.offset (map plain_field (drop l.i l.fields)) (plain.lefts (drop l.i l.all)) (words.state l.state))
