@@ -1,0 +1,4 @@
+pub mod Asks
+pub mod Rules
+pub mod Turns
+pub mod Views

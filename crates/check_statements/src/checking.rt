@@ -1,0 +1,134 @@
+//! The cycle that ties the levels of nesting, and the calls from outside.
+ghost use Rattle.mesa_types.specs.Plain as tree;
+ghost use Rattle.mesa_types.specs.PlainSyntax as plain;
+ghost use Rattle.checking_rules.specs.Checking as spec;
+ghost use Rattle.std.specs.Prelude.{[]};
+ghost use Rattle.check_words.specs.Gives.{Gives};
+ghost use Rattle.check_words.specs.Views as view;
+ghost use Rattle.check_statements.specs.Views as views;
+
+use crate::checker::over;
+use crate::nesting::StatementFunction;
+use check_words::{Around, State};
+use checking_rules::CheckFault;
+use mesa_base::limits::NESTING;
+use mesa_types::syntax::{self, Block, Statement};
+use mesa_types::{Exits, Phrase, Stmts, TypedStmt};
+use std::alloc::Global;
+
+/// A statement in which so many may stand inside one another. The grammar lets no text have more of them than `NESTING`.
+#[cycle(nest)]
+fn at(
+    one: &Statement,
+    alloc: Global,
+    depth: usize,
+    around: &Around<'_>,
+    state: &mut State,
+) -> Result<TypedStmt, CheckFault>
+    ensures { Gives tree.stmt (spec.statement (view.around around.now) (plain.statement one.now) (view.state state.old)) result (view.state state.new) }
+{
+    if depth == 0 {
+        return Err(CheckFault::Memory);
+    }
+    let nested = StatementFunction {
+        alloc,
+        depth: depth - 1,
+        check: at,
+    };
+    let checker = over(alloc, nested);
+    let made = checker.statement(one, around, state);
+    checker.end();
+    made
+}
+
+/// A statement as it is typed, or the first fault in it.
+pub fn statement(
+    one: &Statement,
+    alloc: Global,
+    around: &Around<'_>,
+    state: &mut State,
+) -> Result<TypedStmt, CheckFault>
+    ensures { Gives tree.stmt (spec.statement (view.around around.now) (plain.statement one.now) (view.state state.old)) result (view.state state.new) }
+{
+    at(one, alloc, NESTING, around, state)
+}
+
+/// Statements, one after the other.
+pub fn statements(
+    all: &[Statement],
+    alloc: Global,
+    around: &Around<'_>,
+    state: &mut State,
+) -> Result<Stmts, CheckFault>
+    ensures { Gives views.stmts (spec.statements (view.around around.now) (plain.statements all.now) (view.state state.old)) result (view.state state.new) }
+{
+    let nested = StatementFunction {
+        alloc,
+        depth: NESTING,
+        check: at,
+    };
+    let checker = over(alloc, nested);
+    let made = checker.statements(all, around, state);
+    checker.end();
+    made
+}
+
+/// A block with its declarations, statements and EXITS.
+pub fn block(
+    one: &Block,
+    alloc: Global,
+    around: &Around<'_>,
+    state: &mut State,
+) -> Result<TypedStmt, CheckFault>
+    ensures { Gives tree.stmt (spec.block (view.around around.now) (plain.block one.now) (view.state state.old)) result (view.state state.new) }
+{
+    let nested = StatementFunction {
+        alloc,
+        depth: NESTING,
+        check: at,
+    };
+    let checker = over(alloc, nested);
+    let made = checker.block(one, around, state);
+    checker.end();
+    made
+}
+
+/// A catch phrase, if there is one.
+pub fn phrase(
+    catch: &Option<syntax::Phrase>,
+    alloc: Global,
+    around: &Around<'_>,
+    state: &mut State,
+) -> Result<Phrase, CheckFault>
+    ensures { Gives tree.phrase (spec.phrase (view.around around.now) (plain.phrase catch.now) (view.state state.old)) result (view.state state.new) }
+{
+    let nested = StatementFunction {
+        alloc,
+        depth: NESTING,
+        check: at,
+    };
+    let checker = over(alloc, nested);
+    let made = checker.phrase(catch, around, state);
+    checker.end();
+    made
+}
+
+/// The statements of an EXITS, whose labels stand behind those around it.
+pub fn exits(
+    all: &[syntax::Exit],
+    alloc: Global,
+    around: &Around<'_>,
+    state: &mut State,
+) -> Result<Exits, CheckFault>
+    ensures { Gives views.exits (spec.exits (view.around around.now) (view.around around.now).labelled [] (plain.exits all.now) (view.state state.old)) result (view.state state.new) }
+{
+    let nested = StatementFunction {
+        alloc,
+        depth: NESTING,
+        check: at,
+    };
+    let checker = over(alloc, nested);
+    let made = checker.exits(all, around, state);
+    checker.end();
+    made
+}
