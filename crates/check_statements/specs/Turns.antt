@@ -5,20 +5,17 @@ use Rattle.mesa_types.specs.PlainSyntax as plain
 use Rattle.mesa_types.specs.declared.syntax.Arm.{Arm, out-Arm}
 use Rattle.mesa_types.specs.declared.syntax.Case.{Case, out-Case}
 use Rattle.mesa_types.specs.declared.syntax.Labeled.{Labeled}
+use Rattle.mesa_types.specs.declared.syntax.PlainItem.{PlainItem}
 use Rattle.mesa_types.specs.declared.syntax.RepeatLabels.{RepeatLabels}
 use Rattle.mesa_types.specs.declared.syntax.Statement.{Statement}
 use Rattle.checking_rules.specs.Typed as t
 use Rattle.checking_rules.specs.Around.{Around, in_arm, label_of}
 use Rattle.checking_rules.specs.Checking as spec
 use Rattle.checking_rules.specs.Names.{arm_labels}
-use Rattle.checking_rules.specs.Parts.{distinct}
+use Rattle.checking_rules.specs.Parts.{distinct, join_stmts}
 use Rattle.checking_rules.specs.Ranges.{Typed}
-use Rattle.checking_rules.specs.Statements.{Left, also_left, enter_arm, new_labels, numbers_from}
+use Rattle.checking_rules.specs.Statements.{Headed, Left, also_left, enter_arm, new_labels, numbers_from}
 use Rattle.checking_rules.specs.Steps.{Check, ◌>>=◌, pure, lift, in_scope}
-
--- a statement of the code
-unfoldable pub one_statement : Around → Statement → Check t.Stmt
-one_statement a x = spec.statement a (plain.statement x)
 
 unfoldable pub one_arm : Around → Arm → Check (t.Arms → t.Arms)
 one_arm a x = do
@@ -46,3 +43,7 @@ one_repeat a n taken finished x = do
   _ ← lift (new_labels taken finished x.labels)
   b ← spec.statement a (plain.statement x.item)
   pure (also_left x.labels n b)
+
+-- what a declaration of a block does when it is reached, behind these statements
+unfoldable pub initial_behind : Around → t.Stmts → Labeled (List Identifier) PlainItem → Headed → Check (t.Stmts → t.Stmts)
+initial_behind a before x h = spec.initial a x.labels (plain.plain_item x.item) h >>= (λ put. pure (λ rest. join_stmts before (put rest)))

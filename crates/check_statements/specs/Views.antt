@@ -8,7 +8,9 @@ use Rattle.mesa_types.specs.declared.typed_tree.Case.{Case}
 use Rattle.mesa_types.specs.declared.typed_tree.Exit.{Exit}
 use Rattle.checking_rules.specs.Statements as rule
 use Rattle.check_statements.specs.declared.exits.Left.{Left}
+use Rattle.check_locals.specs.Views.{headed}
 use Rattle.check_statements.specs.declared.blocks.Held.{Held}
+use Rattle.check_statements.specs.declared.locals.Heads.{Heads}
 
 unfoldable pub stmts : List TypedStmt → t.Stmts
 stmts ss = tree.stmts (map tree.stmt ss)
@@ -35,6 +37,9 @@ no_more = record { exits = t.NoExits; finished = t.NoFinish }
 
 abbrev pub left : Left → rule.Left
 left done = onto done no_more
+
+unfoldable pub heads : Heads → List rule.Headed
+heads hs = map headed hs.items.items
 
 abbrev pub held : Held → rule.Held
 held x = record { phrase = tree.phrase x.phrase; statements = stmts x.statements }

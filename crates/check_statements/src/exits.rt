@@ -1,5 +1,5 @@
 //! The statements of an EXITS or a REPEAT, with the numbers of their labels.
-ghost use Rattle.std.specs.Prelude.{◌≡◌, ◌+◌, ◌++◌, [], ℕ, List, false, length, is_some, IfOk, OnOk};
+ghost use Rattle.std.specs.Prelude.{◌≡◌, ◌+◌, ◌++◌, ◌||◌, [], ℕ, List, false, length, is_some, IfOk, OnOk};
 ghost use Rattle.mesa_types.specs.Plain as tree;
 ghost use Rattle.mesa_types.specs.PlainSyntax as plain;
 ghost use Rattle.checking_rules.specs.Checking as spec;
@@ -68,7 +68,8 @@ fn also_left(
     first: u32,
     body: TypedStmt,
 ) -> Result<Left, OutOfMemory>
-    ensures { IfOk result (λ more. views.onto more ≡ (λ later. views.onto done (rule.also_left labels.now first (tree.stmt body) later))) }
+    ensures left { IfOk result (λ more. views.onto more ≡ (λ later. views.onto done (rule.also_left labels.now first (tree.stmt body) later))) }
+    ensures finished { IfOk result (λ more. is_some more.finished ≡ (is_some done.finished || rule.is_finished labels.now)) }
 {
     let Left { exits, finished } = done;
     match labels {
@@ -178,6 +179,7 @@ impl<N: Nested> StatementChecker<N> {
                 >>= (λ put. pure (λ later. views.onto done (put later)))) (view.state state.old)) result (view.state state.new) }
         ensures names { OnOk result ((before : List (List ℕ)) → HasNames taken.old.names before → HasNames taken.new.names (before ++ names_of (rule.labels_of one.now.labels))) }
         ensures next { OnOk result (taken.new.next ≡ taken.old.next + length (rule.labels_of one.now.labels)) }
+        ensures finished { IfOk result (λ more. is_some more.finished ≡ (is_some done.finished || rule.is_finished one.now.labels)) }
     {
         let is_finished = done.finished.is_some();
         let (done, _) = both(

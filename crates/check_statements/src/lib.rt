@@ -6,6 +6,7 @@ mod checker;
 mod checking;
 mod exits;
 mod lists;
+mod locals;
 mod loops;
 mod nesting;
 mod numbered;

@@ -1,0 +1,14 @@
+//! Statements that hold no statement, and the parts of other statements that hold none: tests of a SELECT, controls of loops.
+#![tactic(auto)]
+
+mod controls;
+mod selecting;
+mod statements;
+mod targets;
+mod whole;
+
+pub use controls::{Controlled, Counted, control, looped, truth_of};
+pub use selecting::tests;
+pub use statements::{assign, call, extract, raise_statement, resume_statement, return_statement};
+pub use targets::{target, targets};
+pub use whole::{Whole, count_ended};

@@ -1,0 +1,5 @@
+pub mod CaseTests
+pub mod Chaining
+pub mod Clauses
+pub mod ListLaws
+pub mod Numbered

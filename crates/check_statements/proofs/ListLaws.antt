@@ -1,0 +1,198 @@
+-- The rules of lists, as one part after the other.
+use Rattle.std.proofs.Common.{◌≡◌, ◌<◌, ◌≤◌, ◌+◌, ℕ, Bool, ◌||◌, List, [], ◌∷◌, ◌++◌, map, drop, length, get_or, Ok, Err, refl, sym, ap, ◌∙◌}
+use Rattle.std.proofs.lemmas.List.{map-append}
+use Rattle.mesa_base.specs.declared.identifier.Identifier.{Identifier}
+use Rattle.mesa_types.specs.Plain as tree
+use Rattle.mesa_types.specs.PlainSyntax as plain
+use Rattle.mesa_types.specs.Syntax as s
+use Rattle.mesa_types.specs.declared.syntax.Arm.{Arm, out-Arm}
+use Rattle.mesa_types.specs.declared.syntax.Case.{Case, out-Case}
+use Rattle.mesa_types.specs.declared.syntax.Labeled.{Labeled}
+use Rattle.mesa_types.specs.declared.syntax.PlainItem.{PlainItem}
+use Rattle.mesa_types.specs.declared.syntax.RepeatLabels.{RepeatLabels}
+use Rattle.mesa_types.specs.declared.syntax.Statement.{Statement}
+use Rattle.mesa_types.specs.declared.typed_tree.TypedStmt.{TypedStmt}
+use Rattle.mesa_types.proofs.PlainForms.{parts_of_arm, parts_of_case}
+use Rattle.checking_rules.specs.Typed as t
+use Rattle.checking_rules.specs.Around.{ArmLabel, Around, in_arm, label_of}
+use Rattle.checking_rules.specs.Checking as spec
+use Rattle.checking_rules.specs.Names.{arm_labels}
+use Rattle.checking_rules.specs.Parts.{distinct, join_stmts, names_of}
+use Rattle.checking_rules.specs.Ranges.{Typed}
+use Rattle.checking_rules.specs.Statements.{ArmPlace, Headed, Left, also_left, enter_arm, is_finished, labels_of, new_labels, numbers_from}
+use Rattle.checking_rules.specs.Steps.{Check, Checked, State, and_then, ◌>>=◌, pure, lift, in_scope}
+use Rattle.check_locals.specs.Views.{headed}
+use Rattle.check_locals.specs.declared.heads.Headed.{Headed as HeadedHere}
+use Rattle.check_statements.specs.Turns.{one_arm, one_case, one_exit, one_repeat}
+use Rattle.check_statements.specs.Views as views
+use Rattle.check_statements.specs.declared.locals.Heads.{Heads}
+use Rattle.check_statements.proofs.Chaining.{before_rest, chained, then_two, then_three, then_four}
+
+-- where nothing is handed from part to part
+abbrev pub always : {A X : Type 0} → (A → Check (X → X)) → Unit {0} → A → Check (X → X)
+always one u = one
+
+abbrev pub stays : {A : Type 0} → Unit {0} → A → Unit {0}
+stays u x = u
+
+-- ---- statements
+
+unfoldable pub one_statement : Around → Statement → Check (t.Stmts → t.Stmts)
+one_statement a x = spec.statement a (plain.statement x) >>= (λ b. pure (t.AndStmt b))
+
+pub statements_are : (a : Around) (xs : List Statement) (σ : State)
+    → spec.statements a (plain.statements xs) σ ≡ chained (always (one_statement a)) stays t.NoStmts tt xs σ
+unfolding spec.check chained one_statement
+statements_are a [] σ = refl
+statements_are a (x ∷ xs) σ =
+    then_two (spec.statement a (plain.statement x) σ) (λ b. Ok (t.AndStmt b.0, b.1)) (before_rest (spec.statements a (plain.statements xs)))
+    ∙ ap (λ rest. and_then (one_statement a x σ) (before_rest rest)) (λ i τ. statements_are a xs τ i)
+
+-- ---- arms
+
+pub arms_are : (a : Around) (xs : List Arm) (σ : State) → spec.arms a (plain.arms xs) σ ≡ chained (always (one_arm a)) stays t.NoArms tt xs σ
+unfolding spec.check chained one_arm
+arms_are a [] σ = refl
+arms_are a (x ∷ xs) σ =
+    ap (λ f. spec.arms a (f (plain.arms xs)) σ) (parts_of_arm x)
+    ∙ then_four (arm_labels a (out-Arm x).labels σ) (λ ls. enter_arm a ls.0 ls.1)
+      (λ ls p. in_scope p.0.scope (spec.statement (in_arm ls.0 a) (plain.statement (out-Arm x).body)) p.1)
+      (λ ls p b. Ok (t.AndArm (map label_of ls.0) p.0.first p.0.count b.0, b.1))
+      (before_rest (spec.arms a (plain.arms xs)))
+    ∙ ap (λ rest. and_then (one_arm a x σ) (before_rest rest)) (λ i τ. arms_are a xs τ i)
+
+-- ---- arms of a SELECT
+
+-- an arm before those that come, before the ELSE
+abbrev pub case_put : (t.Cases → t.Cases) → (t.Cases → t.Cases) → t.Cases → t.Cases
+case_put put more cs = put (more cs)
+
+unfoldable pub case_before : Around → Typed → Unit {0} → Case → Check ((t.Cases → t.Cases) → t.Cases → t.Cases)
+case_before a sel u x = one_case a sel x >>= (λ put. pure (case_put put))
+
+pub cases_are : (a : Around) (sel : Typed) (xs : List Case) (σ : State)
+    → spec.cases a sel (plain.cases xs) σ ≡ chained (case_before a sel) stays (λ cs. cs) tt xs σ
+unfolding spec.check chained one_case case_before
+cases_are a sel [] σ = refl
+cases_are a sel (x ∷ xs) σ =
+    ap (λ f. spec.cases a sel (f (plain.cases xs)) σ) (parts_of_case x)
+    ∙ then_three (spec.tests a sel (plain.tests (out-Case x).tests) σ) (λ ts. spec.statement a (plain.statement (out-Case x).body) ts.1)
+      (λ ts b. Ok (t.AndCase ts.0 b.0, b.1))
+      (λ put. and_then (spec.cases a sel (plain.cases xs) put.1) (λ more. Ok (case_put put.0 more.0, more.1)))
+    ∙ then_two (one_case a sel x σ) (λ put. Ok (case_put put.0, put.1)) (before_rest (spec.cases a sel (plain.cases xs)))
+    ∙ ap (λ rest. and_then (case_before a sel tt x σ) (before_rest rest)) (λ i τ. cases_are a sel xs τ i)
+
+-- ---- EXITS: the number of the next label, and the names of those before
+
+abbrev pub Taken : Type 0
+Taken = ℕ × List (List ℕ)
+
+abbrev pub exit_at : Around → Taken → Labeled (List Identifier) Statement → Check (t.Exits → t.Exits)
+exit_at a taken x = one_exit a taken.0 taken.1 x
+
+abbrev pub behind_exit : Taken → Labeled (List Identifier) Statement → Taken
+behind_exit taken x = (taken.0 + length x.labels, taken.1 ++ names_of x.labels)
+
+pub exits_are : (a : Around) (taken : Taken) (xs : List (Labeled (List Identifier) Statement)) (σ : State)
+    → spec.exits a taken.0 taken.1 (plain.exits xs) σ ≡ chained (exit_at a) behind_exit t.NoExits taken xs σ
+unfolding spec.check chained one_exit
+exits_are a taken [] σ = refl
+exits_are a taken (x ∷ xs) σ =
+    then_three (lift (distinct taken.1 x.labels) σ) (λ u. spec.statement a (plain.statement x.item) u.1)
+    (λ u b. Ok (t.AndExit (numbers_from taken.0 x.labels) b.0, b.1))
+    (before_rest (spec.exits a (taken.0 + length x.labels) (taken.1 ++ names_of x.labels) (plain.exits xs)))
+    ∙ ap (λ rest. and_then (one_exit a taken.0 taken.1 x σ) (before_rest rest)) (λ i τ. exits_are a (behind_exit taken x) xs τ i)
+
+-- ---- REPEAT: also whether FINISHED stands before
+
+pub record Before : Type 0 where
+  pub number : ℕ
+  pub names : List (List ℕ)
+  pub finished : Bool
+
+abbrev pub before : ℕ → List (List ℕ) → Bool → Before
+before number names finished = record { number = number; names = names; finished = finished }
+
+abbrev pub repeat_at : Around → Before → Labeled RepeatLabels Statement → Check (Left → Left)
+repeat_at a now x = one_repeat a now.number now.names now.finished x
+
+abbrev pub behind_repeat : Before → Labeled RepeatLabels Statement → Before
+behind_repeat now x = record {
+  number = now.number + length (labels_of x.labels);
+  names = now.names ++ names_of (labels_of x.labels);
+  finished = now.finished || is_finished x.labels;
+}
+
+pub repeats_are : (a : Around) (now : Before) (xs : List (Labeled RepeatLabels Statement)) (σ : State)
+    → spec.repeats a now.number now.names now.finished (plain.repeats xs) σ ≡ chained (repeat_at a) behind_repeat views.no_more now xs σ
+unfolding spec.check chained one_repeat
+repeats_are a now [] σ = refl
+repeats_are a now (x ∷ xs) σ =
+    then_three (lift (new_labels now.names now.finished x.labels) σ) (λ u. spec.statement a (plain.statement x.item) u.1)
+    (λ u b. Ok (also_left x.labels now.number b.0, b.1))
+    (before_rest (spec.repeats a (behind_repeat now x).number (behind_repeat now x).names (behind_repeat now x).finished (plain.repeats xs)))
+    ∙ ap (λ rest. and_then (one_repeat a now.number now.names now.finished x σ) (before_rest rest)) (λ i τ. repeats_are a (behind_repeat now x) xs τ i)
+
+-- ---- heads of declarations
+
+unfoldable pub one_head : Around → Labeled (List Identifier) PlainItem → Check (List Headed → List Headed)
+one_head a x = spec.head a x.labels (plain.plain_item x.item) >>= (λ h. pure (λ hs. h ∷ hs))
+
+pub heads_are : (a : Around) (xs : List (Labeled (List Identifier) PlainItem)) (σ : State)
+    → spec.heads a (plain.locals xs) σ ≡ chained (always (one_head a)) stays [] tt xs σ
+unfolding spec.check chained one_head
+heads_are a [] σ = refl
+heads_are a (x ∷ xs) σ =
+    then_two (spec.head a x.labels (plain.plain_item x.item) σ) (λ h. Ok ((λ hs. h.0 ∷ hs), h.1)) (before_rest (spec.heads a (plain.locals xs)))
+    ∙ ap (λ rest. and_then (one_head a x σ) (before_rest rest)) (λ i τ. heads_are a xs τ i)
+
+pub heads_more : (done more : Heads) (h : HeadedHere) → more.items.items ≡ done.items.items ++ h ∷ [] → views.heads more ≡ views.heads done ++ headed h ∷ []
+unfolding views.heads
+heads_more done more h is = ap (map headed) is ∙ map-append headed done.items.items (h ∷ [])
+
+-- ---- what declarations do when they are reached, by their heads
+
+unfoldable pub one_initial : Around → List Headed → Labeled (List Identifier) PlainItem → Check (t.Stmts → t.Stmts)
+one_initial a [] x = pure (λ ss. t.NoStmts)
+one_initial a (h ∷ hs) x = spec.initial a x.labels (plain.plain_item x.item) h
+
+abbrev pub other_heads : List Headed → Labeled (List Identifier) PlainItem → List Headed
+other_heads [] x = []
+other_heads (h ∷ hs) x = hs
+
+pub no_initials : (a : Around) (xs : List (Labeled (List Identifier) PlainItem)) (σ : State) → chained (one_initial a) other_heads t.NoStmts [] xs σ ≡ Ok (t.NoStmts, σ)
+unfolding chained one_initial
+no_initials a [] σ = refl
+no_initials a (x ∷ xs) σ = ap (λ m. and_then m (λ q. Ok (t.NoStmts, q.1))) (no_initials a xs σ)
+
+pub initials_are : (a : Around) (xs : List (Labeled (List Identifier) PlainItem)) (hs : List Headed) (σ : State)
+    → spec.initials a (plain.locals xs) hs σ ≡ chained (one_initial a) other_heads t.NoStmts hs xs σ
+unfolding spec.check chained one_initial
+initials_are a [] [] σ = refl
+initials_are a [] (h ∷ hs) σ = refl
+initials_are a (x ∷ xs) [] σ = sym (no_initials a (x ∷ xs) σ)
+initials_are a (x ∷ xs) (h ∷ hs) σ =
+    ap (λ rest. and_then (spec.initial a x.labels (plain.plain_item x.item) h σ) (before_rest rest)) (λ i τ. initials_are a xs hs τ i)
+
+-- ---- what is made, with one more at its end
+
+pub stmts_onto : (done more : List TypedStmt) (x : TypedStmt) → more ≡ done ++ x ∷ [] → join_stmts (views.stmts more) ≡ (λ rest. join_stmts (views.stmts done) (t.AndStmt (tree.stmt x) rest))
+unfolding views.stmts join_stmts
+stmts_onto done more x is = ap (λ ss. join_stmts (tree.stmts (map tree.stmt ss))) is ∙ (λ i rest. go done rest i)
+  where
+    go : (done : List TypedStmt) (rest : t.Stmts) → join_stmts (tree.stmts (map tree.stmt (done ++ x ∷ []))) rest ≡ join_stmts (tree.stmts (map tree.stmt done)) (t.AndStmt (tree.stmt x) rest)
+    go [] rest = refl
+    go (y ∷ ys) rest = ap (t.AndStmt (tree.stmt y)) (go ys rest)
+
+pub join_none : (ss : t.Stmts) → join_stmts ss t.NoStmts ≡ ss
+unfolding join_stmts
+join_none t.NoStmts = refl
+join_none (t.AndStmt x ss) = ap (t.AndStmt x) (join_none ss)
+
+-- of lists whose parts put themselves before the rest
+pub chain_onto : {B X : Type 0} (view : B → X → X) (done more : List B) (x : B) → more ≡ done ++ x ∷ [] → tree.chain (map view more) ≡ (λ rest. tree.chain (map view done) (view x rest))
+chain_onto view done more x is = ap (λ bs. tree.chain (map view bs)) is ∙ (λ i rest. go done rest i)
+  where
+    go : (done : List _) (rest : _) → tree.chain (map view (done ++ x ∷ [])) rest ≡ tree.chain (map view done) (view x rest)
+    go [] rest = refl
+    go (y ∷ ys) rest = ap (view y) (go ys rest)
