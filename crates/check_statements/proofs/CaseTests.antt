@@ -1,5 +1,5 @@
 -- Whether a phrase stands in one of some tests, one after the other.
-use Rattle.std.proofs.Common.{◌≡◌, ◌<◌, ◌≤◌, ◌+◌, ℕ, Bool, false, List, drop, length, get_or, refl, sym, ap, ◌∙◌}
+use Rattle.std.proofs.Common.{◌≡◌, ◌<◌, ◌≤◌, ◌+◌, ℕ, Bool, true, false, List, drop, length, get_or, refl, sym, ap, ◌∙◌}
 use Rattle.std.specs.Prelude.{◌||◌}
 use Rattle.std.proofs.lemmas.List.{drop_all}
 use Rattle.mesa_types.specs.PlainSyntax as plain
@@ -31,7 +31,8 @@ abbrev Layer : Type 0
 Layer = Test-F Condition Count Expr FieldList PlainItem Raise Statement Suffix Test TypeExp Arm Block Brackets Case Control Interval Left Operation
 
 or_none : (a b : Bool) → (a || b) ≡ ((a || false) || b)
-or_none a b = grind
+or_none true b = refl
+or_none false b = refl
 
 by_form : (y : Layer) (x : Test) → roll-Test y ≡ x → (rest : s.Tests) → in_tests (plain.test x rest) ≡ (in_tests (plain.test x s.NoTests) || in_tests rest)
 unfolding in_tests

@@ -73,6 +73,30 @@ module _ {S A X : Type 0} (one : S → A → Check (X → X)) (next : S → A �
       chained_at s before all i x σ inside here
       ∙ ap (λ m. and_then m (λ r. behind (λ y. before (r.0 y)) (chained one next end (next s x) (drop (i + 1) all) r.1))) given
 
+  -- the same of what a part makes of what is there
+  abbrev pub made_of : (X → X) → Checked ((X → X) × State) → Checked ((X → X) × State)
+  made_of before m = and_then m (λ r. Ok ((λ y. before (r.0 y)), r.1))
+
+  made_at : (s : S) (before : X → X) (all : List A) (i : ℕ) (x : A) (σ : State) → i < length all → x ≡ get_or all i x
+      → behind before (chained one next end s (drop i all) σ) ≡ and_then (made_of before (one s x σ)) (λ r. behind r.0 (chained one next end (next s x) (drop (i + 1) all) r.1))
+  made_at s before all i x σ inside here =
+      chained_at s before all i x σ inside here
+      ∙ then_two (one s x σ) (λ r. Ok ((λ y. before (r.0 y)), r.1)) (λ r. behind r.0 (chained one next end (next s x) (drop (i + 1) all) r.1))
+
+  pub made_turn : (s t : S) (before more : X → X) (all : List A) (i : ℕ) (x : A) (σ τ : State) → i < length all → x ≡ get_or all i x
+      → made_of before (one s x σ) ≡ Ok (more, τ) → t ≡ next s x
+      → behind before (chained one next end s (drop i all) σ) ≡ behind more (chained one next end t (drop (i + 1) all) τ)
+  made_turn s t before more all i x σ τ inside here given on =
+      made_at s before all i x σ inside here
+      ∙ ap (λ m. and_then m (λ r. behind r.0 (chained one next end (next s x) (drop (i + 1) all) r.1))) given
+      ∙ ap (λ u. behind more (chained one next end u (drop (i + 1) all) τ)) (sym on)
+
+  pub made_stop : (s : S) (before : X → X) (all : List A) (i : ℕ) (x : A) (σ : State) (e : Fault) → i < length all → x ≡ get_or all i x
+      → made_of before (one s x σ) ≡ Err e → behind before (chained one next end s (drop i all) σ) ≡ Err e
+  made_stop s before all i x σ e inside here given =
+      made_at s before all i x σ inside here
+      ∙ ap (λ m. and_then m (λ r. behind r.0 (chained one next end (next s x) (drop (i + 1) all) r.1))) given
+
   pub chained_end : (s : S) (before : X → X) (all : List A) (i : ℕ) (σ : State) → length all ≤ i
       → behind before (chained one next end s (drop i all) σ) ≡ Ok (before end, σ)
   unfolding chained

@@ -1,5 +1,5 @@
 -- What checking each form of a statement is, clause by clause.
-use Rattle.std.proofs.Common.{◌≡◌, Bool, true, List, [], Ok, refl, sym, ap, ◌∙◌}
+use Rattle.std.proofs.Common.{◌≡◌, Bool, true, false, List, [], Ok, refl, sym, ap, ◌∙◌}
 use Rattle.std.specs.Prelude.{◌||◌}
 use Rattle.mesa_base.specs.declared.place.Place.{Place}
 use Rattle.mesa_types.specs.Syntax as s
@@ -29,7 +29,7 @@ if_parts : (a : Around) (e : s.Expr) (body : s.Statement) (other : s.MaybeStatem
   o ← spec.otherwise a other
   pure (t.If x.value b o)) ≡ if_inside a e body other
 unfolding if_inside
-if_parts a e body other = λ i σ. then_two (spec.check a (Into v.Boolean (first e)) e σ) (λ x. Ok (x.0.value, x.1))
+if_parts a e body other = λ i σ. then_two {B = t.Expr × State} (spec.check a (Into v.Boolean (first e)) e σ) (λ x. Ok (x.0.value, x.1))
     (λ x. and_then (spec.statement a body x.1) (λ b. and_then (spec.otherwise a other b.1) (λ o. Ok (t.If x.0 b.0 o.0, o.1)))) i
 
 pub if_is : (a : Around) (p : Place) (e : s.Expr) (body : s.Statement) (other : s.MaybeStatement)
@@ -50,7 +50,7 @@ loop_parts : (a : Around) (c : s.Control) (ph : s.Phrase) (ss : s.Statements) (r
   pure (looped x.count (t.LoopOf x.condition (t.Marked a.marked (t.Block w bs t.NoExits)) l.exits l.finished))) ≡ loop_inside a c ph ss rs
 unfolding loop_inside round
 loop_parts a c ph ss rs = λ i σ. and_then (spec.control a c σ) (λ x.
-    then_three (spec.phrase (in_round (labels_of_repeats rs) a) ph x.1) (λ w. spec.statements (in_round (labels_of_repeats rs) a) ss w.1)
+    then_three {C = t.Stmt × State} (spec.phrase (in_round (labels_of_repeats rs) a) ph x.1) (λ w. spec.statements (in_round (labels_of_repeats rs) a) ss w.1)
     (λ w bs. Ok (t.Marked a.marked (t.Block w.0 bs.0 t.NoExits), bs.1))
     (λ body. and_then (spec.repeats a a.labelled [] false rs body.1) (λ l. Ok (looped x.0.count (t.LoopOf x.0.condition body.0 l.0.exits l.0.finished), l.1))) i)
 
@@ -70,7 +70,7 @@ inside_parts : (a : Around) (p : Place) (ph : s.Phrase) (locals : s.Locals) (ss 
   pure (held w ds bs)) ≡ block_inside a (s.BlockOf p ph locals ss es)
 unfolding block_inside statements_behind
 inside_parts a p ph locals ss es = λ i σ. and_then (spec.heads a locals σ) (λ hs. and_then (spec.phrase a ph hs.1) (λ w. and_then (spec.initials a locals hs.0 w.1) (λ ds.
-    then_two (spec.statements a ss ds.1) (λ bs. Ok (join_stmts ds.0 bs.0, bs.1)) (λ bs. Ok (record { phrase = w.0; statements = bs.0 }, bs.1)) i)))
+    then_two {B = t.Stmts × State} (spec.statements a ss ds.1) (λ bs. Ok (join_stmts ds.0 bs.0, bs.1)) (λ bs. Ok (record { phrase = w.0; statements = bs.0 }, bs.1)) i)))
 
 abbrev with_exits : Around → s.Exits → Check Held → Check t.Stmt
 with_exits a es inner = do
@@ -86,7 +86,7 @@ block_of a p ph locals ss es =
     ∙ numbered_is a (is_catch ph) (λ a. block_numbered a (s.BlockOf p ph locals ss es))
 
 abbrev pub enable_of : s.Block → s.Phrase
-enable_of (s.BlockOf p ph locals ss es) = ph
+enable_of (s.BlockOf p ph ls ss es) = ph
 
 pub block_is : (a : Around) (b : s.Block)
     → spec.block a b ≡ (λ σ. and_then (block_numbered (within (is_catch (enable_of b)) a) b σ) (λ r. Ok (marked_if (is_catch (enable_of b)) a r.0, r.1)))

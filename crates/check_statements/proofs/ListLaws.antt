@@ -11,6 +11,7 @@ use Rattle.mesa_types.specs.declared.syntax.Labeled.{Labeled}
 use Rattle.mesa_types.specs.declared.syntax.PlainItem.{PlainItem}
 use Rattle.mesa_types.specs.declared.syntax.RepeatLabels.{RepeatLabels}
 use Rattle.mesa_types.specs.declared.syntax.Statement.{Statement}
+use Rattle.mesa_types.specs.declared.typed_tree.Case.{Case as CaseHere}
 use Rattle.mesa_types.specs.declared.typed_tree.TypedStmt.{TypedStmt}
 use Rattle.mesa_types.proofs.PlainForms.{parts_of_arm, parts_of_case}
 use Rattle.checking_rules.specs.Typed as t
@@ -20,13 +21,14 @@ use Rattle.checking_rules.specs.Names.{arm_labels}
 use Rattle.checking_rules.specs.Parts.{distinct, join_stmts, names_of}
 use Rattle.checking_rules.specs.Ranges.{Typed}
 use Rattle.checking_rules.specs.Statements.{ArmPlace, Headed, Left, also_left, enter_arm, is_finished, labels_of, new_labels, numbers_from}
-use Rattle.checking_rules.specs.Steps.{Check, Checked, State, and_then, ◌>>=◌, pure, lift, in_scope}
+use Rattle.checking_rules.specs.Steps.{Check, Checked, Fault, State, and_then, ◌>>=◌, pure, lift, in_scope}
 use Rattle.check_locals.specs.Views.{headed}
 use Rattle.check_locals.specs.declared.heads.Headed.{Headed as HeadedHere}
+use Rattle.check_statements.specs.Rules.{statements_behind}
 use Rattle.check_statements.specs.Turns.{one_arm, one_case, one_exit, one_repeat}
 use Rattle.check_statements.specs.Views as views
 use Rattle.check_statements.specs.declared.locals.Heads.{Heads}
-use Rattle.check_statements.proofs.Chaining.{before_rest, chained, then_two, then_three, then_four}
+use Rattle.check_statements.proofs.Chaining.{before_rest, behind, chained, then_two, then_three, then_four}
 
 -- where nothing is handed from part to part
 abbrev pub always : {A X : Type 0} → (A → Check (X → X)) → Unit {0} → A → Check (X → X)
@@ -47,6 +49,27 @@ statements_are a [] σ = refl
 statements_are a (x ∷ xs) σ =
     then_two (spec.statement a (plain.statement x) σ) (λ b. Ok (t.AndStmt b.0, b.1)) (before_rest (spec.statements a (plain.statements xs)))
     ∙ ap (λ rest. and_then (one_statement a x σ) (before_rest rest)) (λ i τ. statements_are a xs τ i)
+
+pub statement_put : (a : Around) (x : Statement) (b : t.Stmt) (σ τ : State) → spec.statement a (plain.statement x) σ ≡ Ok (b, τ) → one_statement a x σ ≡ Ok (t.AndStmt b, τ)
+unfolding one_statement
+statement_put a x b σ τ given = ap (λ m. and_then m (λ r. Ok (t.AndStmt r.0, r.1))) given
+
+pub statement_fault : (a : Around) (x : Statement) (σ : State) (e : Fault) → spec.statement a (plain.statement x) σ ≡ Err e → one_statement a x σ ≡ Err e
+unfolding one_statement
+statement_fault a x σ e given = ap (λ m. and_then m (λ r. Ok (t.AndStmt r.0, r.1))) given
+
+pub behind_are : (a : Around) (before : t.Stmts) (xs : List Statement) (σ : State)
+    → statements_behind a before (plain.statements xs) σ ≡ behind (join_stmts before) (chained (always (one_statement a)) stays t.NoStmts tt xs σ)
+unfolding statements_behind
+behind_are a before xs σ = ap (behind (join_stmts before)) (statements_are a xs σ)
+
+pub behind_none : (a : Around) (ss : s.Statements) (σ : State) → statements_behind a t.NoStmts ss σ ≡ spec.statements a ss σ
+unfolding statements_behind join_stmts
+behind_none a ss σ = same (spec.statements a ss σ)
+  where
+    same : (m : Checked (t.Stmts × State)) → and_then m (λ r. Ok (r.0, r.1)) ≡ m
+    same (Ok r) = refl
+    same (Err e) = refl
 
 -- ---- arms
 
@@ -82,6 +105,10 @@ cases_are a sel (x ∷ xs) σ =
     ∙ then_two (one_case a sel x σ) (λ put. Ok (case_put put.0, put.1)) (before_rest (spec.cases a sel (plain.cases xs)))
     ∙ ap (λ rest. and_then (case_before a sel tt x σ) (before_rest rest)) (λ i τ. cases_are a sel xs τ i)
 
+pub case_given : (a : Around) (sel : Typed) (x : Case) (put : t.Cases → t.Cases) (σ τ : State) → one_case a sel x σ ≡ Ok (put, τ) → case_before a sel tt x σ ≡ Ok (case_put put, τ)
+unfolding case_before
+case_given a sel x put σ τ given = ap (λ m. and_then m (λ r. Ok (case_put r.0, r.1))) given
+
 -- ---- EXITS: the number of the next label, and the names of those before
 
 abbrev pub Taken : Type 0
@@ -102,6 +129,20 @@ exits_are a taken (x ∷ xs) σ =
     (λ u b. Ok (t.AndExit (numbers_from taken.0 x.labels) b.0, b.1))
     (before_rest (spec.exits a (taken.0 + length x.labels) (taken.1 ++ names_of x.labels) (plain.exits xs)))
     ∙ ap (λ rest. and_then (one_exit a taken.0 taken.1 x σ) (before_rest rest)) (λ i τ. exits_are a (behind_exit taken x) xs τ i)
+
+module _ (a : Around) (n : ℕ) (taken : List (List ℕ)) (x : Labeled (List Identifier) Statement) (σ : State) where
+  pub exit_taken : (e : Fault) → distinct taken x.labels ≡ Err e → one_exit a n taken x σ ≡ Err e
+  unfolding one_exit
+  exit_taken e old = rw old refl
+
+  pub exit_fault : (e : Fault) → distinct taken x.labels ≡ Ok tt → spec.statement a (plain.statement x.item) σ ≡ Err e → one_exit a n taken x σ ≡ Err e
+  unfolding one_exit
+  exit_fault e new given = rw (new, given) refl
+
+  pub exit_given : (b : t.Stmt) (τ : State) → distinct taken x.labels ≡ Ok tt → spec.statement a (plain.statement x.item) σ ≡ Ok (b, τ)
+      → one_exit a n taken x σ ≡ Ok (t.AndExit (numbers_from n x.labels) b, τ)
+  unfolding one_exit
+  exit_given b τ new given = rw (new, given) refl
 
 -- ---- REPEAT: also whether FINISHED stands before
 
@@ -132,6 +173,23 @@ repeats_are a now (x ∷ xs) σ =
     (λ u b. Ok (also_left x.labels now.number b.0, b.1))
     (before_rest (spec.repeats a (behind_repeat now x).number (behind_repeat now x).names (behind_repeat now x).finished (plain.repeats xs)))
     ∙ ap (λ rest. and_then (one_repeat a now.number now.names now.finished x σ) (before_rest rest)) (λ i τ. repeats_are a (behind_repeat now x) xs τ i)
+
+module _ (a : Around) (n : ℕ) (taken : List (List ℕ)) (finished : Bool) (x : Labeled RepeatLabels Statement) (before : Left → Left) (σ : State) where
+  abbrev pub repeat_behind : Checked ((Left → Left) × State)
+  repeat_behind = (one_repeat a n taken finished x >>= (λ put. pure (λ later. before (put later)))) σ
+
+  pub repeat_taken : (e : Fault) → new_labels taken finished x.labels ≡ Err e → repeat_behind ≡ Err e
+  unfolding one_repeat
+  repeat_taken e old = rw old refl
+
+  pub repeat_fault : (e : Fault) → new_labels taken finished x.labels ≡ Ok tt → spec.statement a (plain.statement x.item) σ ≡ Err e → repeat_behind ≡ Err e
+  unfolding one_repeat
+  repeat_fault e new given = rw (new, given) refl
+
+  pub repeat_given : (b : t.Stmt) (τ : State) (more : Left → Left) → new_labels taken finished x.labels ≡ Ok tt → spec.statement a (plain.statement x.item) σ ≡ Ok (b, τ)
+      → more ≡ (λ later. before (also_left x.labels n b later)) → repeat_behind ≡ Ok (more, τ)
+  unfolding one_repeat
+  repeat_given b τ more new given is = rw (new, given) (ap (λ f. Ok (f, τ)) (sym is))
 
 -- ---- heads of declarations
 
@@ -191,8 +249,16 @@ join_none (t.AndStmt x ss) = ap (t.AndStmt x) (join_none ss)
 
 -- of lists whose parts put themselves before the rest
 pub chain_onto : {B X : Type 0} (view : B → X → X) (done more : List B) (x : B) → more ≡ done ++ x ∷ [] → tree.chain (map view more) ≡ (λ rest. tree.chain (map view done) (view x rest))
-chain_onto view done more x is = ap (λ bs. tree.chain (map view bs)) is ∙ (λ i rest. go done rest i)
+chain_onto {B} {X} view done more x is = ap (λ bs. tree.chain (map view bs)) is ∙ (λ i rest. go done rest i)
   where
-    go : (done : List _) (rest : _) → tree.chain (map view (done ++ x ∷ [])) rest ≡ tree.chain (map view done) (view x rest)
+    go : (done : List B) (rest : X) → tree.chain (map view (done ++ x ∷ [])) rest ≡ tree.chain (map view done) (view x rest)
     go [] rest = refl
     go (y ∷ ys) rest = ap (view y) (go ys rest)
+
+-- the arms so far, before those that come
+abbrev pub cases_before : List CaseHere → (t.Cases → t.Cases) → t.Cases → t.Cases
+cases_before done rest cs = views.cases done (rest cs)
+
+pub cases_onto : (done more : List CaseHere) (x : CaseHere) → more ≡ done ++ x ∷ [] → cases_before more ≡ (λ rest. cases_before done (case_put (tree.case x) rest))
+unfolding views.cases
+cases_onto done more x is = λ i rest cs. chain_onto tree.case done more x is i (rest cs)

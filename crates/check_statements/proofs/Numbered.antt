@@ -11,29 +11,33 @@ use Rattle.checking_rules.specs.declared.fault.Cause.TheVariants.{FrameTooLarge}
 use Rattle.check_clauses.specs.Whole.{from_start}
 use Rattle.check_statements.specs.Rules.{within, marked_if}
 
-few : (p : Place) (holds : Bool) (x : t.Stmt) (now : State) (outside : ℕ)
-    → and_then (and_then (only holds FrameTooLarge p) (λ u. Ok (u, record now { operands = outside }))) (λ r. Ok (x, r.1))
-    ≡ and_then (and_then (only holds FrameTooLarge p) (λ _. Ok (tt, record now { operands = outside }))) (λ r. Ok (x, r.1))
-few p true x now outside = refl
-few p false x now outside = refl
+abbrev numbered_at : Around → t.Stmt × State → Checked (t.Stmt × State)
+numbered_at a r = Ok (t.Marked a.marked r.0, r.1)
 
-with_number : (a : Around) (p : Place) (m : Checked (t.Stmt × State)) (σ : State)
-    → and_then (and_then (and_then m (λ r. Ok (t.Marked a.marked r.0, r.1))) (λ r. Ok ((r.0, r.1.operands), record r.1 { operands = σ.operands })))
-      (λ r. and_then (and_then (only (nat_le (0 + r.0.1) OPERAND_WORDS) FrameTooLarge p) (λ u. Ok (u, r.1))) (λ q. Ok (r.0.0, q.1)))
-    ≡ and_then m (λ r. and_then (and_then (only (nat_le (0 + r.1.operands) OPERAND_WORDS) FrameTooLarge p) (λ _. Ok (tt, record r.1 { operands = σ.operands }))) (λ q. Ok (t.Marked a.marked r.0, q.1)))
-with_number a p (Ok r) σ = few p (nat_le (0 + r.1.operands) OPERAND_WORDS) (t.Marked a.marked r.0) r.1 σ.operands
-with_number a p (Err e) σ = refl
+abbrev measured_at : ℕ → t.Stmt × State → Checked ((t.Stmt × ℕ) × State)
+measured_at outside r = Ok ((r.0, r.1.operands), record r.1 { operands = outside })
 
-bare : (p : Place) (m : Checked (t.Stmt × State)) (σ : State)
-    → and_then (and_then m (λ r. Ok ((r.0, r.1.operands), record r.1 { operands = σ.operands })))
-      (λ r. and_then (and_then (only (nat_le (0 + r.0.1) OPERAND_WORDS) FrameTooLarge p) (λ u. Ok (u, r.1))) (λ q. Ok (r.0.0, q.1)))
-    ≡ and_then m (λ r. and_then (and_then (only (nat_le (0 + r.1.operands) OPERAND_WORDS) FrameTooLarge p) (λ _. Ok (tt, record r.1 { operands = σ.operands }))) (λ q. Ok (r.0, q.1)))
-bare p (Ok r) σ = few p (nat_le (0 + r.1.operands) OPERAND_WORDS) r.0 r.1 σ.operands
-bare p (Err e) σ = refl
+abbrev few : Place → ℕ → State → Checked (Unit {0} × State)
+few p words now = and_then (only (nat_le (0 + words) OPERAND_WORDS) FrameTooLarge p) (λ _. Ok (tt, now))
+
+abbrev few_at : Place → (t.Stmt × ℕ) × State → Checked (t.Stmt × State)
+few_at p r = and_then (few p r.0.1 r.1) (λ q. Ok (r.0.0, q.1))
+
+abbrev ended_at : Place → ℕ → (t.Stmt → t.Stmt) → t.Stmt × State → Checked (t.Stmt × State)
+ended_at p outside mark r = and_then (few p r.1.operands (record r.1 { operands = outside })) (λ q. Ok (mark r.0, q.1))
+
+with_number : (a : Around) (p : Place) (m : Checked (t.Stmt × State)) (outside : ℕ)
+    → and_then (and_then (and_then m (numbered_at a)) (measured_at outside)) (few_at p) ≡ and_then m (ended_at p outside (t.Marked a.marked))
+with_number a p (Ok r) outside = refl
+with_number a p (Err e) outside = refl
+
+bare : (p : Place) (m : Checked (t.Stmt × State)) (outside : ℕ) → and_then (and_then m (measured_at outside)) (few_at p) ≡ and_then m (ended_at p outside (λ x. x))
+bare p (Ok r) outside = refl
+bare p (Err e) outside = refl
 
 pub whole_is : (a : Around) (p : Place) (has_phrase : Bool) (rule : Around → Check t.Stmt) → whole a p has_phrase rule ≡ from_start a has_phrase 0 p rule
-whole_is a p true rule = λ i σ. with_number a p (rule (in_statement a) (record σ { operands = 0 })) σ i
-whole_is a p false rule = λ i σ. bare p (rule a (record σ { operands = 0 })) σ i
+whole_is a p true rule = λ i σ. with_number a p (rule (in_statement a) (record σ { operands = 0 })) σ.operands i
+whole_is a p false rule = λ i σ. bare p (rule a (record σ { operands = 0 })) σ.operands i
 
 pub numbered_is : (a : Around) (has_phrase : Bool) (rule : Around → Check t.Stmt)
     → numbered a has_phrase rule ≡ (λ σ. and_then (rule (within has_phrase a) σ) (λ r. Ok (marked_if has_phrase a r.0, r.1)))

@@ -1,12 +1,10 @@
 use Rattle.std.proofs.Common.{◌≡◌, drop}
-use Rattle.mesa_types.specs.Typed as t
 use Rattle.check_words.specs.Views as view
-use Rattle.check_statements.specs.Views.{cases}
 use Rattle.check_statements.proofs.Chaining.{behind, chained}
-use Rattle.check_statements.proofs.ListLaws.{case_before, stays}
+use Rattle.check_statements.proofs.ListLaws.{case_before, cases_before, stays}
 use Rattle.check_statements.proofs.checker.StatementChecker.cases.Given as goal
 
 abbrev pub invariant-loop-one : goal.invariant-loop-one
 invariant-loop-one g l =
     chained (case_before (view.around l.around) (view.typed l.selector)) stays (λ cs. cs) tt l.all (view.state l.fn.state)
-    ≡ behind (λ (more : t.Cases → t.Cases) cs. cases l.done (more cs)) (chained (case_before (view.around l.around) (view.typed l.selector)) stays (λ cs. cs) tt (drop l.one-index l.all) (view.state l.state))
+    ≡ behind (cases_before l.done) (chained (case_before (view.around l.around) (view.typed l.selector)) stays (λ cs. cs) tt (drop l.one-index l.all) (view.state l.state))

@@ -1,0 +1,27 @@
+use Rattle.std.proofs.Common.{rules, refl, ◌∙◌}
+use Rattle.check_words.specs.Views as view
+use Rattle.check_statements.specs.Views as views
+use Rattle.check_statements.proofs.Chaining.{chained_at, chained_end, chained_turn}
+use Rattle.check_statements.proofs.ListLaws.{case_before, case_given, cases_are, cases_before, cases_onto, stays}
+use Rattle.check_statements.proofs.checker.StatementChecker.cases.Goals as goal
+
+pub loop-one-preserved : goal.loop-one-preserved
+loop-one-preserved g c =
+    c.loop-one.invariant
+    ∙ chained_turn (case_before (view.around c.args.around.now) (view.typed c.args.selector.now)) stays (λ cs. cs) tt tt _ _ _ c.args.all.now c.loop-one.one-index c.one-item.result _ _
+      (search rules) (search rules) (case_given _ _ c.one-item.result _ _ _ (search rules)) (cases_onto c.loop-one.done _ _ (search rules)) refl
+
+pub returns-in_err-held : goal.returns-in_err-held
+unfolding case_before
+returns-in_err-held g c =
+    rw (cases_are (view.around c.args.around.now) (view.typed c.args.selector.now) c.args.all.now (view.state c.args.state.now)) (
+      rw c.loop-one.invariant (
+        rw (chained_at (case_before (view.around c.args.around.now) (view.typed c.args.selector.now)) stays (λ cs. cs) tt (cases_before c.loop-one.done) c.args.all.now c.loop-one.one-index c.one-item.result (view.state c.loop-one.state) (search rules) (search rules))
+        (search rules)))
+
+pub returns : goal.returns
+returns g c =
+    rw (cases_are (view.around c.args.around.now) (view.typed c.args.selector.now) c.args.all.now (view.state c.args.state.now)) (
+      rw c.loop-one.invariant (
+        rw (chained_end (case_before (view.around c.args.around.now) (view.typed c.args.selector.now)) stays (λ cs. cs) tt (cases_before c.loop-one.done) c.args.all.now c.loop-one.one-index (view.state c.loop-one.state) (search rules))
+        (search rules)))
