@@ -15,9 +15,10 @@ use Rattle.checking_rules.specs.Scopes.{nothing}
 use Rattle.checking_rules.specs.Steps.{Check, State, and_then, ◌>>=◌, pure, in_scope}
 use Rattle.check_clauses.specs.Rules.{truth_of}
 use Rattle.check_clauses.specs.Whole.{from_start}
-use Rattle.check_statements.specs.Rules.{block_inside, block_numbered, block_scope, if_inside, loop_inside, marked_if, round, select_inside, statements_behind, within}
-use Rattle.check_statements.proofs.Chaining.{then_two, then_three}
-use Rattle.check_statements.proofs.Numbered.{numbered_is, whole_is}
+use Rattle.check_nested.specs.Turns.{statements_behind}
+use Rattle.check_statements.specs.Rules.{block_inside, block_numbered, block_scope, if_inside, loop_inside, marked_if, round, select_inside, within}
+use Rattle.check_nested.proofs.Chaining.{then_two, then_three}
+use Rattle.check_statements.proofs.WholeLaws.{numbered_is, whole_is}
 
 pub nested_is : (a : Around) (b : s.Block) → spec.statement a (s.Nested b) ≡ spec.block a b
 unfolding spec.check

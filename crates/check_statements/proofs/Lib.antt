@@ -1,5 +1,4 @@
 pub mod CaseTests
-pub mod Chaining
 pub mod Clauses
 pub mod ListLaws
-pub mod Numbered
+pub mod WholeLaws

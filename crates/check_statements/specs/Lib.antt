@@ -1,4 +1,3 @@
-pub mod Asks
 pub mod Rules
 pub mod Turns
 pub mod Views

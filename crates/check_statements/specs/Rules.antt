@@ -4,12 +4,12 @@ use Rattle.mesa_types.specs.Syntax as s
 use Rattle.checking_rules.specs.Typed as t
 use Rattle.checking_rules.specs.Around.{Around, in_round, in_statement, inside, with_labels}
 use Rattle.checking_rules.specs.Checking as spec
-use Rattle.checking_rules.specs.Parts.{join_stmts}
 use Rattle.checking_rules.specs.Ranges.{Free}
 use Rattle.checking_rules.specs.Scopes.{nothing}
 use Rattle.checking_rules.specs.Statements.{Held, labels_of_exits, labels_of_repeats, looped}
 use Rattle.checking_rules.specs.Steps.{Check, ◌>>=◌, pure, hide, in_scope}
 use Rattle.check_clauses.specs.Rules.{truth_of}
+use Rattle.check_nested.specs.Turns.{statements_behind}
 
 -- what stands around the parts of a statement, and the statement, where it has a number or none
 abbrev pub within : Bool → Around → Around
@@ -34,10 +34,6 @@ select_inside a e cs other = do
   cs ← spec.cases a x cs
   o ← spec.otherwise a other
   pure (t.Select x.value (cs (t.Otherwise o)))
-
--- statements behind others that are checked
-unfoldable pub statements_behind : Around → t.Stmts → s.Statements → Check t.Stmts
-statements_behind a before ss = spec.statements a ss >>= (λ bs. pure (join_stmts before bs))
 
 -- the body of a loop, in the loop's ENABLE and with its labels
 unfoldable pub round : Around → s.Phrase → s.Statements → s.Repeats → Check t.Stmt

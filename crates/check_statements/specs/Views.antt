@@ -1,42 +1,16 @@
 -- What the code's values stand for.
-use Rattle.std.specs.Prelude.{List, map, Option, Some, None, option_map}
+use Rattle.std.specs.Prelude.{List, map}
 use Rattle.mesa_types.specs.Plain as tree
 use Rattle.mesa_types.specs.Typed as t
-use Rattle.mesa_types.specs.declared.typed_tree.TypedStmt.{TypedStmt}
-use Rattle.mesa_types.specs.declared.typed_tree.Arm.{Arm}
 use Rattle.mesa_types.specs.declared.typed_tree.Case.{Case}
-use Rattle.mesa_types.specs.declared.typed_tree.Exit.{Exit}
 use Rattle.checking_rules.specs.Statements as rule
-use Rattle.check_statements.specs.declared.exits.Left.{Left}
 use Rattle.check_locals.specs.Views.{headed}
+use Rattle.check_nested.specs.Views.{stmts}
 use Rattle.check_statements.specs.declared.blocks.Held.{Held}
 use Rattle.check_statements.specs.declared.locals.Heads.{Heads}
 
-unfoldable pub stmts : List TypedStmt → t.Stmts
-stmts ss = tree.stmts (map tree.stmt ss)
-
-unfoldable pub arms : List Arm → t.Arms
-arms xs = tree.chain (map tree.arm xs) t.NoArms
-
 unfoldable pub cases : List Case → t.Cases → t.Cases
 cases cs end = tree.chain (map tree.case cs) end
-
-unfoldable pub exits : List Exit → t.Exits
-exits es = tree.chain (map tree.exit es) t.NoExits
-
--- the endings of a REPEAT so far, before those that come
-abbrev pub or_finish : Option TypedStmt → t.Finish → t.Finish
-or_finish None later = later
-or_finish (Some s) later = t.Finished (tree.stmt s)
-
-unfoldable pub onto : Left → rule.Left → rule.Left
-onto done later = record { exits = tree.chain (map tree.exit done.exits) later.exits; finished = or_finish done.finished later.finished }
-
-abbrev pub no_more : rule.Left
-no_more = record { exits = t.NoExits; finished = t.NoFinish }
-
-abbrev pub left : Left → rule.Left
-left done = onto done no_more
 
 unfoldable pub heads : Heads → List rule.Headed
 heads hs = map headed hs.items.items

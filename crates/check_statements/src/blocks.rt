@@ -8,7 +8,7 @@ ghost use Rattle.check_statements.specs.Rules as rules;
 ghost use Rattle.check_statements.specs.Views as views;
 
 use crate::checker::StatementChecker;
-use crate::nesting::Nested;
+use check_nested::Nested;
 use crate::numbered::{marked_if, within};
 use check_jumps::{labels_of_exits, with_labels};
 use check_scopes::Names;
@@ -49,7 +49,7 @@ impl<N: Nested> StatementChecker<N> {
         let (heads, phrase) = both(heads, self.phrase(&one.enable, around, state))?;
         let (phrase, before) = both(phrase, self.initials(locals, around, state, heads))?;
         let all = one.statements.as_slice();
-        let statements = self.statements_behind(all, around, state, before);
+        let statements = self.expressions.phrases.statements_behind(all, around, state, before);
         let (phrase, statements) = both(phrase, statements)?;
         Ok(Held { phrase, statements })
     }
@@ -86,7 +86,7 @@ impl<N: Nested> StatementChecker<N> {
         ensures { Gives tree.stmt (rules.block_numbered (view.around around.now) (plain.block one.now) (view.state state.old)) result (view.state state.new) }
     {
         let held = self.block_scope(one, around, state)?;
-        let exits = self.exits(one.exits.as_slice(), around, state);
+        let exits = self.expressions.phrases.exits(one.exits.as_slice(), around, state);
         let (Held { phrase, statements }, exits) = both(held, exits)?;
         let held = both((statements, exits), boxed(self.alloc(), phrase))?;
         let ((statements, exits), phrase) = held;

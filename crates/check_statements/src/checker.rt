@@ -6,8 +6,8 @@ ghost use Rattle.checking_rules.specs.Checking as spec;
 ghost use Rattle.check_words.specs.Gives.{Gives};
 ghost use Rattle.check_words.specs.Views as view;
 
-use crate::nesting::Nested;
-use crate::phrases::PhraseChecker;
+use check_nested::Nested;
+use check_nested::NestedChecker;
 use check_expressions::{Checker, Phrases};
 use check_words::{Around, State};
 use checking_rules::CheckFault;
@@ -17,7 +17,7 @@ use std::alloc::Global;
 
 /// The checker of one level of nesting; its expressions ask it for their phrases.
 pub struct StatementChecker<N> {
-    pub expressions: Checker<PhraseChecker<N>>,
+    pub expressions: Checker<NestedChecker<N>>,
 }
 
 /// Over what checks the statements one level deeper.
@@ -27,7 +27,7 @@ pub fn over<N>(alloc: Global, nested: N) -> StatementChecker<N>
     StatementChecker {
         expressions: Checker {
             alloc,
-            phrases: PhraseChecker { alloc, nested },
+            phrases: NestedChecker { alloc, nested },
         },
     }
 }

@@ -3,12 +3,12 @@ ghost use Rattle.mesa_types.specs.Plain as tree;
 ghost use Rattle.mesa_types.specs.PlainSyntax as plain;
 ghost use Rattle.checking_rules.specs.Checking as spec;
 ghost use Rattle.std.specs.Prelude.{[]};
+ghost use Rattle.check_nested.specs.Views as nested;
 ghost use Rattle.check_words.specs.Gives.{Gives};
 ghost use Rattle.check_words.specs.Views as view;
-ghost use Rattle.check_statements.specs.Views as views;
 
 use crate::checker::over;
-use crate::nesting::StatementFunction;
+use check_nested::StatementFunction;
 use check_words::{Around, State};
 use checking_rules::CheckFault;
 use mesa_base::limits::NESTING;
@@ -60,7 +60,7 @@ pub fn statements(
     around: &Around<'_>,
     state: &mut State,
 ) -> Result<Stmts, CheckFault>
-    ensures { Gives views.stmts (spec.statements (view.around around.now) (plain.statements all.now) (view.state state.old)) result (view.state state.new) }
+    ensures { Gives nested.stmts (spec.statements (view.around around.now) (plain.statements all.now) (view.state state.old)) result (view.state state.new) }
 {
     let nested = StatementFunction {
         alloc,
@@ -68,7 +68,7 @@ pub fn statements(
         check: at,
     };
     let checker = over(alloc, nested);
-    let made = checker.statements(all, around, state);
+    let made = checker.expressions.phrases.statements(all, around, state);
     checker.end();
     made
 }
@@ -120,7 +120,7 @@ pub fn exits(
     around: &Around<'_>,
     state: &mut State,
 ) -> Result<Exits, CheckFault>
-    ensures { Gives views.exits (spec.exits (view.around around.now) (view.around around.now).labelled [] (plain.exits all.now) (view.state state.old)) result (view.state state.new) }
+    ensures { Gives nested.exits (spec.exits (view.around around.now) (view.around around.now).labelled [] (plain.exits all.now) (view.state state.old)) result (view.state state.new) }
 {
     let nested = StatementFunction {
         alloc,
@@ -128,7 +128,7 @@ pub fn exits(
         check: at,
     };
     let checker = over(alloc, nested);
-    let made = checker.exits(all, around, state);
+    let made = checker.expressions.phrases.exits(all, around, state);
     checker.end();
     made
 }

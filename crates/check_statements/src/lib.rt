@@ -4,14 +4,10 @@
 mod blocks;
 mod checker;
 mod checking;
-mod exits;
-mod lists;
+mod forms;
 mod locals;
 mod loops;
-mod nesting;
 mod numbered;
-mod phrases;
 mod selections;
-mod statements;
 
 pub use checking::{block, exits, phrase, statement, statements};

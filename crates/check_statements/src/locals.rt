@@ -4,13 +4,14 @@ ghost use Rattle.mesa_types.specs.PlainSyntax as plain;
 ghost use Rattle.checking_rules.specs.Checking as spec;
 ghost use Rattle.checking_rules.specs.Parts.{join_stmts};
 ghost use Rattle.check_locals.specs.Views as local;
+ghost use Rattle.check_nested.specs.Views as nested;
 ghost use Rattle.check_words.specs.Gives.{Gives};
 ghost use Rattle.check_words.specs.Views as view;
 ghost use Rattle.check_statements.specs.Turns as turns;
 ghost use Rattle.check_statements.specs.Views as views;
 
 use crate::checker::StatementChecker;
-use crate::nesting::Nested;
+use check_nested::Nested;
 use check_locals::{Headed, head, initial};
 use check_words::{Around, State};
 use checking_rules::CheckFault;
@@ -61,9 +62,9 @@ fn with_head(mut before: Heads, one: Headed) -> Result<Heads, OutOfMemory>
 }
 
 /// The statements with this one behind, if there is one.
-#[tactic(auto, using(crate::proofs::ListLaws::stmts_onto), unfolding(crate::specs::Views::stmts))]
+#[tactic(auto, using(check_nested::proofs::ListLaws::stmts_onto), unfolding(check_nested::specs::Views::stmts))]
 fn and_put(done: Stmts, made: Option<TypedStmt>) -> Result<Stmts, OutOfMemory>
-    ensures { IfOk result (λ more. join_stmts (views.stmts more) ≡ (λ rest. join_stmts (views.stmts done) (local.put made rest))) }
+    ensures { IfOk result (λ more. join_stmts (nested.stmts more) ≡ (λ rest. join_stmts (nested.stmts done) (local.put made rest))) }
 {
     match made {
         None => Ok(done),
@@ -101,7 +102,7 @@ impl<N: Nested> StatementChecker<N> {
         heads: Heads,
     ) -> Result<Stmts, CheckFault>
         requires { N.ask self.now.expressions.phrases.nested }
-        ensures { Gives views.stmts (spec.initials (view.around around.now) (plain.locals all.now) (views.heads heads) (view.state state.old)) result (view.state state.new) }
+        ensures { Gives nested.stmts (spec.initials (view.around around.now) (plain.locals all.now) (views.heads heads) (view.state state.old)) result (view.state state.new) }
     {
         let mut rest = heads;
         let mut done = List::new(self.alloc());
@@ -128,7 +129,7 @@ impl<N: Nested> StatementChecker<N> {
         before: Stmts,
     ) -> Result<Stmts, CheckFault>
         requires { N.ask self.now.expressions.phrases.nested }
-        ensures { Gives (λ more. join_stmts (views.stmts more)) (turns.initial_behind (view.around around.now) (views.stmts before) one.now (local.headed headed) (view.state state.old)) result (view.state state.new) }
+        ensures { Gives (λ more. join_stmts (nested.stmts more)) (turns.initial_behind (view.around around.now) (nested.stmts before) one.now (local.headed headed) (view.state state.old)) result (view.state state.new) }
     {
         let names = one.labels.as_slice();
         let made = initial(&self.expressions, &one.item, around, state, names, headed);

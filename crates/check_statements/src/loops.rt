@@ -10,8 +10,8 @@ ghost use Rattle.check_statements.specs.Rules as rules;
 ghost use Rattle.mesa_types.specs.declared.syntax.Control.{out-Control};
 
 use crate::checker::StatementChecker;
-use crate::exits::Left;
-use crate::nesting::Nested;
+use check_nested::Left;
+use check_nested::Nested;
 use check_clauses::{Controlled, Whole, control, looped};
 use check_jumps::{in_round, labels_of_repeats};
 use check_words::{Around, State};
@@ -59,7 +59,7 @@ impl<N: Nested> StatementChecker<N> {
         let labelled = labels_of_repeats(repeats, self.alloc(), around)?;
         let inner = in_round(&labelled, around)?;
         let phrase = self.phrase(enable, &inner, state)?;
-        let (phrase, statements) = both(phrase, self.statements(statements, &inner, state))?;
+        let (phrase, statements) = both(phrase, self.expressions.phrases.statements(statements, &inner, state))?;
         let (statements, phrase) = both(statements, boxed(self.alloc(), phrase))?;
         let body = TypedStmt::Block(phrase, statements, List::new(self.alloc()));
         Ok(TypedStmt::Marked(around.marked, boxed(self.alloc(), body)?))
@@ -82,7 +82,7 @@ impl<N: Nested> StatementChecker<N> {
         let before = control(&self.expressions, before, around, state)?;
         let body = self.round(enable, statements, repeats, around, state);
         let (before, body) = both(before, body)?;
-        let (held, left) = both((before, body), self.repeats(repeats, around, state))?;
+        let (held, left) = both((before, body), self.expressions.phrases.repeats(repeats, around, state))?;
         let (Controlled { count, condition }, body) = held;
         let Left { exits, finished } = left;
         let made = Loop {

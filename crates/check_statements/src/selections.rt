@@ -12,7 +12,7 @@ ghost use Rattle.check_statements.specs.Turns as turns;
 ghost use Rattle.check_statements.specs.Views as views;
 
 use crate::checker::StatementChecker;
-use crate::nesting::Nested;
+use check_nested::Nested;
 use check_clauses::{Whole, tests, truth_of};
 use check_phrases::{holds, interval_holds};
 use check_words::{Aim, Around, State, Typed};

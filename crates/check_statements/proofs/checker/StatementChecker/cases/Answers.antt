@@ -1,8 +1,9 @@
 use Rattle.std.proofs.Common.{rules, refl, ◌∙◌}
 use Rattle.check_words.specs.Views as view
 use Rattle.check_statements.specs.Views as views
-use Rattle.check_statements.proofs.Chaining.{chained_at, chained_end, chained_turn}
-use Rattle.check_statements.proofs.ListLaws.{case_before, case_given, cases_are, cases_before, cases_onto, stays}
+use Rattle.check_nested.proofs.Chaining.{chained_at, chained_end, chained_turn}
+use Rattle.check_nested.proofs.ListLaws.{stays}
+use Rattle.check_statements.proofs.ListLaws.{case_before, case_given, cases_are, cases_before, cases_onto}
 use Rattle.check_statements.proofs.checker.StatementChecker.cases.Goals as goal
 
 pub loop-one-preserved : goal.loop-one-preserved

@@ -1,7 +1,8 @@
 use Rattle.std.proofs.Common.{◌≡◌, drop}
 use Rattle.check_words.specs.Views as view
-use Rattle.check_statements.proofs.Chaining.{behind, chained}
-use Rattle.check_statements.proofs.ListLaws.{case_before, cases_before, stays}
+use Rattle.check_nested.proofs.Chaining.{behind, chained}
+use Rattle.check_nested.proofs.ListLaws.{stays}
+use Rattle.check_statements.proofs.ListLaws.{case_before, cases_before}
 use Rattle.check_statements.proofs.checker.StatementChecker.cases.Given as goal
 
 abbrev pub invariant-loop-one : goal.invariant-loop-one

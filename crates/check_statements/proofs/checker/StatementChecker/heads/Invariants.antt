@@ -1,8 +1,9 @@
 use Rattle.std.proofs.Common.{◌≡◌, ◌++◌, [], drop}
 use Rattle.check_words.specs.Views as view
 use Rattle.check_statements.specs.Views.{heads}
-use Rattle.check_statements.proofs.Chaining.{behind, chained}
-use Rattle.check_statements.proofs.ListLaws.{always, one_head, stays}
+use Rattle.check_nested.proofs.Chaining.{behind, chained}
+use Rattle.check_nested.proofs.ListLaws.{always, stays}
+use Rattle.check_statements.proofs.ListLaws.{one_head}
 use Rattle.check_statements.proofs.checker.StatementChecker.heads.Given as goal
 
 abbrev pub invariant-loop-one : goal.invariant-loop-one

@@ -6,7 +6,7 @@ ghost use Rattle.check_words.specs.Gives.{Gives};
 ghost use Rattle.check_words.specs.Views as view;
 
 use crate::checker::StatementChecker;
-use crate::nesting::Nested;
+use check_nested::Nested;
 use check_clauses::{assign, call, extract, raise_statement, resume_statement, return_statement};
 use check_jumps::{continue_arm, exit_loop, go_to, next_round, reject, retry};
 use check_words::{Around, State};
@@ -16,7 +16,7 @@ use mesa_types::syntax::Statement;
 
 impl<N: Nested> StatementChecker<N> {
     /// A statement.
-    #[tactic(auto, using(mesa_types::proofs::PlainForms::statement_forms, crate::proofs::Clauses::clauses))]
+    #[tactic(auto, using(mesa_types::proofs::PlainForms::statement_forms, check_clauses::proofs::JumpClauses::jump_clauses, crate::proofs::Clauses::nested_is))]
     pub fn statement(
         &self,
         one: &Statement,

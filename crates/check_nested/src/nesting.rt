@@ -4,7 +4,7 @@ ghost use Rattle.mesa_types.specs.PlainSyntax as plain;
 ghost use Rattle.checking_rules.specs.Checking as spec;
 ghost use Rattle.check_words.specs.Gives.{Gives};
 ghost use Rattle.check_words.specs.Views as view;
-ghost use Rattle.check_statements.specs.Asks.{Asks};
+ghost use Rattle.check_nested.specs.Asks.{Asks};
 
 use check_words::{Around, State};
 use checking_rules::CheckFault;

@@ -4,11 +4,11 @@ ghost use Rattle.mesa_types.specs.PlainSyntax as plain;
 ghost use Rattle.check_words.specs.Gives.{Gives};
 ghost use Rattle.check_words.specs.Views as view;
 ghost use Rattle.checking_rules.specs.Checking as spec;
-ghost use Rattle.check_statements.specs.Rules as rules;
-ghost use Rattle.check_statements.specs.Views as views;
+ghost use Rattle.check_nested.specs.Turns as turns;
+ghost use Rattle.check_nested.specs.Views as views;
 
-use crate::checker::StatementChecker;
 use crate::nesting::Nested;
+use crate::phrases::NestedChecker;
 use check_words::{Around, State};
 use checking_rules::CheckFault;
 use held_trees::{both, pushed};
@@ -16,7 +16,7 @@ use mesa_base::List;
 use mesa_types::Stmts;
 use mesa_types::syntax::Statement;
 
-impl<N: Nested> StatementChecker<N> {
+impl<N: Nested> NestedChecker<N> {
     /// Statements, one after the other, behind others that are checked.
     pub fn statements_behind(
         &self,
@@ -25,12 +25,12 @@ impl<N: Nested> StatementChecker<N> {
         state: &mut State,
         before: Stmts,
     ) -> Result<Stmts, CheckFault>
-        requires { N.ask self.now.expressions.phrases.nested }
-        ensures { Gives views.stmts (rules.statements_behind (view.around around.now) (views.stmts before) (plain.statements all.now) (view.state state.old)) result (view.state state.new) }
+        requires { N.ask self.now.nested }
+        ensures { Gives views.stmts (turns.statements_behind (view.around around.now) (views.stmts before) (plain.statements all.now) (view.state state.old)) result (view.state state.new) }
     {
         let mut done = before;
         for one in all {
-            let (held, next) = both(done, self.nested(one, around, state))?;
+            let (held, next) = both(done, self.nested.statement(one, around, state))?;
             done = pushed(held, next)?;
         }
         Ok(done)
@@ -43,9 +43,9 @@ impl<N: Nested> StatementChecker<N> {
         around: &Around<'_>,
         state: &mut State,
     ) -> Result<Stmts, CheckFault>
-        requires { N.ask self.now.expressions.phrases.nested }
+        requires { N.ask self.now.nested }
         ensures { Gives views.stmts (spec.statements (view.around around.now) (plain.statements all.now) (view.state state.old)) result (view.state state.new) }
     {
-        self.statements_behind(all, around, state, List::new(self.alloc()))
+        self.statements_behind(all, around, state, List::new(self.alloc))
     }
 }

@@ -2,10 +2,10 @@ use Rattle.std.proofs.Common.{◌≡◌, drop, map}
 use Rattle.mesa_types.specs.Plain as tree
 use Rattle.mesa_types.specs.Typed as t
 use Rattle.check_words.specs.Views as view
-use Rattle.check_statements.specs.Turns.{one_arm}
-use Rattle.check_statements.proofs.Chaining.{behind, chained}
-use Rattle.check_statements.proofs.ListLaws.{always, stays}
-use Rattle.check_statements.proofs.phrases.PhraseChecker.arms.Given as goal
+use Rattle.check_nested.specs.Turns.{one_arm}
+use Rattle.check_nested.proofs.Chaining.{behind, chained}
+use Rattle.check_nested.proofs.ListLaws.{always, stays}
+use Rattle.check_nested.proofs.phrases.NestedChecker.arms.Given as goal
 
 abbrev pub invariant-loop-one : goal.invariant-loop-one
 invariant-loop-one g l =

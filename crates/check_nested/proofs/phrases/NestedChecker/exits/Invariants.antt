@@ -3,9 +3,9 @@ use Rattle.mesa_types.specs.Plain as tree
 use Rattle.mesa_types.specs.Typed as t
 use Rattle.check_words.specs.Views as view
 use Rattle.check_declared.specs.Naming.{HasNames}
-use Rattle.check_statements.proofs.Chaining.{behind, chained}
-use Rattle.check_statements.proofs.ListLaws.{exit_at, behind_exit}
-use Rattle.check_statements.proofs.checker.StatementChecker.exits.Given as goal
+use Rattle.check_nested.proofs.Chaining.{behind, chained}
+use Rattle.check_nested.proofs.ListLaws.{exit_at, behind_exit}
+use Rattle.check_nested.proofs.phrases.NestedChecker.exits.Given as goal
 
 abbrev pub invariant-loop-one : goal.invariant-loop-one
 invariant-loop-one g l = record {

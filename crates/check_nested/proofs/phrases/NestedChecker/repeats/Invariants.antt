@@ -2,10 +2,10 @@ use Rattle.std.proofs.Common.{◌≡◌, ℕ, List, [], false, drop}
 use Rattle.std.specs.Prelude.{is_some}
 use Rattle.check_words.specs.Views as view
 use Rattle.check_declared.specs.Naming.{HasNames}
-use Rattle.check_statements.specs.Views.{no_more, onto}
-use Rattle.check_statements.proofs.Chaining.{behind, chained}
-use Rattle.check_statements.proofs.ListLaws.{before, behind_repeat, repeat_at}
-use Rattle.check_statements.proofs.checker.StatementChecker.repeats.Given as goal
+use Rattle.check_nested.specs.Views.{no_more, onto}
+use Rattle.check_nested.proofs.Chaining.{behind, chained}
+use Rattle.check_nested.proofs.ListLaws.{before, behind_repeat, repeat_at}
+use Rattle.check_nested.proofs.phrases.NestedChecker.repeats.Given as goal
 
 abbrev pub invariant-loop-one : goal.invariant-loop-one
 invariant-loop-one g l = record {

@@ -9,11 +9,11 @@ ghost use Rattle.checking_rules.specs.Steps.{◌>>=◌, pure};
 ghost use Rattle.check_words.specs.Gives.{Gives};
 ghost use Rattle.check_words.specs.Views as view;
 ghost use Rattle.check_declared.specs.Naming.{HasNames};
-ghost use Rattle.check_statements.specs.Turns as turns;
-ghost use Rattle.check_statements.specs.Views as views;
+ghost use Rattle.check_nested.specs.Turns as turns;
+ghost use Rattle.check_nested.specs.Views as views;
 
-use crate::checker::StatementChecker;
 use crate::nesting::Nested;
+use crate::phrases::NestedChecker;
 use check_declared::{different, new_labels, numbers_from};
 use check_jumps::names_of;
 use check_scopes::Names;
@@ -92,7 +92,7 @@ fn also_left(
     }
 }
 
-impl<N: Nested> StatementChecker<N> {
+impl<N: Nested> NestedChecker<N> {
     /// The statements of an EXITS, whose first label has the number of those around it.
     pub fn exits(
         &self,
@@ -100,14 +100,14 @@ impl<N: Nested> StatementChecker<N> {
         around: &Around<'_>,
         state: &mut State,
     ) -> Result<Exits, CheckFault>
-        requires { N.ask self.now.expressions.phrases.nested }
+        requires { N.ask self.now.nested }
         ensures { Gives views.exits (spec.exits (view.around around.now) (view.around around.now).labelled [] (plain.exits all.now) (view.state state.old)) result (view.state state.new) }
     {
         let mut taken = Taken {
-            names: Names::new(self.alloc()),
+            names: Names::new(self.alloc),
             next: around.labelled,
         };
-        let mut done = List::new(self.alloc());
+        let mut done = List::new(self.alloc);
         for one in all {
             let (held, exit) = both(done, self.exit(one, around, state, &mut taken))?;
             done = pushed(held, exit)?;
@@ -124,16 +124,16 @@ impl<N: Nested> StatementChecker<N> {
         state: &mut State,
         taken: &mut Taken,
     ) -> Result<Exit, CheckFault>
-        requires { N.ask self.now.expressions.phrases.nested }
+        requires { N.ask self.now.nested }
         ensures outcome { (before : List (List ℕ)) → HasNames taken.old.names before
             → Gives tree.exit (turns.one_exit (view.around around.now) taken.old.next before one.now (view.state state.old)) result (view.state state.new) }
         ensures names { OnOk result ((before : List (List ℕ)) → HasNames taken.old.names before → HasNames taken.new.names (before ++ names_of one.now.labels)) }
         ensures next { OnOk result (taken.new.next ≡ taken.old.next + length one.now.labels) }
     {
         let names = one.labels.as_slice();
-        different(names, self.alloc(), &mut taken.names)?;
-        let body = self.nested(&one.item, around, state)?;
-        let (body, labels) = both(body, numbers_from(names, self.alloc(), taken.next))?;
+        different(names, self.alloc, &mut taken.names)?;
+        let body = self.nested.statement(&one.item, around, state)?;
+        let (body, labels) = both(body, numbers_from(names, self.alloc, taken.next))?;
         let (body, next) = both(body, number_behind(taken.next, names))?;
         taken.next = next;
         Ok(Exit { labels, body })
@@ -146,15 +146,15 @@ impl<N: Nested> StatementChecker<N> {
         around: &Around<'_>,
         state: &mut State,
     ) -> Result<Left, CheckFault>
-        requires { N.ask self.now.expressions.phrases.nested }
+        requires { N.ask self.now.nested }
         ensures { Gives views.left (spec.repeats (view.around around.now) (view.around around.now).labelled [] false (plain.repeats all.now) (view.state state.old)) result (view.state state.new) }
     {
         let mut taken = Taken {
-            names: Names::new(self.alloc()),
+            names: Names::new(self.alloc),
             next: around.labelled,
         };
         let mut done = Left {
-            exits: List::new(self.alloc()),
+            exits: List::new(self.alloc),
             finished: None,
         };
         for one in all {
@@ -173,10 +173,10 @@ impl<N: Nested> StatementChecker<N> {
         taken: &mut Taken,
         done: Left,
     ) -> Result<Left, CheckFault>
-        requires { N.ask self.now.expressions.phrases.nested }
+        requires { N.ask self.now.nested }
         ensures outcome { (before : List (List ℕ)) → HasNames taken.old.names before
             → Gives views.onto ((turns.one_repeat (view.around around.now) taken.old.next before (is_some done.finished) one.now
-                >>= (λ put. pure (λ later. views.onto done (put later)))) (view.state state.old)) result (view.state state.new) }
+            >>= (λ put. pure (λ later. views.onto done (put later)))) (view.state state.old)) result (view.state state.new) }
         ensures names { OnOk result ((before : List (List ℕ)) → HasNames taken.old.names before → HasNames taken.new.names (before ++ names_of (rule.labels_of one.now.labels))) }
         ensures next { OnOk result (taken.new.next ≡ taken.old.next + length (rule.labels_of one.now.labels)) }
         ensures finished { IfOk result (λ more. is_some more.finished ≡ (is_some done.finished || rule.is_finished one.now.labels)) }
@@ -184,13 +184,13 @@ impl<N: Nested> StatementChecker<N> {
         let is_finished = done.finished.is_some();
         let (done, _) = both(
             done,
-            new_labels(&one.labels, self.alloc(), &mut taken.names, is_finished),
+            new_labels(&one.labels, self.alloc, &mut taken.names, is_finished),
         )?;
-        let (done, body) = both(done, self.nested(&one.item, around, state))?;
+        let (done, body) = both(done, self.nested.statement(&one.item, around, state))?;
         let first = taken.next;
         let (held, next) = both((done, body), number_behind(first, names_of(&one.labels)))?;
         taken.next = next;
         let (done, body) = held;
-        Ok(also_left(done, self.alloc(), &one.labels, first, body)?)
+        Ok(also_left(done, self.alloc, &one.labels, first, body)?)
     }
 }

@@ -5,8 +5,8 @@ ghost use Rattle.checking_rules.specs.Checking as spec;
 ghost use Rattle.checking_rules.specs.Steps.{in_scope};
 ghost use Rattle.check_words.specs.Gives.{Gives};
 ghost use Rattle.check_words.specs.Views as view;
-ghost use Rattle.check_statements.specs.Turns as turns;
-ghost use Rattle.check_statements.specs.Views as views;
+ghost use Rattle.check_nested.specs.Turns as turns;
+ghost use Rattle.check_nested.specs.Views as views;
 
 use crate::nesting::Nested;
 use check_expressions::Phrases;
@@ -20,14 +20,14 @@ use mesa_types::syntax::{self, Statement};
 use mesa_types::{Arm, Arms, Phrase, TypedStmt};
 use std::alloc::Global;
 
-/// What checks catch phrases, over what checks the statements in their arms.
+/// What checks lists of statements, over what checks one of them.
 #[derive(Clone, Copy)]
-pub struct PhraseChecker<N> {
+pub struct NestedChecker<N> {
     pub alloc: Global,
     pub nested: N,
 }
 
-impl<N: Nested> Phrases for PhraseChecker<N> {
+impl<N: Nested> Phrases for NestedChecker<N> {
     ghost ask = { λ p. N.ask p.nested };
 
     fn phrase(
@@ -46,7 +46,7 @@ impl<N: Nested> Phrases for PhraseChecker<N> {
     }
 }
 
-impl<N: Nested> PhraseChecker<N> {
+impl<N: Nested> NestedChecker<N> {
     /// The arms of a phrase.
     fn arms(
         &self,

@@ -2,10 +2,10 @@ use Rattle.std.proofs.Common.{◌≡◌, drop}
 use Rattle.mesa_types.specs.Typed as t
 use Rattle.checking_rules.specs.Parts.{join_stmts}
 use Rattle.check_words.specs.Views as view
-use Rattle.check_statements.specs.Views.{stmts}
-use Rattle.check_statements.proofs.Chaining.{behind, chained}
-use Rattle.check_statements.proofs.ListLaws.{always, one_statement, stays}
-use Rattle.check_statements.proofs.checker.StatementChecker.statements_behind.Given as goal
+use Rattle.check_nested.specs.Views.{stmts}
+use Rattle.check_nested.proofs.Chaining.{behind, chained}
+use Rattle.check_nested.proofs.ListLaws.{always, one_statement, stays}
+use Rattle.check_nested.proofs.phrases.NestedChecker.statements_behind.Given as goal
 
 abbrev pub invariant-loop-one : goal.invariant-loop-one
 invariant-loop-one g l =
