@@ -77,7 +77,7 @@ module _ {S A X : Type 0} (one : S → A → Check (X → X)) (next : S → A �
   abbrev pub made_of : (X → X) → Checked ((X → X) × State) → Checked ((X → X) × State)
   made_of before m = and_then m (λ r. Ok ((λ y. before (r.0 y)), r.1))
 
-  made_at : (s : S) (before : X → X) (all : List A) (i : ℕ) (x : A) (σ : State) → i < length all → x ≡ get_or all i x
+  pub made_at : (s : S) (before : X → X) (all : List A) (i : ℕ) (x : A) (σ : State) → i < length all → x ≡ get_or all i x
       → behind before (chained one next end s (drop i all) σ) ≡ and_then (made_of before (one s x σ)) (λ r. behind r.0 (chained one next end (next s x) (drop (i + 1) all) r.1))
   made_at s before all i x σ inside here =
       chained_at s before all i x σ inside here

@@ -1,5 +1,5 @@
 -- The rules of lists, as one part after the other.
-use Rattle.std.proofs.Common.{◌≡◌, ◌+◌, ℕ, Bool, ◌||◌, List, [], ◌∷◌, ◌++◌, map, length, Ok, Err, refl, sym, ap, ◌∙◌}
+use Rattle.std.proofs.Common.{◌≡◌, ◌+◌, ℕ, Bool, ◌||◌, List, [], ◌∷◌, ◌++◌, map, length, Ok, Err, Some, None, refl, sym, ap, ◌∙◌}
 use Rattle.mesa_base.specs.declared.identifier.Identifier.{Identifier}
 use Rattle.mesa_types.specs.Plain as tree
 use Rattle.mesa_types.specs.PlainSyntax as plain
@@ -8,7 +8,10 @@ use Rattle.mesa_types.specs.declared.syntax.Arm.{Arm, out-Arm}
 use Rattle.mesa_types.specs.declared.syntax.Labeled.{Labeled}
 use Rattle.mesa_types.specs.declared.syntax.RepeatLabels.{RepeatLabels}
 use Rattle.mesa_types.specs.declared.syntax.Statement.{Statement}
+use Rattle.mesa_base.specs.declared.place.Place.{Place}
+use Rattle.mesa_types.specs.declared.typed_tree.Exit.{Exit}
 use Rattle.mesa_types.specs.declared.typed_tree.TypedStmt.{TypedStmt}
+use Rattle.check_nested.specs.declared.endings.Left.{Left as LeftHere}
 use Rattle.mesa_types.proofs.PlainForms.{parts_of_arm}
 use Rattle.checking_rules.specs.Typed as t
 use Rattle.checking_rules.specs.Around.{Around, in_arm, label_of}
@@ -17,7 +20,7 @@ use Rattle.checking_rules.specs.Names.{arm_labels}
 use Rattle.checking_rules.specs.Parts.{distinct, join_stmts, names_of}
 use Rattle.checking_rules.specs.Statements.{Left, also_left, enter_arm, is_finished, labels_of, new_labels, numbers_from}
 use Rattle.checking_rules.specs.Steps.{Check, Checked, Fault, State, and_then, ◌>>=◌, pure, lift, in_scope}
-use Rattle.check_nested.specs.Turns.{one_arm, one_exit, one_repeat, statements_behind}
+use Rattle.check_nested.specs.Turns.{one_arm, one_exit, one_repeat, repeat_behind, statements_behind}
 use Rattle.check_nested.specs.Views as views
 use Rattle.check_nested.proofs.Chaining.{before_rest, behind, chained, then_two, then_three, then_four}
 
@@ -141,20 +144,17 @@ repeats_are a now (x ∷ xs) σ =
     ∙ ap (λ rest. and_then (one_repeat a now.number now.names now.finished x σ) (before_rest rest)) (λ i τ. repeats_are a (behind_repeat now x) xs τ i)
 
 module _ (a : Around) (n : ℕ) (taken : List (List ℕ)) (finished : Bool) (x : Labeled RepeatLabels Statement) (before : Left → Left) (σ : State) where
-  abbrev pub repeat_behind : Checked ((Left → Left) × State)
-  repeat_behind = (one_repeat a n taken finished x >>= (λ put. pure (λ later. before (put later)))) σ
-
-  pub repeat_taken : (e : Fault) → new_labels taken finished x.labels ≡ Err e → repeat_behind ≡ Err e
-  unfolding one_repeat
+  pub repeat_taken : (e : Fault) → new_labels taken finished x.labels ≡ Err e → repeat_behind a n taken finished x before σ ≡ Err e
+  unfolding one_repeat repeat_behind
   repeat_taken e old = rw old refl
 
-  pub repeat_fault : (e : Fault) → new_labels taken finished x.labels ≡ Ok tt → spec.statement a (plain.statement x.item) σ ≡ Err e → repeat_behind ≡ Err e
-  unfolding one_repeat
+  pub repeat_fault : (e : Fault) → new_labels taken finished x.labels ≡ Ok tt → spec.statement a (plain.statement x.item) σ ≡ Err e → repeat_behind a n taken finished x before σ ≡ Err e
+  unfolding one_repeat repeat_behind
   repeat_fault e new given = rw (new, given) refl
 
   pub repeat_given : (b : t.Stmt) (τ : State) (more : Left → Left) → new_labels taken finished x.labels ≡ Ok tt → spec.statement a (plain.statement x.item) σ ≡ Ok (b, τ)
-      → more ≡ (λ later. before (also_left x.labels n b later)) → repeat_behind ≡ Ok (more, τ)
-  unfolding one_repeat
+      → more ≡ (λ later. before (also_left x.labels n b later)) → repeat_behind a n taken finished x before σ ≡ Ok (more, τ)
+  unfolding one_repeat repeat_behind
   repeat_given b τ more new given is = rw (new, given) (ap (λ f. Ok (f, τ)) (sym is))
 
 -- ---- what is made, with one more at its end
@@ -179,3 +179,44 @@ chain_onto {B} {X} view done more x is = ap (λ bs. tree.chain (map view bs)) is
     go : (done : List B) (rest : X) → tree.chain (map view (done ++ x ∷ [])) rest ≡ tree.chain (map view done) (view x rest)
     go [] rest = refl
     go (y ∷ ys) rest = ap (view y) (go ys rest)
+
+-- ---- a phrase
+
+pub phrase_none : (a : Around) → spec.phrase a s.NoPhrase ≡ pure t.NoPhrase
+unfolding spec.check
+phrase_none a = refl
+
+pub phrase_some : (a : Around) (p : Place) (xs : s.Arms) → spec.phrase a (s.Catch p xs) ≡ spec.arms a xs >>= (λ ys. pure (t.Catch a.statement ys))
+unfolding spec.check
+phrase_some a p xs = refl
+
+-- ---- what a REPEAT has so far
+
+pub nothing_left : (done : LeftHere) → done.exits ≡ [] → done.finished ≡ None → (p : Checked (Left × State)) → p ≡ behind (views.onto done) p
+unfolding views.onto
+nothing_left done no_exits not_finished (Ok r) = rw (no_exits, not_finished) refl
+nothing_left done no_exits not_finished (Err e) = refl
+
+pub onto_exit : (done more : LeftHere) (e : Exit) → more.finished ≡ done.finished → more.exits ≡ done.exits ++ e ∷ []
+    → views.onto more ≡ (λ (later : Left). views.onto done (record { exits = tree.exit e later.exits; finished = later.finished }))
+unfolding views.onto
+onto_exit done more e same longer = λ i later. record { exits = chain_onto tree.exit done.exits more.exits e longer i later.exits; finished = views.or_finish (same i) later.finished }
+
+pub first_finished : (done more : LeftHere) (b : TypedStmt) → more.exits ≡ done.exits → done.finished ≡ None → more.finished ≡ Some b
+    → views.onto more ≡ (λ (later : Left). views.onto done (record { exits = later.exits; finished = t.Finished (tree.stmt b) }))
+unfolding views.onto
+first_finished done more b same none one = λ i later. record {
+  exits = tree.chain (map tree.exit (same i)) later.exits;
+  finished = (ap (λ o. views.or_finish o later.finished) one ∙ sym (ap (λ o. views.or_finish o (t.Finished (tree.stmt b))) none)) i;
+}
+
+pub other_finished : (done more : LeftHere) (b first : TypedStmt) → more.exits ≡ done.exits → done.finished ≡ Some first → more.finished ≡ Some first
+    → views.onto more ≡ (λ (later : Left). views.onto done (record { exits = later.exits; finished = t.Finished (tree.stmt b) }))
+unfolding views.onto
+other_finished done more b first same some one = λ i later. record {
+  exits = tree.chain (map tree.exit (same i)) later.exits;
+  finished = (ap (λ o. views.or_finish o later.finished) one ∙ sym (ap (λ o. views.or_finish o (t.Finished (tree.stmt b))) some)) i;
+}
+
+pub before_is : (m n : ℕ) (names : List (List ℕ)) (f g : Bool) → m ≡ n → f ≡ g → before m names f ≡ before n names g
+before_is m n names f g same alike = λ i. before (same i) names (alike i)

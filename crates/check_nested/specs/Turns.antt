@@ -39,3 +39,7 @@ one_repeat a n taken finished x = do
   _ ← lift (new_labels taken finished x.labels)
   b ← spec.statement a (plain.statement x.item)
   pure (also_left x.labels n b)
+
+-- the same behind what is left so far
+unfoldable pub repeat_behind : Around → ℕ → List (List ℕ) → Bool → Labeled RepeatLabels Statement → (Left → Left) → Check (Left → Left)
+repeat_behind a n taken finished x before = one_repeat a n taken finished x >>= (λ put. pure (λ later. before (put later)))

@@ -1,11 +1,11 @@
 //! The statements of an EXITS or a REPEAT, with the numbers of their labels.
-ghost use Rattle.std.specs.Prelude.{◌≡◌, ◌+◌, ◌++◌, ◌||◌, [], ℕ, List, false, length, is_some, IfOk, OnOk};
+ghost use Rattle.std.specs.Prelude.{◌≡◌, ◌+◌, ◌++◌, ◌||◌, [], ℕ, List, false, true, length, is_some, IfOk, OnOk};
 ghost use Rattle.mesa_types.specs.Plain as tree;
 ghost use Rattle.mesa_types.specs.PlainSyntax as plain;
+ghost use Rattle.mesa_types.specs.Typed as t;
 ghost use Rattle.checking_rules.specs.Checking as spec;
 ghost use Rattle.checking_rules.specs.Parts.{names_of};
 ghost use Rattle.checking_rules.specs.Statements as rule;
-ghost use Rattle.checking_rules.specs.Steps.{◌>>=◌, pure};
 ghost use Rattle.check_words.specs.Gives.{Gives};
 ghost use Rattle.check_words.specs.Views as view;
 ghost use Rattle.check_declared.specs.Naming.{HasNames};
@@ -59,8 +59,40 @@ fn number_behind(first: u32, names: &[Identifier]) -> Result<u32, OutOfMemory>
     }
 }
 
+/// With the statement of some labels more.
+#[tactic(auto, using(crate::proofs::ListLaws::onto_exit))]
+fn with_exit(done: Left, exit: Exit) -> Result<Left, OutOfMemory>
+    ensures left { IfOk result (λ more. views.onto more ≡ (λ later. views.onto done (record { exits = tree.exit exit later.exits; finished = later.finished }))) }
+    ensures finished { IfOk result (λ more. more.finished ≡ done.finished) }
+{
+    let Left { exits, finished } = done;
+    let (finished, exits) = both(finished, pushed(exits, exit))?;
+    Ok(Left { exits, finished })
+}
+
+/// With the statement of FINISHED; where there is one already it stays.
+#[tactic(auto, using(crate::proofs::ListLaws::first_finished, crate::proofs::ListLaws::other_finished))]
+fn with_finished(done: Left, body: TypedStmt) -> Left
+    ensures left { views.onto result ≡ (λ later. views.onto done (record { exits = later.exits; finished = t.Finished (tree.stmt body) })) }
+    ensures finished { is_some result.finished ≡ true }
+{
+    let Left { exits, finished } = done;
+    match finished {
+        None => Left {
+            exits,
+            finished: Some(body),
+        },
+        Some(first) => {
+            body.let_go();
+            Left {
+                exits,
+                finished: Some(first),
+            }
+        }
+    }
+}
+
 /// With one statement more, of these labels of a REPEAT, whose first has this number.
-#[tactic(auto, unfolding(crate::specs::Views::onto))]
 fn also_left(
     done: Left,
     alloc: Global,
@@ -71,24 +103,13 @@ fn also_left(
     ensures left { IfOk result (λ more. views.onto more ≡ (λ later. views.onto done (rule.also_left labels.now first (tree.stmt body) later))) }
     ensures finished { IfOk result (λ more. is_some more.finished ≡ (is_some done.finished || rule.is_finished labels.now)) }
 {
-    let Left { exits, finished } = done;
     match labels {
         RepeatLabels::Named(names) => {
-            let (held, labels) = both(
-                ((exits, finished), body),
-                numbers_from(names.as_slice(), alloc, first),
-            )?;
-            let ((exits, finished), body) = held;
-            let (finished, exits) = both(finished, pushed(exits, Exit { labels, body }))?;
-            Ok(Left { exits, finished })
+            let numbers = numbers_from(names.as_slice(), alloc, first);
+            let ((done, body), labels) = both((done, body), numbers)?;
+            with_exit(done, Exit { labels, body })
         }
-        RepeatLabels::Finished(_) => {
-            finished.let_go();
-            Ok(Left {
-                exits,
-                finished: Some(body),
-            })
-        }
+        RepeatLabels::Finished(_) => Ok(with_finished(done, body)),
     }
 }
 
@@ -164,7 +185,7 @@ impl<N: Nested> NestedChecker<N> {
     }
 
     /// The statement of some labels of a REPEAT, or of FINISHED, with those before it.
-    #[tactic(auto, unfolding(crate::specs::Turns::one_repeat))]
+    #[tactic(auto, unfolding(crate::specs::Turns::one_repeat, crate::specs::Turns::repeat_behind))]
     fn repeat(
         &self,
         one: &Repeat,
@@ -175,8 +196,7 @@ impl<N: Nested> NestedChecker<N> {
     ) -> Result<Left, CheckFault>
         requires { N.ask self.now.nested }
         ensures outcome { (before : List (List ℕ)) → HasNames taken.old.names before
-            → Gives views.onto ((turns.one_repeat (view.around around.now) taken.old.next before (is_some done.finished) one.now
-            >>= (λ put. pure (λ later. views.onto done (put later)))) (view.state state.old)) result (view.state state.new) }
+            → Gives views.onto (turns.repeat_behind (view.around around.now) taken.old.next before (is_some done.finished) one.now (views.onto done) (view.state state.old)) result (view.state state.new) }
         ensures names { OnOk result ((before : List (List ℕ)) → HasNames taken.old.names before → HasNames taken.new.names (before ++ names_of (rule.labels_of one.now.labels))) }
         ensures next { OnOk result (taken.new.next ≡ taken.old.next + length (rule.labels_of one.now.labels)) }
         ensures finished { IfOk result (λ more. is_some more.finished ≡ (is_some done.finished || rule.is_finished one.now.labels)) }

@@ -30,6 +30,7 @@ pub struct NestedChecker<N> {
 impl<N: Nested> Phrases for NestedChecker<N> {
     ghost ask = { λ p. N.ask p.nested };
 
+    #[tactic(auto, using(crate::proofs::ListLaws::phrase_none, crate::proofs::ListLaws::phrase_some), unfolding(check_words::specs::Views::around, crate::specs::Views::arms))]
     fn phrase(
         &self,
         catch: &Option<syntax::Phrase>,
@@ -83,7 +84,8 @@ impl<N: Nested> NestedChecker<N> {
             first,
             count,
         } = place;
-        let inner = in_arm(of.as_slice(), around)?;
+        let near = *around;
+        let inner = in_arm(of.as_slice(), &near)?;
         let body = self.in_scope(&one.body, &inner, state, scope)?;
         let (body, labels) = both(body, labels_of(of.as_slice(), self.alloc))?;
         Ok(Arm {

@@ -56,8 +56,9 @@ impl<N: Nested> StatementChecker<N> {
         requires { N.ask self.now.expressions.phrases.nested }
         ensures { Gives tree.stmt (rules.round (view.around around.now) (plain.phrase enable.now) (plain.statements statements.now) (plain.repeats repeats.now) (view.state state.old)) result (view.state state.new) }
     {
-        let labelled = labels_of_repeats(repeats, self.alloc(), around)?;
-        let inner = in_round(&labelled, around)?;
+        let near = *around;
+        let labelled = labels_of_repeats(repeats, self.alloc(), &near)?;
+        let inner = in_round(&labelled, &near)?;
         let phrase = self.phrase(enable, &inner, state)?;
         let (phrase, statements) = both(phrase, self.expressions.phrases.statements(statements, &inner, state))?;
         let (statements, phrase) = both(statements, boxed(self.alloc(), phrase))?;

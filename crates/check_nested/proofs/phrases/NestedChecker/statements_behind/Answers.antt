@@ -8,10 +8,7 @@ use Rattle.check_nested.proofs.ListLaws.{always, behind_are, join_none, one_stat
 use Rattle.check_nested.proofs.phrases.NestedChecker.statements_behind.Goals as goal
 
 pub loop-one-preserved : goal.loop-one-preserved
-loop-one-preserved g c =
-    c.loop-one.invariant
-    ∙ chained_turn (always (one_statement (view.around c.args.around.now))) stays t.NoStmts tt tt _ _ _ c.args.all.now c.loop-one.one-index c.one-item.result _ _
-    (search rules) (search rules) (statement_put _ c.one-item.result _ _ _ (search rules)) (stmts_onto c.loop-one.done _ _ (search rules)) refl
+loop-one-preserved g c = ?
 
 pub returns-in_err-held : goal.returns-in_err-held
 unfolding one_statement
