@@ -71,7 +71,6 @@ fn with_exit(done: Left, exit: Exit) -> Result<Left, OutOfMemory>
 }
 
 /// With the statement of FINISHED; where there is one already it stays.
-#[tactic(auto, using(crate::proofs::ListLaws::first_finished, crate::proofs::ListLaws::other_finished))]
 fn with_finished(done: Left, body: TypedStmt) -> Left
     ensures left { views.onto result ≡ (λ later. views.onto done (record { exits = later.exits; finished = t.Finished (tree.stmt body) })) }
     ensures finished { is_some result.finished ≡ true }

@@ -1,6 +1,8 @@
 //! Catch phrases and their arms.
+ghost use Rattle.std.specs.Prelude.{◌≡◌};
 ghost use Rattle.mesa_types.specs.Plain as tree;
 ghost use Rattle.mesa_types.specs.PlainSyntax as plain;
+ghost use Rattle.mesa_types.specs.Typed as t;
 ghost use Rattle.checking_rules.specs.Checking as spec;
 ghost use Rattle.checking_rules.specs.Steps.{in_scope};
 ghost use Rattle.check_words.specs.Gives.{Gives};
@@ -27,10 +29,24 @@ pub struct NestedChecker<N> {
     pub nested: N,
 }
 
+fn no_phrase() -> Phrase
+    ensures { tree.phrase result ≡ t.NoPhrase }
+{
+    Phrase::NoPhrase
+}
+
+/// The arms of the phrase of this statement.
+#[tactic(auto, unfolding(crate::specs::Views::arms))]
+fn caught(statement: u32, arms: Arms) -> Phrase
+    ensures { tree.phrase result ≡ t.Catch statement (views.arms arms) }
+{
+    Phrase::Catch(statement, arms)
+}
+
 impl<N: Nested> Phrases for NestedChecker<N> {
     ghost ask = { λ p. N.ask p.nested };
 
-    #[tactic(auto, using(crate::proofs::ListLaws::phrase_none, crate::proofs::ListLaws::phrase_some), unfolding(check_words::specs::Views::around, crate::specs::Views::arms))]
+    #[tactic(auto, using(crate::proofs::ListLaws::phrase_none, crate::proofs::ListLaws::phrase_some), unfolding(check_words::specs::Views::around))]
     fn phrase(
         &self,
         catch: &Option<syntax::Phrase>,
@@ -38,10 +54,10 @@ impl<N: Nested> Phrases for NestedChecker<N> {
         state: &mut State,
     ) -> Result<Phrase, CheckFault> {
         match catch {
-            None => Ok(Phrase::NoPhrase),
+            None => Ok(no_phrase()),
             Some(found) => {
                 let arms = self.arms(found.item.as_slice(), around, state)?;
-                Ok(Phrase::Catch(around.statement, arms))
+                Ok(caught(around.statement, arms))
             }
         }
     }

@@ -12,20 +12,20 @@ pub loop-one-preserved : goal.loop-one-preserved
 loop-one-preserved g c =
     c.loop-one.invariant
     ∙ chained_turn (always (one_arm (view.around c.args.around.now))) stays t.NoArms tt tt (tree.chain (map tree.arm c.loop-one.done)) (tree.chain (map tree.arm c.in_ok-done.done)) (tree.arm c.in_ok-held.arm)
-      c.args.all.now c.loop-one.one-index c.one-item.result (view.state c.loop-one.state) (view.state c.arm.new.state)
-      (search rules) (search rules) (search rules) (chain_onto tree.arm c.loop-one.done c.in_ok-done.done c.in_ok-held.arm (search rules)) refl
+    c.args.all.now c.loop-one.one-index c.one-item.result (view.state c.loop-one.state) (view.state c.arm.new.state)
+    (search rules) (search rules) (search rules) (chain_onto tree.arm c.loop-one.done c.in_ok-done.done c.in_ok-held.arm (search rules)) refl
 
 pub returns-in_err-held : goal.returns-in_err-held
 returns-in_err-held g c =
     rw (arms_are (view.around c.args.around.now) c.args.all.now (view.state c.args.state.now)) (
-      rw c.loop-one.invariant (
-        rw (chained_at (always (one_arm (view.around c.args.around.now))) stays t.NoArms tt (tree.chain (map tree.arm c.loop-one.done)) c.args.all.now c.loop-one.one-index c.one-item.result (view.state c.loop-one.state) (search rules) (search rules))
-        (search rules)))
+    rw c.loop-one.invariant (
+    rw (chained_at (always (one_arm (view.around c.args.around.now))) stays t.NoArms tt (tree.chain (map tree.arm c.loop-one.done)) c.args.all.now c.loop-one.one-index c.one-item.result (view.state c.loop-one.state) (search rules) (search rules))
+    (search rules)))
 
 pub returns : goal.returns
 unfolding views.arms
 returns g c =
     rw (arms_are (view.around c.args.around.now) c.args.all.now (view.state c.args.state.now)) (
-      rw c.loop-one.invariant (
-        rw (chained_end (always (one_arm (view.around c.args.around.now))) stays t.NoArms tt (tree.chain (map tree.arm c.loop-one.done)) c.args.all.now c.loop-one.one-index (view.state c.loop-one.state) (search rules))
-        (search rules)))
+    rw c.loop-one.invariant (
+    rw (chained_end (always (one_arm (view.around c.args.around.now))) stays t.NoArms tt (tree.chain (map tree.arm c.loop-one.done)) c.args.all.now c.loop-one.one-index (view.state c.loop-one.state) (search rules))
+    (search rules)))

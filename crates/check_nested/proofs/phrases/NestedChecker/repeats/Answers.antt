@@ -23,11 +23,11 @@ loop-one-preserved g c =
       knows = on_ok c.repeat.result c.in_ok-done.done c.repeat.ensures.names (search rules) now.names now.knows;
       so = now.so
           ∙ made_turn (repeat_at (view.around c.args.around.now)) behind_repeat views.no_more (before c.loop-one.taken.next now.names (is_some c.loop-one.done.finished))
-            (before c.repeat.new.taken.next (now.names ++ names_of (labels_of c.one-item.result.labels)) (is_some c.in_ok-done.done.finished))
-            (views.onto c.loop-one.done) (views.onto c.in_ok-done.done)
-            c.args.all.now c.loop-one.one-index c.one-item.result (view.state c.loop-one.state) (view.state c.repeat.new.state)
-            (search rules) (search rules) (given views.onto _ c.repeat.result (view.state c.repeat.new.state) c.in_ok-done.done (c.repeat.ensures.outcome now.names now.knows) (search rules))
-            (before_is _ _ _ _ _ (on_ok c.repeat.result c.in_ok-done.done c.repeat.ensures.next (search rules)) (if_ok _ c.repeat.result c.in_ok-done.done c.repeat.ensures.finished (search rules)));
+          (before c.repeat.new.taken.next (now.names ++ names_of (labels_of c.one-item.result.labels)) (is_some c.in_ok-done.done.finished))
+          (views.onto c.loop-one.done) (views.onto c.in_ok-done.done)
+          c.args.all.now c.loop-one.one-index c.one-item.result (view.state c.loop-one.state) (view.state c.repeat.new.state)
+          (search rules) (search rules) (given views.onto _ c.repeat.result (view.state c.repeat.new.state) c.in_ok-done.done (c.repeat.ensures.outcome now.names now.knows) (search rules))
+          (before_is _ _ _ _ _ (on_ok c.repeat.result c.in_ok-done.done c.repeat.ensures.next (search rules)) (if_ok _ c.repeat.result c.in_ok-done.done c.repeat.ensures.finished (search rules)));
     }
 
 pub returns-in_err-done : goal.returns-in_err-done
@@ -36,14 +36,14 @@ returns-in_err-done g c =
     let now = c.loop-one.invariant in
     let told = c.repeat.ensures.outcome now.names now.knows in
     rw (repeats_are (view.around c.args.around.now) (before (view.around c.args.around.now).labelled [] false) c.args.all.now (view.state c.args.state.now)) (
-      rw now.so (
-        rw (made_at (repeat_at (view.around c.args.around.now)) behind_repeat views.no_more (before c.loop-one.taken.next now.names (is_some c.loop-one.done.finished)) (views.onto c.loop-one.done) c.args.all.now c.loop-one.one-index c.one-item.result (view.state c.loop-one.state) (search rules) (search rules))
-        (search (rules, told))))
+    rw now.so (
+    rw (made_at (repeat_at (view.around c.args.around.now)) behind_repeat views.no_more (before c.loop-one.taken.next now.names (is_some c.loop-one.done.finished)) (views.onto c.loop-one.done) c.args.all.now c.loop-one.one-index c.one-item.result (view.state c.loop-one.state) (search rules) (search rules))
+    (search (rules, told))))
 
 pub returns : goal.returns
 returns g c =
     let now = c.loop-one.invariant in
     rw (repeats_are (view.around c.args.around.now) (before (view.around c.args.around.now).labelled [] false) c.args.all.now (view.state c.args.state.now)) (
-      rw now.so (
-        rw (chained_end (repeat_at (view.around c.args.around.now)) behind_repeat views.no_more (before c.loop-one.taken.next now.names (is_some c.loop-one.done.finished)) (views.onto c.loop-one.done) c.args.all.now c.loop-one.one-index (view.state c.loop-one.state) (search rules))
-        (search rules)))
+    rw now.so (
+    rw (chained_end (repeat_at (view.around c.args.around.now)) behind_repeat views.no_more (before c.loop-one.taken.next now.names (is_some c.loop-one.done.finished)) (views.onto c.loop-one.done) c.args.all.now c.loop-one.one-index (view.state c.loop-one.state) (search rules))
+    (search rules)))

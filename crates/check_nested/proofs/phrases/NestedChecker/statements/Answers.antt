@@ -11,5 +11,5 @@ pub returns : goal.returns
 unfolding views.stmts
 returns g c =
     rw (sym (behind_none (view.around c.args.around.now) (plain.statements c.args.all.now) (view.state c.args.state.now))) (
-      subst (λ xs. Gives views.stmts (turns.statements_behind (view.around c.args.around.now) (views.stmts xs) (plain.statements c.args.all.now) (view.state c.args.state.now)) c.statements_behind.result (view.state c.statements_behind.new.state))
-        c.new.ensures c.statements_behind.ensures)
+    subst (λ xs. Gives views.stmts (turns.statements_behind (view.around c.args.around.now) (views.stmts xs) (plain.statements c.args.all.now) (view.state c.args.state.now)) c.statements_behind.result (view.state c.statements_behind.new.state))
+    c.new.ensures c.statements_behind.ensures)

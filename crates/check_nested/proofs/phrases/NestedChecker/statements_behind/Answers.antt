@@ -12,9 +12,9 @@ pub loop-one-preserved : goal.loop-one-preserved
 loop-one-preserved g c =
     c.loop-one.invariant
     ∙ chained_turn (always (one_statement (view.around c.args.around.now))) stays t.NoStmts tt tt (join_stmts (views.stmts c.loop-one.done)) (join_stmts (views.stmts c.in_ok-done.done)) (t.AndStmt (tree.stmt c.in_ok-held.next))
-      c.args.all.now c.loop-one.one-index c.one-item.result (view.state c.loop-one.state) (view.state c.statement.new.state)
-      (search rules) (search rules) (statement_put (view.around c.args.around.now) c.one-item.result (tree.stmt c.in_ok-held.next) (view.state c.loop-one.state) (view.state c.statement.new.state) (search rules))
-      (stmts_onto c.loop-one.done c.in_ok-done.done c.in_ok-held.next (search rules)) refl
+    c.args.all.now c.loop-one.one-index c.one-item.result (view.state c.loop-one.state) (view.state c.statement.new.state)
+    (search rules) (search rules) (statement_put (view.around c.args.around.now) c.one-item.result (tree.stmt c.in_ok-held.next) (view.state c.loop-one.state) (view.state c.statement.new.state) (search rules))
+    (stmts_onto c.loop-one.done c.in_ok-done.done c.in_ok-held.next (search rules)) refl
 
 pub returns-in_err-held : goal.returns-in_err-held
 unfolding one_statement
