@@ -1,5 +1,5 @@
 -- The rules of lists, as one part after the other.
-use Rattle.std.proofs.Common.{◌≡◌, List, [], ◌∷◌, ◌++◌, map, Ok, Err, refl, sym, ap, ◌∙◌}
+use Rattle.std.proofs.Common.{◌≡◌, ℕ, List, [], ◌∷◌, ◌++◌, append_assoc, drop, map, Ok, Err, refl, sym, ap, ◌∙◌}
 use Rattle.std.proofs.lemmas.List.{map-append}
 use Rattle.mesa_base.specs.declared.identifier.Identifier.{Identifier}
 use Rattle.mesa_types.specs.Plain as tree
@@ -12,12 +12,13 @@ use Rattle.mesa_types.proofs.PlainForms.{parts_of_case}
 use Rattle.checking_rules.specs.Typed as t
 use Rattle.checking_rules.specs.Around.{Around}
 use Rattle.checking_rules.specs.Checking as spec
+use Rattle.checking_rules.specs.Parts.{join_stmts}
 use Rattle.checking_rules.specs.Ranges.{Typed}
 use Rattle.checking_rules.specs.Statements.{Headed}
 use Rattle.checking_rules.specs.Steps.{Check, State, and_then, ◌>>=◌, pure}
 use Rattle.check_locals.specs.Views.{headed}
 use Rattle.check_locals.specs.declared.heads.Headed.{Headed as HeadedHere}
-use Rattle.check_nested.proofs.Chaining.{before_rest, chained, then_two, then_three}
+use Rattle.check_nested.proofs.Chaining.{before_rest, behind, chained, then_two, then_three}
 use Rattle.check_nested.proofs.ListLaws.{always, chain_onto, stays}
 use Rattle.check_statements.specs.Turns.{one_case}
 use Rattle.check_statements.specs.Views as views
@@ -96,3 +97,16 @@ cases_before done rest cs = views.cases done (rest cs)
 pub cases_onto : (done more : List CaseHere) (x : CaseHere) → more ≡ done ++ x ∷ [] → cases_before more ≡ (λ rest. cases_before done (case_put (tree.case x) rest))
 unfolding views.cases
 cases_onto done more x is = λ i rest cs. chain_onto tree.case done more x is i (rest cs)
+
+pub head_given : (a : Around) (x : Labeled (List Identifier) PlainItem) (h : Headed) (σ τ : State) → spec.head a x.labels (plain.plain_item x.item) σ ≡ Ok (h, τ)
+    → one_head a x σ ≡ Ok ((λ hs. h ∷ hs), τ)
+unfolding one_head
+head_given a x h σ τ given = ap (λ m. and_then m (λ r. Ok ((λ hs. r.0 ∷ hs), r.1))) given
+
+pub heads_onto : (done more : List Headed) (h : Headed) → more ≡ done ++ h ∷ [] → (λ (rest : List Headed). more ++ rest) ≡ (λ rest. done ++ h ∷ rest)
+heads_onto done more h is = λ i rest. (ap (λ hs. hs ++ rest) is ∙ append_assoc done (h ∷ []) rest) i
+
+-- where the heads are used up
+pub initials_out : (a : Around) (all : List (Labeled (List Identifier) PlainItem)) (i : ℕ) (done : t.Stmts) (σ : State)
+    → behind (join_stmts done) (chained (one_initial a) other_heads t.NoStmts [] (drop i all) σ) ≡ Ok (join_stmts done t.NoStmts, σ)
+initials_out a all i done σ = ap (behind (join_stmts done)) (no_initials a (drop i all) σ)
