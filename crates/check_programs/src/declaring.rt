@@ -1,0 +1,205 @@
+//! One declaration: its head.
+ghost use Rattle.check_programs.specs.Found.{also};
+ghost use Rattle.check_programs.specs.Steps as step;
+ghost use Rattle.check_programs.specs.Views as view;
+ghost use Rattle.check_words.specs.Gives.{Gives, GivesOnly};
+ghost use Rattle.check_words.specs.Views as words;
+ghost use Rattle.checking_rules.specs.Programs as spec;
+ghost use Rattle.mesa_types.specs.PlainSyntax as plain;
+ghost use Rattle.stand_ins.specs.Views.{heading as plain_heading};
+
+use crate::catches::Catches;
+use crate::found::{Found, Numbers, ProcedureHead, Stated};
+use crate::offers::{procedure_offers, signal_offers};
+use crate::signals::{first_item, renamed_all, settle_signals};
+use check_declared::{few_operands, first_name};
+use check_words::{Around, Meaning, State, fields_size, next};
+use checking_rules::{Cause, CheckFault};
+use mesa_base::limits::SIGNAL_WORDS;
+use mesa_base::{Identifier, Place, Shared};
+use mesa_types::syntax::{Access, Declaration, Declared, FieldList, Head, PlainItem};
+use mesa_types::{Callee, ItemKind};
+use stand_ins::{Checker, Heading, head, heading};
+use std::alloc::Global;
+
+/// A type, variables or a constant.
+#[tactic(auto, using(crate::proofs::FoundLaws::data_more))]
+fn data(
+    one: &Declaration,
+    item: &PlainItem,
+    checker: &Checker<Catches>,
+    around: &Around<'_>,
+    state: &mut State,
+    found: &mut Found,
+) -> Result<(), CheckFault>
+    ensures { Gives (λ _. view.found found.new) (also (view.found found.old) (step.data_declared (words.around around.now) one.now.names (plain.plain_item item.now)) (words.state state.old)) result (words.state state.new) }
+{
+    let headed = head(checker, item, around, state, one.names.as_slice())?;
+    found.heads.push_back(Stated::Data(headed))?;
+    Ok(())
+}
+
+/// A procedure whose head is read, with the words of operands that were counted in it.
+#[tactic(auto, using(crate::proofs::FoundLaws::procedure_more, crate::proofs::FoundLaws::first_is))]
+fn declared_procedure(
+    one: &Declaration,
+    head: Heading,
+    operands: u64,
+    alloc: Global,
+    state: &mut State,
+    number: u32,
+    found: &mut Found,
+) -> Result<(), CheckFault>
+    ensures { Gives (λ _. view.found found.new) (also (view.found found.old) (spec.declared_procedure one.now.names one.now.access number (plain_heading head, operands)) (words.state state.old)) result (words.state state.new) }
+{
+    let Heading {
+        takes,
+        gives,
+        scope,
+    } = head;
+    let names = one.names.as_slice();
+    let item = first_item(names, alloc, ItemKind::Procedure, takes, gives)?;
+    let item = Shared::new(alloc, item)?;
+    let meaning = Meaning::Procedure(Callee::OwnProcedure(number), item.share()?);
+    state.settle(alloc, names, &meaning)?;
+    procedure_offers(names, alloc, one.access, number, &item, &mut found.offers)?;
+    found.procedures = next(found.procedures)?;
+    found.heads.push_back(Stated::Procedure(ProcedureHead {
+        item,
+        scope,
+        operands,
+    }))?;
+    Ok(())
+}
+
+/// A procedure.
+fn procedure(
+    one: &Declaration,
+    head: &Head,
+    checker: &Checker<Catches>,
+    around: &Around<'_>,
+    state: &mut State,
+    number: u32,
+    found: &mut Found,
+) -> Result<(), CheckFault>
+    ensures { Gives (λ _. view.found found.new) (also (view.found found.old) (step.procedure_declared (words.around around.now) number one.now.names one.now.access (plain.head head.now)) (words.state state.old)) result (words.state state.new) }
+{
+    state.announce(checker.alloc, one.names.as_slice())?;
+    let outside = state.count_from(0);
+    let head = heading(&head.takes, &head.gives, checker, around, state)?;
+    let operands = state.count_from(outside);
+    declared_procedure(one, head, operands, checker.alloc, state, number, found)
+}
+
+/// The words of the parameters and results of a signal or an error are limited.
+fn few_signal_words(head: &Heading, place: Place) -> Result<(), CheckFault>
+    ensures { GivesOnly (λ _. tt) (step.few_signal_words (plain_heading head.now) place) result }
+{
+    let takes = fields_size(head.takes.as_slice())?;
+    let gives = fields_size(head.gives.as_slice())?;
+    if u64::from(takes) + u64::from(gives) <= u64::from(SIGNAL_WORDS) {
+        Ok(())
+    } else {
+        Err(CheckFault::At(Cause::FrameTooLarge, place))
+    }
+}
+
+/// Signals or errors whose head is read.
+#[tactic(auto, using(crate::proofs::FoundLaws::signals_more, crate::proofs::FoundLaws::renamed_are))]
+fn declared_signals(
+    one: &Declaration,
+    kind: ItemKind,
+    head: Heading,
+    alloc: Global,
+    state: &mut State,
+    number: u32,
+    found: &mut Found,
+) -> Result<(), CheckFault>
+    ensures { Gives (λ _. view.found found.new) (also (view.found found.old) (spec.declared_signals kind one.now.names one.now.access number (plain_heading head)) (words.state state.old)) result (words.state state.new) }
+{
+    let names = one.names.as_slice();
+    few_signal_words(&head, first_name(names))?;
+    let Heading {
+        takes,
+        gives,
+        scope: _,
+    } = head;
+    let head = first_item(names, alloc, kind, takes, gives)?;
+    let items = renamed_all(names, alloc, &head)?;
+    settle_signals(names, alloc, number, items.as_slice(), state)?;
+    signal_offers(
+        names,
+        alloc,
+        one.access,
+        number,
+        items.as_slice(),
+        &mut found.offers,
+    )?;
+    found.heads.push_back(Stated::Signal)?;
+    found.signals.append(items)?;
+    Ok(())
+}
+
+/// A signal or an error.
+fn signals(
+    one: &Declaration,
+    kind: ItemKind,
+    takes: &Option<FieldList>,
+    gives: &Option<FieldList>,
+    checker: &Checker<Catches>,
+    around: &Around<'_>,
+    state: &mut State,
+    number: u32,
+    found: &mut Found,
+) -> Result<(), CheckFault>
+    ensures { Gives (λ _. view.found found.new) (also (view.found found.old) (step.signals_declared (words.around around.now) number one.now.names one.now.access kind (plain.maybe_fields takes.now) (plain.maybe_fields gives.now)) (words.state state.old)) result (words.state state.new) }
+{
+    let outside = state.count_from(0);
+    state.announce(checker.alloc, one.names.as_slice())?;
+    let head = heading(takes, gives, checker, around, state)?;
+    declared_signals(one, kind, head, checker.alloc, state, number, found)?;
+    let words = state.count_from(outside);
+    few_operands(0, words, first_name(one.names.as_slice()))
+}
+
+/// One declaration, whose procedure or first signal has the number that is next.
+#[tactic(auto, unfolding(checking_rules::specs::Programs::declared))]
+pub fn declaration(
+    one: &Declaration,
+    checker: &Checker<Catches>,
+    around: &Around<'_>,
+    state: &mut State,
+    numbers: Numbers,
+    found: &mut Found,
+) -> Result<(), CheckFault>
+    ensures { Gives (λ _. view.found found.new) (also (view.found found.old) (spec.declaration numbers.procedure numbers.signal (words.around around.now) (plain.declaration one.now)) (words.state state.old)) result (words.state state.new) }
+{
+    match &one.declared {
+        Declared::Data(item) => data(one, item, checker, around, state, found),
+        Declared::Procedure(head, _) => {
+            procedure(one, head, checker, around, state, numbers.procedure, found)
+        }
+        Declared::Signal(head) => signals(
+            one,
+            ItemKind::Signal,
+            &head.takes,
+            &head.gives,
+            checker,
+            around,
+            state,
+            numbers.signal,
+            found,
+        ),
+        Declared::Error(takes) => signals(
+            one,
+            ItemKind::Error,
+            takes,
+            &None,
+            checker,
+            around,
+            state,
+            numbers.signal,
+            found,
+        ),
+    }
+}
