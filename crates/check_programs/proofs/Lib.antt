@@ -1,4 +1,7 @@
 pub mod AgainLaws
+pub mod AgainLoops
+pub mod CodeLoops
+pub mod DeclaredLaws
 pub mod FoundLaws
 pub mod FoundLoops
 pub mod ItemLaws

@@ -32,19 +32,17 @@ mean_at names items i n x h d σ inside here among item =
     ∙ ap (λ is. each_means (x ∷ drop (i + 1) names) (signal_meanings n (map plain_item is)) σ) (drop_more items i d among ∙ ap (λ g. g ∷ drop (i + 1) items) (sym item))
 
 pub mean_out : (names : List Identifier) (items : List Item) (i n : ℕ) (σ : State) → min (length names) (length items) ≤ i → to_mean names items i n σ ≡ σ
+unfolding each_means signal_meanings
 mean_out names items i n σ outside = by_test (nat_le (length names) i) refl
   where
     names_out : length names ≤ i → to_mean names items i n σ ≡ σ
-    unfolding each_means
     names_out h = ap (λ xs. each_means xs (signal_meanings n (map plain_item (drop i items))) σ) (drop_all i names h)
 
     none : (xs : List Identifier) → each_means xs [] σ ≡ σ
-    unfolding each_means
     none [] = refl
     none (x ∷ xs) = refl
 
     items_out : length items ≤ i → to_mean names items i n σ ≡ σ
-    unfolding signal_meanings
     items_out h = ap (λ is. each_means (drop i names) (signal_meanings n (map plain_item is)) σ) (drop_all i items h) ∙ none (drop i names)
 
     by_test : (t : Bool) → t ≡ nat_le (length names) i → to_mean names items i n σ ≡ σ
@@ -66,15 +64,14 @@ offer_at done names items i n x h d inside here among item =
 
 pub offer_out : (done : List Offer) (names : List Identifier) (items : List Item) (i n : ℕ) → min (length names) (length items) ≤ i
     → to_offer done names items i n ≡ done
+unfolding signal_offers
 offer_out done names items i n outside = ap (λ os. done ++ os) (by_test (nat_le (length names) i) refl) ∙ append_nil done
   where
     no_names : (is : List PlainItem) → signal_offers n [] is ≡ []
-    unfolding signal_offers
     no_names [] = refl
     no_names (i ∷ is) = refl
 
     no_items : (xs : List Identifier) → signal_offers n xs [] ≡ []
-    unfolding signal_offers
     no_items [] = refl
     no_items (x ∷ xs) = refl
 

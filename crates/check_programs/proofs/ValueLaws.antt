@@ -1,7 +1,9 @@
 -- What declarations leave, one after the other.
 use Rattle.std.proofs.Common.{◌≡◌, List, [], ◌∷◌, ◌++◌, map, Ok, Err, refl, sym, ap, ◌∙◌, append_assoc}
+use Rattle.std.proofs.lemmas.List.{map-append}
 use Rattle.mesa_types.specs.Plain as tree
 use Rattle.mesa_types.specs.Syntax as s
+use Rattle.mesa_types.specs.declared.typed_tree.TypedProcedure.{TypedProcedure}
 use Rattle.mesa_types.specs.declared.typed_tree.TypedStmt.{TypedStmt}
 use Rattle.checking_rules.specs.Typed as t
 use Rattle.checking_rules.specs.Around.{Around}
@@ -37,11 +39,23 @@ stmts_more (y ∷ xs) x = ap (t.AndStmt (tree.stmt y)) (stmts_more xs x)
 pub nothing_more : (v : Values) → behind v no_values ≡ v
 nothing_more v = values_like _ _ _ _ (append_nil v.procedures) (join_none v.statements)
 
-abbrev after : Values → Checked (Values × State) → Checked (Values × State)
+abbrev pub after : Values → Checked (Values × State) → Checked (Values × State)
 after done p = and_then p (λ r. Ok (behind done r.0, r.1))
 
-abbrev put_in : (Values → Values) → Checked (Values × State) → Checked (Values × State)
+abbrev pub put_in : (Values → Values) → Checked (Values × State) → Checked (Values × State)
 put_in put p = and_then p (λ q. Ok (put q.0, q.1))
+
+pub statement_more : (ps qs : List TypedProcedure) (xs ys : List TypedStmt) (x : TypedStmt) → qs ≡ ps → ys ≡ xs ++ x ∷ []
+    → (let v : Values = record { procedures = map tree.plain_procedure qs; statements = stmts ys } in v)
+    ≡ behind (record { procedures = map tree.plain_procedure ps; statements = stmts xs }) (value (OfStatement x) no_values)
+statement_more ps qs xs ys x e h =
+    values_like _ _ _ _ (ap (map tree.plain_procedure) e ∙ sym (append_nil (map tree.plain_procedure ps))) (ap stmts h ∙ stmts_more xs x)
+
+pub procedure_more : (ps qs : List TypedProcedure) (xs ys : List TypedStmt) (p : TypedProcedure) → qs ≡ ps ++ p ∷ [] → ys ≡ xs
+    → (let v : Values = record { procedures = map tree.plain_procedure qs; statements = stmts ys } in v)
+    ≡ behind (record { procedures = map tree.plain_procedure ps; statements = stmts xs }) (value (OfProcedure p) no_values)
+procedure_more ps qs xs ys p e h =
+    values_like _ _ _ _ (ap (map tree.plain_procedure) e ∙ map-append tree.plain_procedure ps (p ∷ [])) (ap stmts h ∙ sym (join_none (stmts xs)))
 
 -- what is still to come, behind what is done
 unfoldable pub rest : Values → Around → List s.Declaration → List Stated → State → Checked (Values × State)
@@ -81,13 +95,18 @@ behind_one done x (Ok q) = done_as _ _ q.1 (one_more done x q.0)
 behind_one done x (Err e) = refl
 
 module _ (a : Around) (ds : List s.Declaration) (hs : List Stated) where
-  abbrev onward : Checked ((Values → Values) × State) → Checked (Values × State)
+  abbrev pub onward : Checked ((Values → Values) × State) → Checked (Values × State)
   onward p = and_then p (λ r. put_in r.0 (values_by a ds hs r.1))
 
   pub turn : (done : Values) (d : s.Declaration) (h : Stated) (σ τ : State) (x : Value)
       → value_of a d.names d.declared h σ ≡ Ok (value x, τ) → rest done a (d ∷ ds) (h ∷ hs) σ ≡ rest (behind done (value x no_values)) a ds hs τ
   unfolding rest values_by
   turn done d h σ τ x e = ap (λ p. after done (onward p)) e ∙ behind_one done x (values_by a ds hs τ)
+
+  pub one_step : (done : Values) (d : s.Declaration) (h : Stated) (σ : State)
+      → rest done a (d ∷ ds) (h ∷ hs) σ ≡ after done (onward (value_of a d.names d.declared h σ))
+  unfolding rest values_by
+  one_step done d h σ = refl
 
   pub fault_here : (done : Values) (d : s.Declaration) (h : Stated) (σ : State) (e : Fault)
       → value_of a d.names d.declared h σ ≡ Err e → rest done a (d ∷ ds) (h ∷ hs) σ ≡ Err e
@@ -99,9 +118,9 @@ pub values_by_heads : (a : Around) (ds : List s.Declaration) (xs : List Declared
 unfolding values_by values_of
 values_by_heads a [] xs σ = refl
 values_by_heads a (d ∷ ds) [] σ = refl
-values_by_heads a (d ∷ ds) (x ∷ xs) σ = by_first (value_of a d.names d.declared x.head σ)
+values_by_heads a (d ∷ ds) (x ∷ xs) σ = by_first (λ τ. values_by_heads a ds xs τ) (value_of a d.names d.declared x.head σ)
   where
-    by_first : (p : Checked ((Values → Values) × State))
+    by_first : ((τ : State) → values_by a ds (map (λ (y : Declared). y.head) xs) τ ≡ values_of a ds xs τ) → (p : Checked ((Values → Values) × State))
         → and_then p (λ r. put_in r.0 (values_by a ds (map (λ (y : Declared). y.head) xs) r.1)) ≡ and_then p (λ r. put_in r.0 (values_of a ds xs r.1))
-    by_first (Ok r) = ap (put_in r.0) (values_by_heads a ds xs r.1)
-    by_first (Err e) = refl
+    by_first same (Ok r) = ap (put_in r.0) (same r.1)
+    by_first same (Err e) = refl

@@ -5,6 +5,7 @@ use Rattle.mesa_types.specs.Syntax as s
 use Rattle.checking_rules.specs.Typed as t
 use Rattle.checking_rules.specs.Around.{Around, with_labels}
 use Rattle.checking_rules.specs.Checking.{phrase, statements, exits}
+use Rattle.checking_rules.specs.Parts.{join_stmts}
 use Rattle.checking_rules.specs.Phrases.{is_catch}
 use Rattle.checking_rules.specs.Programs.{Declared, Values, Whole, all_declared, body_block, frame, heads_are_done, marked_if, outermost, values_of, whole_in}
 use Rattle.checking_rules.specs.Statements.{labels_of_exits}
@@ -39,18 +40,28 @@ module _ (a : Around) (p : Place) (inner : s.Inner) where
     by_frame w vs ss es σ (Ok u) = refl
     by_frame w vs ss es σ (Err e) = refl
 
+    abbrev with_exits : t.Phrase → Values → t.Stmts → Checked (t.Exits × State) → Checked (Parts × State)
+    with_exits w vs js r = and_then (and_then {B = (t.Stmts × t.Exits) × State} r (λ y. Ok ((js, y.0), y.1)))
+        (λ z. Ok (record { procedures = vs.procedures; does = t.Block w z.0.0 z.0.1 }, z.1))
+
     by_exits : (w : t.Phrase) (vs : Values) (ss : t.Stmts) (r : Checked (t.Exits × State))
         → shown (and_then r (λ y. and_then (frame [] [] p y.1) (λ z. Ok (whole_of ds w vs ss y.0 z.0, z.1))))
-        ≡ ending ds (and_then r (λ y. Ok (parts_with w vs ss y.0, y.1)))
+        ≡ ending ds (with_exits w vs (join_stmts vs.statements ss) r)
     by_exits w vs ss (Ok y) = by_frame w vs ss y.0 y.1 (few_locals [] [] p y.1)
     by_exits w vs ss (Err e) = refl
 
     abbrev exits_at : State → Checked (t.Exits × State)
     exits_at = exits a a.labelled [] inner.exits
 
+    abbrev joined_parts : t.Phrase → Values → Checked (t.Stmts × State) → Checked (Parts × State)
+    joined_parts w vs r = and_then
+        (and_then {B = (t.Stmts × t.Exits) × State} (and_then {B = t.Stmts × State} r (λ x. Ok (join_stmts vs.statements x.0, x.1)))
+        (λ x. and_then {B = (t.Stmts × t.Exits) × State} (exits_at x.1) (λ y. Ok ((x.0, y.0), y.1))))
+        (λ z. Ok (record { procedures = vs.procedures; does = t.Block w z.0.0 z.0.1 }, z.1))
+
     by_statements : (w : t.Phrase) (vs : Values) (r : Checked (t.Stmts × State))
         → shown (and_then r (λ x. and_then (exits_at x.1) (λ y. and_then (frame [] [] p y.1) (λ z. Ok (whole_of ds w vs x.0 y.0 z.0, z.1)))))
-        ≡ ending ds (and_then r (λ x. and_then (exits_at x.1) (λ y. Ok (parts_with w vs x.0 y.0, y.1))))
+        ≡ ending ds (joined_parts w vs r)
     by_statements w vs (Ok x) = by_exits w vs x.0 (exits_at x.1)
     by_statements w vs (Err e) = refl
 
@@ -60,12 +71,12 @@ module _ (a : Around) (p : Place) (inner : s.Inner) where
     by_values : (w : t.Phrase) (r : Checked (Values × State))
         → shown (and_then r (λ v. and_then (statements_at v.1) (λ x. and_then (exits_at x.1) (λ y.
             and_then (frame [] [] p y.1) (λ z. Ok (whole_of ds w v.0 x.0 y.0 z.0, z.1))))))
-        ≡ ending ds (and_then r (λ v. and_then (statements_at v.1) (λ x. and_then (exits_at x.1) (λ y. Ok (parts_with w v.0 x.0 y.0, y.1)))))
+        ≡ ending ds (and_then r (λ v. joined_parts w v.0 (statements_at v.1)))
     by_values w (Ok v) = by_statements w v.0 (statements_at v.1)
     by_values w (Err e) = refl
 
     abbrev behind_values : t.Phrase → Checked (Values × State) → Checked (Parts × State)
-    behind_values w r = and_then r (λ v. and_then (statements_at v.1) (λ x. and_then (exits_at x.1) (λ y. Ok (parts_with w v.0 x.0 y.0, y.1))))
+    behind_values w r = and_then r (λ v. joined_parts w v.0 (statements_at v.1))
 
     by_phrase : (r : Checked (t.Phrase × State))
         → shown (and_then r (λ w. and_then (values_of inside inner.declarations ds w.1) (λ v. and_then (statements_at v.1) (λ x. and_then (exits_at x.1) (λ y.

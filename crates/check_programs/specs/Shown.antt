@@ -6,8 +6,9 @@ use Rattle.checking_rules.specs.Typed as t
 use Rattle.checking_rules.specs.Around.{Around, Known}
 use Rattle.checking_rules.specs.Checking.{phrase, statements, exits}
 use Rattle.checking_rules.specs.PlainTypes.{PlainItem}
+use Rattle.checking_rules.specs.Parts.{join_stmts}
 use Rattle.checking_rules.specs.Phrases.{is_catch}
-use Rattle.checking_rules.specs.Programs.{Offer, Stated, Whole, body_block, heads_are_done, marked_if, offers_of, signals_of}
+use Rattle.checking_rules.specs.Programs.{Offer, Stated, Whole, heads_are_done, marked_if, offers_of, signals_of}
 use Rattle.checking_rules.specs.Steps.{State, Check, Checked, and_then, ◌>>=◌, pure}
 use Rattle.check_programs.specs.Found.{Found}
 use Rattle.check_programs.specs.Frames.{few_locals}
@@ -40,14 +41,21 @@ pub record Parts : Type 0 where
   pub procedures : List t.Procedure
   pub does : t.Stmt
 
+-- statements behind others
+abbrev pub joined : t.Stmts → Check t.Stmts → Check t.Stmts
+joined before p = λ s. and_then (p s) (λ r. Ok (join_stmts before r.0, r.1))
+
+-- statements behind others, and EXITS
+abbrev pub ends : Around → Around → s.Inner → t.Stmts → Check (t.Stmts × t.Exits)
+ends a b inner before = joined before (statements b inner.statements) >>= (λ ss. exits a a.labelled [] inner.exits >>= (λ es. pure (ss, es)))
+
 -- `b` is what stands around its declarations and statements, `a` what stands around its EXITS
 abbrev pub parts : Around → Around → s.Inner → List Stated → Check Parts
 parts a b inner heads = do
   w ← phrase b inner.enable
   vs ← values_by b inner.declarations heads
-  ss ← statements b inner.statements
-  es ← exits a a.labelled [] inner.exits
-  pure (record { procedures = vs.procedures; does = body_block w vs.statements ss es })
+  x ← ends a b inner vs.statements
+  pure (record { procedures = vs.procedures; does = t.Block w x.0 x.1 })
 
 -- what is shown of heads and parts, in the state in which checking ends
 abbrev pub shown_of : s.Inner → Found → Parts → State → Shown

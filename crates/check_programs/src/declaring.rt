@@ -1,10 +1,17 @@
 //! One declaration: its head.
+ghost use Rattle.std.specs.Prelude.{◌≡◌, ◌+◌, [], ◌∷◌, ◌++◌, map, IfOk, OnOk};
 ghost use Rattle.check_programs.specs.Found.{also};
+ghost use Rattle.check_programs.specs.Heads.{first_item as first_rule};
 ghost use Rattle.check_programs.specs.Steps as step;
 ghost use Rattle.check_programs.specs.Views as view;
 ghost use Rattle.check_words.specs.Gives.{Gives, GivesOnly};
 ghost use Rattle.check_words.specs.Views as words;
+ghost use Rattle.checking_rules.specs.Meanings as meaning;
+ghost use Rattle.checking_rules.specs.Names.{settle};
+ghost use Rattle.checking_rules.specs.PlainTypes.{plain_item};
 ghost use Rattle.checking_rules.specs.Programs as spec;
+ghost use Rattle.checking_rules.specs.Typed as t;
+ghost use Rattle.mesa_types.specs.declared.faces.ItemKind.TheVariants as kinds;
 ghost use Rattle.mesa_types.specs.PlainSyntax as plain;
 ghost use Rattle.stand_ins.specs.Views.{heading as plain_heading};
 
@@ -16,9 +23,9 @@ use check_declared::{few_operands, first_name};
 use check_words::{Around, Meaning, State, fields_size, next};
 use checking_rules::{Cause, CheckFault};
 use mesa_base::limits::SIGNAL_WORDS;
-use mesa_base::{Identifier, Place, Shared};
+use mesa_base::{Identifier, OutOfMemory, Place, Shared};
 use mesa_types::syntax::{Access, Declaration, Declared, FieldList, Head, PlainItem};
-use mesa_types::{Callee, ItemKind};
+use mesa_types::{Callee, Item, ItemKind};
 use stand_ins::{Checker, Heading, head, heading};
 use std::alloc::Global;
 
@@ -39,8 +46,56 @@ fn data(
     Ok(())
 }
 
+/// The head of a procedure under the first of its names, with the words of operands that were counted in it.
+fn procedure_head(
+    names: &[Identifier],
+    alloc: Global,
+    head: Heading,
+    operands: u64,
+) -> Result<ProcedureHead, OutOfMemory>
+    ensures item { IfOk result (λ made. plain_item made.item ≡ first_rule kinds.Procedure (plain_heading head).takes (plain_heading head).gives names.now) }
+    ensures scope { IfOk result (λ made. words.names made.scope ≡ (plain_heading head).scope) }
+    ensures operands { IfOk result (λ made. made.operands ≡ operands) }
+{
+    let Heading {
+        takes,
+        gives,
+        scope,
+    } = head;
+    let item = first_item(names, alloc, ItemKind::Procedure, takes, gives)?;
+    let item = Shared::new(alloc, item)?;
+    Ok(ProcedureHead {
+        item,
+        scope,
+        operands,
+    })
+}
+
+/// Each name means the procedure of this number from here on.
+fn settle_procedure(
+    names: &[Identifier],
+    alloc: Global,
+    number: u32,
+    item: &Shared<Item>,
+    state: &mut State,
+) -> Result<(), CheckFault>
+    ensures { Gives (λ _. tt) (settle names.now (map (λ x. meaning.Procedure (t.OwnProcedure number) (plain_item item.now)) names.now) (words.state state.old)) result (words.state state.new) }
+{
+    let meaning = Meaning::Procedure(Callee::OwnProcedure(number), item.share()?);
+    state.settle(alloc, names, &meaning)
+}
+
+/// A procedure more.
+fn also_procedure(head: ProcedureHead, found: &mut Found) -> Result<(), OutOfMemory>
+    ensures { OnOk result (view.found found.new ≡ record (view.found found.old) { heads = (view.found found.old).heads ++ spec.ProcedureHead (plain_item head.item) (words.names head.scope) head.operands ∷ []; procedures = (view.found found.old).procedures + 1 }) }
+{
+    found.procedures = next(found.procedures)?;
+    found.heads.push_back(Stated::Procedure(head))?;
+    Ok(())
+}
+
 /// A procedure whose head is read, with the words of operands that were counted in it.
-#[tactic(auto, using(crate::proofs::FoundLaws::procedure_more, crate::proofs::FoundLaws::first_is))]
+#[tactic(auto, using(crate::proofs::FoundLaws::procedure_more, crate::proofs::ItemLaws::procedure_is))]
 fn declared_procedure(
     one: &Declaration,
     head: Heading,
@@ -52,23 +107,18 @@ fn declared_procedure(
 ) -> Result<(), CheckFault>
     ensures { Gives (λ _. view.found found.new) (also (view.found found.old) (spec.declared_procedure one.now.names one.now.access number (plain_heading head, operands)) (words.state state.old)) result (words.state state.new) }
 {
-    let Heading {
-        takes,
-        gives,
-        scope,
-    } = head;
     let names = one.names.as_slice();
-    let item = first_item(names, alloc, ItemKind::Procedure, takes, gives)?;
-    let item = Shared::new(alloc, item)?;
-    let meaning = Meaning::Procedure(Callee::OwnProcedure(number), item.share()?);
-    state.settle(alloc, names, &meaning)?;
-    procedure_offers(names, alloc, one.access, number, &item, &mut found.offers)?;
-    found.procedures = next(found.procedures)?;
-    found.heads.push_back(Stated::Procedure(ProcedureHead {
-        item,
-        scope,
-        operands,
-    }))?;
+    let head = procedure_head(names, alloc, head, operands)?;
+    settle_procedure(names, alloc, number, &head.item, state)?;
+    procedure_offers(
+        names,
+        alloc,
+        one.access,
+        number,
+        &head.item,
+        &mut found.offers,
+    )?;
+    also_procedure(head, found)?;
     Ok(())
 }
 
@@ -105,7 +155,7 @@ fn few_signal_words(head: &Heading, place: Place) -> Result<(), CheckFault>
 }
 
 /// Signals or errors whose head is read.
-#[tactic(auto, using(crate::proofs::FoundLaws::signals_more, crate::proofs::FoundLaws::renamed_are))]
+#[tactic(auto, using(crate::proofs::FoundLaws::signals_more, crate::proofs::ItemLaws::renamed_are))]
 fn declared_signals(
     one: &Declaration,
     kind: ItemKind,

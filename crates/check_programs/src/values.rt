@@ -54,6 +54,7 @@ impl LetGo for Values {
     }
 }
 
+#[tactic(auto, unfolding(stand_ins::specs::Views::stmts))]
 fn no_values(alloc: Global) -> Values
     ensures { view.values result ≡ step.no_values }
 {
@@ -63,6 +64,7 @@ fn no_values(alloc: Global) -> Values
     }
 }
 
+#[tactic(auto, unfolding(checking_rules::specs::Programs::value_of, check_words::specs::Views::around))]
 fn value_of(
     one: &Declaration,
     head: Stated,
@@ -73,22 +75,31 @@ fn value_of(
     ensures { Gives view.value (spec.value_of (words.around around.now) one.now.names (plain.declared one.now.declared) (view.stated head) (words.state state.old)) result (words.state state.new) }
 {
     let names = one.names.as_slice();
-    match (&one.declared, head) {
-        (Declared::Data(item), Stated::Data(headed)) => {
-            match initial(checker, item, around, state, names, headed)? {
-                None => Ok(Value::Nothing),
-                Some(statement) => Ok(Value::OfStatement(statement)),
+    match head {
+        Stated::Data(headed) => match &one.declared {
+            Declared::Data(item) => {
+                match initial(checker, item, around, state, names, headed)? {
+                    None => Ok(Value::Nothing),
+                    Some(statement) => Ok(Value::OfStatement(statement)),
+                }
             }
-        }
-        (Declared::Procedure(_, block), Stated::Procedure(head)) => {
-            let procedure = procedure(names, head, block, around.known, checker.alloc, state)?;
-            Ok(Value::OfProcedure(procedure))
-        }
-        (_, _) => Ok(Value::Nothing),
+            Declared::Procedure(_, _) | Declared::Signal(_) | Declared::Error(_) => {
+                Ok(Value::Nothing)
+            }
+        },
+        Stated::Procedure(head) => match &one.declared {
+            Declared::Procedure(_, block) => {
+                let procedure = procedure(names, head, block, around.known, checker.alloc, state)?;
+                Ok(Value::OfProcedure(procedure))
+            }
+            Declared::Data(_) | Declared::Signal(_) | Declared::Error(_) => Ok(Value::Nothing),
+        },
+        Stated::Signal => Ok(Value::Nothing),
     }
 }
 
 /// What is there, and what one declaration leaves behind it.
+#[tactic(auto, using(crate::proofs::ValueLaws::nothing_more, crate::proofs::ValueLaws::statement_more, crate::proofs::ValueLaws::procedure_more))]
 fn with_value(done: Values, value: Value) -> Result<Values, OutOfMemory>
     ensures { IfOk result (λ made. view.values made ≡ step.behind (view.values done) (view.value value step.no_values)) }
 {

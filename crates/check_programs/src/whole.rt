@@ -71,6 +71,7 @@ impl LetGo for Parts {
     }
 }
 
+#[tactic(auto, unfolding(stand_ins::specs::Views::stmts, stand_ins::specs::Views::exits))]
 fn block_of(
     alloc: Global,
     enable: Phrase,
@@ -82,6 +83,25 @@ fn block_of(
     let (held, enable) = both((statements, exits), boxed(alloc, enable))?;
     let (statements, exits) = held;
     Ok(TypedStmt::Block(enable, statements, exits))
+}
+
+/// The statements behind those that give initial values, and the EXITS.
+fn ends_of(
+    inner: &Inner,
+    before: Stmts,
+    alloc: Global,
+    around: &Around<'_>,
+    inside: &Around<'_>,
+    state: &mut State,
+) -> Result<(Stmts, Exits), CheckFault>
+    ensures { Gives (λ x. (parts_view.stmts x.0, parts_view.exits x.1)) (step.ends (words.around around.now) (words.around inside.now) (plain.inner inner.now) (parts_view.stmts before) (words.state state.old)) result (words.state state.new) }
+{
+    let all = inner.statements.as_slice();
+    let statements = statements_behind(before, all, alloc, inside, state)?;
+    both(
+        statements,
+        exits(inner.exits.as_slice(), alloc, around, state),
+    )
 }
 
 /// What stands behind the heads: the ENABLE, initial values and procedures, statements, and EXITS.
@@ -105,15 +125,11 @@ fn parts_of(
         procedures,
         statements,
     } = values;
-    let (held, statements) = both(
+    let (held, ends) = both(
         (enable, procedures),
-        statements_behind(statements, inner.statements.as_slice(), alloc, inside, state),
+        ends_of(inner, statements, alloc, around, inside, state),
     )?;
-    let (held, exits) = both(
-        (held, statements),
-        exits(inner.exits.as_slice(), alloc, around, state),
-    )?;
-    let ((enable, procedures), statements) = held;
+    let ((enable, procedures), (statements, exits)) = (held, ends);
     let (procedures, does) = both(procedures, block_of(alloc, enable, statements, exits))?;
     Ok(Parts { procedures, does })
 }

@@ -20,6 +20,7 @@ use mesa_types::{Face, Module};
 use stand_ins::{AllDefined, Checker, all_defined, mentions};
 use std::alloc::Global;
 
+#[tactic(auto, using(crate::proofs::InterfaceLaws::interface_back))]
 fn interface_with(
     module: &Module,
     alloc: Global,
@@ -42,6 +43,7 @@ fn interface_with(
 }
 
 /// An interface with these lists.
+#[tactic(auto, unfolding(check_words::specs::Views::around))]
 fn definitions(
     module: &Module,
     alloc: Global,
@@ -63,16 +65,20 @@ fn definitions(
         opens,
         definitions: all,
     };
-    let checker = Checker {
-        alloc,
-        phrases: Catches { alloc },
-    };
     let around = Around {
         is_outermost: true,
         ..around_body(&known, &[], &[])
     };
-    let (defined, _) = all_defined(all, &checker, &around, &start)?;
-    Ok(interface_with(module, alloc, stamp, defined)?)
+    let checker = Checker {
+        alloc,
+        phrases: Catches { alloc },
+    };
+    let defined = all_defined(all, &checker, &around, &start);
+    let Checker {
+        alloc: _,
+        phrases: _,
+    } = checker;
+    Ok(interface_with(module, alloc, stamp, defined?.0)?)
 }
 
 /// The interface of a DEFINITIONS module under this stamp, with the interfaces of its DIRECTORY in order. It refuses a program, which

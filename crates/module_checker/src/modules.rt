@@ -111,6 +111,7 @@ fn module_of(
 }
 
 /// A program with these lists.
+#[tactic(auto, using(crate::proofs::ModuleLaws::program_is))]
 fn program(
     module: &Module,
     alloc: Global,

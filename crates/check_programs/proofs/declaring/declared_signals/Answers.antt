@@ -1,0 +1,23 @@
+use Rattle.std.proofs.Common.{rules, map, ◌∙◌, ap}
+use Rattle.checking_rules.specs.PlainTypes.{plain_item}
+use Rattle.check_words.specs.Views as words
+use Rattle.check_programs.specs.Heads.{renamed}
+use Rattle.check_programs.specs.Views as view
+use Rattle.check_programs.proofs.DeclaredLaws.{signals_is}
+use Rattle.check_programs.proofs.ItemLaws.{renamed_are}
+use Rattle.stand_ins.specs.Views.{heading}
+use Rattle.check_programs.proofs.declaring.declared_signals.Goals as goal
+
+pub returns-in_err-settle_signals : goal.returns-in_err-settle_signals
+returns-in_err-settle_signals c =
+    rw (signals_is (view.found c.args.found.now) c.args.one.now.names c.args.one.now.access c.args.number c.args.kind (heading c.args.head)
+    (map plain_item c.in_ok-items.items) (words.state c.args.state.now) (search rules)
+    (c.in_ok-items.ensures ∙ ap (λ i. map (renamed i) c.args.one.now.names) c.in_ok-head.ensures ∙ renamed_are c.args.kind (heading c.args.head) c.args.one.now.names c.args.one.now.names))
+    (search rules)
+
+pub returns : goal.returns
+returns c =
+    rw (signals_is (view.found c.args.found.now) c.args.one.now.names c.args.one.now.access c.args.number c.args.kind (heading c.args.head)
+    (map plain_item c.in_ok-items.items) (words.state c.args.state.now) (search rules)
+    (c.in_ok-items.ensures ∙ ap (λ i. map (renamed i) c.args.one.now.names) c.in_ok-head.ensures ∙ renamed_are c.args.kind (heading c.args.head) c.args.one.now.names c.args.one.now.names))
+    (search rules)
