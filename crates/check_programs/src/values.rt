@@ -83,16 +83,18 @@ fn value_of(
                     Some(statement) => Ok(Value::OfStatement(statement)),
                 }
             }
-            Declared::Procedure(_, _) | Declared::Signal(_) | Declared::Error(_) => {
-                Ok(Value::Nothing)
-            }
+            Declared::Procedure(_, _) => Ok(Value::Nothing),
+            Declared::Signal(_) => Ok(Value::Nothing),
+            Declared::Error(_) => Ok(Value::Nothing),
         },
         Stated::Procedure(head) => match &one.declared {
             Declared::Procedure(_, block) => {
                 let procedure = procedure(names, head, block, around.known, checker.alloc, state)?;
                 Ok(Value::OfProcedure(procedure))
             }
-            Declared::Data(_) | Declared::Signal(_) | Declared::Error(_) => Ok(Value::Nothing),
+            Declared::Data(_) => Ok(Value::Nothing),
+            Declared::Signal(_) => Ok(Value::Nothing),
+            Declared::Error(_) => Ok(Value::Nothing),
         },
         Stated::Signal => Ok(Value::Nothing),
     }

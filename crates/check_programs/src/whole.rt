@@ -98,10 +98,11 @@ fn ends_of(
 {
     let all = inner.statements.as_slice();
     let statements = statements_behind(before, all, alloc, inside, state)?;
-    both(
+    let (statements, exits) = both(
         statements,
         exits(inner.exits.as_slice(), alloc, around, state),
-    )
+    )?;
+    Ok((statements, exits))
 }
 
 /// What stands behind the heads: the ENABLE, initial values and procedures, statements, and EXITS.

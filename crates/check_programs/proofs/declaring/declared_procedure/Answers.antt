@@ -9,5 +9,5 @@ use Rattle.check_programs.proofs.declaring.declared_procedure.Goals as goal
 pub returns : goal.returns
 returns c =
     rw (declared_is (view.found c.args.found.now) c.args.one.now.names c.args.one.now.access c.args.number (heading c.args.head) c.args.operands
-    (plain_item c.in_ok-head.head.item) (words.state c.args.state.now) c.in_ok-head.ensures.item)
+    (plain_item c.in_ok-head.head.item) (words.state c.args.state.now) (rw c.as_slice-names.ensures at c.in_ok-head.ensures.item))
     (search rules)

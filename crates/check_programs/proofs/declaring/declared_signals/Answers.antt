@@ -12,12 +12,12 @@ pub returns-in_err-settle_signals : goal.returns-in_err-settle_signals
 returns-in_err-settle_signals c =
     rw (signals_is (view.found c.args.found.now) c.args.one.now.names c.args.one.now.access c.args.number c.args.kind (heading c.args.head)
     (map plain_item c.in_ok-items.items) (words.state c.args.state.now) (search rules)
-    (c.in_ok-items.ensures ∙ ap (λ i. map (renamed i) c.args.one.now.names) c.in_ok-head.ensures ∙ renamed_are c.args.kind (heading c.args.head) c.args.one.now.names c.args.one.now.names))
+    ((rw c.as_slice-names.ensures at c.in_ok-items.ensures) ∙ ap (λ i. map (renamed i) c.args.one.now.names) (rw c.as_slice-names.ensures at c.in_ok-head.ensures) ∙ renamed_are c.args.kind (heading c.args.head) c.args.one.now.names c.args.one.now.names))
     (search rules)
 
 pub returns : goal.returns
 returns c =
     rw (signals_is (view.found c.args.found.now) c.args.one.now.names c.args.one.now.access c.args.number c.args.kind (heading c.args.head)
     (map plain_item c.in_ok-items.items) (words.state c.args.state.now) (search rules)
-    (c.in_ok-items.ensures ∙ ap (λ i. map (renamed i) c.args.one.now.names) c.in_ok-head.ensures ∙ renamed_are c.args.kind (heading c.args.head) c.args.one.now.names c.args.one.now.names))
+    ((rw c.as_slice-names.ensures at c.in_ok-items.ensures) ∙ ap (λ i. map (renamed i) c.args.one.now.names) (rw c.as_slice-names.ensures at c.in_ok-head.ensures) ∙ renamed_are c.args.kind (heading c.args.head) c.args.one.now.names c.args.one.now.names))
     (search rules)
