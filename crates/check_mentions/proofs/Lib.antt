@@ -1,0 +1,4 @@
+pub mod Clauses
+pub mod GatherLaws
+pub mod ModuleForms
+pub mod PartLaws
