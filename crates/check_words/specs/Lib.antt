@@ -1,3 +1,4 @@
+pub mod Ascending
 pub mod Declaring
 pub mod Gives
 pub mod Views

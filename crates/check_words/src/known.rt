@@ -1,7 +1,8 @@
 use crate::meaning::Meaning;
+use crate::origins::Origins;
 use crate::strings::Strings;
 use check_scopes::Names;
-use mesa_base::{Name, Numbers, Stamp};
+use mesa_base::{Name, Stamp};
 
 /// Of the module.
 #[derive(Drop)]
@@ -12,7 +13,7 @@ pub struct Known {
     /// Its distinct string literals, in the order of the text.
     pub strings: Strings,
     /// The tokens at which its records and enumerations stand.
-    pub origins: Numbers,
+    pub origins: Origins,
     /// What each item of the DIRECTORY has to offer.
     pub interfaces: Vec<Names<Meaning>>,
 }
