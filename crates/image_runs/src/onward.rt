@@ -21,10 +21,7 @@ use std::sync::ledger::Ledger;
 
 // Where an activation goes on, the registers are its; else what a call of the host leads to is given.
 #[inline(always)]
-fn settle_told(
-    told: Result<Turn, RunFault>,
-    r: &mut Registers,
-) -> Result<Option<Turn>, RunFault>
+fn settle_told(told: Result<Turn, RunFault>, r: &mut Registers) -> Result<Option<Turn>, RunFault>
     ensures { onward_or result r.new ≡ told }
 {
     match told {
@@ -73,7 +70,17 @@ fn go_on<S: Source, K: Sink, L: Ledger, C: Ledger>(
         Some(linked) => match linked {
             LinkTurn::Done(turn) => Ok(Some(turn)),
             LinkTurn::Host(host) => {
-                let told = call_host(host, image, parts, at, ahead, turns, input, out, comparisons);
+                let told = call_host(
+                    host,
+                    image,
+                    parts,
+                    at,
+                    ahead,
+                    turns,
+                    input,
+                    out,
+                    comparisons,
+                );
                 settle_told(told, r)
             }
         },
