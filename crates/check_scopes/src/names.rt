@@ -108,7 +108,7 @@ impl<T: Drop> Names<T> {
         merge(alloc, &mut self.frozen)
     }
 
-    /// The same names once more, with the same meanings: of what was declared nothing is copied but what is newest.
+    /// The same names once more, with the same meanings. However often it is asked, a name is copied but some log n times.
     #[tactic(auto, unfolding(crate::specs::Shows::means))]
     pub fn share(&mut self, alloc: Global) -> Result<Names<T>, OutOfMemory>
         ensures same { IfOk result (λ names. means names ≡ means self.old) }

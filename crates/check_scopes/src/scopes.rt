@@ -107,7 +107,7 @@ impl<T: Drop> Scopes<T> {
         Ok(())
     }
 
-    /// The names of the innermost scope as they are now; none where no scope is open. Nothing is copied but what is newest.
+    /// The names of the innermost scope as they are now (`Names::share`); none where no scope is open.
     #[tactic(auto, unfolding(crate::specs::Shows::shows))]
     pub fn share(&mut self, alloc: Global) -> Result<Names<T>, OutOfMemory>
         ensures same { IfOk result (λ names. means names ≡ spec.innermost (shows self.old)) }
