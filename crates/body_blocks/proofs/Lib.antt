@@ -1,0 +1,12 @@
+pub mod ArmTurns
+pub mod ExpressionForms
+pub mod ExpressionLaws
+pub mod FormLaws
+pub mod ItemLaws
+pub mod ListWalks
+pub mod LoopWalks
+pub mod ReadLaws
+pub mod RowTurns
+pub mod RowWalks
+pub mod StatementWalks
+pub mod TestWalks
