@@ -8,6 +8,7 @@ ghost use Rattle.code_blocks.specs.Modules.{procedure_code};
 ghost use Rattle.frame_code.specs.Code.{IsCodeOf};
 
 use crate::links::links_of;
+use crate::procedures::procedures_in;
 use crate::signals::signals_of;
 use crate::strings::copied;
 use crate::words::few_words;
@@ -41,4 +42,14 @@ pub fn assembled(
         links,
         procedures,
     }))
+}
+
+/// The code that is chosen for a sound module of at most 4,194,304 nodes. The one refusal is want of memory.
+pub fn translate(alloc: Global, module: &TypedModule) -> Result<ValidCode, OutOfMemory>
+    requires sound { Sound (plain «module».now) }
+    requires few { nodes (plain «module».now) ≤ 4194304 }
+    ensures { IfOk result (λ code. IsCodeOf (plain «module».now) code) }
+{
+    let procedures = procedures_in(alloc, module)?;
+    assembled(alloc, module, procedures)
 }

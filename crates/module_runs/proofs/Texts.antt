@@ -1,7 +1,6 @@
 -- The strings of a module's code fit the words that the machine has for them.
-use Rattle.std.proofs.Common.{◌<◌, ◌≤◌, ℕ, List, length, arith}
+use Rattle.std.proofs.Common.{arith}
 use Rattle.std.specs.List.{All}
-use Rattle.mesa_base.specs.declared.limits.TheConstants.{STRING_BYTES}
 use Rattle.mesa_types.specs.Typed.{Module}
 use Rattle.code_forms.specs.declared.module_code.ModuleCode.{ModuleCode}
 use Rattle.code_simulation.specs.Stands.{TextFits}

@@ -1,5 +1,6 @@
 ghost use Rattle.std.specs.Prelude.{◌≡◌, ◌≤◌, ◌-◌, IfOk, IfSome, IsErrOf};
 ghost use Rattle.mesa_base.specs.Outside.{Rose};
+ghost use Rattle.mesa_types.specs.Nodes.{nodes};
 ghost use Rattle.mesa_types.specs.Plain.{plain};
 ghost use Rattle.mesa_types.specs.Sound.{Sound};
 ghost use Rattle.source_meaning.specs.Program.{single};
@@ -7,10 +8,12 @@ ghost use Rattle.single_images.specs.Image.{ImportsTheHostAlone, image_of};
 ghost use Rattle.frame_code.specs.Code.{IsCodeOf};
 ghost use Rattle.image_runs.specs.Running.{AreBytes, BreaksAtInput, BreaksAtOutput, Completes};
 ghost use Rattle.meant_runs.specs.Meant.{IsImageOf, Ran, BrokenOff, CutOff};
+ghost use Rattle.module_runs.specs.Coded.{CompletesInCode};
 ghost use Rattle.module_runs.specs.Ends.{IsEndOf};
 
 use crate::fault::ModuleFault;
 use code_forms::ValidCode;
+use frame_code::translate;
 use held_trees::LetGo;
 use image_runs::{Outcome, RunFault};
 use meant_runs::run_image;
@@ -67,6 +70,7 @@ pub fn run_code<S: Source, K: Sink, L: Ledger>(
     ensures write_fault { IsErrOf result ModuleFault.WriteFault → Rose (K.faults out.old) (K.faults out.new) }
     ensures no_memory_input { IsErrOf result ModuleFault.Memory → input.new ≡ input.old }
     ensures no_memory_output { IsErrOf result ModuleFault.Memory → out.new ≡ out.old }
+    ensures no_memory_steps { IsErrOf result ModuleFault.Memory → steps.new ≡ steps.old }
     ensures input_faults_stay { S.faults input.old ≤ S.faults input.new }
     ensures output_faults_stay { K.faults out.old ≤ K.faults out.new }
     ensures steps_stay { steps.old ≤ steps.new }
@@ -79,4 +83,40 @@ pub fn run_code<S: Source, K: Sink, L: Ledger>(
         Err(RunFault::ReadFault) => Err(ModuleFault::ReadFault),
         Err(RunFault::WriteFault) => Err(ModuleFault::WriteFault),
     }
+}
+
+/// Translates and runs a sound module of at most 4,194,304 nodes that imports nothing but the built-in interface, with so many turns. What
+/// is told is what `run_code` tells of the code that is chosen for the module. It answers `Memory` where memory ran out in translating or
+/// before the run began, and has then neither read nor written, nor counted a step.
+pub fn run_module<S: Source, K: Sink, L: Ledger>(
+    alloc: Global,
+    module: &TypedModule,
+    turns: u64,
+    input: &mut S,
+    out: &mut K,
+    steps: &mut Steps<L>,
+) -> Result<Outcome, ModuleFault>
+    requires sound { Sound (plain «module».now) }
+    requires few { nodes (plain «module».now) ≤ 4194304 }
+    requires host { ImportsTheHostAlone (plain «module».now) }
+    ensures ran { IfOk result (λ outcome. IfSome (S.left input.old) AreBytes
+        → Ran (single (plain «module».now)) turns outcome (S.left input.old) (S.left input.new) (K.written out.old) (K.written out.new)) }
+    ensures named { IfOk result (λ outcome. IsEndOf (plain «module».now) outcome.end) }
+    ensures broken_off { IsErrOf result ModuleFault.ReadFault
+        → BrokenOff (single (plain «module».now)) turns (S.left input.old) (S.left input.new) (K.written out.old) (K.written out.new) }
+    ensures cut_off { IsErrOf result ModuleFault.WriteFault → IfSome (S.left input.old) AreBytes
+        → CutOff (single (plain «module».now)) turns (S.left input.old) (S.left input.new) (K.written out.old) (K.written out.new) }
+    ensures counted { IfOk result (λ outcome. CompletesInCode (plain «module».now) turns outcome (steps.new - steps.old)
+        (S.left input.old) (S.left input.new) (K.written out.old) (K.written out.new)) }
+    ensures read_fault { IsErrOf result ModuleFault.ReadFault → Rose (S.faults input.old) (S.faults input.new) }
+    ensures write_fault { IsErrOf result ModuleFault.WriteFault → Rose (K.faults out.old) (K.faults out.new) }
+    ensures no_memory_input { IsErrOf result ModuleFault.Memory → input.new ≡ input.old }
+    ensures no_memory_output { IsErrOf result ModuleFault.Memory → out.new ≡ out.old }
+    ensures no_memory_steps { IsErrOf result ModuleFault.Memory → steps.new ≡ steps.old }
+    ensures input_faults_stay { S.faults input.old ≤ S.faults input.new }
+    ensures output_faults_stay { K.faults out.old ≤ K.faults out.new }
+    ensures steps_stay { steps.old ≤ steps.new }
+{
+    let code = translate(alloc, module)?;
+    run_code(alloc, module, code, turns, input, out, steps)
 }

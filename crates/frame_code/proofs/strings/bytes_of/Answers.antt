@@ -1,5 +1,5 @@
 -- What the type of the text says of it.
-use Rattle.std.proofs.Common.{◌<◌, ◌∙◌, ℕ, arith}
+use Rattle.std.proofs.Common.{◌<◌, ℕ, arith}
 use Rattle.std.proofs.lemmas.List.Elements.{All-from_get_or, All-same}
 use Rattle.frame_code.proofs.strings.bytes_of.Goals as goal
 

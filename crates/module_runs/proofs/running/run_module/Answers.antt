@@ -1,0 +1,8 @@
+-- The code that the module is translated to is the module's.
+use Rattle.std.proofs.lemmas.Result.{IfOk-weaker}
+use Rattle.module_runs.proofs.running.run_module.Goals as goal
+
+pub returns-clause-counted : goal.returns-clause-counted
+returns-clause-counted g c =
+    IfOk-weaker c.run_code.result _ _
+    (λ outcome runs. record { code = c.in_ok-code.code; is_its = c.in_ok-code.ensures; completes = runs }) c.run_code.ensures.counted

@@ -1,0 +1,15 @@
+-- How the machine runs a module that is translated first (rule of this project).
+use Rattle.std.specs.Prelude.{ℕ, List, Option}
+use Rattle.mesa_types.specs.Typed.{Module}
+use Rattle.code_forms.specs.declared.module_code.ModuleCode.{ModuleCode}
+use Rattle.single_images.specs.Image.{image_of}
+use Rattle.frame_code.specs.Code.{IsCodeOf}
+use Rattle.image_runs.specs.declared.outcome.Outcome.{Outcome}
+use Rattle.image_runs.specs.Running.{Completes}
+
+-- there is a code that is the module's, and the machine's run of the image of the module with this code comes to this end, with so many
+-- turns left and so many instructions begun
+pub record CompletesInCode (m : Module) (turns : ℕ) (outcome : Outcome) (count : ℕ) (told left held holds : Option (List ℕ)) : Type 0 where
+  pub code : ModuleCode
+  pub is_its : IsCodeOf m code
+  pub completes : Completes (image_of m code) turns outcome count told left held holds
