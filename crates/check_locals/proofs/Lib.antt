@@ -1,0 +1,2 @@
+pub mod HeadClauses
+pub mod StmtForms
