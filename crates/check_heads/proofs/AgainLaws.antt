@@ -1,0 +1,210 @@
+-- Declarations with faults, and those that stand behind them.
+use Rattle.std.proofs.Common.{◌≡◌, ◌<◌, ◌≤◌, ◌+◌, ℕ, zero, suc, Bool, true, false, List, [], ◌∷◌, ◌++◌, map, take, length, get_or, Ok, Err, refl, sym, ap, subst, ◌∙◌, arith}
+use Rattle.std.specs.Prelude.{◌≢◌, Result}
+use Rattle.std.proofs.lemmas.List.{length-take-le, take_all, take_more, map-append}
+use Rattle.mesa_base.specs.declared.identifier.Identifier.{Identifier}
+use Rattle.mesa_base.specs.declared.place.Place.{Place}
+use Rattle.checking_rules.specs.Around.{Around}
+use Rattle.checking_rules.specs.Meanings.{Meaning}
+use Rattle.checking_rules.specs.Programs.{before_others, behind, head_alone, heads_further, next_or, passed_over, told}
+use Rattle.checking_rules.specs.Scopes.{Scope, innermost}
+use Rattle.checking_rules.specs.Steps.{Fault, State, Check, Checked, and_then}
+use Rattle.checking_rules.specs.declared.fault.CheckFault.{CheckFault}
+use Rattle.checking_rules.specs.declared.fault.Cause.{Cause}
+use Rattle.checking_rules.specs.declared.fault.CheckFault.TheVariants.{At, Memory}
+use Rattle.check_words.specs.Gives.{Gives, GivesOnly, fault}
+use Rattle.check_heads.specs.Again.{after, dropped, faults, heads_in, is_fault, next, outcome_alone, retried}
+
+-- ---- one more
+
+module _ {D A : Type 0} (names : D → List Identifier) (rule : D → Check A) where
+  behind_both : (ds es : List D) (σ : State) → behind names rule (ds ++ es) σ ≡ behind names rule es (behind names rule ds σ)
+  unfolding behind
+  behind_both [] es σ = refl
+  behind_both (d ∷ ds) es σ = behind_both ds es (next names rule d σ)
+
+  faults_both : (ds es : List D) (σ : State) → faults names rule (ds ++ es) σ ≡ faults names rule ds σ ++ faults names rule es (behind names rule ds σ)
+  unfolding faults behind
+  faults_both [] es σ = refl
+  faults_both (d ∷ ds) es σ = ap (λ fs. is_fault (rule d σ) ∷ fs) (faults_both ds es (next names rule d σ))
+
+  one_more : (all : List D) (i : ℕ) (d : D) → i < length all → d ≡ get_or all i d → take (i + 1) all ≡ take i all ++ d ∷ []
+  one_more all i d inside here = take_more all i d inside ∙ ap (λ y. take i all ++ y ∷ []) (sym here)
+
+  pub behind_more : (all : List D) (i : ℕ) (d : D) (σ : State) → i < length all → d ≡ get_or all i d
+      → behind names rule (take (i + 1) all) σ ≡ next names rule d (behind names rule (take i all) σ)
+  unfolding behind
+  behind_more all i d σ inside here = ap (λ ds. behind names rule ds σ) (one_more all i d inside here) ∙ behind_both (take i all) (d ∷ []) σ
+
+  pub faults_more : (all : List D) (i : ℕ) (d : D) (σ : State) → i < length all → d ≡ get_or all i d
+      → faults names rule (take (i + 1) all) σ ≡ faults names rule (take i all) σ ++ is_fault (rule d (behind names rule (take i all) σ)) ∷ []
+  unfolding faults
+  faults_more all i d σ inside here = ap (λ ds. faults names rule ds σ) (one_more all i d inside here) ∙ faults_both (take i all) (d ∷ []) σ
+
+  pub no_faults : (σ : State) → faults names rule [] σ ≡ []
+  unfolding faults
+  no_faults σ = refl
+
+  pub faults_count : (ds : List D) (σ : State) → length (faults names rule ds σ) ≡ length ds
+  unfolding faults
+  faults_count [] σ = refl
+  faults_count (d ∷ ds) σ = ap suc (faults_count ds (next names rule d σ))
+
+  pub fault_at : (all : List D) (n i : ℕ) (d : D) (b : Bool) (σ : State) → i < n → i < length all → d ≡ get_or all i d
+      → get_or (faults names rule (take n all) σ) i b ≡ is_fault (rule d (behind names rule (take i all) σ))
+  unfolding faults behind
+  fault_at [] n i d b σ few inside here = absurd (omega (arith, inside))
+  fault_at (e ∷ es) zero i d b σ few inside here = absurd (omega (arith, few))
+  fault_at (e ∷ es) (suc n) zero d b σ few inside here = ap (λ x. is_fault (rule x σ)) (sym here)
+  fault_at (e ∷ es) (suc n) (suc i) d b σ few inside here = fault_at es n i d b (next names rule e σ) (omega (arith, few)) (omega (arith, inside)) here
+
+  pub behind_none : (σ : State) → behind names rule [] σ ≡ σ
+  unfolding behind
+  behind_none σ = refl
+
+module _ {D A : Type 0} (rule : D → Check A) where
+  after_both : (ds es : List D) (σ : State) → after rule (ds ++ es) σ ≡ after rule es (after rule ds σ)
+  unfolding after
+  after_both [] es σ = refl
+  after_both (d ∷ ds) es σ = after_both ds es (next_or σ (rule d σ))
+
+  pub after_none : (σ : State) → after rule [] σ ≡ σ
+  unfolding after
+  after_none σ = refl
+
+  pub after_more : {X : Type 0} (view : X → D) (all : List X) (i : ℕ) (x : X) (σ : State) → i < length all → x ≡ get_or all i x
+      → after rule (map view (take (i + 1) all)) σ ≡ next_or (after rule (map view (take i all)) σ) (rule (view x) (after rule (map view (take i all)) σ))
+  unfolding after
+  after_more view all i x σ inside here =
+      ap (λ xs. after rule (map view xs) σ) (take_more all i x inside ∙ ap (λ y. take i all ++ y ∷ []) (sym here))
+      ∙ ap (λ ds. after rule ds σ) (map-append view (take i all) (x ∷ []))
+      ∙ after_both (map view (take i all)) (view x ∷ []) σ
+
+  pub after_ok : {X : Type 0} (view : X → D) (all : List X) (i : ℕ) (x : X) (σ s t : State) (r : A) → i < length all → x ≡ get_or all i x
+      → s ≡ after rule (map view (take i all)) σ → rule (view x) s ≡ Ok (r, t) → t ≡ after rule (map view (take (i + 1) all)) σ
+  after_ok view all i x σ s t r inside here now e =
+      sym (after_more view all i x σ inside here ∙ ap (λ u. next_or u (rule (view x) u)) (sym now) ∙ ap (next_or s) e)
+
+  pub after_all : {X : Type 0} (view : X → D) (all : List X) (i : ℕ) (σ s : State) → length all ≤ i → s ≡ after rule (map view (take i all)) σ → s ≡ after rule (map view all) σ
+  after_all view all i σ s outside now = now ∙ ap (λ xs. after rule (map view xs) σ) (take_all i all outside)
+
+-- ---- without the values
+
+abbrev refused : (X : Type 0) → Fault → Checked X
+refused X f = Err f
+
+errs : (X : Type 0) (g f : Fault) → refused X g ≡ refused X f → g ≡ f
+errs X g f e = cc
+
+abbrev valueless : {A : Type 0} → A × State → Checked (Unit {0} × State)
+valueless r = Ok (tt, r.1)
+
+next_dropped : {A : Type 0} (σ : State) (m : Checked (A × State)) → next_or σ (and_then m valueless) ≡ next_or σ m
+next_dropped σ (Ok r) = refl
+next_dropped σ (Err e) = refl
+
+module _ {D E A : Type 0} (view : E → D) (names : D → List Identifier) where
+  behind_dropped : (rule : D → Check A) (es : List E) (σ : State)
+      → behind (λ e. names (view e)) (λ e. dropped (rule (view e))) es σ ≡ behind names rule (map view es) σ
+  unfolding behind
+  behind_dropped rule [] σ = refl
+  behind_dropped rule (e ∷ es) σ =
+      ap (behind (λ e. names (view e)) (λ e. dropped (rule (view e))) es) (next_dropped (passed_over (names (view e)) σ) (rule (view e) σ))
+      ∙ behind_dropped rule es (next_or (passed_over (names (view e)) σ) (rule (view e) σ))
+
+  further_dropped : (rule : D → Check A) (e : E) (es : List E) (σ : State)
+      → heads_further (λ e. names (view e)) (λ e. dropped (rule (view e))) (names (view e)) es σ ≡ heads_further names rule (names (view e)) (map view es) σ
+  further_dropped rule e es σ = ap (λ s x. head_alone (innermost s.scopes x)) (behind_dropped rule es (passed_over (names (view e)) σ))
+
+  same_fault : (m n : Checked (A × State)) (f : Fault) → told (and_then m valueless) (λ u. and_then n valueless) ≡ Err f → told m (λ u. n) ≡ Err f
+  same_fault (Ok r) n f e = absurd (apart e)
+    where
+      apart : {X Y : Type 0} {x : X} {y : Y} → Ok x ≡ Err y → ⊥
+      apart e = cc
+  same_fault (Err g) (Ok r) f e = ap (refused (A × State)) (errs (Unit {0} × State) _ f e)
+  same_fault (Err g) (Err h) f e = ap (refused (A × State)) (errs (Unit {0} × State) _ f e)
+
+  -- the fault of a declaration before others is the same without the values
+  pub before_dropped : (rule : Around → D → Check A) (a : Around) (e : E) (es : List E) (σ : State) (f : Fault)
+      → before_others (λ e. names (view e)) (λ a e. dropped (rule a (view e))) a e es σ ≡ Err f
+      → before_others names rule a (view e) (map view es) σ ≡ Err f
+  before_dropped rule a e es σ f h =
+      same_fault (rule a (view e) σ) (rule (record a { further = heads_further names (rule a) (names (view e)) (map view es) σ }) (view e) σ) f
+      (ap (λ s. told (and_then (rule a (view e) σ) valueless) (λ u. and_then (rule (record a { further = s }) (view e) σ) valueless))
+      (sym (further_dropped (rule a) e es σ)) ∙ h)
+
+-- ---- one more, by what is known of it
+
+kept : {A : Type 0} (s : State) (m : Checked (A × State)) → true ≡ is_fault m → next_or s m ≡ s
+kept s (Ok r) h = absurd (apart h)
+  where
+    apart : true ≡ false → ⊥
+    apart e = cc
+kept s (Err f) h = refl
+
+module _ {D A : Type 0} (names : D → List Identifier) (rule : D → Check A) where
+  passed_on : (d : D) (xs : List Identifier) (b : Bool) (s t : State) → b ≡ true → b ≡ is_fault (rule d s) → xs ≡ names d → t ≡ passed_over xs s
+      → t ≡ next names rule d s
+  passed_on d xs b s t it_is known same e = e ∙ ap (λ ys. passed_over ys s) same ∙ sym (kept (passed_over (names d) s) (rule d s) (sym it_is ∙ known))
+
+  pub declared_on : (d : D) (s t : State) (r : A) → rule d s ≡ Ok (r, t) → t ≡ next names rule d s
+  declared_on d s t r e = sym (ap (next_or (passed_over (names d) s)) e)
+
+  module _ (all : List D) (i : ℕ) (d : D) (σ : State) (inside : i < length all) (here : d ≡ get_or all i d) where
+    pub known_fault : (n : ℕ) (bs : List Bool) (b : Bool) (s : State) → bs ≡ faults names rule (take n all) σ → i < n
+        → s ≡ behind names rule (take i all) σ → get_or bs i b ≡ is_fault (rule d s)
+    known_fault n bs b s known few so_far =
+        ap (λ cs. get_or cs i b) known ∙ fault_at names rule all n i d b σ few inside here ∙ sym (ap (λ s. is_fault (rule d s)) so_far)
+
+    pub gone_on : (s t : State) → s ≡ behind names rule (take i all) σ → t ≡ next names rule d s → t ≡ behind names rule (take (i + 1) all) σ
+    gone_on s t so_far e = e ∙ ap (next names rule d) so_far ∙ sym (behind_more names rule all i d σ inside here)
+
+    pub fault_put : (s : State) (bs cs : List Bool) (b : Bool) → s ≡ behind names rule (take i all) σ → bs ≡ faults names rule (take i all) σ
+        → b ≡ is_fault (rule d s) → cs ≡ bs ++ b ∷ [] → cs ≡ faults names rule (take (i + 1) all) σ
+    fault_put s bs cs b so_far known e put =
+        put ∙ ap (λ xs. xs ++ b ∷ []) known ∙ ap (λ x. faults names rule (take i all) σ ++ x ∷ []) (e ∙ ap (λ s. is_fault (rule d s)) so_far)
+        ∙ sym (faults_more names rule all i d σ inside here)
+
+    -- a declaration that had a fault, behind the state that was made anew
+    pub passed_anew : (xs : List Identifier) (s anew t : State) → s ≡ behind names rule (take i all) σ → anew ≡ behind names rule (take i all) σ
+        → true ≡ is_fault (rule d s) → xs ≡ names d → t ≡ passed_over xs anew → t ≡ behind names rule (take (i + 1) all) σ
+    passed_anew xs s anew t so_far same e xs_are passed =
+        gone_on anew t same (passed_on d xs true anew t refl (e ∙ ap (λ s. is_fault (rule d s)) (so_far ∙ sym same)) xs_are passed)
+
+  pub count_known : (all : List D) (i : ℕ) (σ : State) (bs : List Bool) → i ≤ length all → bs ≡ faults names rule (take i all) σ → length bs ≡ i
+  count_known all i σ bs few known = ap length known ∙ faults_count names rule (take i all) σ ∙ length-take-le i all few
+
+  pub known_all : (all : List D) (i : ℕ) (σ : State) (bs : List Bool) → i ≤ length all → bs ≡ faults names rule (take i all) σ
+      → bs ≡ faults names rule (take (length bs) all) σ
+  known_all all i σ bs few known = known ∙ ap (λ n. faults names rule (take n all) σ) (sym (count_known all i σ bs few known))
+
+-- ---- the second try
+
+abbrev Outcome : Type 0
+Outcome = Result (Unit {0}) CheckFault
+
+pub no_fault : (m : Checked (Unit {0} × State)) (r : Outcome) (u : Unit {0}) (t : State) → r ≡ Ok u → Gives (λ (u : Unit {0}). tt) m r t → m ≡ Ok (tt, t)
+no_fault m r u t is_ok h = subst (λ q. Gives (λ (u : Unit {0}). tt) m q t) is_ok h
+
+pub at_fault : (m : Checked (Unit {0} × State)) (r : Outcome) (e : CheckFault) (cause : Cause) (place : Place) (t : State) → r ≡ Err e → e ≡ At cause place
+    → Gives (λ (u : Unit {0}). tt) m r t → true ≡ is_fault m
+at_fault m r e cause place t is_err is_at h =
+    let told_it : e ≢ Memory → m ≡ Err (fault e) = subst (λ q. Gives (λ (u : Unit {0}). tt) m q t) is_err h in
+    sym (ap is_fault (told_it (λ k. apart (sym is_at ∙ k))))
+  where
+    apart : {c : Cause} {p : Place} → At c p ≡ Memory → ⊥
+    apart k = cc
+
+only_outcome : (m : Checked (Unit {0} × State)) (r : Outcome) (t : State) → Gives (λ (u : Unit {0}). tt) m r t → GivesOnly (λ (u : Unit {0}). tt) (outcome_alone m) r
+only_outcome m (Ok u) t h = ap outcome_alone h
+only_outcome m (Err e) t h = λ ne. ap outcome_alone (h ne)
+
+module _ {D : Type 0} (names : D → List Identifier) (rule : Around → D → Check (Unit {0})) (a : Around) (d : D) (ds : List D) (σ : State) where
+  pub retried_by : (b : Around) (heads : Scope Meaning) (τ s t : State) (r : Outcome) → τ ≡ behind names (rule a) ds (passed_over (names d) σ) → heads ≡ heads_in τ
+      → b ≡ record a { further = heads } → s ≡ σ → Gives (λ (u : Unit {0}). tt) (rule b d s) r t
+      → GivesOnly (λ (u : Unit {0}). tt) (outcome_alone (retried names rule a d ds σ)) r
+  retried_by b heads τ s t r all_behind heads_are near begun h =
+      let same : rule b d s ≡ retried names rule a d ds σ =
+      ap (rule b d) begun ∙ ap (λ b. rule b d σ) near
+      ∙ ap (λ (h : Scope Meaning). rule (record a { further = h }) d σ) (heads_are ∙ ap heads_in all_behind) in
+      only_outcome (retried names rule a d ds σ) r t (subst (λ m. Gives (λ (u : Unit {0}). tt) m r t) same h)

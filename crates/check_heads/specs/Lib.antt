@@ -1,0 +1,3 @@
+pub mod Again
+pub mod Forms
+pub mod Views

@@ -1,0 +1,4 @@
+pub mod Clauses
+pub mod LabelLaws
+pub mod ListLaws
+pub mod WholeLaws
