@@ -1,0 +1,14 @@
+pub mod AgainLaws
+pub mod AgainLoops
+pub mod CodeLoops
+pub mod DeclaredLaws
+pub mod Endings
+pub mod FaultAgain
+pub mod FoundLaws
+pub mod FoundLoops
+pub mod HeadScopes
+pub mod ItemLaws
+pub mod SignalLoops
+pub mod ValueCases
+pub mod ValueLaws
+pub mod WholeLaws

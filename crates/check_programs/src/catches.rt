@@ -1,0 +1,27 @@
+//! What checks the catch phrases of heads and initial values.
+
+use check_expressions::Phrases;
+use check_statements::phrase;
+use check_words::{Around, State};
+use checking_rules::CheckFault;
+use mesa_types::{Phrase, syntax};
+use std::alloc::Global;
+
+/// The check of catch phrases, with all that stands in them.
+#[derive(Clone, Copy)]
+pub struct Catches {
+    pub alloc: Global,
+}
+
+impl Phrases for Catches {
+    ghost ask = { λ _. Unit {0} };
+
+    fn phrase(
+        &self,
+        catch: &Option<syntax::Phrase>,
+        around: &Around<'_>,
+        state: &mut State,
+    ) -> Result<Phrase, CheckFault> {
+        phrase(catch, self.alloc, around, state)
+    }
+}

@@ -1,0 +1,20 @@
+//! Programs: the heads of their declarations in the order of the text, then the initial values, bodies and statements.
+#![tactic(auto)]
+
+mod catches;
+mod declaring;
+mod found;
+mod frames;
+mod heads_done;
+mod offers;
+mod procedures;
+mod signals;
+mod trying;
+mod values;
+mod whole;
+
+pub use catches::Catches;
+pub use found::{Found, ProcedureHead, Stated};
+pub use procedures::around_body;
+pub use trying::all_declared;
+pub use whole::{Whole, program_body};

@@ -1,0 +1,2 @@
+pub mod InterfaceLaws
+pub mod ModuleLaws
