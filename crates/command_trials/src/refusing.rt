@@ -1,146 +1,283 @@
-//! Texts that are read, and texts that are refused at a place, through `mesa` over objects in memory.
-ghost use Rattle.std.specs.Prelude.{◌≡◌, ◌<◌};
-
-use crate::running::{is_left, left_by};
+//! Texts that are refused, each by its first fault, and texts that are not, through `mesa` over objects in memory.
+use crate::calls::{is_left, left_by, module_with};
 use std::alloc::{AllocError, Global};
 use std::test::Fail;
 
-const NOT_YET: &str = "M.mesa: NotYet\n";
-
-/// What stands behind OPEN in a module that imports the built-in interface.
-const INSIDES: [&str; 30] = [
-    "n: INTEGER ← 0; UNTIL EndOfInput[] DO n ← n + (ReadChar[] - '0) ENDLOOP; WriteDecimal[n];",
-    "i: INTEGER; FOR i IN [3..3) DO WriteDecimal[i] ENDLOOP; \
-        FOR i DECREASING IN [1..3] DO WriteDecimal[i] ENDLOOP;",
-    "a: ARRAY [0..2] OF INTEGER; i: INTEGER ← 3; WriteDecimal[7]; a[i] ← 1; WriteDecimal[8];",
-    "E: ERROR = CODE; C: PROCEDURE = BEGIN ENABLE UNWIND => WriteChar['c]; ERROR E; END; \
-        B: PROCEDURE = BEGIN ENABLE UNWIND => WriteChar['b]; C[]; END; \
-        A: PROCEDURE = BEGIN B[! E => BEGIN WriteChar['a]; CONTINUE END]; WriteChar['d]; END; A[];",
-    "E: ERROR = CODE; C: PROCEDURE = BEGIN ENABLE UNWIND => WriteChar['c]; ERROR E; END; \
-        B: PROCEDURE = BEGIN ENABLE UNWIND => WriteChar['b]; C[]; END; \
-        A: PROCEDURE = BEGIN ENABLE E => BEGIN WriteChar['a]; CONTINUE END; \
-        BEGIN ENABLE UNWIND => WriteChar['x]; B[] END; END; A[]; WriteChar['d];",
-    "k: INTEGER ← 0; E: ERROR = CODE; P: PROCEDURE = BEGIN WriteChar['p]; ERROR E; END; \
-        P[! E => BEGIN k ← k + 1; IF k < 4 THEN RETRY ELSE CONTINUE END]; WriteDecimal[k];",
-    "S: SIGNAL = CODE; R: PROCEDURE = BEGIN SIGNAL S; END; \
-        Q: PROCEDURE = BEGIN R[! S => BEGIN WriteChar['i]; SIGNAL S; WriteChar['j]; RESUME END]; END; \
-        Q[! S => BEGIN WriteChar['o]; RESUME END]; WriteChar['e];",
-    "E: ERROR = CODE; T: ERROR = CODE; D: PROCEDURE = BEGIN ERROR T; END; \
-        C: PROCEDURE = BEGIN ENABLE UNWIND => D[]; ERROR E; END; \
-        B: PROCEDURE = BEGIN C[! T => BEGIN WriteChar['t]; CONTINUE END]; WriteChar['b]; END; \
-        A: PROCEDURE = BEGIN B[! E => BEGIN WriteChar['a]; CONTINUE END]; WriteChar['d]; END; A[];",
-    "E: ERROR = CODE; T: ERROR = CODE; D: PROCEDURE = BEGIN ERROR T; END; \
-        C: PROCEDURE = BEGIN ENABLE UNWIND => WriteChar['c]; ERROR E; END; \
-        B: PROCEDURE = BEGIN ENABLE UNWIND => WriteChar['b]; C[! E => D[]]; END; \
-        A: PROCEDURE = BEGIN B[! T => BEGIN WriteChar['t]; CONTINUE END]; WriteChar['d]; END; A[];",
-    "E: ERROR = CODE; P: PROCEDURE = BEGIN WriteChar['p]; ERROR E; END; P[]; WriteChar['q];",
-    "P: PROCEDURE [n: INTEGER] = BEGIN IF n > 1 THEN P[n - 1]; END; P[8191];",
-    "P: PROCEDURE [n: INTEGER] = BEGIN IF n > 1 THEN P[n - 1]; END; P[8192];",
-    "E: ERROR = CODE; Q: PROCEDURE = BEGIN ERROR E END; \
-        P: PROCEDURE RETURNS [r: INTEGER] = BEGIN Q[! E => RETURN[3]]; r ← 9 END; WriteDecimal[P[]]; \
-        DO Q[! E => EXIT]; WriteChar['n] ENDLOOP; WriteChar['x];",
-    "Pair: TYPE = RECORD [x, y: INTEGER]; p: Pair ← [y: 2, x: 1]; a, b, n: INTEGER; [a, b] ← p; \
-        WriteDecimal[a]; WriteDecimal[b]; n _ 17B -- octal -- ; WriteDecimal[n]; WriteChar[101C]; WriteDecimal[17D];",
-    "Q: PROCEDURE = BEGIN ERROR END; Q[! ANY => CONTINUE]; ERROR;",
-    "F: PROCEDURE RETURNS [a, b: INTEGER] = BEGIN a ← 1; b ← 2; RETURN[b, a]; END; x, y: INTEGER; \
-        [x, y] ← F[]; WriteDecimal[x]; WriteDecimal[y];",
-    "F: PROCEDURE [n: INTEGER] RETURNS [INTEGER] = BEGIN IF n < 2 THEN RETURN[n]; \
-        RETURN[F[n - 1] + F[n - 2]]; END; WriteDecimal[F[10]];",
-    "ENABLE BEGIN IODefs.NoInput, BoundsFault => NULL; ANY => REJECT; END; EXITS a, b => NULL; c => GOTO a;",
-    "x: PRIVATE {red, green}; SELECT x FROM red, = green => NULL; ~ IN [red..green) => NULL; \
-        NOT < red => x ← red; ENDCASE => x ← green;",
-    "a: ARRAY {u, v} OF ARRAY [0..3] OF RECORD [INTEGER, BOOLEAN]; b: CARDINAL [0..9]; c: CHARACTER ['a..'z]; \
-        d: T (0..1); e: J.T; f: STRING ← \"x\"; g: BOOLEAN = TRUE;",
+/// What stands behind OPEN in a module that runs to its end in few turns.
+const INSIDES: [&str; 9] = [
+    "x: PRIVATE {red, green}; SELECT x FROM red, = green => NULL; ~ IN [red..green) => NULL; NOT < \
+        red => x ← red; ENDCASE => x ← green;",
     "T: TYPE = [0..9]; P: PROC [] RETURNS [INTEGER, T] = {GO TO l EXITS l => RETURN[1, 2]};",
     "P: PROCEDURE = BEGIN T: TYPE = CARDINAL; x: T; y: T ← 1; z: T = 2; END;",
-    "FOR i IN [0..9] UNTIL done DO ENABLE E => EXIT; NULL; LOOP REPEAT l, m => NULL; FINISHED => NULL; ENDLOOP",
-    "THROUGH [1..3] WHILE a AND ~ b OR NOT c DO ENDLOOP; a.b[1].c[x: 1 ! E => NULL] ← -x * y / z MOD 3 - + 2;",
-    "[] ← F[]; [x: a, y: b.c] ← F[]; x ← ([1, 2]); y ← [x: 1, y: 2]; z ← SIGNAL S[1] + ERROR J.E; w ← []; v ← FALSE;",
     "{ENABLE ANY => NULL; x: INTEGER; x ← 1 EXITS l => NULL}",
-    "IF a THEN IF b THEN c[] ELSE d[]",
-    "E: ERROR = CODE; ERROR E[! E => RESUME]",
-    "E: ERROR [n: INTEGER] = CODE; a: INTEGER [0..9]; b: BOOLEAN = a IN (0..9) OR a NOT = 3; \
-        SELECT a FROM IN [1..2] => NULL ENDCASE; DO LOOP ENDLOOP; RETURN[]",
-    "RETURN; RESUME[1]; SELECT a FROM ENDCASE; IF a # b THEN x ← a >= b ELSE y ← a NOT IN (1..2];",
+    "a: INTEGER; a _ a -- none -- + 1",
+    "a: INTEGER ← 17B; b: INTEGER ← 17D; c: CARDINAL ← 177777B; d: INTEGER ← 077777B;",
+    "a: ARRAY {u, v} OF ARRAY [0..3] OF RECORD [INTEGER, BOOLEAN]; b: CARDINAL [0..9]; c: CHARACTER \
+        ['a..'z]; f: STRING ← \"x\"; g: BOOLEAN = TRUE;",
+    "IODefs: INTEGER ← 1; WriteChar: INTEGER ← IODefs; BoundsFault: INTEGER ← WriteChar;",
+    "a: INTEGER; UNTIL a NOT < 0 DO a ← a + 1 ENDLOOP; WHILE ~ a = 0 DO EXIT ENDLOOP; IF NOT a = 1 \
+        THEN a ← 2",
 ];
 
-/// Whole texts.
-const TEXTS: [&str; 28] = [
-    "AskDefs: DEFINITIONS = BEGIN Ask: PROCEDURE [x: INTEGER] RETURNS [INTEGER]; \
+/// What stands behind OPEN in a module that checking refuses, and the place and cause.
+const FAULTY: [(&str, &str); 29] = [
+    (
+        "ENABLE BEGIN IODefs.NoInput, BoundsFault => NULL; ANY => REJECT; END; EXITS a, b => NULL; c => \
+            GOTO a;",
+        "1:181: BadLabel",
+    ),
+    (
+        "b: CARDINAL [0..9]; c: CHARACTER ['a..'z]; d: T (0..1); e: J.T;",
+        "1:127: UnknownName",
+    ),
+    (
+        "FOR i IN [0..9] UNTIL done DO ENABLE E => EXIT; NULL; LOOP REPEAT l, m => NULL; FINISHED => \
+            NULL; ENDLOOP",
+        "1:85: UnknownName",
+    ),
+    (
+        "THROUGH [1..3] WHILE a AND ~ b OR NOT c DO ENDLOOP; a.b[1].c[x: 1 ! E => NULL] ← -x * y / z MOD \
+            3 - + 2;",
+        "1:102: UnknownName",
+    ),
+    (
+        "[] ← F[]; [x: a, y: b.c] ← F[]; x ← ([1, 2]); y ← [x: 1, y: 2]; z ← SIGNAL S[1] + ERROR J.E;",
+        "1:88: UnknownName",
+    ),
+    ("IF a THEN IF b THEN c[] ELSE d[]", "1:84: UnknownName"),
+    ("a: INTEGER ← b; b: INTEGER;", "1:96: UnknownName"),
+    (
+        "E: ERROR = CODE; ERROR E[! E => RESUME]",
+        "1:113: NotResumable",
+    ),
+    (
+        "E: ERROR = CODE; ERROR E[! ANY => RESUME];",
+        "1:115: NotResumable",
+    ),
+    (
+        "E: ERROR [n: INTEGER] = CODE; a: INTEGER [0..9]; b: BOOLEAN = a IN (0..9) OR a NOT = 3;",
+        "1:143: NotConstant",
+    ),
+    ("a: INTEGER; b: INTEGER = a;", "1:106: NotConstant"),
+    (
+        "RETURN; RESUME[1]; SELECT a FROM ENDCASE;",
+        "1:89: BadLabel",
+    ),
+    ("EXIT;", "1:81: BadLabel"),
+    ("LOOP;", "1:81: BadLabel"),
+    ("GOTO l;", "1:86: BadLabel"),
+    ("DO ENDLOOP; RETRY", "1:93: BadLabel"),
+    ("x, x: INTEGER;", "1:84: TwiceDeclared"),
+    ("a: INTEGER; a: CARDINAL;", "1:93: TwiceDeclared"),
+    (
+        "T: TYPE = RECORD [x: INTEGER, x: INTEGER];",
+        "1:111: TwiceDeclared",
+    ),
+    ("x: INTEGER ← TRUE;", "1:96: TypeMismatch"),
+    ("x: INTEGER; IF x THEN x ← 1", "1:96: TypeMismatch"),
+    ("x: BOOLEAN; x ← x + 1;", "1:101: TypeMismatch"),
+    (
+        "P: PROCEDURE [n: INTEGER] = BEGIN END; P[];",
+        "1:121: WrongCount",
+    ),
+    (
+        "P: PROCEDURE [n: INTEGER] = BEGIN END; P;",
+        "1:120: WrongCount",
+    ),
+    (
+        "DO BEGIN ENABLE UNWIND => EXIT; NULL END ENDLOOP;",
+        "1:107: UnwindJumps",
+    ),
+    (
+        "BEGIN ENABLE UNWIND => CONTINUE; NULL END;",
+        "1:104: UnwindJumps",
+    ),
+    (
+        "P: PROCEDURE = BEGIN a: ARRAY [0..1024] OF INTEGER; END;",
+        "1:81: FrameTooLarge",
+    ),
+    (
+        "a: ARRAY [0..16383] OF INTEGER; b: INTEGER;",
+        "1:113: GlobalsTooLarge",
+    ),
+    ("a: ARRAY [0..16384] OF INTEGER;", "1:84: TypeTooLarge"),
+];
+
+/// Whole texts, and the place and cause for which they are refused; none for a text that runs.
+const TEXTS: [(&str, &str); 28] = [
+    (
+        "AskDefs: DEFINITIONS = BEGIN Ask: PROCEDURE [x: INTEGER] RETURNS [INTEGER]; \
         S: SIGNAL [x: INTEGER] RETURNS [INTEGER]; END.",
-    "DIRECTORY AskDefs: FROM \"AskDefs\"; Server: PROGRAM EXPORTS AskDefs = BEGIN \
+        "1:10: StampMissing",
+    ),
+    (
+        "DIRECTORY AskDefs: FROM \"AskDefs\"; Server: PROGRAM EXPORTS AskDefs = BEGIN \
         S: PUBLIC SIGNAL [x: INTEGER] RETURNS [INTEGER] = CODE; \
         Ask: PUBLIC PROCEDURE [x: INTEGER] RETURNS [INTEGER] = \
         BEGIN k: INTEGER ← 9; r: INTEGER; r ← SIGNAL S[x]; RETURN[r * 10 + k]; END; END.",
-    "DIRECTORY AskDefs: FROM \"AskDefs\", IODefs: FROM \"IODefs\"; Main: PROGRAM IMPORTS AskDefs, IODefs = BEGIN \
+        " NotYet",
+    ),
+    (
+        "DIRECTORY AskDefs: FROM \"AskDefs\", IODefs: FROM \"IODefs\"; Main: PROGRAM IMPORTS AskDefs, IODefs = BEGIN \
         IODefs.WriteDecimal[AskDefs.Ask[4 ! AskDefs.S => RESUME[x + 1]]]; END.",
-    "CounterDefs: DEFINITIONS = BEGIN Next: PROCEDURE RETURNS [INTEGER]; Full: ERROR; END.",
-    "DIRECTORY CounterDefs: FROM \"CounterDefs\"; Counter: PROGRAM EXPORTS CounterDefs = BEGIN n: INTEGER ← 0; \
+        " NotYet",
+    ),
+    (
+        "CounterDefs: DEFINITIONS = BEGIN Next: PROCEDURE RETURNS [INTEGER]; Full: ERROR; END.",
+        "1:14: StampMissing",
+    ),
+    (
+        "DIRECTORY CounterDefs: FROM \"CounterDefs\"; Counter: PROGRAM EXPORTS CounterDefs = BEGIN n: INTEGER ← 0; \
         Full: PUBLIC ERROR = CODE; Next: PUBLIC PROCEDURE RETURNS [INTEGER] = \
         BEGIN n ← n + 1; IF n > 2 THEN ERROR Full; RETURN[n]; END; END.",
-    "OtherDefs: DEFINITIONS = BEGIN Go: PROCEDURE; END.",
-    "DIRECTORY CounterDefs: FROM \"CounterDefs\", IODefs: FROM \"IODefs\", OtherDefs: FROM \"OtherDefs\"; \
+        " NotYet",
+    ),
+    (
+        "OtherDefs: DEFINITIONS = BEGIN Go: PROCEDURE; END.",
+        "1:12: StampMissing",
+    ),
+    (
+        "DIRECTORY CounterDefs: FROM \"CounterDefs\", IODefs: FROM \"IODefs\", OtherDefs: FROM \"OtherDefs\"; \
         Other: PROGRAM IMPORTS CounterDefs, IODefs EXPORTS OtherDefs = BEGIN OPEN IODefs; \
         Go: PUBLIC PROCEDURE = BEGIN THROUGH [1..3] DO WriteDecimal[CounterDefs.Next[]] ENDLOOP; END; END.",
-    "DIRECTORY CounterDefs: FROM \"CounterDefs\", OtherDefs: FROM \"OtherDefs\", IODefs: FROM \"IODefs\"; \
+        " NotYet",
+    ),
+    (
+        "DIRECTORY CounterDefs: FROM \"CounterDefs\", OtherDefs: FROM \"OtherDefs\", IODefs: FROM \"IODefs\"; \
         Main: PROGRAM IMPORTS CounterDefs, OtherDefs, IODefs = BEGIN OPEN IODefs; WriteDecimal[CounterDefs.Next[]]; \
         OtherDefs.Go[! CounterDefs.Full => BEGIN WriteChar['x]; CONTINUE END]; END.",
-    "DIRECTORY CounterDefs: FROM \"CounterDefs\", OtherDefs: FROM \"OtherDefs\", IODefs: FROM \"IODefs\"; \
+        " NotYet",
+    ),
+    (
+        "DIRECTORY CounterDefs: FROM \"CounterDefs\", OtherDefs: FROM \"OtherDefs\", IODefs: FROM \"IODefs\"; \
         Main: PROGRAM IMPORTS CounterDefs, OtherDefs, IODefs = BEGIN OPEN IODefs; WriteDecimal[CounterDefs.Next[]]; \
         OtherDefs.Go[! CounterDefs.Full => WriteChar['x]]; END.",
-    "AllocDefs: DEFINITIONS = BEGIN Get: PROCEDURE RETURNS [INTEGER]; END.",
-    "LogDefs: DEFINITIONS = BEGIN Put: PROCEDURE [c: CHARACTER]; END.",
-    "DIRECTORY LogDefs: FROM \"LogDefs\", IODefs: FROM \"IODefs\"; Logger: PROGRAM IMPORTS IODefs EXPORTS LogDefs = BEGIN \
+        " NotYet",
+    ),
+    (
+        "AllocDefs: DEFINITIONS = BEGIN Get: PROCEDURE RETURNS [INTEGER]; END.",
+        "1:12: StampMissing",
+    ),
+    (
+        "LogDefs: DEFINITIONS = BEGIN Put: PROCEDURE [c: CHARACTER]; END.",
+        "1:10: StampMissing",
+    ),
+    (
+        "DIRECTORY LogDefs: FROM \"LogDefs\", IODefs: FROM \"IODefs\"; Logger: PROGRAM IMPORTS IODefs EXPORTS LogDefs = BEGIN \
         Put: PUBLIC PROCEDURE [c: CHARACTER] = BEGIN IODefs.WriteChar[c]; END; END.",
-    "StoreDefs: DEFINITIONS = BEGIN Save: PROCEDURE [c: CHARACTER]; END.",
-    "DIRECTORY LogDefs: FROM \"LogDefs\", StoreDefs: FROM \"StoreDefs\"; \
+        " NotYet",
+    ),
+    (
+        "StoreDefs: DEFINITIONS = BEGIN Save: PROCEDURE [c: CHARACTER]; END.",
+        "1:12: StampMissing",
+    ),
+    (
+        "DIRECTORY LogDefs: FROM \"LogDefs\", StoreDefs: FROM \"StoreDefs\"; \
         Store: PROGRAM IMPORTS LogDefs EXPORTS StoreDefs = BEGIN \
         Save: PUBLIC PROCEDURE [c: CHARACTER] = BEGIN LogDefs.Put[c]; END; END.",
-    "DIRECTORY StoreDefs: FROM \"StoreDefs\"; Main: PROGRAM IMPORTS StoreDefs = BEGIN StoreDefs.Save['q]; END.",
-    "DIRECTORY AllocDefs: FROM \"AllocDefs\"; One: PROGRAM EXPORTS AllocDefs = BEGIN \
+        " NotYet",
+    ),
+    (
+        "DIRECTORY StoreDefs: FROM \"StoreDefs\"; Main: PROGRAM IMPORTS StoreDefs = BEGIN StoreDefs.Save['q]; END.",
+        " NotYet",
+    ),
+    (
+        "DIRECTORY AllocDefs: FROM \"AllocDefs\"; One: PROGRAM EXPORTS AllocDefs = BEGIN \
         Get: PUBLIC PROCEDURE RETURNS [INTEGER] = BEGIN RETURN[1]; END; END.",
-    "DIRECTORY AllocDefs: FROM \"AllocDefs\"; Main: PROGRAM IMPORTS AllocDefs = BEGIN \
+        " NotYet",
+    ),
+    (
+        "DIRECTORY AllocDefs: FROM \"AllocDefs\"; Main: PROGRAM IMPORTS AllocDefs = BEGIN \
         n: INTEGER ← AllocDefs.Get[]; END.",
-    "One: DEFINITIONS = BEGIN Get: PROCEDURE RETURNS [INTEGER]; END.",
-    "Two: DEFINITIONS = BEGIN Size: CARDINAL = 3; Full: ERROR; END.",
-    "StepDefs: DEFINITIONS = BEGIN\nStep: PROCEDURE [n: INTEGER] RETURNS [INTEGER]; END.\n",
-    "SigDefs: DEFINITIONS = BEGIN\nOdd: SIGNAL [n: INTEGER] RETURNS [INTEGER]; END.\n",
-    "DIRECTORY StepDefs: FROM \"StepDefs\";\nLink: PROGRAM IMPORTS StepDefs EXPORTS StepDefs = BEGIN\n\
+        " NotYet",
+    ),
+    (
+        "One: DEFINITIONS = BEGIN Get: PROCEDURE RETURNS [INTEGER]; END.",
+        "1:6: StampMissing",
+    ),
+    (
+        "Two: DEFINITIONS = BEGIN Size: CARDINAL = 3; Full: ERROR; END.",
+        "1:6: StampMissing",
+    ),
+    (
+        "StepDefs: DEFINITIONS = BEGIN\nStep: PROCEDURE [n: INTEGER] RETURNS [INTEGER]; END.\n",
+        "1:11: StampMissing",
+    ),
+    (
+        "SigDefs: DEFINITIONS = BEGIN\nOdd: SIGNAL [n: INTEGER] RETURNS [INTEGER]; END.\n",
+        "1:10: StampMissing",
+    ),
+    (
+        "DIRECTORY StepDefs: FROM \"StepDefs\";\nLink: PROGRAM IMPORTS StepDefs EXPORTS StepDefs = BEGIN\n\
         Step: PUBLIC PROCEDURE [n: INTEGER] RETURNS [INTEGER] =\nBEGIN RETURN[StepDefs.Step[n + 1]]; END;\nEND.\n",
-    "DIRECTORY StepDefs: FROM \"StepDefs\", SigDefs: FROM \"SigDefs\";\nLast: PROGRAM EXPORTS StepDefs, SigDefs = BEGIN\n\
+        " NotYet",
+    ),
+    (
+        "DIRECTORY StepDefs: FROM \"StepDefs\", SigDefs: FROM \"SigDefs\";\nLast: PROGRAM EXPORTS StepDefs, SigDefs = BEGIN\n\
         Odd: PUBLIC SIGNAL [n: INTEGER] RETURNS [INTEGER] = CODE;\n\
         Step: PUBLIC PROCEDURE [n: INTEGER] RETURNS [INTEGER] =\n\
         BEGIN IF n MOD 2 = 1 THEN RETURN[SIGNAL Odd[n]]; RETURN[n]; END;\nEND.\n",
-    "DIRECTORY StepDefs: FROM \"StepDefs\", SigDefs: FROM \"SigDefs\",\nIODefs: FROM \"IODefs\";\n\
+        " NotYet",
+    ),
+    (
+        "DIRECTORY StepDefs: FROM \"StepDefs\", SigDefs: FROM \"SigDefs\",\nIODefs: FROM \"IODefs\";\n\
         Main: PROGRAM IMPORTS StepDefs, SigDefs, IODefs = BEGIN\n\
         IODefs.WriteDecimal[StepDefs.Step[0 ! SigDefs.Odd => RESUME[n + n]]];\nIODefs.WriteChar[12C];\nEND.\n",
-    "DIRECTORY J: FROM \"J\" USING [a, b], K: FROM \"K\" USING []; Defs: DEFINITIONS = BEGIN OPEN J, K; \
+        " NotYet",
+    ),
+    (
+        "DIRECTORY J: FROM \"J\" USING [a, b], K: FROM \"K\" USING []; Defs: DEFINITIONS = BEGIN OPEN J, K; \
         c, d: TYPE = RECORD [x, y: a, z: b]; e: c = [1, 2]; f: PROC; g: ERROR [x: a]; h: SIGNAL; END.",
-    "M: PROGRAM = BEGIN x, y: INTEGER; END.",
-    "M: PROGRAM EXPORTS IODefs = BEGIN END.",
-    "DIRECTORY IODefs: FROM \"IODefs\"; M: PROGRAM IMPORTS IODefs = BEGIN END.",
+        " NotYet",
+    ),
+    ("M: PROGRAM = BEGIN x, y: INTEGER; END.", ""),
+    (
+        "M: PROGRAM EXPORTS IODefs = BEGIN END.",
+        "1:20: UnknownName",
+    ),
+    (
+        "DIRECTORY IODefs: FROM \"IODefs\"; M: PROGRAM IMPORTS IODefs = BEGIN END.",
+        "",
+    ),
 ];
 
-fn is_not_yet(rt: &HostRuntime, text: &str) -> Result<bool, Fail> {
-    let left = left_by(rt, "go M.mesa 9", text)?;
-    Ok(is_left(&left, 4, "", NOT_YET))
+fn line_of(alloc: Global, fault: &str) -> Result<String, AllocError> {
+    if fault.is_empty() {
+        return String::from_str(alloc, "");
+    }
+    format!(in alloc; "M.mesa:{fault}\n")
+}
+
+/// Whether the text is refused for this, or runs where that is empty.
+fn is_answered(rt: &HostRuntime, text: &str, fault: &str) -> Result<bool, Fail> {
+    let line = line_of(rt.alloc(), fault)?;
+    let left = left_by(rt, "go M.mesa 99", text)?;
+    let status = if fault.is_empty() { 0 } else { 4 };
+    Ok(is_left(&left, status, "", line.as_str()))
 }
 
 #[test]
-fn insides_that_are_read(rt: HostRuntime) -> Result<(), Fail> {
+fn insides_that_run(rt: HostRuntime) -> Result<(), Fail> {
     for inside in INSIDES {
-        let text = format!(in rt.alloc();
-            "DIRECTORY IODefs: FROM \"IODefs\"; M: PROGRAM IMPORTS IODefs = BEGIN OPEN IODefs; {inside} END."
-        )?;
-        assert!(rt; is_not_yet(&rt, text.as_str())?, "{inside}");
+        let text = module_with(rt.alloc(), inside)?;
+        assert!(rt; is_answered(&rt, text.as_str(), "")?, "{inside}");
     }
     Ok(())
 }
 
 #[test]
-fn texts_that_are_read(rt: HostRuntime) -> Result<(), Fail> {
-    for text in TEXTS {
-        assert!(rt; is_not_yet(&rt, text)?, "{text}");
+fn insides_that_are_refused(rt: HostRuntime) -> Result<(), Fail> {
+    for (inside, fault) in FAULTY {
+        let text = module_with(rt.alloc(), inside)?;
+        assert!(rt; is_answered(&rt, text.as_str(), fault)?, "{inside}");
+    }
+    Ok(())
+}
+
+#[test]
+fn whole_texts(rt: HostRuntime) -> Result<(), Fail> {
+    for (text, fault) in TEXTS {
+        assert!(rt; is_answered(&rt, text, fault)?, "{text}");
     }
     Ok(())
 }
@@ -208,14 +345,19 @@ fn texts_that_are_refused(rt: HostRuntime) -> Result<(), Fail> {
             "DIRECTORY a: FROM b; Bad: PROGRAM = BEGIN END.",
             "1:19: Unexpected",
         ),
+        ("Bad: PROGRAM = BEGIN x ← 1 END.", "1:22: UnknownName"),
+        (
+            "Bad: PROGRAM = BEGIN x, x: INTEGER; END.",
+            "1:25: TwiceDeclared",
+        ),
+        ("Bad: PROGRAM = BEGIN EXIT; END.", "1:22: BadLabel"),
+        (
+            "Bad: PROGRAM = BEGIN E: ERROR = CODE; ERROR E[! E => RESUME] END.",
+            "1:54: NotResumable",
+        ),
     ];
     for (text, fault) in rows {
-        let line = format!(in rt.alloc(); "M.mesa:{fault}\n")?;
-        let left = left_by(&rt, "go M.mesa 9", text)?;
-        assert!(rt;
-            is_left(&left, 4, "", line.as_str()),
-            "{text} left {left:?}"
-        );
+        assert!(rt; is_answered(&rt, text, fault)?, "{text}");
     }
     Ok(())
 }
@@ -247,13 +389,13 @@ fn nested(alloc: Global, nest: &Nest<'_>) -> Result<String, AllocError> {
 #[test]
 fn texts_that_nest(rt: HostRuntime) -> Result<(), Fail> {
     let rows = [
-        ("", 200usize, "BEGIN ", "", "END ", ": NotYet\n"),
-        ("", 201, "BEGIN ", "", "END ", ":2:1201: TooDeep\n"),
-        ("", 1_000, "BEGIN ", "", "", ":2:1201: TooDeep\n"),
-        ("x ← ", 198, "(", "1", ")", ": NotYet\n"),
-        ("x ← ", 199, "(", "1", ")", ":2:206: TooDeep\n"),
-        ("", 200, "IF a THEN ", "", "", ":2:1994: TooDeep\n"),
-        ("x: ", 200, "ARRAY T OF ", "", "", ":2:2199: TooDeep\n"),
+        ("", 200usize, "BEGIN ", "", "END ", ""),
+        ("", 201, "BEGIN ", "", "END ", "2:1201: TooDeep"),
+        ("", 1_000, "BEGIN ", "", "", "2:1201: TooDeep"),
+        ("x: INTEGER; x ← ", 198, "(", "1", ")", ""),
+        ("x: INTEGER; x ← ", 199, "(", "1", ")", "2:218: TooDeep"),
+        ("", 200, "IF a THEN ", "", "", "2:1994: TooDeep"),
+        ("x: ", 200, "ARRAY T OF ", "", "", "2:2199: TooDeep"),
     ];
     for (before, count, piece, between, closing, said) in rows {
         let nest = Nest {
@@ -264,18 +406,14 @@ fn texts_that_nest(rt: HostRuntime) -> Result<(), Fail> {
             closing,
         };
         let text = nested(rt.alloc(), &nest)?;
-        let line = format!(in rt.alloc(); "M.mesa{said}")?;
-        let left = left_by(&rt, "go M.mesa 9", text.as_str())?;
-        assert!(rt;
-            is_left(&left, 4, "", line.as_str()),
-            "{count} {piece} left {left:?}"
-        );
+        assert!(rt; is_answered(&rt, text.as_str(), said)?, "{count} {piece}");
     }
     Ok(())
 }
 
-/// Whether the text is refused each time that a piece is put in, at every third place.
-fn refuses_pieces(rt: &HostRuntime, text: &str) -> Result<bool, Fail> {
+/// A piece is put into the text at every third place. Whether each time it is refused, or run in no more turns than it has, and
+/// memory is never wanting.
+fn answers_pieces(rt: &HostRuntime, text: &str) -> Result<bool, Fail> {
     let pieces = ["?", ";", "END", " 1 ", "["];
     for third in 0..text.len() / 3 {
         let at = third.saturating_mul(3);
@@ -285,7 +423,8 @@ fn refuses_pieces(rt: &HostRuntime, text: &str) -> Result<bool, Fail> {
         let piece = pieces[at % 5];
         let mutated = format!(in rt.alloc(); "{before}{piece}{behind}")?;
         let left = left_by(rt, "go M.mesa 9", mutated.as_str())?;
-        if left.status != 4 || !left.out.is_empty() {
+        let is_answered = left.status == 0 || left.status == 4;
+        if !is_answered || !left.out.is_empty() {
             return Ok(false);
         }
     }
@@ -294,8 +433,8 @@ fn refuses_pieces(rt: &HostRuntime, text: &str) -> Result<bool, Fail> {
 
 #[test]
 fn mutated_texts(rt: HostRuntime) -> Result<(), Fail> {
-    for text in TEXTS {
-        assert!(rt; refuses_pieces(&rt, text)?, "{text}");
+    for (text, _) in TEXTS {
+        assert!(rt; answers_pieces(&rt, text)?, "{text}");
     }
     Ok(())
 }

@@ -1,355 +1,325 @@
-//! Runs of the first program's language, and calls that fail, through `mesa` over objects in memory.
-ghost use Rattle.std.specs.Prelude.{◌≡◌, ◌<◌};
-
-use mesa_base::{
-    Bytes, List, MemoryFolder, MemorySink, MemorySource, Numbers, OutOfMemory, Status, Steps, Words,
-};
-use mesa_command::mesa;
-use std::alloc::{AllocError, Global};
-use std::marker::Brand;
-use std::sync::ledger::{Blank, Ledger};
+//! Runs of the language of one module, each with its least turns and with one fewer.
+use crate::calls::{is_left, left_by, left_with, module_with};
 use std::test::Fail;
 
-const NOTHING: &str = "Nothing: PROGRAM = BEGIN END.";
+const SUM: &str =
+    "n: INTEGER ← 0; UNTIL EndOfInput[] DO n ← n + (ReadChar[] - '0) ENDLOOP; WriteDecimal[n];";
 
-const COUNT: &str =
-    "DIRECTORY IODefs: FROM \"IODefs\"; M: PROGRAM IMPORTS IODefs = BEGIN OPEN IODefs; \
-    i: INTEGER ← 3; WHILE i > 0 DO WriteDecimal[i]; i ← i - 1; ENDLOOP; WriteChar['x]; END.";
+const UNWINDING: &str =
+    "E: ERROR = CODE; C: PROCEDURE = BEGIN ENABLE UNWIND => WriteChar['c]; ERROR E; END; \
+    B: PROCEDURE = BEGIN ENABLE UNWIND => WriteChar['b]; C[]; END; \
+    A: PROCEDURE = BEGIN B[! E => BEGIN WriteChar['a]; CONTINUE END]; WriteChar['d]; END; A[];";
 
-const WRAP: &str =
-    "DIRECTORY IODefs: FROM \"IODefs\"; M: PROGRAM IMPORTS IODefs = BEGIN OPEN IODefs; \
-    i: INTEGER ← 32767; i ← i + 1; WriteDecimal[i]; END.";
+/// What stands behind OPEN in a module, the least turns with which its end is reached, its status, what it prints and its line,
+/// and what it prints with one turn fewer, with which its turns are spent.
+type Row = (
+    &'static str,
+    u32,
+    u8,
+    &'static str,
+    &'static str,
+    &'static str,
+);
 
-const USAGE: &str = "usage: mesa compile, bind, list, run, go or exercise\n";
-
-/// What a call is made on: its words with blanks between, the one text in the folder, and the calls that fail.
-#[derive(Clone, Copy)]
-struct Call<'a> {
-    words: &'a str,
-    text: &'a [u8],
-    folder: &'a [u32],
-    out: &'a [u32],
-    err: &'a [u32],
-}
-
-/// What a call left: its exit status, and what `out` and `err` received.
-#[derive(Debug, Drop)]
-pub struct Left {
-    pub status: u8,
-    pub out: Bytes,
-    pub err: Bytes,
-}
-
-fn numbers(alloc: Global, all: &[u32]) -> Result<Numbers, OutOfMemory> {
-    List::from_slice(alloc, all)
-}
-
-fn words_of(alloc: Global, line: &str) -> Result<Words, OutOfMemory> {
-    let mut words = Words::new(alloc);
-    for word in line.split(' ') {
-        if !word.is_empty() {
-            words.push(word.as_bytes())?;
-        }
-    }
-    Ok(words)
-}
-
-/// The objects in memory that a call is made on.
-#[derive(Drop)]
-struct Objects {
-    words: Words,
-    folder: MemoryFolder,
-    input: MemorySource,
-    out: MemorySink,
-    err: MemorySink,
-}
-
-fn folder_with(alloc: Global, call: &Call<'_>) -> Result<MemoryFolder, OutOfMemory> {
-    let failing = numbers(alloc, call.folder)?;
-    let mut folder = MemoryFolder::new(alloc, failing);
-    folder.insert("M.mesa", call.text)?;
-    Ok(folder)
-}
-
-fn source_of(alloc: Global) -> Result<MemorySource, OutOfMemory> {
-    MemorySource::new(alloc, b"input", List::new(alloc))
-}
-
-fn sink_of(alloc: Global, failing: &[u32]) -> Result<MemorySink, OutOfMemory> {
-    let failing = numbers(alloc, failing)?;
-    MemorySink::new(alloc, 4096, failing)
-}
-
-fn objects_of(alloc: Global, call: &Call<'_>) -> Result<Objects, OutOfMemory> {
-    let words = words_of(alloc, call.words)?;
-    let folder = folder_with(alloc, call)?;
-    let input = source_of(alloc)?;
-    let out = sink_of(alloc, call.out)?;
-    let err = sink_of(alloc, call.err)?;
-    Ok(Objects {
-        words,
-        folder,
-        input,
-        out,
-        err,
-    })
-}
-
-fn counted<L: Ledger>(alloc: Global, blank: Blank, objects: &mut Objects) -> Status
-    requires name { blank.name ≡ L.name }
-    requires parts { blank.parts ≡ L.parts }
-    requires some { 0 < blank.parts }
-{
-    let mut steps = Steps::<L>::new(blank);
-    mesa(
-        alloc,
-        &objects.words,
-        &mut objects.folder,
-        &mut objects.input,
-        &mut objects.out,
-        &mut objects.err,
-        &mut steps,
-    )
-}
-
-fn left_in(alloc: Global, status: Status, objects: &Objects) -> Result<Left, OutOfMemory> {
-    let out = List::from_slice(alloc, objects.out.bytes())?;
-    let err = List::from_slice(alloc, objects.err.bytes())?;
-    Ok(Left {
-        status: status.code(),
-        out,
-        err,
-    })
-}
-
-fn called(alloc: Global, call: &Call<'_>) -> Result<Left, OutOfMemory> {
-    let mut objects = objects_of(alloc, call)?;
-    let status = counted::<Brand>(alloc, Blank::new(1), &mut objects);
-    left_in(alloc, status, &objects)
-}
-
-pub fn left_by(rt: &HostRuntime, words: &str, text: &str) -> Result<Left, OutOfMemory> {
-    let made = Call {
-        words,
-        text: text.as_bytes(),
-        folder: &[],
-        out: &[],
-        err: &[],
-    };
-    called(rt.alloc(), &made)
-}
-
-pub fn is_left(left: &Left, status: u8, out: &str, err: &str) -> bool {
-    left.status == status
-        && left.out.as_slice() == out.as_bytes()
-        && left.err.as_slice() == err.as_bytes()
-}
-
-#[test]
-fn worked_rows(rt: HostRuntime) -> Result<(), Fail> {
-    let rows = [
-        ("go M.mesa 1", NOTHING, 0, "", ""),
-        ("go M.mesa 0", NOTHING, 2, "", "turns spent\n"),
-        ("go M.mesa 2", WRAP, 0, "-32768", ""),
-        ("go M.mesa 1", WRAP, 2, "", "turns spent\n"),
-        ("go M.mesa 8", COUNT, 0, "321x", ""),
-        ("go M.mesa 7", COUNT, 2, "321", "turns spent\n"),
-        ("go M.mesa 18446744073709551615", COUNT, 0, "321x", ""),
-        (
-            "go M.mesa 1",
-            "Nothing: PROGRAM = BEGIN x ← 1 END.",
-            4,
-            "",
-            "M.mesa: NotYet\n",
-        ),
-    ];
-    for (words, text, status, out, err) in rows {
-        let left = left_by(&rt, words, text)?;
-        assert!(rt;
-            is_left(&left, status, out, err),
-            "{words} of {text} left {left:?}"
-        );
-    }
-    Ok(())
-}
-
-#[test]
-fn words_without_a_form(rt: HostRuntime) -> Result<(), Fail> {
-    let rows = [
+/// One frame: expressions, loops, types and faults.
+const FRAMES: [Row; 10] = [
+    ("", 1, 0, "", "", ""),
+    (
+        "i: INTEGER ← 32767; i ← i + 1; WriteDecimal[i];",
+        2,
+        0,
+        "-32768",
         "",
-        "go",
-        "go M.mesa",
-        "go M.mesa 01",
-        "go M.mesa +1",
-        "go M.mesa 18446744073709551616",
-        "go M.mesa 1 1",
-        "go M 1",
-        "go .mesa 1",
-        "go 1M.mesa 1",
-        "Go M.mesa 1",
-        "go A2345678901234567890123456789012345678901234567890123456789012345.mesa 1",
-        "list M.mob",
-    ];
-    for words in rows {
-        let left = left_by(&rt, words, NOTHING)?;
-        assert!(rt; is_left(&left, 10, "", USAGE), "{words} left {left:?}");
+        "",
+    ),
+    (
+        "i: INTEGER ← 3; WHILE i > 0 DO WriteDecimal[i]; i ← i - 1; ENDLOOP; WriteChar['x];",
+        8,
+        0,
+        "321x",
+        "",
+        "321",
+    ),
+    (
+        "i: INTEGER; FOR i IN [3..3) DO WriteDecimal[i] ENDLOOP; \
+            FOR i DECREASING IN [1..3] DO WriteDecimal[i] ENDLOOP;",
+        7,
+        0,
+        "321",
+        "",
+        "321",
+    ),
+    (
+        "a: ARRAY [0..2] OF INTEGER; i: INTEGER ← 3; WriteDecimal[7]; a[i] ← 1; WriteDecimal[8];",
+        3,
+        1,
+        "7",
+        "uncaught BoundsFault\n",
+        "7",
+    ),
+    (
+        "a: INTEGER ← 0; WriteDecimal[7]; WriteDecimal[1 / a];",
+        3,
+        1,
+        "7",
+        "uncaught ZeroDivisor\n",
+        "7",
+    ),
+    (
+        "WriteChar['r]; WriteChar[ReadChar[]];",
+        4,
+        1,
+        "r",
+        "uncaught IODefs.NoInput\n",
+        "r",
+    ),
+    (
+        "Pair: TYPE = RECORD [x, y: INTEGER]; p: Pair ← [y: 2, x: 1]; a, b, n: INTEGER; [a, b] ← p; \
+            WriteDecimal[a]; WriteDecimal[b]; n _ 17B -- octal -- ; WriteDecimal[n]; WriteChar[101C]; WriteDecimal[17D];",
+        6,
+        0,
+        "1215A17",
+        "",
+        "1215A",
+    ),
+    (
+        "WriteString[\"Hello\"]; WriteString[\"\"]; WriteDecimal[-7];",
+        4,
+        0,
+        "Hello-7",
+        "",
+        "Hello",
+    ),
+    (
+        "Color: TYPE = {red, green, blue}; c: Color; FOR c IN [red..blue] DO \
+            SELECT c FROM red => WriteChar['r]; green => WriteChar['g]; ENDCASE => WriteChar['b]; ENDLOOP;",
+        7,
+        0,
+        "rgb",
+        "",
+        "rgb",
+    ),
+];
+
+/// Procedures.
+const PROCEDURES: [Row; 4] = [
+    (
+        "F: PROCEDURE RETURNS [a, b: INTEGER] = BEGIN a ← 1; b ← 2; RETURN[b, a]; END; x, y: INTEGER; \
+            [x, y] ← F[]; WriteDecimal[x]; WriteDecimal[y];",
+        4,
+        0,
+        "21",
+        "",
+        "2",
+    ),
+    (
+        "F: PROCEDURE [n: INTEGER] RETURNS [INTEGER] = BEGIN IF n < 2 THEN RETURN[n]; \
+            RETURN[F[n - 1] + F[n - 2]]; END; WriteDecimal[F[10]];",
+        179,
+        0,
+        "55",
+        "",
+        "",
+    ),
+    (
+        "P: PROCEDURE [n: INTEGER] = BEGIN IF n > 1 THEN P[n - 1]; END; P[8191];",
+        8192,
+        0,
+        "",
+        "",
+        "",
+    ),
+    (
+        "P: PROCEDURE [n: INTEGER] = BEGIN IF n > 1 THEN P[n - 1]; END; P[8192];",
+        8193,
+        3,
+        "",
+        "frames full\n",
+        "",
+    ),
+];
+
+/// Signals that are resumed, retried, left by jumps, or caught by nothing.
+const SIGNALS: [Row; 6] = [
+    (
+        "E: ERROR = CODE; P: PROCEDURE = BEGIN WriteChar['p]; ERROR E; END; P[]; WriteChar['q];",
+        4,
+        1,
+        "p",
+        "uncaught M.E\n",
+        "p",
+    ),
+    (
+        "S: SIGNAL [x: INTEGER] RETURNS [INTEGER] = CODE; WriteDecimal[SIGNAL S[4 ! S => RESUME[x + 1]]];",
+        4,
+        0,
+        "5",
+        "",
+        "",
+    ),
+    (
+        "k: INTEGER ← 0; E: ERROR = CODE; P: PROCEDURE = BEGIN WriteChar['p]; ERROR E; END; \
+            P[! E => BEGIN k ← k + 1; IF k < 4 THEN RETRY ELSE CONTINUE END]; WriteDecimal[k];",
+        18,
+        0,
+        "pppp4",
+        "",
+        "pppp",
+    ),
+    (
+        "S: SIGNAL = CODE; R: PROCEDURE = BEGIN SIGNAL S; END; \
+            Q: PROCEDURE = BEGIN R[! S => BEGIN WriteChar['i]; SIGNAL S; WriteChar['j]; RESUME END]; END; \
+            Q[! S => BEGIN WriteChar['o]; RESUME END]; WriteChar['e];",
+        11,
+        0,
+        "ioje",
+        "",
+        "ioj",
+    ),
+    (
+        "E: ERROR = CODE; Q: PROCEDURE = BEGIN ERROR E END; \
+            P: PROCEDURE RETURNS [r: INTEGER] = BEGIN Q[! E => RETURN[3]]; r ← 9 END; WriteDecimal[P[]]; \
+            DO Q[! E => EXIT]; WriteChar['n] ENDLOOP; WriteChar['x];",
+        10,
+        0,
+        "3x",
+        "",
+        "3",
+    ),
+    (
+        "Q: PROCEDURE = BEGIN ERROR END; Q[! ANY => CONTINUE]; ERROR;",
+        5,
+        1,
+        "",
+        "uncaught ERROR\n",
+        "",
+    ),
+];
+
+/// Arms that run where a jump passes; a signal that nothing catches runs none.
+const UNWINDS: [Row; 4] = [
+    (
+        "E: ERROR = CODE; C: PROCEDURE = BEGIN ENABLE UNWIND => WriteChar['c]; ERROR E; END; \
+            B: PROCEDURE = BEGIN ENABLE UNWIND => WriteChar['b]; C[]; END; \
+            A: PROCEDURE = BEGIN ENABLE E => BEGIN WriteChar['a]; CONTINUE END; \
+            BEGIN ENABLE UNWIND => WriteChar['x]; B[] END; END; A[]; WriteChar['d];",
+        12,
+        0,
+        "acbd",
+        "",
+        "acb",
+    ),
+    (
+        "E: ERROR = CODE; T: ERROR = CODE; D: PROCEDURE = BEGIN ERROR T; END; \
+            C: PROCEDURE = BEGIN ENABLE UNWIND => D[]; ERROR E; END; \
+            B: PROCEDURE = BEGIN C[! T => BEGIN WriteChar['t]; CONTINUE END]; WriteChar['b]; END; \
+            A: PROCEDURE = BEGIN B[! E => BEGIN WriteChar['a]; CONTINUE END]; WriteChar['d]; END; A[];",
+        14,
+        0,
+        "atbd",
+        "",
+        "atb",
+    ),
+    (
+        "E: ERROR = CODE; T: ERROR = CODE; D: PROCEDURE = BEGIN ERROR T; END; \
+            C: PROCEDURE = BEGIN ENABLE UNWIND => WriteChar['c]; ERROR E; END; \
+            B: PROCEDURE = BEGIN ENABLE UNWIND => WriteChar['b]; C[! E => D[]]; END; \
+            A: PROCEDURE = BEGIN B[! T => BEGIN WriteChar['t]; CONTINUE END]; WriteChar['d]; END; A[];",
+        15,
+        0,
+        "tcbd",
+        "",
+        "tcb",
+    ),
+    (
+        "E: ERROR = CODE; C: PROCEDURE = BEGIN ENABLE UNWIND => WriteChar['c]; ERROR E; END; \
+            B: PROCEDURE = BEGIN ENABLE UNWIND => WriteChar['b]; C[]; END; B[];",
+        4,
+        1,
+        "",
+        "uncaught M.E\n",
+        "",
+    ),
+];
+
+/// Whether each row ends as it should with its turns, and is spent with one fewer.
+fn fits(rt: &HostRuntime, row: &Row) -> Result<bool, Fail> {
+    let (inside, turns, status, out, err, spent) = *row;
+    let text = module_with(rt.alloc(), inside)?;
+    let words = format!(in rt.alloc(); "go M.mesa {turns}")?;
+    let left = left_by(rt, words.as_str(), text.as_str())?;
+    let fewer = turns.saturating_sub(1);
+    let words = format!(in rt.alloc(); "go M.mesa {fewer}")?;
+    let cut = left_by(rt, words.as_str(), text.as_str())?;
+    Ok(is_left(&left, status, out, err) && is_left(&cut, 2, spent, "turns spent\n"))
+}
+
+#[test]
+fn one_frame(rt: HostRuntime) -> Result<(), Fail> {
+    for row in FRAMES {
+        assert!(rt; fits(&rt, &row)?, "{}", row.0);
     }
     Ok(())
 }
 
 #[test]
-fn files_that_are_not_there(rt: HostRuntime) -> Result<(), Fail> {
-    let name = "A234567890123456789012345678901234567890123456789012345678901-_z.mesa";
-    let words = format!(in rt.alloc(); "go {name} 1")?;
-    let err = format!(in rt.alloc(); "{name}: absent\n")?;
-    let left = left_by(&rt, words.as_str(), NOTHING)?;
-    assert!(rt; is_left(&left, 5, "", err.as_str()), "left {left:?}");
+fn procedures(rt: HostRuntime) -> Result<(), Fail> {
+    for row in PROCEDURES {
+        assert!(rt; fits(&rt, &row)?, "{}", row.0);
+    }
     Ok(())
 }
 
 #[test]
-fn calls_that_fail(rt: HostRuntime) -> Result<(), Fail> {
-    let rows: [(&[u32], &[u32], &[u32], u8, &str, &str); 5] = [
-        (&[0], &[], &[], 8, "", "M.mesa: folder failed\n"),
-        (&[1], &[], &[], 0, "321x", ""),
-        (&[], &[1], &[], 7, "3", "output failed\n"),
-        (&[], &[3], &[], 7, "321", "output failed\n"),
-        (&[], &[0], &[0], 7, "", "output "),
+fn signals(rt: HostRuntime) -> Result<(), Fail> {
+    for row in SIGNALS {
+        assert!(rt; fits(&rt, &row)?, "{}", row.0);
+    }
+    Ok(())
+}
+
+#[test]
+fn unwinding(rt: HostRuntime) -> Result<(), Fail> {
+    for row in UNWINDS {
+        assert!(rt; fits(&rt, &row)?, "{}", row.0);
+    }
+    Ok(())
+}
+
+/// What is printed with each number of turns.
+#[test]
+fn turn_by_turn(rt: HostRuntime) -> Result<(), Fail> {
+    let text = module_with(rt.alloc(), UNWINDING)?;
+    let printed = [
+        "", "", "", "", "", "", "", "a", "a", "ac", "ac", "acb", "acbd",
     ];
-    for (folder, out, err, status, printed, said) in rows {
-        let made = Call {
-            words: "go M.mesa 8",
-            text: COUNT.as_bytes(),
-            folder,
-            out,
-            err,
+    for (turns, out) in printed.iter().enumerate() {
+        let words = format!(in rt.alloc(); "go M.mesa {turns}")?;
+        let left = left_by(&rt, words.as_str(), text.as_str())?;
+        let is_done = turns == 12;
+        let (status, err) = if is_done {
+            (0, "")
+        } else {
+            (2, "turns spent\n")
         };
-        let left = called(rt.alloc(), &made)?;
-        assert!(rt;
-            is_left(&left, status, printed, said),
-            "{folder:?} {out:?} {err:?} left {left:?}"
-        );
+        assert!(rt; is_left(&left, status, out, err), "{turns} left {left:?}");
     }
     Ok(())
 }
 
-/// Texts of the first program's language, and texts that are none.
 #[test]
-fn texts(rt: HostRuntime) -> Result<(), Fail> {
+fn input(rt: HostRuntime) -> Result<(), Fail> {
     let rows = [
-        ("a: INTEGER; a _ a -- none -- + 1", true),
-        ("a: INTEGER ← 17; a ← a;", true),
-        ("a: INTEGER ← 19B;", false),
-        ("a: INTEGER ← 17B;", true),
-        ("a: INTEGER ← 17D;", true),
-        ("a: INTEGER ← 77777B;", true),
-        ("a: INTEGER ← 100000B;", false),
-        ("a: INTEGER ← 32768;", false),
-        ("a: INTEGER ← 007;", true),
-        ("a: INTEGER ← (1);", false),
-        ("a: INTEGER ← 1 + 2 * 3;", false),
-        ("a: INTEGER ← -1;", false),
-        ("a: INTEGER ← a;", false),
-        ("a: INTEGER; a: INTEGER;", false),
-        ("a, b: INTEGER;", false),
-        ("a: PUBLIC INTEGER;", false),
-        ("a: INTEGER = 1;", false),
-        ("a: CARDINAL;", false),
-        ("b ← 1;", false),
-        ("IODefs: INTEGER;", false),
-        ("WriteChar: INTEGER;", false),
-        ("BoundsFault: INTEGER;", false),
-        ("LONG: INTEGER;", false),
-        ("WriteDecimal[1];", false),
-        ("a: INTEGER; WHILE a # 0 DO ENDLOOP", true),
-        (
-            "a: INTEGER; WHILE a <= 0 DO a ← a - 1 + 2; ENDLOOP; a ← 1;",
-            true,
-        ),
-        ("a: INTEGER; WHILE a NOT < 0 DO ENDLOOP", false),
-        ("a: INTEGER; UNTIL a < 0 DO ENDLOOP", false),
-        ("a: INTEGER; WHILE a DO ENDLOOP", false),
-        ("DO ENDLOOP", false),
-        ("a: INTEGER; IF a = 1 THEN a ← 2", false),
+        (18u32, "12345", 0, "15", ""),
+        (17, "12345", 2, "", "turns spent\n"),
+        (3, "", 0, "0", ""),
+        (2, "", 2, "", "turns spent\n"),
     ];
-    for (inner, is_text) in rows {
-        let text = format!(in rt.alloc(); "M: PROGRAM = BEGIN {inner} END.")?;
-        let left = left_by(&rt, "go M.mesa 9", text.as_str())?;
-        assert_eq!(rt; left.status != 4, is_text, "{inner} left {left:?}");
-    }
-    Ok(())
-}
-
-/// A module whose inside has one piece many times, and behind it another one as often.
-#[derive(Clone, Copy)]
-struct Inside<'a> {
-    before: &'a str,
-    piece: &'a str,
-    count: usize,
-    between: &'a str,
-    closing: &'a str,
-}
-
-fn text_with(alloc: Global, inside: &Inside<'_>) -> Result<String, AllocError> {
-    let mut text = String::from_str(alloc, "M: PROGRAM = BEGIN ")?;
-    text.push_str(inside.before)?;
-    for _ in 0..inside.count {
-        text.push_str(inside.piece)?;
-    }
-    text.push_str(inside.between)?;
-    for _ in 0..inside.count {
-        text.push_str(inside.closing)?;
-    }
-    text.push_str(" END.")?;
-    Ok(text)
-}
-
-fn variables(alloc: Global, count: u16) -> Result<String, AllocError> {
-    let mut text = String::from_str(alloc, "M: PROGRAM = BEGIN ")?;
-    for number in 0..count {
-        let declaration = format!(in alloc; "v{number}: INTEGER;")?;
-        text.push_str(declaration.as_str())?;
-    }
-    text.push_str(" END.")?;
-    Ok(text)
-}
-
-#[test]
-fn limits(rt: HostRuntime) -> Result<(), Fail> {
-    let rows = [
-        ("", "a", 255usize, ": INTEGER;", ""),
-        ("a: INTEGER ← 1", " + 1", 999, ";", ""),
-        ("a: INTEGER; a ← 1", " - 1", 999, "", ""),
-        ("a: INTEGER; ", "WHILE a = 1 DO ", 100, "a ← a", " ENDLOOP"),
-        ("", " ", 1_048_552, "", ""),
-    ];
-    for (before, piece, count, between, closing) in rows {
-        for past in [0usize, 1] {
-            let inside = Inside {
-                before,
-                piece,
-                count: count.saturating_add(past),
-                between,
-                closing,
-            };
-            let text = text_with(rt.alloc(), &inside)?;
-            let left = left_by(&rt, "go M.mesa 1", text.as_str())?;
-            assert_eq!(rt;
-                left.status,
-                if past == 0 { 0 } else { 4 },
-                "{piece} {count} and {past}"
-            );
-        }
-    }
-    Ok(())
-}
-
-#[test]
-fn most_variables(rt: HostRuntime) -> Result<(), Fail> {
-    for (count, status) in [(16_384, 0), (16_385, 4)] {
-        let text = variables(rt.alloc(), count)?;
-        let left = left_by(&rt, "go M.mesa 1", text.as_str())?;
-        assert_eq!(rt; left.status, status, "{count} variables");
+    let text = module_with(rt.alloc(), SUM)?;
+    for (turns, bytes, status, out, err) in rows {
+        let words = format!(in rt.alloc(); "go M.mesa {turns}")?;
+        let left = left_with(&rt, words.as_str(), text.as_str(), bytes)?;
+        assert!(rt; is_left(&left, status, out, err), "{turns} left {left:?}");
     }
     Ok(())
 }

@@ -1,85 +1,21 @@
--- What comes of a text, from what its passes and its run ensure.
-use Rattle.std.proofs.Common.{◌≡◌, ◌≢◌, ℕ, ◌≤◌, List, ◌++◌, length, take, min, Option, Some, None, IfSome, refl, sym, ◌∙◌, ap, subst, arith}
+-- What comes of a file, whose bytes were read up to a byte past the limit.
+use Rattle.std.proofs.Common.{◌≡◌, ◌≢◌, ℕ, ◌≤◌, List, length, take, min, Option, Some, None, IfSome, refl, sym, ◌∙◌, ap, subst, arith}
 use Rattle.std.proofs.lemmas.List.{length-take, take_min}
 use Rattle.std.proofs.Math.Seq.{take-length}
-use Rattle.mesa_base.specs.Outside.{Files, Reads as FileReads, Rose}
+use Rattle.mesa_base.specs.Outside.{Files, Reads as FileReads}
 use Rattle.mesa_types.specs.Typed.{Module}
-use Rattle.frame_machine.specs.declared.outcome.End.{End}
-use Rattle.frame_machine.specs.declared.outcome.End.TheVariants as end
-use Rattle.frame_machine.specs.declared.outcome.Outcome.{Outcome}
-use Rattle.mesa_lexer.specs.declared.token.Tokens.{Tokens}
-use Rattle.module_productions.specs.Answer as grammar
-use Rattle.mesa_lexer.specs.Tokens.{HasTokens, HasLexFault, text_too_long, no_token, not_in_text, open_text, too_large, too_long}
+use Rattle.mesa_types.specs.declared.syntax.Module as syntax
+use Rattle.mesa_lexer.specs.Tokens.{HasLexFault, text_too_long, no_token, not_in_text, open_text, too_large, too_long}
 use Rattle.mesa_lexer.specs.declared.fault.SyntaxFault.{SyntaxFault}
-use Rattle.mesa_lexer.specs.declared.fault.SyntaxFault.TheVariants as syntax_fault
 use Rattle.mesa_lexer.specs.declared.fault.LexFault.{LexFault}
 use Rattle.mesa_lexer.specs.declared.fault.LexFault.TheVariants as lex
-use Rattle.mesa_types.specs.declared.syntax.Module as syntax
-use Rattle.first_program.specs.FirstText.{first_module}
-use Rattle.first_program.specs.declared.first_fault.FirstFault.{FirstFault}
-use Rattle.first_program.specs.declared.first_fault.FirstFault.TheVariants as first
-use Rattle.mesa_command.specs.TextFaults as f
-use Rattle.mesa_command.specs.TextFaults.{TextFault, of_lexical, of_syntactic, of_first}
-use Rattle.mesa_command.specs.Text.{HasTree, Reads, HasSyntaxFault, HasFault, lexical, syntactic, not_yet}
-use Rattle.mesa_command.specs.Outputs.{Stream, stream}
-use Rattle.mesa_command.specs.Worlds.{Shelf, shelf, Holds}
-use Rattle.linked_run.specs.Running.{MeansAtAnyInput, Ran, CutOff, answer_of}
-use Rattle.mesa_command.specs.Comes.{Ends, done, spent, write_fault, memory_in_run, Refuses, fault, memory as want, HasModule}
-use Rattle.mesa_command.specs.Case.{Case, Refused, WriteFault, Memory}
-use Rattle.mesa_command.specs.Reply.{case_of_end}
-
--- how a run ends
-
-by-end : (m : Module) (turns left : ℕ) (output : List ℕ) (e : End) (old new : Option (List ℕ)) (n k : ℕ) →
-    MeansAtAnyInput m turns output (answer_of e) left → IfSome old (λ bytes. new ≡ Some (bytes ++ output)) →
-    Ends m turns (stream old n) (stream new k) (case_of_end e)
-by-end m turns left output end.Done old new n k means wrote = done output left means wrote
-by-end m turns left output end.Spent old new n k means wrote = spent output left means wrote
-
-pub ran-ends : (m : Module) (turns : ℕ) (o : Outcome) (old new : Option (List ℕ)) (n k : ℕ) → Ran m turns o old new →
-    Ends m turns (stream old n) (stream new k) (case_of_end o.end)
-ran-ends m turns o old new n k ran = by-end m turns o.left ran.output o.end old new n k ran.means ran.wrote
-
-pub cut-ends : (m : Module) (turns : ℕ) (old new : Option (List ℕ)) (n k : ℕ) → CutOff m turns old new → Rose n k →
-    Ends m turns (stream old n) (stream new k) WriteFault
-cut-ends m turns old new n k cut rose = write_fault cut.output cut.end cut.left cut.means rose cut.wrote
-
-pub memory-ends : (m : Module) (turns : ℕ) (old new : Option (List ℕ)) (n k : ℕ) → CutOff m turns old new →
-    Ends m turns (stream old n) (stream new k) Memory
-memory-ends m turns old new n k cut = memory_in_run cut.output cut.end cut.left cut.means cut.wrote
-
--- the faults of the passes are the text's
-
-pub lexical-is : (text : List ℕ) (why : LexFault) (shown : TextFault) → (why ≢ lex.Memory → HasLexFault text why) →
-    shown ≡ of_lexical why → shown ≢ f.Memory → HasFault text shown
-lexical-is text lex.Memory shown has e other = absurd (other e)
-lexical-is text (lex.BadByte place) shown has e other = subst (HasFault text) (sym e) (lexical (lex.BadByte place) (has (λ no. cc)))
-lexical-is text (lex.OpenString place) shown has e other = subst (HasFault text) (sym e) (lexical (lex.OpenString place) (has (λ no. cc)))
-lexical-is text (lex.NumberTooLarge place) shown has e other =
-    subst (HasFault text) (sym e) (lexical (lex.NumberTooLarge place) (has (λ no. cc)))
-lexical-is text (lex.TokenTooLong place) shown has e other =
-    subst (HasFault text) (sym e) (lexical (lex.TokenTooLong place) (has (λ no. cc)))
-lexical-is text lex.TextTooLong shown has e other = subst (HasFault text) (sym e) (lexical lex.TextTooLong (has (λ no. cc)))
-
-pub syntax-is : (text : List ℕ) (tokens : Tokens) (why : SyntaxFault) (shown : TextFault) → HasTokens text tokens →
-    (why ≢ syntax_fault.Memory → grammar.HasSyntaxFault tokens.items tokens.end why) → shown ≡ of_syntactic why →
-    shown ≢ f.Memory → HasFault text shown
-syntax-is text tokens syntax_fault.Memory shown made has e other = absurd (other e)
-syntax-is text tokens (syntax_fault.Unexpected place) shown made has e other =
-    subst (HasFault text) (sym e) (syntactic (syntax_fault.Unexpected place)
-    (record { tokens = tokens; has_tokens = made; has_fault = has (λ no. cc) }))
-syntax-is text tokens (syntax_fault.TooDeep place) shown made has e other =
-    subst (HasFault text) (sym e) (syntactic (syntax_fault.TooDeep place)
-    (record { tokens = tokens; has_tokens = made; has_fault = has (λ no. cc) }))
-
-pub has-tree : (text : List ℕ) (tokens : Tokens) (tree : syntax.Module) → HasTokens text tokens → grammar.Parses tokens.items tree →
-    HasTree text tree
-has-tree text tokens tree made parses = record { tokens = tokens; has_tokens = made; parses = parses }
-
-pub unbuilt-is : (text : List ℕ) (tree : syntax.Module) (why : FirstFault) (shown : TextFault) → HasTree text tree →
-    (why ≢ first.Memory → first_module tree ≡ None) → shown ≡ of_first why → shown ≢ f.Memory → HasFault text shown
-unbuilt-is text tree first.Memory shown has none e other = absurd (other e)
-unbuilt-is text tree first.NotYet shown has none e other = subst (HasFault text) (sym e) (not_yet tree has (none (λ no. cc)))
+use Rattle.written_trees.specs.Laws.{IsTreeOf}
+use Rattle.module_texts.specs.declared.text_fault.TextFault.TheVariants as f
+use Rattle.module_texts.specs.declared.text_fault.TextFault.{TextFault}
+use Rattle.module_texts.specs.Texts.{Reads, HasSyntaxFault, HasFault, lexical, syntactic, not_yet, wrong}
+use Rattle.mesa_command.specs.Worlds.{Shelf, shelf}
+use Rattle.mesa_command.specs.Comes.{Refuses, fault, memory as want, HasModule}
+use Rattle.mesa_command.specs.Case.{Case, Refused, Memory}
 
 -- a text that was read up to a byte past the limit is the whole one, or is no text at all
 
@@ -112,8 +48,8 @@ lexical-whole part whole (lex.NumberTooLarge place) e h = lexical-moves part who
 lexical-whole part whole (lex.TokenTooLong place) e h = lexical-moves part whole (lex.TokenTooLong place) e (λ no. cc) h
 lexical-whole part whole lex.Memory e x = elim x [ ]
 
-tree-whole : (part whole : List ℕ) (tree : syntax.Module) → part ≡ take 1048577 whole → HasTree part tree → HasTree whole tree
-tree-whole part whole tree e h = subst (λ t. HasTree t tree) (is-whole part whole e h.has_tokens.not_long) h
+tree-whole : (part whole : List ℕ) (tree : syntax.Module) → part ≡ take 1048577 whole → IsTreeOf part tree → IsTreeOf whole tree
+tree-whole part whole tree e h = subst (λ t. IsTreeOf t tree) (is-whole part whole e h.are_its_own.not_long) h
 
 syntax-whole : (part whole : List ℕ) (why : SyntaxFault) → part ≡ take 1048577 whole → HasSyntaxFault part why → HasSyntaxFault whole why
 syntax-whole part whole why e h = subst (λ t. HasSyntaxFault t why) (is-whole part whole e h.has_tokens.not_long) h
@@ -122,13 +58,12 @@ fault-whole : (part whole : List ℕ) (why : TextFault) → part ≡ take 104857
 fault-whole part whole (f.Lexical _) e (lexical why h) = lexical why (lexical-whole part whole why e h)
 fault-whole part whole (f.Syntactic _) e (syntactic why h) = syntactic why (syntax-whole part whole why e h)
 fault-whole part whole f.NotYet e (not_yet tree h none) = not_yet tree (tree-whole part whole tree e h) none
+fault-whole part whole (f.Wrong _ _) e (wrong tree why h alone is) = wrong tree why (tree-whole part whole tree e h) alone is
 fault-whole part whole f.Memory e x = elim x [ ]
 
 reads-whole : (part whole : List ℕ) (m : Module) → part ≡ take 1048577 whole → Reads part m → Reads whole m
 reads-whole part whole m e r =
-    record { tree = r.tree; has_tree = tree-whole part whole r.tree e r.has_tree; is_typed = r.is_typed }
-
--- what a file comes to, whose bytes were read up to a byte past the limit
+    record { tree = r.tree; is_tree = tree-whole part whole r.tree e r.is_tree; alone = r.alone; is_checked = r.is_checked }
 
 pub file-has : (file part : List ℕ) (files : Option Files) (faults misses : ℕ) (m : Module) →
     IfSome files (λ all. FileReads all file 1048576 part) → Reads part m → HasModule file (shelf files faults misses) m
@@ -161,3 +96,5 @@ file-refuses file part files faults misses folder' (f.Syntactic why) case given 
     refuses-as file part files faults misses folder' (f.Syntactic why) case given has shown (λ no. cc)
 file-refuses file part files faults misses folder' f.NotYet case given has memory shown =
     refuses-as file part files faults misses folder' f.NotYet case given has shown (λ no. cc)
+file-refuses file part files faults misses folder' (f.Wrong cause place) case given has memory shown =
+    refuses-as file part files faults misses folder' (f.Wrong cause place) case given has shown (λ no. cc)

@@ -1,9 +1,9 @@
 pub mod Case
 pub mod Comes
 pub mod Complete
+pub mod Ends
 pub mod Forms
 pub mod Outputs
 pub mod Reply
-pub mod Text
-pub mod TextFaults
+pub mod Shown
 pub mod Worlds

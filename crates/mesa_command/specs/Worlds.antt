@@ -1,7 +1,7 @@
--- What a call is made on, as far as it tells: a folder, `out` and `err` (rule of this project).
+-- What a call is made on, as far as it tells: a folder, the input, `out`, the counter of steps and `err` (rule of this project).
 use Rattle.std.specs.Prelude.{◌≡◌, ℕ, List, Option, Some, IfSome}
 use Rattle.mesa_base.specs.Outside.{Files}
-use Rattle.mesa_command.specs.Outputs.{Stream, stream}
+use Rattle.mesa_command.specs.Outputs.{Stream}
 
 -- a folder: its files where it tells them, and how many calls failed, or asked for what is not there
 pub record Shelf : Type 0 where
@@ -16,10 +16,27 @@ shelf files faults misses = record { files = files; faults = faults; misses = mi
 abbrev pub Holds : Shelf → List ℕ → List ℕ → Type 0
 Holds folder file text = IfSome folder.files (λ files. files file ≡ Some text)
 
+-- an input: the bytes that are left where it tells them, and how many calls on it failed
+pub record Feed : Type 0 where
+  pub left : Option (List ℕ)
+  pub faults : ℕ
+
+abbrev pub feed : Option (List ℕ) → ℕ → Feed
+feed left faults = record { left = left; faults = faults }
+
+-- what a run is made on: what it reads, what it writes, and the steps that were counted
+pub record Scene : Type 0 where
+  pub input : Feed
+  pub out : Stream
+  pub steps : ℕ
+
+abbrev pub scene : Feed → Stream → ℕ → Scene
+scene input out steps = record { input = input; out = out; steps = steps }
+
 pub record World : Type 0 where
   pub folder : Shelf
-  pub out : Stream
+  pub scene : Scene
   pub err : Stream
 
-abbrev pub world : Shelf → Stream → Stream → World
-world folder out err = record { folder = folder; out = out; err = err }
+abbrev pub world : Shelf → Scene → Stream → World
+world folder scene err = record { folder = folder; scene = scene; err = err }

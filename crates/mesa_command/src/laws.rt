@@ -1,15 +1,14 @@
-//! The laws that stand above the calls. The program calls none of these.
-ghost use Rattle.std.specs.Prelude.{◌≡◌, List, ℕ};
-ghost use Rattle.mesa_types.specs.Typed.{Module};
+//! The law that stands above the calls. The program does not call it.
 ghost use Rattle.mesa_command.specs.Complete.{OneCaseComes};
-ghost use Rattle.mesa_command.specs.Text.{Reads};
 
-/// For words and files that are told one case comes, where neither the folder nor `out` failed, want of memory aside.
+use module_texts::{one_fault, one_module, read_texts_have_no_fault};
+
+/// For words, files and input that are told one case comes, where neither the folder nor the input nor `out` failed, want of
+/// memory aside.
 pub fn one_case()
     ensures { OneCaseComes }
-{}
-
-/// Bytes are the text of at most one module.
-pub fn one_module()
-    ensures { (text : List ℕ) (m n : Module) → Reads text m → Reads text n → m ≡ n }
-{}
+{
+    one_module();
+    one_fault();
+    read_texts_have_no_fault();
+}

@@ -5,11 +5,10 @@ mod forms;
 mod laws;
 mod passes;
 mod reply;
-mod text_fault;
 mod top;
 
-pub use laws::{one_case, one_module};
-pub use passes::{module_of_file, module_of_text};
-pub use reply::Reply;
-pub use text_fault::TextFault;
+pub use laws::one_case;
+pub use module_texts::{TextFault, module_of_text, one_module};
+pub use passes::module_of_file;
+pub use reply::{Reply, UncaughtSignal};
 pub use top::mesa;

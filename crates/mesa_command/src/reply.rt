@@ -1,21 +1,34 @@
 //! How a call ends, and the line that says so.
 
-ghost use Rattle.std.specs.Prelude.{◌≡◌, ◌++◌, ◌≤◌, IsTrue, false, Some};
+ghost use Rattle.std.specs.Prelude.{◌≡◌, ◌++◌, ◌≤◌, IsTrue, false, Some, codes};
 ghost use Rattle.mesa_command.specs.Case.{status_of, line_of, of_cause};
-ghost use Rattle.mesa_command.specs.Reply.{reply_case, bytes_of, joined};
-ghost use Rattle.mesa_command.specs.TextFaults.{fault_name, fault_place};
+ghost use Rattle.mesa_command.specs.Reply.{called, reply_case, bytes_of, joined};
+ghost use Rattle.mesa_command.specs.Complete.{Tells};
 ghost use Rattle.mesa_command.specs.Outputs.{stream, PrintsAll, PrintsPrefix, HasFaulted, Receives};
+ghost use Rattle.module_texts.specs.TextFaults.{fault_name, fault_place};
 
-use crate::text_fault::TextFault;
 use mesa_base::{Decimal, Place, Sink, Status};
+use module_texts::TextFault;
+
+/// A signal that nothing caught, as a line calls it.
+#[derive(Clone, Copy, Debug)]
+pub enum UncaughtSignal<'a> {
+    /// One of a module: the module's name, and its own.
+    Own(&'a [u8], &'a [u8]),
+    /// One that is predeclared, or the error without a name.
+    Predeclared(&'a str),
+}
 
 /// How a call ends, with what its line shows.
 #[derive(Clone, Copy, Debug)]
 pub enum Reply<'a> {
     Done,
+    Uncaught(UncaughtSignal<'a>),
     Spent,
+    FrameLimit,
     Refused(&'a str, TextFault),
     Absent(&'a str),
+    ReadFault,
     WriteFault,
     FolderFault(&'a str),
     Memory,
@@ -28,9 +41,12 @@ impl Reply<'_> {
     {
         match self {
             Reply::Done => Status::Done,
+            Reply::Uncaught(_) => Status::Uncaught,
             Reply::Spent => Status::Spent,
+            Reply::FrameLimit => Status::FrameLimit,
             Reply::Refused(..) => Status::Refused,
             Reply::Absent(_) => Status::Absent,
+            Reply::ReadFault => Status::ReadFault,
             Reply::WriteFault => Status::WriteFault,
             Reply::FolderFault(_) => Status::FolderFault,
             Reply::Memory => Status::Memory,
@@ -44,9 +60,12 @@ impl Reply<'_> {
     {
         match self {
             Reply::Done => {}
+            Reply::Uncaught(signal) => say_uncaught(*signal, err),
             Reply::Spent => say("", "turns spent\n", err),
+            Reply::FrameLimit => say("", "frames full\n", err),
             Reply::Refused(file, fault) => say_fault(file, *fault, err),
             Reply::Absent(file) => say(file, ": absent\n", err),
+            Reply::ReadFault => say("", "input failed\n", err),
             Reply::WriteFault => say("", "output failed\n", err),
             Reply::FolderFault(file) => say(file, ": folder failed\n", err),
             Reply::Memory => say("", "out of memory\n", err),
@@ -59,11 +78,46 @@ impl Reply<'_> {
     }
 }
 
+/// Writes the line of a reply, and gives its status.
+pub(crate) fn told<E: Sink>(reply: Reply<'_>, err: &mut E) -> Status
+    ensures { Tells (reply_case reply.entry) (stream (E.written err.old) (E.faults err.old)) (stream (E.written err.new) (E.faults err.new)) result }
+{
+    reply.tell(err);
+    reply.status()
+}
+
 /// A piece of a line.
 #[derive(Clone, Copy)]
 enum Piece<'a> {
     Text(&'a str),
+    Bytes(&'a [u8]),
     Number(u32),
+}
+
+/// uncaught SIGNAL.
+fn say_uncaught<E: Sink>(signal: UncaughtSignal<'_>, err: &mut E)
+    ensures { Receives (codes "uncaught " ++ (called signal.entry ++ codes "\n")) (stream (E.written err.old) (E.faults err.old)) (stream (E.written err.new) (E.faults err.new)) }
+{
+    match signal {
+        UncaughtSignal::Own(whose, name) => say_all(
+            &[
+                Piece::Text("uncaught "),
+                Piece::Bytes(whose),
+                Piece::Text("."),
+                Piece::Bytes(name),
+                Piece::Text("\n"),
+            ],
+            err,
+        ),
+        UncaughtSignal::Predeclared(name) => say_all(
+            &[
+                Piece::Text("uncaught "),
+                Piece::Text(name),
+                Piece::Text("\n"),
+            ],
+            err,
+        ),
+    }
 }
 
 /// FILE:LINE:COLUMN: Cause, or FILE: Cause where the fault has no place.
@@ -125,6 +179,7 @@ fn send_piece<E: Sink>(piece: Piece<'_>, err: &mut E) -> bool
 {
     match piece {
         Piece::Text(text) => send(text.as_bytes(), err),
+        Piece::Bytes(bytes) => send(bytes, err),
         Piece::Number(number) => send(Decimal::of(u64::from(number)).as_bytes(), err),
     }
 }

@@ -1,24 +1,31 @@
 //! The call, its cases, and the run of a module.
 
-ghost use Rattle.std.specs.Prelude.{◌≡◌};
+ghost use Rattle.std.specs.Prelude.{◌≡◌, IfOk, IfSome};
 ghost use Rattle.mesa_types.specs.Plain.{plain};
-ghost use Rattle.mesa_types.specs.Sound.{Sound};
-ghost use Rattle.source_meaning.specs.FirstProgram.{FirstProgram};
-ghost use Rattle.mesa_command.specs.Case.{status_of, IsBeforeRun};
-ghost use Rattle.mesa_command.specs.Comes.{Comes, Ends};
-ghost use Rattle.mesa_command.specs.Complete.{Answered};
+ghost use Rattle.source_meaning.specs.Program.{single};
+ghost use Rattle.written_trees.specs.Alone.{StandsAlone};
+ghost use Rattle.image_runs.specs.Running.{AreBytes};
+ghost use Rattle.module_runs.specs.Ends.{IsEndOf, IsSignalOf};
+ghost use Rattle.mesa_command.specs.Case.{Case, IsBeforeRun};
+ghost use Rattle.mesa_command.specs.Comes.{Comes};
+ghost use Rattle.mesa_command.specs.Complete.{Answered, Tells};
+ghost use Rattle.mesa_command.specs.Ends.{Ends};
 ghost use Rattle.mesa_command.specs.Outputs.{stream};
-ghost use Rattle.mesa_command.specs.Reply.{reply_case, case_of_end};
-ghost use Rattle.mesa_command.specs.Worlds.{shelf, world};
+ghost use Rattle.mesa_command.specs.Reply.{called, reply_case, case_of_end, case_of_run, signal_of};
+ghost use Rattle.mesa_command.specs.Shown.{shown};
+ghost use Rattle.mesa_command.specs.Worlds.{feed, scene, shelf, world};
 
 use crate::forms::go_form;
 use crate::passes::module_of_file;
-use crate::reply::Reply;
-use frame_machine::{End, RunFault};
+use crate::reply::{Reply, UncaughtSignal, told};
 use held_trees::LetGo;
-use linked_run::run_module;
+use image_runs::Outcome;
+use machine_steps::End;
 use mesa_base::{Boxed, Folder, Sink, Source, Status, Steps, Words};
 use mesa_types::TypedModule;
+use module_runs::{ModuleFault, run_module};
+use module_texts::{one_fault, one_module, read_texts_have_no_fault};
+use signaller::SignalId;
 use std::alloc::Global;
 use std::sync::ledger::Ledger;
 
@@ -33,75 +40,122 @@ pub fn mesa<F: Folder, S: Source, K: Sink, E: Sink, L: Ledger>(
     err: &mut E,
     steps: &mut Steps<L>,
 ) -> Status
-    // The status is that of a case that comes of the words, the folder and `out`, and `err` receives its line; which case
-    // must come is said beside it.
-    ensures answered { Answered words.now
-        (world (shelf (F.files folder.old) (F.faults folder.old) (F.misses folder.old)) (stream (K.written out.old) (K.faults out.old)) (stream (E.written err.old) (E.faults err.old)))
-        (world (shelf (F.files folder.new) (F.faults folder.new) (F.misses folder.new)) (stream (K.written out.new) (K.faults out.new)) (stream (E.written err.new) (E.faults err.new)))
+    // Where the input tells what is left of it, these are bytes. The status is that of a case that comes of the words, the folder,
+    // the input and `out`, and `err` receives its line; which case must come is said beside it.
+    ensures answered { IfSome (S.left input.old) AreBytes → Answered words.now
+        (world (shelf (F.files folder.old) (F.faults folder.old) (F.misses folder.old))
+        (scene (feed (S.left input.old) (S.faults input.old)) (stream (K.written out.old) (K.faults out.old)) steps.old)
+        (stream (E.written err.old) (E.faults err.old)))
+        (world (shelf (F.files folder.new) (F.faults folder.new) (F.misses folder.new))
+        (scene (feed (S.left input.new) (S.faults input.new)) (stream (K.written out.new) (K.faults out.new)) steps.new)
+        (stream (E.written err.new) (E.faults err.new)))
         result }
-    ensures before_run { IsBeforeRun result → out.new ≡ out.old }
-    // No file is changed, and nothing of the input is taken.
+    // Nothing was read, written or counted where nothing was run.
+    ensures before_run_input { IsBeforeRun result → input.new ≡ input.old }
+    ensures before_run_output { IsBeforeRun result → out.new ≡ out.old }
+    ensures before_run_steps { IsBeforeRun result → steps.new ≡ steps.old }
+    // No file is changed.
     ensures files { F.files folder.new ≡ F.files folder.old }
-    ensures input { input.new ≡ input.old }
 {
-    let reply = answer(alloc, words, folder, input, out, steps);
-    reply.tell(err);
-    reply.status()
+    one_module();
+    one_fault();
+    read_texts_have_no_fault();
+    answer(alloc, words, folder, input, out, err, steps)
 }
 
-fn answer<'a, F: Folder, S: Source, K: Sink, L: Ledger>(
+/// The words, the module, and its run.
+fn answer<F: Folder, S: Source, K: Sink, E: Sink, L: Ledger>(
     alloc: Global,
-    words: &'a Words,
+    words: &Words,
     folder: &mut F,
     input: &mut S,
     out: &mut K,
+    err: &mut E,
     steps: &mut Steps<L>,
-) -> Reply<'a>
-    ensures comes { Comes words.now (shelf (F.files folder.old) (F.faults folder.old) (F.misses folder.old)) (shelf (F.files folder.new) (F.faults folder.new) (F.misses folder.new))
-        (stream (K.written out.old) (K.faults out.old)) (stream (K.written out.new) (K.faults out.new)) (reply_case result) }
-    ensures before_run { IsBeforeRun (status_of (reply_case result)) → out.new ≡ out.old }
+) -> Status
+    ensures comes { IfSome (S.left input.old) AreBytes → (case : Case)
+        × Comes words.now (shelf (F.files folder.old) (F.faults folder.old) (F.misses folder.old)) (shelf (F.files folder.new) (F.faults folder.new) (F.misses folder.new))
+        (scene (feed (S.left input.old) (S.faults input.old)) (stream (K.written out.old) (K.faults out.old)) steps.old)
+        (scene (feed (S.left input.new) (S.faults input.new)) (stream (K.written out.new) (K.faults out.new)) steps.new) case
+        × Tells case (stream (E.written err.old) (E.faults err.old)) (stream (E.written err.new) (E.faults err.new)) result }
+    ensures before_run_input { IsBeforeRun result → input.new ≡ input.old }
+    ensures before_run_output { IsBeforeRun result → out.new ≡ out.old }
+    ensures before_run_steps { IsBeforeRun result → steps.new ≡ steps.old }
     ensures files { F.files folder.new ≡ F.files folder.old }
-    ensures input { input.new ≡ input.old }
 {
     let Some(go) = go_form(words) else {
-        return Reply::Usage;
+        return told(Reply::Usage, err);
     };
     match module_of_file(alloc, folder, go.file) {
-        Err(reply) => reply,
-        Ok(typed) => run(alloc, typed, go.turns, input, out, steps),
+        Err(reply) => told(reply, err),
+        Ok(typed) => run(alloc, typed, go.turns, input, out, err, steps),
     }
 }
 
-/// Runs a module that may spend so many turns, and lets it go.
-fn run<'a, S: Source, K: Sink, L: Ledger>(
+/// Runs a module that may spend so many turns, writes the line of its end, and lets it go.
+fn run<S: Source, K: Sink, E: Sink, L: Ledger>(
     alloc: Global,
     typed: Boxed<TypedModule>,
     turns: u64,
     input: &mut S,
     out: &mut K,
+    err: &mut E,
     steps: &mut Steps<L>,
-) -> Reply<'a>
-    requires sound { Sound (plain typed) }
-    requires first { FirstProgram (plain typed) }
-    ensures ends { Ends (plain typed) turns (stream (K.written out.old) (K.faults out.old)) (stream (K.written out.new) (K.faults out.new)) (reply_case result) }
-    ensures in_run { ¬ (IsBeforeRun (status_of (reply_case result))) }
-    ensures input { input.new ≡ input.old }
+) -> Status
+    requires alone { StandsAlone (plain typed) }
+    ensures ends { IfSome (S.left input.old) AreBytes → (case : Case)
+        × Ends (plain typed) turns
+        (scene (feed (S.left input.old) (S.faults input.old)) (stream (K.written out.old) (K.faults out.old)) steps.old)
+        (scene (feed (S.left input.new) (S.faults input.new)) (stream (K.written out.new) (K.faults out.new)) steps.new) case
+        × Tells case (stream (E.written err.old) (E.faults err.old)) (stream (E.written err.new) (E.faults err.new)) result }
+    ensures before_run_input { IsBeforeRun result → input.new ≡ input.old }
+    ensures before_run_output { IsBeforeRun result → out.new ≡ out.old }
+    ensures before_run_steps { IsBeforeRun result → steps.new ≡ steps.old }
 {
     let ended = run_module(alloc, typed.get(), turns, input, out, steps);
+    // The line names the module and its signal, so the module stands until it is written.
+    let status = told(reply_to(typed.get(), ended), err);
     typed.let_go();
+    status
+}
+
+fn reply_to(module: &TypedModule, ended: Result<Outcome, ModuleFault>) -> Reply<'_>
+    requires { IfOk ended (λ outcome. IsEndOf (plain «module».now) outcome.end) }
+    ensures { reply_case result ≡ case_of_run (plain «module».entry.now) ended }
+{
     match ended {
-        Ok(outcome) => ended_with(outcome.end),
-        Err(RunFault::WriteFault) => Reply::WriteFault,
-        Err(RunFault::Memory) => Reply::Memory,
-        Err(RunFault::ReadFault) => unreachable!(),
+        Ok(outcome) => ended_with(module, outcome.end),
+        Err(ModuleFault::ReadFault) => Reply::ReadFault,
+        Err(ModuleFault::WriteFault) => Reply::WriteFault,
+        Err(ModuleFault::Memory) => Reply::Memory,
     }
 }
 
-fn ended_with<'a>(end: End) -> Reply<'a>
-    ensures { reply_case result ≡ case_of_end end }
+fn ended_with(module: &TypedModule, end: End) -> Reply<'_>
+    requires { IsEndOf (plain «module».now) end }
+    ensures { reply_case result ≡ case_of_end (plain «module».entry.now) end }
 {
     match end {
         End::Done => Reply::Done,
+        End::Uncaught(signal) => Reply::Uncaught(uncaught_signal(module, signal)),
         End::Spent => Reply::Spent,
+        End::FrameLimit => Reply::FrameLimit,
+    }
+}
+
+/// What a line calls the signal: the module's one instance has the module's name as its path.
+fn uncaught_signal(module: &TypedModule, signal: SignalId) -> UncaughtSignal<'_>
+    requires { IsSignalOf (plain «module».now) signal }
+    ensures { called result ≡ shown (single (plain «module».entry.now)) (signal_of signal) }
+{
+    match signal {
+        SignalId::Own(_, number) => UncaughtSignal::Own(
+            module.name.bytes(),
+            module.signals.as_slice()[number as usize].name.bytes(),
+        ),
+        SignalId::BoundsFault => UncaughtSignal::Predeclared("BoundsFault"),
+        SignalId::ZeroDivisor => UncaughtSignal::Predeclared("ZeroDivisor"),
+        SignalId::NoInput => UncaughtSignal::Predeclared("IODefs.NoInput"),
+        SignalId::Unnamed => UncaughtSignal::Predeclared("ERROR"),
     }
 }

@@ -14,3 +14,9 @@ returns-in-Memory g c = record { received = rw c.in-Memory.is c.say-in-Memory.en
 
 pub returns-in-Usage : goal.returns-in-Usage
 returns-in-Usage g c = record { received = rw c.in-Usage.is c.say-in-Usage.ensures }
+
+pub returns-in-FrameLimit : goal.returns-in-FrameLimit
+returns-in-FrameLimit g c = record { received = rw c.in-FrameLimit.is c.say-in-FrameLimit.ensures }
+
+pub returns-in-ReadFault : goal.returns-in-ReadFault
+returns-in-ReadFault g c = record { received = rw c.in-ReadFault.is c.say-in-ReadFault.ensures }

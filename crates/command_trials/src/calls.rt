@@ -1,0 +1,156 @@
+//! Calls of `mesa` over objects in memory.
+ghost use Rattle.std.specs.Prelude.{◌≡◌, ◌<◌};
+
+use mesa_base::{
+    Bytes, List, MemoryFolder, MemorySink, MemorySource, Numbers, OutOfMemory, Status, Steps, Words,
+};
+use mesa_command::mesa;
+use std::alloc::{AllocError, Global};
+use std::marker::Brand;
+use std::sync::ledger::{Blank, Ledger};
+
+/// What a call is made on: its words with blanks between, the one text in the folder, the bytes of the input, and the calls that
+/// fail.
+#[derive(Clone, Copy)]
+pub struct Call<'a> {
+    pub words: &'a str,
+    pub text: &'a [u8],
+    pub bytes: &'a [u8],
+    pub folder: &'a [u32],
+    pub input: &'a [u32],
+    pub out: &'a [u32],
+    pub err: &'a [u32],
+}
+
+/// What a call left: its exit status, and what `out` and `err` received.
+#[derive(Debug, Drop)]
+pub struct Left {
+    pub status: u8,
+    pub out: Bytes,
+    pub err: Bytes,
+}
+
+fn numbers(alloc: Global, all: &[u32]) -> Result<Numbers, OutOfMemory> {
+    List::from_slice(alloc, all)
+}
+
+fn words_of(alloc: Global, line: &str) -> Result<Words, OutOfMemory> {
+    let mut words = Words::new(alloc);
+    for word in line.split(' ') {
+        if !word.is_empty() {
+            words.push(word.as_bytes())?;
+        }
+    }
+    Ok(words)
+}
+
+/// The objects in memory that a call is made on.
+#[derive(Drop)]
+struct Objects {
+    words: Words,
+    folder: MemoryFolder,
+    input: MemorySource,
+    out: MemorySink,
+    err: MemorySink,
+}
+
+fn folder_with(alloc: Global, call: &Call<'_>) -> Result<MemoryFolder, OutOfMemory> {
+    let failing = numbers(alloc, call.folder)?;
+    let mut folder = MemoryFolder::new(alloc, failing);
+    folder.insert("M.mesa", call.text)?;
+    Ok(folder)
+}
+
+fn source_of(alloc: Global, call: &Call<'_>) -> Result<MemorySource, OutOfMemory> {
+    let failing = numbers(alloc, call.input)?;
+    MemorySource::new(alloc, call.bytes, failing)
+}
+
+fn sink_of(alloc: Global, failing: &[u32]) -> Result<MemorySink, OutOfMemory> {
+    let failing = numbers(alloc, failing)?;
+    MemorySink::new(alloc, 4096, failing)
+}
+
+fn objects_of(alloc: Global, call: &Call<'_>) -> Result<Objects, OutOfMemory> {
+    let words = words_of(alloc, call.words)?;
+    let folder = folder_with(alloc, call)?;
+    let input = source_of(alloc, call)?;
+    let out = sink_of(alloc, call.out)?;
+    let err = sink_of(alloc, call.err)?;
+    Ok(Objects {
+        words,
+        folder,
+        input,
+        out,
+        err,
+    })
+}
+
+fn counted<L: Ledger>(alloc: Global, blank: Blank, objects: &mut Objects) -> Status
+    requires name { blank.name ≡ L.name }
+    requires parts { blank.parts ≡ L.parts }
+    requires some { 0 < blank.parts }
+{
+    let mut steps = Steps::<L>::new(blank);
+    mesa(
+        alloc,
+        &objects.words,
+        &mut objects.folder,
+        &mut objects.input,
+        &mut objects.out,
+        &mut objects.err,
+        &mut steps,
+    )
+}
+
+fn left_in(alloc: Global, status: Status, objects: &Objects) -> Result<Left, OutOfMemory> {
+    let out = List::from_slice(alloc, objects.out.bytes())?;
+    let err = List::from_slice(alloc, objects.err.bytes())?;
+    Ok(Left {
+        status: status.code(),
+        out,
+        err,
+    })
+}
+
+pub fn called(alloc: Global, call: &Call<'_>) -> Result<Left, OutOfMemory> {
+    let mut objects = objects_of(alloc, call)?;
+    let status = counted::<Brand>(alloc, Blank::new(1), &mut objects);
+    left_in(alloc, status, &objects)
+}
+
+/// A call with an input, in which no call on the outside fails.
+pub fn left_with(
+    rt: &HostRuntime,
+    words: &str,
+    text: &str,
+    bytes: &str,
+) -> Result<Left, OutOfMemory> {
+    let made = Call {
+        words,
+        text: text.as_bytes(),
+        bytes: bytes.as_bytes(),
+        folder: &[],
+        input: &[],
+        out: &[],
+        err: &[],
+    };
+    called(rt.alloc(), &made)
+}
+
+pub fn left_by(rt: &HostRuntime, words: &str, text: &str) -> Result<Left, OutOfMemory> {
+    left_with(rt, words, text, "")
+}
+
+pub fn is_left(left: &Left, status: u8, out: &str, err: &str) -> bool {
+    left.status == status
+        && left.out.as_slice() == out.as_bytes()
+        && left.err.as_slice() == err.as_bytes()
+}
+
+/// The module M that opens the built-in interface, with this inside.
+pub fn module_with(alloc: Global, inside: &str) -> Result<String, AllocError> {
+    format!(in alloc;
+        "DIRECTORY IODefs: FROM \"IODefs\"; M: PROGRAM IMPORTS IODefs = BEGIN OPEN IODefs; {inside} END."
+    )
+}

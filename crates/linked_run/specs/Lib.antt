@@ -1,4 +1,0 @@
-pub mod Code
-pub mod Rows
-pub mod Running
-pub mod Simulation

@@ -1,0 +1,90 @@
+-- How a run ends, from what the run of a module ensures.
+use Rattle.std.proofs.Common.{◌≡◌, ℕ, ◌<◌, List, ◌++◌, length, get_or, Result, Ok, Err, refl, sym, ap, subst, ◌∙◌, IfSome, codes}
+use Rattle.std.proofs.lemmas.Option.{slice_get-get_or}
+use Rattle.std.specs.Prelude.{IfOk, IsErrOf}
+use Rattle.mesa_base.specs.Outside.{Rose}
+use Rattle.mesa_types.specs.declared.faces.Item.{Item}
+use Rattle.mesa_types.specs.Typed.{Module}
+use Rattle.source_meaning.specs.Program.{Signal, SignalOf, BoundsFault, ZeroDivisor, NoInput, Unnamed, instance_of, module_of, or_else, single}
+use Rattle.source_meaning.specs.State.{Answer, Normal, Gives, Go, Resumed, Rejected, Retried, Continued, Uncaught, Spent, FrameLimit, Broken}
+use Rattle.code_simulation.specs.Agreement.{EndsAs, id_of}
+use Rattle.machine_steps.specs.declared.end.End.{End}
+use Rattle.machine_steps.specs.declared.end.End.TheVariants as end
+use Rattle.machine_steps.specs.State as machine
+use Rattle.image_runs.specs.declared.outcome.Outcome.{Outcome}
+use Rattle.image_runs.specs.Running.{AreBytes}
+use Rattle.module_runs.specs.declared.fault.ModuleFault.{ModuleFault}
+use Rattle.module_runs.specs.declared.fault.ModuleFault.TheVariants as fault
+use Rattle.mesa_command.specs.Case as c
+use Rattle.mesa_command.specs.Case.{Case, status_of, IsBeforeRun}
+use Rattle.mesa_command.specs.Shown.{name_in, shown, IsShownAs}
+use Rattle.mesa_command.specs.Outputs.{HasFaulted}
+use Rattle.mesa_command.specs.Worlds.{Scene}
+use Rattle.mesa_command.specs.Ends.{Ends, RanIn, BrokenOffIn, CutOffIn, CountsIn, ended, read_fault, write_fault, no_memory}
+use Rattle.mesa_command.specs.Reply.{signal_of, case_of_end, case_of_run}
+
+back : (s : Signal) → signal_of (id_of s) ≡ s
+unfolding id_of
+back (SignalOf j k) = refl
+back BoundsFault = refl
+back ZeroDivisor = refl
+back NoInput = refl
+back Unnamed = refl
+
+inner : (e f : End) → ◌≡◌ {A = machine.Ending} (machine.Ended e) (machine.Ended f) → e ≡ f
+inner e f is = cc
+
+unbroken : (e : End) → ◌≡◌ {A = machine.Ending} (machine.Ended e) machine.Broken → ⊥
+unbroken e is = cc
+
+-- the machine's end is shown as the meaning's
+pub ends-as : (m : Module) (a : Answer) (e : End) → EndsAs a (machine.Ended e) → IsShownAs (single m) a (case_of_end m e)
+unfolding EndsAs
+ends-as m Normal e is = ap (case_of_end m) (inner e end.Done is)
+ends-as m (Uncaught s) e is = ap (case_of_end m) (inner e (end.Uncaught (id_of s)) is) ∙ ap (λ z. c.Uncaught (shown (single m) z)) (back s)
+ends-as m Spent e is = ap (case_of_end m) (inner e end.Spent is)
+ends-as m FrameLimit e is = ap (case_of_end m) (inner e end.FrameLimit is)
+ends-as m Broken e is = absurd (unbroken e is)
+ends-as m (Gives vs) e is = absurd is
+ends-as m (Go f p) e is = absurd is
+ends-as m (Resumed vs) e is = absurd is
+ends-as m Rejected e is = absurd is
+ends-as m (Retried n) e is = absurd is
+ends-as m (Continued n) e is = absurd is
+
+-- what the line calls a signal of the module
+pub own-shown : (m : Module) (j k : ℕ) (d : Item) (whose name : List ℕ) → j ≡ 0 → k < length m.signals → whose ≡ m.name →
+    name ≡ (get_or m.signals k d).name → whose ++ (codes "." ++ name) ≡ shown (single m) (SignalOf j k)
+unfolding instance_of module_of or_else single
+own-shown m j k d whose name first within w n =
+    subst (λ i. whose ++ (codes "." ++ name) ≡ shown (single m) (SignalOf i k)) (sym first)
+    (ap (λ z. z ++ (codes "." ++ name)) w
+    ∙ ap (λ z. m.name ++ (codes "." ++ z)) (n ∙ ap name_in (sym (slice_get-get_or m.signals k d within))))
+
+module _ (m : Module) (turns : ℕ) (old new : Scene) where
+  pub run-ends : (r : Result Outcome ModuleFault) → IfSome old.input.left AreBytes →
+      IfOk r (λ o. IfSome old.input.left AreBytes → RanIn m turns o old new) →
+      IfOk r (λ o. CountsIn m turns o old new) →
+      (IsErrOf r fault.ReadFault → BrokenOffIn m turns old new) →
+      (IsErrOf r fault.WriteFault → IfSome old.input.left AreBytes → CutOffIn m turns old new) →
+      (IsErrOf r fault.ReadFault → Rose old.input.faults new.input.faults) →
+      (IsErrOf r fault.WriteFault → HasFaulted old.out new.out) →
+      (IsErrOf r fault.Memory → new ≡ old) → Ends m turns old new (case_of_run m r)
+  run-ends (Ok o) bytes ran counts broken cut reads writes stays =
+      ended o (case_of_end m o.end) (ran bytes) (ends-as m (ran bytes).answer o.end (ran bytes).its_end) counts
+  run-ends (Err fault.ReadFault) bytes ran counts broken cut reads writes stays = read_fault (reads refl) (broken refl)
+  run-ends (Err fault.WriteFault) bytes ran counts broken cut reads writes stays = write_fault (writes refl) (cut refl bytes)
+  run-ends (Err fault.Memory) bytes ran counts broken cut reads writes stays = no_memory (stays refl)
+
+end-in-run : (m : Module) (e : End) → IsBeforeRun (status_of (case_of_end m e)) → ⊥
+end-in-run m end.Done h = h
+end-in-run m (end.Uncaught s) h = h
+end-in-run m end.Spent h = h
+end-in-run m end.FrameLimit h = h
+
+-- only where memory was wanting nothing was run
+pub before-run : (m : Module) (r : Result Outcome ModuleFault) → IsBeforeRun (status_of (case_of_run m r)) → IsErrOf r fault.Memory
+before-run m (Ok o) h = absurd (end-in-run m o.end h)
+before-run m (Err fault.ReadFault) h = absurd h
+before-run m (Err fault.WriteFault) h = absurd h
+before-run m (Err fault.Memory) h = refl

@@ -1,0 +1,38 @@
+-- What a line calls a signal that nothing caught, and which case the end of a program is (rule of this project).
+use Rattle.std.specs.Prelude.{◌≡◌, ℕ, List, [], ◌∷◌, ◌++◌, Option, Some, None, slice_get, codes}
+use Rattle.mesa_types.specs.declared.faces.Item.{Item}
+use Rattle.source_meaning.specs.Program.{Program, Signal, SignalOf, BoundsFault, ZeroDivisor, NoInput, Unnamed, instance_of, module_of}
+use Rattle.source_meaning.specs.State as s
+use Rattle.source_meaning.specs.State.{Answer}
+use Rattle.mesa_command.specs.Case.{Case, Done, Uncaught, Spent, FrameLimit}
+
+-- the names of a path and a last name, with dots between
+abbrev pub dotted : List (List ℕ) → List ℕ → List ℕ
+dotted [] last = last
+dotted (name ∷ names) last = name ++ (codes "." ++ dotted names last)
+
+abbrev pub name_in : Option Item → List ℕ
+name_in None = []
+name_in (Some item) = item.name
+
+-- a signal of an instance is called by the instance's path and its own name
+abbrev pub shown : Program → Signal → List ℕ
+shown P (SignalOf j k) = dotted (instance_of P j).path (name_in (slice_get (module_of P j).signals k))
+shown P BoundsFault = codes "BoundsFault"
+shown P ZeroDivisor = codes "ZeroDivisor"
+shown P NoInput = codes "IODefs.NoInput"
+shown P Unnamed = codes "ERROR"
+
+-- the case of a program's end
+abbrev pub IsShownAs : Program → Answer → Case → Type 0
+IsShownAs P s.Normal case = case ≡ Done
+IsShownAs P (s.Uncaught signal) case = case ≡ Uncaught (shown P signal)
+IsShownAs P s.Spent case = case ≡ Spent
+IsShownAs P s.FrameLimit case = case ≡ FrameLimit
+IsShownAs P s.Broken case = ⊥
+IsShownAs P (s.Gives _) case = ⊥
+IsShownAs P (s.Go frame point) case = ⊥
+IsShownAs P (s.Resumed _) case = ⊥
+IsShownAs P s.Rejected case = ⊥
+IsShownAs P (s.Retried statement) case = ⊥
+IsShownAs P (s.Continued statement) case = ⊥
