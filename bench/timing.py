@@ -143,7 +143,7 @@ SOUND = (
     ("statements of a block", statements, 100000),
     ("arms", arms, 10000),
     ("conditions", conditions, 24000),
-    ("cases of a SELECT", selections, 30000),
+    ("cases of a SELECT", selections, 16000),
     ("nested blocks with a name each", deep_blocks, 100),
     ("nested parentheses", deep_parentheses, 2600),
     ("operators in runs", operators, 8000),
