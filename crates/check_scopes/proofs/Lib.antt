@@ -1,3 +1,4 @@
+pub mod Copying
 pub mod Indexes
 pub mod Innermost
 pub mod Laws

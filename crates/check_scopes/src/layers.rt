@@ -71,12 +71,15 @@ pub fn joined_all<T: Drop>(
 }
 
 /// One owner more of each.
-pub fn shared_all<T: Drop>(alloc: Global, layers: &[Layer<T>]) -> Result<Vec<Layer<T>>, OutOfMemory>
-    ensures { IfOk result (λ shared. shared.items ≡ layers.now) }
+pub fn shared_all<T: Drop>(
+    alloc: Global,
+    parts: &[Shared<T>],
+) -> Result<Vec<Shared<T>>, OutOfMemory>
+    ensures { IfOk result (λ shared. shared.items ≡ parts.now) }
 {
     let mut shared = Vec::new(alloc);
-    for layer in layers {
-        shared.push(layer.share()?)?;
+    for part in parts {
+        shared.push(part.share()?)?;
     }
     Ok(shared)
 }

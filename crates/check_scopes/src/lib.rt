@@ -8,6 +8,7 @@ mod names;
 mod scopes;
 
 pub use index::Index;
+pub use layers::shared_all;
 pub use marks::Marks;
 pub use names::Names;
 pub use scopes::Scopes;

@@ -1,4 +1,4 @@
-ghost use Rattle.std.specs.Prelude.{◌≡◌, [], true, OnOk, OnErr, slice_set};
+ghost use Rattle.std.specs.Prelude.{◌≡◌, [], true, OnOk, OnErr, IfOk, slice_set};
 ghost use Rattle.check_scopes.specs.Marks as spec;
 
 use mesa_base::OutOfMemory;
@@ -37,6 +37,17 @@ impl Marks {
         Marks {
             rows: Vec::new(alloc),
         }
+    }
+
+    /// The same marks once more, in as many steps as there are items.
+    pub fn copy(&self, alloc: Global) -> Result<Marks, OutOfMemory>
+        ensures { IfOk result (λ copy. copy ≡ self.now) }
+    {
+        let mut rows = Vec::new(alloc);
+        for row in self.rows.as_slice() {
+            rows.push(Vec::from_slice(alloc, row.as_slice())?)?;
+        }
+        Ok(Marks { rows })
     }
 
     /// Puts a row of so many marks behind, none of them set. Where memory runs out the rows are as before.

@@ -118,4 +118,17 @@ impl<T: Drop> Scopes<T> {
             None => Ok(Names::new(alloc)),
         }
     }
+
+    /// The same scopes once more (`Names::share`).
+    #[tactic(auto, unfolding(crate::specs::Shows::shows))]
+    pub fn copy(&mut self, alloc: Global) -> Result<Scopes<T>, OutOfMemory>
+        ensures same { IfOk result (λ scopes. shows scopes ≡ shows self.old) }
+        ensures stays { OnOk result (shows self.new ≡ shows self.old) }
+    {
+        let mut scopes = Vec::new(alloc);
+        for at in 0..self.scopes.len() {
+            scopes.push(self.scopes[at].share(alloc)?)?;
+        }
+        Ok(Scopes { scopes })
+    }
 }

@@ -105,6 +105,28 @@ fn marks(rt: HostRuntime) -> Result<(), Fail> {
     assert_eq!(rt; marks.row(2), [true, false].as_slice());
     assert_eq!(rt; marks.row(3).len(), 0);
     assert!(rt; marks.is_marked(0, 2) && !marks.is_marked(0, 1) && !marks.is_marked(7, 7));
+    let copy = marks.copy(alloc)?;
+    marks.mark(0, 0);
+    assert!(rt; marks.is_marked(0, 0) && !copy.is_marked(0, 0) && copy.is_marked(2, 2));
+    Ok(())
+}
+
+#[test]
+fn copied_scopes_stay(rt: HostRuntime) -> Result<(), Fail> {
+    let alloc = rt.alloc();
+    let mut scopes = Scopes::new(alloc);
+    scopes.declare(alloc, b"a", 1)?;
+    scopes.enter(Names::new(alloc))?;
+    scopes.declare(alloc, b"b", 2)?;
+    let mut copy = scopes.copy(alloc)?;
+    scopes.declare(alloc, b"a", 3)?;
+    copy.declare(alloc, b"b", 4)?;
+    assert_eq!(rt; scopes.find(b"a").copied(), Some(3));
+    assert_eq!(rt; scopes.find(b"b").copied(), Some(2));
+    assert_eq!(rt; copy.find(b"a").copied(), Some(1));
+    assert_eq!(rt; copy.find(b"b").copied(), Some(4));
+    let _ = copy.leave();
+    assert_eq!(rt; copy.find(b"a").copied(), Some(1));
     Ok(())
 }
 
