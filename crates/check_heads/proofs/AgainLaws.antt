@@ -23,11 +23,6 @@ module _ {D A : Type 0} (names : D → List Identifier) (rule : D → Check A) w
   behind_both [] es σ = refl
   behind_both (d ∷ ds) es σ = behind_both ds es (next names rule d σ)
 
-  faults_both : (ds es : List D) (σ : State) → faults names rule (ds ++ es) σ ≡ faults names rule ds σ ++ faults names rule es (behind names rule ds σ)
-  unfolding faults behind
-  faults_both [] es σ = refl
-  faults_both (d ∷ ds) es σ = ap (λ fs. is_fault (rule d σ) ∷ fs) (faults_both ds es (next names rule d σ))
-
   one_more : (all : List D) (i : ℕ) (d : D) → i < length all → d ≡ get_or all i d → take (i + 1) all ≡ take i all ++ d ∷ []
   one_more all i d inside here = take_more all i d inside ∙ ap (λ y. take i all ++ y ∷ []) (sym here)
 
@@ -35,28 +30,6 @@ module _ {D A : Type 0} (names : D → List Identifier) (rule : D → Check A) w
       → behind names rule (take (i + 1) all) σ ≡ next names rule d (behind names rule (take i all) σ)
   unfolding behind
   behind_more all i d σ inside here = ap (λ ds. behind names rule ds σ) (one_more all i d inside here) ∙ behind_both (take i all) (d ∷ []) σ
-
-  pub faults_more : (all : List D) (i : ℕ) (d : D) (σ : State) → i < length all → d ≡ get_or all i d
-      → faults names rule (take (i + 1) all) σ ≡ faults names rule (take i all) σ ++ is_fault (rule d (behind names rule (take i all) σ)) ∷ []
-  unfolding faults
-  faults_more all i d σ inside here = ap (λ ds. faults names rule ds σ) (one_more all i d inside here) ∙ faults_both (take i all) (d ∷ []) σ
-
-  pub no_faults : (σ : State) → faults names rule [] σ ≡ []
-  unfolding faults
-  no_faults σ = refl
-
-  pub faults_count : (ds : List D) (σ : State) → length (faults names rule ds σ) ≡ length ds
-  unfolding faults
-  faults_count [] σ = refl
-  faults_count (d ∷ ds) σ = ap suc (faults_count ds (next names rule d σ))
-
-  pub fault_at : (all : List D) (n i : ℕ) (d : D) (b : Bool) (σ : State) → i < n → i < length all → d ≡ get_or all i d
-      → get_or (faults names rule (take n all) σ) i b ≡ is_fault (rule d (behind names rule (take i all) σ))
-  unfolding faults behind
-  fault_at [] n i d b σ few inside here = absurd (omega (arith, inside))
-  fault_at (e ∷ es) zero i d b σ few inside here = absurd (omega (arith, few))
-  fault_at (e ∷ es) (suc n) zero d b σ few inside here = ap (λ x. is_fault (rule x σ)) (sym here)
-  fault_at (e ∷ es) (suc n) (suc i) d b σ few inside here = fault_at es n i d b (next names rule e σ) (omega (arith, few)) (omega (arith, inside)) here
 
   pub behind_none : (σ : State) → behind names rule [] σ ≡ σ
   unfolding behind
@@ -143,40 +116,15 @@ kept s (Ok r) h = absurd (apart h)
 kept s (Err f) h = refl
 
 module _ {D A : Type 0} (names : D → List Identifier) (rule : D → Check A) where
-  passed_on : (d : D) (xs : List Identifier) (b : Bool) (s t : State) → b ≡ true → b ≡ is_fault (rule d s) → xs ≡ names d → t ≡ passed_over xs s
-      → t ≡ next names rule d s
-  passed_on d xs b s t it_is known same e = e ∙ ap (λ ys. passed_over ys s) same ∙ sym (kept (passed_over (names d) s) (rule d s) (sym it_is ∙ known))
+  pub passed_on : (d : D) (xs : List Identifier) (s t : State) → true ≡ is_fault (rule d s) → xs ≡ names d → t ≡ passed_over xs s → t ≡ next names rule d s
+  passed_on d xs s t bad same e = e ∙ ap (λ ys. passed_over ys s) same ∙ sym (kept (passed_over (names d) s) (rule d s) bad)
 
   pub declared_on : (d : D) (s t : State) (r : A) → rule d s ≡ Ok (r, t) → t ≡ next names rule d s
   declared_on d s t r e = sym (ap (next_or (passed_over (names d) s)) e)
 
-  module _ (all : List D) (i : ℕ) (d : D) (σ : State) (inside : i < length all) (here : d ≡ get_or all i d) where
-    pub known_fault : (n : ℕ) (bs : List Bool) (b : Bool) (s : State) → bs ≡ faults names rule (take n all) σ → i < n
-        → s ≡ behind names rule (take i all) σ → get_or bs i b ≡ is_fault (rule d s)
-    known_fault n bs b s known few so_far =
-        ap (λ cs. get_or cs i b) known ∙ fault_at names rule all n i d b σ few inside here ∙ sym (ap (λ s. is_fault (rule d s)) so_far)
-
-    pub gone_on : (s t : State) → s ≡ behind names rule (take i all) σ → t ≡ next names rule d s → t ≡ behind names rule (take (i + 1) all) σ
-    gone_on s t so_far e = e ∙ ap (next names rule d) so_far ∙ sym (behind_more names rule all i d σ inside here)
-
-    pub fault_put : (s : State) (bs cs : List Bool) (b : Bool) → s ≡ behind names rule (take i all) σ → bs ≡ faults names rule (take i all) σ
-        → b ≡ is_fault (rule d s) → cs ≡ bs ++ b ∷ [] → cs ≡ faults names rule (take (i + 1) all) σ
-    fault_put s bs cs b so_far known e put =
-        put ∙ ap (λ xs. xs ++ b ∷ []) known ∙ ap (λ x. faults names rule (take i all) σ ++ x ∷ []) (e ∙ ap (λ s. is_fault (rule d s)) so_far)
-        ∙ sym (faults_more names rule all i d σ inside here)
-
-    -- a declaration that had a fault, behind the state that was made anew
-    pub passed_anew : (xs : List Identifier) (s anew t : State) → s ≡ behind names rule (take i all) σ → anew ≡ behind names rule (take i all) σ
-        → true ≡ is_fault (rule d s) → xs ≡ names d → t ≡ passed_over xs anew → t ≡ behind names rule (take (i + 1) all) σ
-    passed_anew xs s anew t so_far same e xs_are passed =
-        gone_on anew t same (passed_on d xs true anew t refl (e ∙ ap (λ s. is_fault (rule d s)) (so_far ∙ sym same)) xs_are passed)
-
-  pub count_known : (all : List D) (i : ℕ) (σ : State) (bs : List Bool) → i ≤ length all → bs ≡ faults names rule (take i all) σ → length bs ≡ i
-  count_known all i σ bs few known = ap length known ∙ faults_count names rule (take i all) σ ∙ length-take-le i all few
-
-  pub known_all : (all : List D) (i : ℕ) (σ : State) (bs : List Bool) → i ≤ length all → bs ≡ faults names rule (take i all) σ
-      → bs ≡ faults names rule (take (length bs) all) σ
-  known_all all i σ bs few known = known ∙ ap (λ n. faults names rule (take n all) σ) (sym (count_known all i σ bs few known))
+  pub gone_on : (all : List D) (i : ℕ) (d : D) (σ s t : State) → i < length all → d ≡ get_or all i d
+      → s ≡ behind names rule (take i all) σ → t ≡ next names rule d s → t ≡ behind names rule (take (i + 1) all) σ
+  gone_on all i d σ s t inside here so_far e = e ∙ ap (next names rule d) so_far ∙ sym (behind_more names rule all i d σ inside here)
 
 -- ---- the second try
 

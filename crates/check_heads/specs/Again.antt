@@ -19,11 +19,6 @@ is_fault (Err e) = true
 abbrev pub next : {D A : Type 0} → (D → List Identifier) → (D → Check A) → D → State → State
 next names rule d s = next_or (passed_over (names d) s) (rule d s)
 
--- which of these have a fault, each behind those before it
-unfoldable pub faults : {D A : Type 0} → (D → List Identifier) → (D → Check A) → List D → State → List Bool
-faults names rule [] s = []
-faults names rule (d ∷ ds) s = is_fault (rule d s) ∷ faults names rule ds (next names rule d s)
-
 -- after each of these, none of which has a fault
 unfoldable pub after : {D A : Type 0} → (D → Check A) → List D → State → State
 after rule [] s = s

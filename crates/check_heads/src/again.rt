@@ -1,5 +1,5 @@
 //! A declaration with a fault is tried again, with the heads that stand further on. Nothing is done for it before a fault.
-ghost use Rattle.std.specs.Prelude.{◌≡◌, ◌≢◌, ◌≤◌, List, Err, length, take, IfOk, OnOk};
+ghost use Rattle.std.specs.Prelude.{◌≡◌, ◌≢◌, List, Err, IfOk};
 ghost use Rattle.mesa_base.specs.declared.identifier.Identifier.{Identifier as Name};
 ghost use Rattle.checking_rules.specs.Around as place;
 ghost use Rattle.checking_rules.specs.Programs as spec;
@@ -13,7 +13,7 @@ use crate::scopes::{head_names, pass_over};
 use check_scopes::Names;
 use check_words::{Around, Meaning, State};
 use checking_rules::CheckFault;
-use mesa_base::{Identifier, List, OutOfMemory};
+use mesa_base::{Identifier, OutOfMemory};
 use std::alloc::Global;
 
 /// Declarations that may be tried again, from the state before the one in hand.
@@ -65,47 +65,26 @@ fn behind_it<D, T: Tries<D>>(tries: &T, alloc: Global, one: &D) -> Result<State,
     Ok(state)
 }
 
-/// Passes over this one, if it has a fault, and declares it otherwise.
-fn go_on<D, T: Tries<D>>(
-    tries: &T,
-    alloc: Global,
-    around: &Around<'_>,
-    other: &D,
-    has_fault: bool,
-    state: &mut State,
-) -> Result<(), OutOfMemory>
-    requires ask { T.ask tries.now }
-    requires known { has_fault ≡ again.is_fault (T.rule tries.now (words.around around.now) other.now (words.state state.old)) }
-    ensures { OnOk result (words.state state.new ≡ again.next T.named (T.rule tries.now (words.around around.now)) other.now (words.state state.old)) }
-{
-    if has_fault {
-        return pass_over(tries.names(other), alloc, state);
-    }
-    match tries.declare(other, around, state) {
-        Ok(()) => Ok(()),
-        Err(_) => Err(OutOfMemory),
-    }
-}
-
-/// The state behind those of the others of which it is known whether they have a fault.
-fn behind_known<D, T: Tries<D>>(
+/// The state behind this one, which is passed over if it has a fault.
+fn behind<D, T: Tries<D>>(
     tries: &T,
     alloc: Global,
     around: &Around<'_>,
     one: &D,
-    others: &[D],
-    faults: &[bool],
+    state: State,
 ) -> Result<State, OutOfMemory>
-    requires ask { T.ask tries.now }
-    requires few { length faults.now ≤ length others.now }
-    requires known { faults.now ≡ again.faults T.named (T.rule tries.now (words.around around.now)) (take (length faults.now) others.now) (spec.passed_over (T.named one.now) (T.before tries.now)) }
-    ensures { IfOk result (λ state. words.state state ≡ spec.behind T.named (T.rule tries.now (words.around around.now)) (take (length faults.now) others.now) (spec.passed_over (T.named one.now) (T.before tries.now))) }
+    requires { T.ask tries.now }
+    ensures { IfOk result (λ next. words.state next ≡ again.next T.named (T.rule tries.now (words.around around.now)) one.now (words.state state)) }
 {
-    let mut state = behind_it(tries, alloc, one)?;
-    for i in 0..faults.len() {
-        go_on(tries, alloc, around, &others[i], faults[i], &mut state)?;
+    let (mut before, mut state) = state.twice(alloc)?;
+    match tries.declare(one, around, &mut state) {
+        Ok(()) => Ok(state),
+        Err(CheckFault::Memory) => Err(OutOfMemory),
+        Err(CheckFault::At(_, _)) => {
+            pass_over(tries.names(one), alloc, &mut before)?;
+            Ok(before)
+        }
     }
-    Ok(state)
 }
 
 /// The state behind all others; those with a fault are passed over.
@@ -120,17 +99,8 @@ fn behind_all<D, T: Tries<D>>(
     ensures { IfOk result (λ state. words.state state ≡ spec.behind T.named (T.rule tries.now (words.around around.now)) others.now (spec.passed_over (T.named one.now) (T.before tries.now))) }
 {
     let mut state = behind_it(tries, alloc, one)?;
-    let mut faults = List::new(alloc);
     for other in others {
-        match tries.declare(other, around, &mut state) {
-            Ok(()) => faults.push(false)?,
-            Err(CheckFault::Memory) => return Err(OutOfMemory),
-            Err(CheckFault::At(_, _)) => {
-                state = behind_known(tries, alloc, around, one, others, faults.as_slice())?;
-                pass_over(tries.names(other), alloc, &mut state)?;
-                faults.push(true)?;
-            }
-        }
+        state = behind(tries, alloc, around, other, state)?;
     }
     Ok(state)
 }

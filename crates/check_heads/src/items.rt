@@ -10,37 +10,12 @@ ghost use Rattle.check_heads.specs.Forms as form;
 ghost use Rattle.check_heads.specs.Views as view;
 
 use crate::heads::Heading;
-use check_words::{Meaning, State};
+use check_words::{Meaning, State, copied_fields};
 use checking_rules::CheckFault;
-use held_trees::{both, pushed, put, shared};
-use mesa_base::{Identifier, List, Name, OutOfMemory};
-use mesa_types::{Callee, FieldType, Fields, Item, ItemKind, Items, Raised};
+use held_trees::{both, pushed, shared};
+use mesa_base::{Identifier, List, OutOfMemory};
+use mesa_types::{Callee, Item, ItemKind, Items, Raised};
 use std::alloc::Global;
-
-fn copy_label(alloc: Global, label: &Option<Name>) -> Result<Option<Name>, OutOfMemory>
-    ensures { IfOk result (λ copy. copy ≡ label.now) }
-{
-    match label {
-        None => Ok(None),
-        Some(name) => Ok(Some(name.copy(alloc)?)),
-    }
-}
-
-fn copy_fields(fields: &[FieldType], alloc: Global) -> Result<Fields, OutOfMemory>
-    ensures { IfOk result (λ copy. copy ≡ fields.now) }
-{
-    let mut copy = List::new(alloc);
-    for field in fields {
-        put(
-            &mut copy,
-            FieldType {
-                name: copy_label(alloc, &field.name)?,
-                kind: field.kind.copy(alloc)?,
-            },
-        )?;
-    }
-    Ok(copy)
-}
 
 /// The item of this kind and name with this head.
 fn named_item(
@@ -51,8 +26,8 @@ fn named_item(
 ) -> Result<Item, OutOfMemory>
     ensures { IfOk result (λ made. plain_item made ≡ item_named kind (view.heading head.now) name.now) }
 {
-    let takes = copy_fields(head.takes.as_slice(), alloc)?;
-    let (takes, gives) = both(takes, copy_fields(head.gives.as_slice(), alloc))?;
+    let takes = copied_fields(head.takes.as_slice(), alloc)?;
+    let (takes, gives) = both(takes, copied_fields(head.gives.as_slice(), alloc))?;
     let ((takes, gives), name) = both((takes, gives), name.name.copy(alloc))?;
     Ok(Item {
         kind,

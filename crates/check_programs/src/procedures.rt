@@ -106,6 +106,7 @@ pub fn procedure(
     let place = first_name(names);
     let (does, ()) = both(does, few_locals(state, takes, gives, place))?;
     let (does, ()) = both(does, few_operands(0, operands, place))?;
-    let variables = close_frame(state, outside).fields;
+    let variables = close_frame(state, outside).fields.into_list(alloc);
+    let (does, variables) = both(does, variables)?;
     Ok(made(head, alloc, variables, does)?)
 }

@@ -25,7 +25,7 @@ use check_heads::Starts;
 use check_jumps::{labels_of_exits, with_labels};
 use check_scopes::Marks;
 use check_statements::{exits, phrase, statements_behind};
-use check_words::{Around, Known, State};
+use check_words::{Around, GrowingFields, Known, State};
 use checking_rules::CheckFault;
 use held_trees::{LetGo, both, boxed, shared};
 use mesa_base::{List, OutOfMemory, Place, Shared};
@@ -164,13 +164,14 @@ fn marked_if(is_marked: bool, alloc: Global, does: TypedStmt) -> Result<TypedStm
 fn body_of(
     is_marked: bool,
     alloc: Global,
-    variables: Fields,
+    variables: GrowingFields,
     does: TypedStmt,
 ) -> Result<TypedBody, OutOfMemory>
     ensures { IfOk result (λ made. plain_body made ≡ record { variables = kinds_of variables; does = spec.marked_if is_marked (stmt does) }) }
 {
     let does = marked_if(is_marked, alloc, does)?;
     let does = shared(alloc, does)?;
+    let (does, variables) = both(does, variables.into_list(alloc))?;
     Ok(TypedBody { variables, does })
 }
 
@@ -233,14 +234,15 @@ fn whole_in<S: Starts>(
         operands: _,
     } = state;
     let body = body_of(has_phrase(&inner.enable), alloc, variables.fields, does);
-    let (procedures, body) = both(procedures, body)?;
+    let trees = both(procedures, body)?;
+    let ((procedures, body), globals) = both(trees, globals.fields.into_list(alloc))?;
     Ok(Whole {
         signals,
         offers,
         procedures,
         body,
         used,
-        globals: globals.fields,
+        globals,
     })
 }
 

@@ -1,4 +1,5 @@
 pub mod DeclaringLoops
+pub mod GrowingLaws
 pub mod KindLaws
 pub mod OriginLaws
 pub mod ScopeLaws

@@ -1,4 +1,5 @@
 pub mod Ascending
 pub mod Declaring
 pub mod Gives
+pub mod Growing
 pub mod Views

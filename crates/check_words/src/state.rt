@@ -111,6 +111,44 @@ impl State {
         Ok(old)
     }
 
+    /// The same state twice, in a number of steps that grows with it but little (`Names::share`, `GrowingFields::twice`); the marks
+    /// alone are copied.
+    #[tactic(auto, unfolding(crate::specs::Views::state, crate::specs::Views::scopes, crate::specs::Views::names))]
+    pub fn twice(self, alloc: Global) -> Result<(State, State), OutOfMemory>
+        ensures { IfOk result (λ both. (view.state both.0 ≡ view.state self) × (view.state both.1 ≡ view.state self)) }
+    {
+        let State {
+            mut scopes,
+            mut coming,
+            used,
+            globals,
+            variables,
+            hidden,
+            operands,
+        } = self;
+        let (globals, more_globals) = globals.twice(alloc)?;
+        let (variables, more_variables) = variables.twice(alloc)?;
+        let more = State {
+            scopes: scopes.copy(alloc)?,
+            coming: coming.share(alloc)?,
+            used: used.copy(alloc)?,
+            globals: more_globals,
+            variables: more_variables,
+            hidden,
+            operands,
+        };
+        let same = State {
+            scopes,
+            coming,
+            used,
+            globals,
+            variables,
+            hidden,
+            operands,
+        };
+        Ok((same, more))
+    }
+
     #[tactic(auto, using(crate::proofs::ScopeLaws::marks_or_none), unfolding(crate::specs::Views::state))]
     fn use_item(&mut self, import: u32, item: u32)
         ensures { view.state self.new ≡ naming.use_item import item (view.state self.old) }

@@ -12,7 +12,7 @@ use Rattle.module_texts.specs.Laws.{OneModule, OneFault, ReadTextsHaveNoFault}
 use Rattle.mesa_command.specs.Forms.{IsGo, HasNoForm, file_of}
 use Rattle.mesa_command.specs.Outputs.{Stream, PrintsAll}
 use Rattle.mesa_command.specs.Worlds.{Shelf, Scene, World}
-use Rattle.mesa_command.specs.Ends.{Ends}
+use Rattle.mesa_command.specs.Ends.{Ends, TellsInput}
 use Rattle.mesa_command.specs.Comes.{Refuses, fault, absent, folder_fault, memory, Comes, usage, refused, ran}
 use Rattle.mesa_command.specs.Case.{Case, Done, Uncaught, Spent, FrameLimit, Refused, Absent, ReadFault, WriteFault, FolderFault, Memory, Usage, status_of}
 use Rattle.mesa_command.specs.Complete.{NoFault, Asks, Does, Tells, IsComplete, IsAnswer, IsRefused, IsAbsent, OneCaseComes, Answered}
@@ -244,7 +244,7 @@ module _ (one_module : OneModule) (one_fault : OneFault) (never_both : ReadTexts
 
   -- one thing comes where no call failed
   one-there : (folder folder' folder'' : Shelf) (old new new' : Scene) (file text input : List ℕ) (turns : ℕ) (c c' : Case) →
-      old.input.left ≡ Some input → NoFault folder folder' old new → NoFault folder folder'' old new' → c ≢ Memory → c' ≢ Memory →
+      TellsInput old input → NoFault folder folder' old new → NoFault folder folder'' old new' → c ≢ Memory → c' ≢ Memory →
       There old new file text turns c → There old new' file text turns c' → c ≡ c'
   one-there folder folder' folder'' old new new' file text input turns c c' e calm calm' m m' (is_refused why h is) x =
       is ∙ sym (beside-fault old new' file text turns why c' h x)
@@ -256,7 +256,7 @@ module _ (one_module : OneModule) (one_fault : OneFault) (never_both : ReadTexts
 
   -- what is not Memory and comes under the same words is the same
   agree : (folder folder' folder'' : Shelf) (old new new' : Scene) (words : List (List ℕ)) (files : Files) (input : List ℕ)
-      (c c' : Case) → old.input.left ≡ Some input → NoFault folder folder' old new → NoFault folder folder'' old new' →
+      (c c' : Case) → TellsInput old input → NoFault folder folder' old new → NoFault folder folder'' old new' →
       Clean old new words files c → Clean old new' words files c' → c ≢ Memory → c' ≢ Memory → c ≡ c'
   agree folder folder' folder'' old new new' words files input c c' i calm calm' (no_memory e) b m m' = absurd (m e)
   agree folder folder' folder'' old new new' words files input c c' i calm calm' a (no_memory e) m m' = absurd (m' e)

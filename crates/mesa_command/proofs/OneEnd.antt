@@ -7,11 +7,13 @@ use Rattle.source_meaning.specs.Program.{Program, single}
 use Rattle.source_meaning.specs.Means.{Means, outcome}
 use Rattle.source_meaning.specs.State.{End, Answer, Normal, Gives, Go, Resumed, Rejected, Retried, Continued, Uncaught, Spent, FrameLimit, Broken}
 use Rattle.image_runs.specs.declared.outcome.Outcome.{Outcome}
-use Rattle.image_runs.specs.Running.{IsInput}
+use Rattle.machine_steps.specs.declared.end.End as machine
+use Rattle.machine_steps.specs.declared.end.End.TheVariants as end
+use Rattle.image_runs.specs.Running.{AreBytes, IsInput}
 use Rattle.mesa_command.specs.Outputs.{HasFaulted, PrintsAll}
 use Rattle.mesa_command.specs.Worlds.{Scene}
-use Rattle.mesa_command.specs.Shown.{IsShownAs}
-use Rattle.mesa_command.specs.Ends.{Ends, RanIn, ended, read_fault, write_fault, no_memory}
+use Rattle.mesa_command.specs.Shown.{IsShownAs, case_of_end}
+use Rattle.mesa_command.specs.Ends.{Ends, RanIn, TellsBytes, TellsInput, ended, read_fault, write_fault, no_memory}
 use Rattle.mesa_command.specs.Case as c
 use Rattle.mesa_command.specs.Case.{Case, status_of}
 use Rattle.mesa_command.specs.Complete.{Does}
@@ -46,12 +48,15 @@ told-is told input used e is = sym (subst (λ x. IfSome x (λ all. all ≡ used)
 shown-alike : (P : Program) (a a' : Answer) (x y : Case) → a ≡ a' → IsShownAs P a x → IsShownAs P a' y → x ≡ y
 shown-alike P a a' x y e h k = one-shown P a x y h (subst (λ z. IsShownAs P z y) (sym e) k)
 
+told-bytes : (old : Scene) (input : List ℕ) → TellsInput old input → TellsBytes old
+told-bytes old input tells = subst (λ x. IfSome x AreBytes) (sym tells.0) tells.1
+
 -- a run and what is meant
 run-does : (text : List ℕ) (turns : ℕ) (old new : Scene) (output : List ℕ) (case x : Case) (d : Does text turns old output x)
     (o : Outcome) (ran : RanIn d.tree turns o old new) → IsShownAs (single d.tree) ran.answer case →
     (case ≡ x) × PrintsAll output old.out new.out
 run-does text turns old new output case x d o ran shown =
-    let e : ran.input ≡ d.input = told-is old.input.left d.input ran.input d.tells ran.is_input in (
+    let e : ran.input ≡ d.input = told-is old.input.left d.input ran.input d.tells.0 ran.is_input in (
       shown-alike (single d.tree) ran.answer d.end case x
           (same-end (single d.tree) turns ran.input d.input ran.output output ran.answer d.end o.left d.left ran.taken d.taken e ran.means d.means)
           shown d.is_case,
@@ -63,28 +68,29 @@ run-does text turns old new output case x d o ran shown =
 pub does : (text : List ℕ) (turns : ℕ) (old new : Scene) (output : List ℕ) (case x : Case) (d : Does text turns old output x) →
     ¬ (Rose old.input.faults new.input.faults) → ¬ (HasFaulted old.out new.out) → Ends d.tree turns old new case →
     ((case ≡ x) × PrintsAll output old.out new.out) ⊎ (case ≡ c.Memory)
-does text turns old new output case x d still calm (ended o _ ran shown counts) =
-    inl (run-does text turns old new output case x d o ran shown)
+does text turns old new output case x d still calm (ended o _ is meant counts) =
+    let it = meant (told-bytes old d.input d.tells) in inl (run-does text turns old new output case x d o it.ran it.is_case)
 does text turns old new output c.ReadFault x d still calm (read_fault rose broken) = absurd (still rose)
 does text turns old new output c.WriteFault x d still calm (write_fault rose cut) = absurd (calm rose)
 does text turns old new output c.Memory x d still calm (no_memory same) = inr refl
 
 both-ran : (m : Module) (turns : ℕ) (old new new' : Scene) (input : List ℕ) (x y : Case) (o o' : Outcome)
-    (ran : RanIn m turns o old new) (ran' : RanIn m turns o' old new') → old.input.left ≡ Some input →
+    (ran : RanIn m turns o old new) (ran' : RanIn m turns o' old new') → TellsInput old input →
     IsShownAs (single m) ran.answer x → IsShownAs (single m) ran'.answer y → x ≡ y
 both-ran m turns old new new' input x y o o' ran ran' e h k =
     shown-alike (single m) ran.answer ran'.answer x y
     (same-end (single m) turns ran.input ran'.input ran.output ran'.output ran.answer ran'.answer o.left o'.left ran.taken ran'.taken
-    (told-is old.input.left input ran.input e ran.is_input ∙ sym (told-is old.input.left input ran'.input e ran'.is_input))
+    (told-is old.input.left input ran.input e.0 ran.is_input ∙ sym (told-is old.input.left input ran'.input e.0 ran'.is_input))
     ran.means ran'.means) h k
 
 -- a second run of a module ends as the first
-pub one-run : (m : Module) (turns : ℕ) (old new new' : Scene) (input : List ℕ) (x y : Case) → old.input.left ≡ Some input →
+pub one-run : (m : Module) (turns : ℕ) (old new new' : Scene) (input : List ℕ) (x y : Case) → TellsInput old input →
     ¬ (Rose old.input.faults new.input.faults) → ¬ (HasFaulted old.out new.out) →
     ¬ (Rose old.input.faults new'.input.faults) → ¬ (HasFaulted old.out new'.out) → x ≢ c.Memory → y ≢ c.Memory →
     Ends m turns old new x → Ends m turns old new' y → x ≡ y
-one-run m turns old new new' input x y e still calm still' calm' n n' (ended o _ ran shown counts) (ended o' _ ran' shown' counts') =
-    both-ran m turns old new new' input x y o o' ran ran' e shown shown'
+one-run m turns old new new' input x y e still calm still' calm' n n' (ended o _ is meant counts) (ended o' _ is' meant' counts') =
+    let it = meant (told-bytes old input e) in let it' = meant' (told-bytes old input e) in
+    both-ran m turns old new new' input x y o o' it.ran it'.ran e it.is_case it'.is_case
 one-run m turns old new new' input x c.ReadFault e still calm still' calm' n n' a (read_fault rose broken) = absurd (still' rose)
 one-run m turns old new new' input x c.WriteFault e still calm still' calm' n n' a (write_fault rose cut) = absurd (calm' rose)
 one-run m turns old new new' input x c.Memory e still calm still' calm' n n' a (no_memory same) = absurd (n' refl)
@@ -92,22 +98,15 @@ one-run m turns old new new' input c.ReadFault y e still calm still' calm' n n' 
 one-run m turns old new new' input c.WriteFault y e still calm still' calm' n n' (write_fault rose cut) b = absurd (calm rose)
 one-run m turns old new new' input c.Memory y e still calm still' calm' n n' (no_memory same) b = absurd (n refl)
 
-shown-used : (P : Program) (a : Answer) (x : Case) → IsShownAs P a x → status_of x ≢ status.Usage
-shown-used P Normal x h e = let k = sym (ap status_of h) ∙ e in cc
-shown-used P (Uncaught s) x h e = let k = sym (ap status_of h) ∙ e in cc
-shown-used P Spent x h e = let k = sym (ap status_of h) ∙ e in cc
-shown-used P FrameLimit x h e = let k = sym (ap status_of h) ∙ e in cc
-shown-used P Broken x h e = absurd h
-shown-used P (Gives vs) x h e = absurd h
-shown-used P (Go f p) x h e = absurd h
-shown-used P (Resumed vs) x h e = absurd h
-shown-used P Rejected x h e = absurd h
-shown-used P (Retried n) x h e = absurd h
-shown-used P (Continued n) x h e = absurd h
+end-used : (m : Module) (e : machine.End) → status_of (case_of_end m e) ≢ status.Usage
+end-used m end.Done h = cc
+end-used m (end.Uncaught signal) h = cc
+end-used m end.Spent h = cc
+end-used m end.FrameLimit h = cc
 
 -- no run is answered Usage
 pub used-run : (m : Module) (turns : ℕ) (old new : Scene) (case : Case) → Ends m turns old new case → status_of case ≢ status.Usage
-used-run m turns old new case (ended o _ ran shown counts) e = shown-used (single m) ran.answer case shown e
+used-run m turns old new case (ended o _ is meant counts) e = end-used m o.end (sym (ap status_of is) ∙ e)
 used-run m turns old new c.ReadFault (read_fault rose broken) e = cc
 used-run m turns old new c.WriteFault (write_fault rose cut) e = cc
 used-run m turns old new c.Memory (no_memory same) e = cc

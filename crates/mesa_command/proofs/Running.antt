@@ -1,5 +1,5 @@
 -- How a run ends, from what the run of a module ensures.
-use Rattle.std.proofs.Common.{◌≡◌, ℕ, ◌<◌, List, ◌++◌, length, get_or, Result, Ok, Err, refl, sym, ap, subst, ◌∙◌, IfSome, codes}
+use Rattle.std.proofs.Common.{◌≡◌, ℕ, ◌<◌, List, ◌++◌, length, get_or, Result, Ok, Err, refl, sym, ap, subst, ◌∙◌, codes}
 use Rattle.std.proofs.lemmas.Option.{slice_get-get_or}
 use Rattle.std.specs.Prelude.{IfOk, IsErrOf}
 use Rattle.mesa_base.specs.Outside.{Rose}
@@ -12,16 +12,15 @@ use Rattle.machine_steps.specs.declared.end.End.{End}
 use Rattle.machine_steps.specs.declared.end.End.TheVariants as end
 use Rattle.machine_steps.specs.State as machine
 use Rattle.image_runs.specs.declared.outcome.Outcome.{Outcome}
-use Rattle.image_runs.specs.Running.{AreBytes}
 use Rattle.module_runs.specs.declared.fault.ModuleFault.{ModuleFault}
 use Rattle.module_runs.specs.declared.fault.ModuleFault.TheVariants as fault
 use Rattle.mesa_command.specs.Case as c
 use Rattle.mesa_command.specs.Case.{Case, status_of, IsBeforeRun}
-use Rattle.mesa_command.specs.Shown.{name_in, shown, IsShownAs}
+use Rattle.mesa_command.specs.Shown.{name_in, shown, IsShownAs, signal_of, case_of_end}
 use Rattle.mesa_command.specs.Outputs.{HasFaulted}
 use Rattle.mesa_command.specs.Worlds.{Scene}
-use Rattle.mesa_command.specs.Ends.{Ends, RanIn, BrokenOffIn, CutOffIn, CountsIn, ended, read_fault, write_fault, no_memory}
-use Rattle.mesa_command.specs.Reply.{signal_of, case_of_end, case_of_run}
+use Rattle.mesa_command.specs.Ends.{Ends, RanIn, TellsBytes, BrokenOffIn, CutOffIn, CountsIn, ended, read_fault, write_fault, no_memory}
+use Rattle.mesa_command.specs.Reply.{case_of_run}
 
 back : (s : Signal) → signal_of (id_of s) ≡ s
 unfolding id_of
@@ -62,19 +61,19 @@ own-shown m j k d whose name first within w n =
     ∙ ap (λ z. m.name ++ (codes "." ++ z)) (n ∙ ap name_in (sym (slice_get-get_or m.signals k d within))))
 
 module _ (m : Module) (turns : ℕ) (old new : Scene) where
-  pub run-ends : (r : Result Outcome ModuleFault) → IfSome old.input.left AreBytes →
-      IfOk r (λ o. IfSome old.input.left AreBytes → RanIn m turns o old new) →
+  pub run-ends : (r : Result Outcome ModuleFault) →
+      IfOk r (λ o. TellsBytes old → RanIn m turns o old new) →
       IfOk r (λ o. CountsIn m turns o old new) →
       (IsErrOf r fault.ReadFault → BrokenOffIn m turns old new) →
-      (IsErrOf r fault.WriteFault → IfSome old.input.left AreBytes → CutOffIn m turns old new) →
+      (IsErrOf r fault.WriteFault → TellsBytes old → CutOffIn m turns old new) →
       (IsErrOf r fault.ReadFault → Rose old.input.faults new.input.faults) →
       (IsErrOf r fault.WriteFault → HasFaulted old.out new.out) →
       (IsErrOf r fault.Memory → new ≡ old) → Ends m turns old new (case_of_run m r)
-  run-ends (Ok o) bytes ran counts broken cut reads writes stays =
-      ended o (case_of_end m o.end) (ran bytes) (ends-as m (ran bytes).answer o.end (ran bytes).its_end) counts
-  run-ends (Err fault.ReadFault) bytes ran counts broken cut reads writes stays = read_fault (reads refl) (broken refl)
-  run-ends (Err fault.WriteFault) bytes ran counts broken cut reads writes stays = write_fault (writes refl) (cut refl bytes)
-  run-ends (Err fault.Memory) bytes ran counts broken cut reads writes stays = no_memory (stays refl)
+  run-ends (Ok o) ran counts broken cut reads writes stays =
+      ended o (case_of_end m o.end) refl (λ bytes. record { ran = ran bytes; is_case = ends-as m (ran bytes).answer o.end (ran bytes).its_end }) counts
+  run-ends (Err fault.ReadFault) ran counts broken cut reads writes stays = read_fault (reads refl) (broken refl)
+  run-ends (Err fault.WriteFault) ran counts broken cut reads writes stays = write_fault (writes refl) (cut refl)
+  run-ends (Err fault.Memory) ran counts broken cut reads writes stays = no_memory (stays refl)
 
 end-in-run : (m : Module) (e : End) → IsBeforeRun (status_of (case_of_end m e)) → ⊥
 end-in-run m end.Done h = h

@@ -14,6 +14,7 @@ use Rattle.mesa_command.specs.Outputs.{Stream, HasFaulted, PrintsAll, Receives}
 use Rattle.mesa_command.specs.Case.{Case, Refused, Absent, Memory, status_of, line_of}
 use Rattle.mesa_command.specs.Shown.{IsShownAs}
 use Rattle.mesa_command.specs.Worlds.{Shelf, Scene, World}
+use Rattle.mesa_command.specs.Ends.{TellsInput}
 use Rattle.mesa_command.specs.Comes.{Comes}
 
 -- no call failed
@@ -49,7 +50,7 @@ pub record Does (text : List ℕ) (turns : ℕ) (old : Scene) (output : List ℕ
   pub tree : Module
   pub reads : Reads text tree
   pub input : List ℕ
-  pub tells : old.input.left ≡ Some input
+  pub tells : TellsInput old input
   pub end : Answer
   pub left : ℕ
   pub taken : ℕ
@@ -88,8 +89,8 @@ pub record Answered (words : List (List ℕ)) (before after : World) (s : Status
   pub refused : IsRefused words before after s
   pub absent : IsAbsent words before after s
 
--- for words, files and input that are told, one case comes where no call failed, want of memory aside
+-- for words, files and an input of bytes that are told, one case comes where no call failed, want of memory aside
 abbrev pub OneCaseComes : Type 0
 OneCaseComes = (words : List (List ℕ)) (folder folder' folder'' : Shelf) (old new new' : Scene) (files : Files) (input : List ℕ) (c c' : Case) →
-    folder.files ≡ Some files → old.input.left ≡ Some input → NoFault folder folder' old new → NoFault folder folder'' old new' →
+    folder.files ≡ Some files → TellsInput old input → NoFault folder folder' old new → NoFault folder folder'' old new' →
     Comes words folder folder' old new c → Comes words folder folder'' old new' c' → c ≢ Memory → c' ≢ Memory → c ≡ c'

@@ -1,14 +1,15 @@
 -- How the run of a module ends, what it took of the input, and what it leaves in `out`, in the words of what the module means (rule of this project).
-use Rattle.std.specs.Prelude.{◌≡◌, ℕ, ◌-◌}
+use Rattle.std.specs.Prelude.{◌≡◌, ℕ, ◌-◌, List, Some, IfSome}
 use Rattle.mesa_base.specs.Outside.{Rose}
 use Rattle.mesa_types.specs.Typed.{Module}
 use Rattle.source_meaning.specs.Program.{single}
 use Rattle.image_runs.specs.declared.outcome.Outcome.{Outcome}
+use Rattle.image_runs.specs.Running.{AreBytes}
 use Rattle.meant_runs.specs.Meant.{Ran, BrokenOff, CutOff}
 use Rattle.module_runs.specs.Coded.{CompletesInCode}
 use Rattle.mesa_command.specs.Outputs.{HasFaulted}
 use Rattle.mesa_command.specs.Worlds.{Scene}
-use Rattle.mesa_command.specs.Shown.{IsShownAs}
+use Rattle.mesa_command.specs.Shown.{IsShownAs, case_of_end}
 use Rattle.mesa_command.specs.Case.{Case, ReadFault, WriteFault, Memory}
 
 -- the module means this end for the input; `out` received the whole output, and at most one byte more was taken than the program took
@@ -28,10 +29,24 @@ abbrev pub CountsIn : Module → ℕ → Outcome → Scene → Scene → Type 0
 CountsIn m turns outcome old new =
     CompletesInCode m turns outcome (new.steps - old.steps) old.input.left new.input.left old.out.holds new.out.holds
 
--- how the run of a module that may spend so many turns ends
+-- the input tells what is left of it, or nothing; what it tells are bytes
+abbrev pub TellsBytes : Scene → Type 0
+TellsBytes old = IfSome old.input.left AreBytes
+
+-- the input tells that these bytes are left of it
+abbrev pub TellsInput : Scene → List ℕ → Type 0
+TellsInput old input = (old.input.left ≡ Some input) × AreBytes input
+
+-- the run is what the module means, and its end is shown as this case
+pub record IsMeant (m : Module) (turns : ℕ) (outcome : Outcome) (old new : Scene) (case : Case) : Type 0 where
+  pub ran : RanIn m turns outcome old new
+  pub is_case : IsShownAs (single m) ran.answer case
+
+-- How the run of a module that may spend so many turns ends. Its case is that of the machine's end, and of what the module means where the
+-- input tells bytes.
 pub data Ends (m : Module) (turns : ℕ) (old new : Scene) : Case → Type 0 where
-  ended : (outcome : Outcome) (case : Case) (ran : RanIn m turns outcome old new) → IsShownAs (single m) ran.answer case →
+  ended : (outcome : Outcome) (case : Case) → case ≡ case_of_end m outcome.end → (TellsBytes old → IsMeant m turns outcome old new case) →
       CountsIn m turns outcome old new → Ends m turns old new case
   read_fault : Rose old.input.faults new.input.faults → BrokenOffIn m turns old new → Ends m turns old new ReadFault
-  write_fault : HasFaulted old.out new.out → CutOffIn m turns old new → Ends m turns old new WriteFault
+  write_fault : HasFaulted old.out new.out → (TellsBytes old → CutOffIn m turns old new) → Ends m turns old new WriteFault
   no_memory : new ≡ old → Ends m turns old new Memory

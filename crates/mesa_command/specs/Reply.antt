@@ -1,17 +1,11 @@
 -- The case that a reply of the code is, and the bytes of the pieces of its line.
 use Rattle.std.specs.Prelude.{ℕ, List, [], ◌∷◌, ◌++◌, Result, Ok, Err, codes, decimal}
 use Rattle.mesa_types.specs.Typed.{Module}
-use Rattle.source_meaning.specs.Program.{Signal, single}
-use Rattle.source_meaning.specs.Program as p
-use Rattle.signaller.specs.declared.signal_id.SignalId.{SignalId}
-use Rattle.signaller.specs.declared.signal_id.SignalId.TheVariants as id
-use Rattle.machine_steps.specs.declared.end.End.{End}
-use Rattle.machine_steps.specs.declared.end.End.TheVariants as end
 use Rattle.image_runs.specs.declared.outcome.Outcome.{Outcome}
 use Rattle.module_runs.specs.declared.fault.ModuleFault.{ModuleFault}
 use Rattle.module_runs.specs.declared.fault.ModuleFault.TheVariants as fault
 use Rattle.mesa_command.specs.Case as c
-use Rattle.mesa_command.specs.Shown.{shown}
+use Rattle.mesa_command.specs.Shown.{case_of_end}
 use Rattle.mesa_command.specs.declared.reply.Piece.{Piece}
 use Rattle.mesa_command.specs.declared.reply.Piece.TheVariants.{Text, Bytes, Number}
 use Rattle.mesa_command.specs.declared.reply.UncaughtSignal.{UncaughtSignal}
@@ -45,21 +39,6 @@ bytes_of (Number n) = decimal n
 abbrev pub joined : List Piece → List ℕ
 joined [] = []
 joined (p ∷ ps) = bytes_of p ++ joined ps
-
--- a signal of the machine as one of the meaning
-abbrev pub signal_of : SignalId → Signal
-signal_of (id.Own j k) = p.SignalOf j k
-signal_of id.BoundsFault = p.BoundsFault
-signal_of id.ZeroDivisor = p.ZeroDivisor
-signal_of id.NoInput = p.NoInput
-signal_of id.Unnamed = p.Unnamed
-
--- the case of an end of the module's run
-abbrev pub case_of_end : Module → End → c.Case
-case_of_end m end.Done = c.Done
-case_of_end m (end.Uncaught signal) = c.Uncaught (shown (single m) (signal_of signal))
-case_of_end m end.Spent = c.Spent
-case_of_end m end.FrameLimit = c.FrameLimit
 
 abbrev pub case_of_fault : ModuleFault → c.Case
 case_of_fault fault.ReadFault = c.ReadFault

@@ -1,9 +1,14 @@
 -- What a line calls a signal that nothing caught, and which case the end of a program is (rule of this project).
 use Rattle.std.specs.Prelude.{◌≡◌, ℕ, List, [], ◌∷◌, ◌++◌, Option, Some, None, slice_get, codes}
 use Rattle.mesa_types.specs.declared.faces.Item.{Item}
-use Rattle.source_meaning.specs.Program.{Program, Signal, SignalOf, BoundsFault, ZeroDivisor, NoInput, Unnamed, instance_of, module_of}
+use Rattle.mesa_types.specs.Typed.{Module}
+use Rattle.source_meaning.specs.Program.{Program, Signal, SignalOf, BoundsFault, ZeroDivisor, NoInput, Unnamed, instance_of, module_of, single}
 use Rattle.source_meaning.specs.State as s
 use Rattle.source_meaning.specs.State.{Answer}
+use Rattle.signaller.specs.declared.signal_id.SignalId.{SignalId}
+use Rattle.signaller.specs.declared.signal_id.SignalId.TheVariants as id
+use Rattle.machine_steps.specs.declared.end.End as machine
+use Rattle.machine_steps.specs.declared.end.End.TheVariants as end
 use Rattle.mesa_command.specs.Case.{Case, Done, Uncaught, Spent, FrameLimit}
 
 -- the names of a path and a last name, with dots between
@@ -36,3 +41,18 @@ IsShownAs P (s.Resumed _) case = ⊥
 IsShownAs P s.Rejected case = ⊥
 IsShownAs P (s.Retried statement) case = ⊥
 IsShownAs P (s.Continued statement) case = ⊥
+
+-- a signal of the machine as one of the meaning
+abbrev pub signal_of : SignalId → Signal
+signal_of (id.Own j k) = SignalOf j k
+signal_of id.BoundsFault = BoundsFault
+signal_of id.ZeroDivisor = ZeroDivisor
+signal_of id.NoInput = NoInput
+signal_of id.Unnamed = Unnamed
+
+-- the case of an end of the module's run
+abbrev pub case_of_end : Module → machine.End → Case
+case_of_end m end.Done = Done
+case_of_end m (end.Uncaught signal) = Uncaught (shown (single m) (signal_of signal))
+case_of_end m end.Spent = Spent
+case_of_end m end.FrameLimit = FrameLimit

@@ -1,18 +1,17 @@
 //! The call, its cases, and the run of a module.
 
-ghost use Rattle.std.specs.Prelude.{◌≡◌, IfOk, IfSome};
+ghost use Rattle.std.specs.Prelude.{◌≡◌, IfOk};
 ghost use Rattle.mesa_types.specs.Plain.{plain};
 ghost use Rattle.source_meaning.specs.Program.{single};
 ghost use Rattle.written_trees.specs.Alone.{StandsAlone};
-ghost use Rattle.image_runs.specs.Running.{AreBytes};
 ghost use Rattle.module_runs.specs.Ends.{IsEndOf, IsSignalOf};
 ghost use Rattle.mesa_command.specs.Case.{Case, IsBeforeRun};
 ghost use Rattle.mesa_command.specs.Comes.{Comes};
 ghost use Rattle.mesa_command.specs.Complete.{Answered, Tells};
 ghost use Rattle.mesa_command.specs.Ends.{Ends};
 ghost use Rattle.mesa_command.specs.Outputs.{stream};
-ghost use Rattle.mesa_command.specs.Reply.{called, reply_case, case_of_end, case_of_run, signal_of};
-ghost use Rattle.mesa_command.specs.Shown.{shown};
+ghost use Rattle.mesa_command.specs.Reply.{called, reply_case, case_of_run};
+ghost use Rattle.mesa_command.specs.Shown.{shown, case_of_end, signal_of};
 ghost use Rattle.mesa_command.specs.Worlds.{feed, scene, shelf, world};
 
 use crate::forms::go_form;
@@ -40,9 +39,9 @@ pub fn mesa<F: Folder, S: Source, K: Sink, E: Sink, L: Ledger>(
     err: &mut E,
     steps: &mut Steps<L>,
 ) -> Status
-    // Where the input tells what is left of it, these are bytes. The status is that of a case that comes of the words, the folder,
-    // the input and `out`, and `err` receives its line; which case must come is said beside it.
-    ensures answered { IfSome (S.left input.old) AreBytes → Answered words.now
+    // The status is that of a case that comes of the words, the folder, the input and `out`, and `err` receives its line; which case
+    // must come is said beside it. What a run does is told in the words of its source where the input tells bytes.
+    ensures answered { Answered words.now
         (world (shelf (F.files folder.old) (F.faults folder.old) (F.misses folder.old))
         (scene (feed (S.left input.old) (S.faults input.old)) (stream (K.written out.old) (K.faults out.old)) steps.old)
         (stream (E.written err.old) (E.faults err.old)))
@@ -73,7 +72,7 @@ fn answer<F: Folder, S: Source, K: Sink, E: Sink, L: Ledger>(
     err: &mut E,
     steps: &mut Steps<L>,
 ) -> Status
-    ensures comes { IfSome (S.left input.old) AreBytes → (case : Case)
+    ensures comes { (case : Case)
         × Comes words.now (shelf (F.files folder.old) (F.faults folder.old) (F.misses folder.old)) (shelf (F.files folder.new) (F.faults folder.new) (F.misses folder.new))
         (scene (feed (S.left input.old) (S.faults input.old)) (stream (K.written out.old) (K.faults out.old)) steps.old)
         (scene (feed (S.left input.new) (S.faults input.new)) (stream (K.written out.new) (K.faults out.new)) steps.new) case
@@ -103,7 +102,7 @@ fn run<S: Source, K: Sink, E: Sink, L: Ledger>(
     steps: &mut Steps<L>,
 ) -> Status
     requires alone { StandsAlone (plain typed) }
-    ensures ends { IfSome (S.left input.old) AreBytes → (case : Case)
+    ensures ends { (case : Case)
         × Ends (plain typed) turns
         (scene (feed (S.left input.old) (S.faults input.old)) (stream (K.written out.old) (K.faults out.old)) steps.old)
         (scene (feed (S.left input.new) (S.faults input.new)) (stream (K.written out.new) (K.faults out.new)) steps.new) case

@@ -8,7 +8,7 @@ use Rattle.mesa_command.proofs.Running.{run-ends}
 use Rattle.mesa_command.proofs.top.run.Goals as goal
 
 pub returns-clause-ends : goal.returns-clause-ends
-returns-clause-ends g c = λ bytes.
+returns-clause-ends g c =
     let ensures-it = rw c.get.ensures at c.run_module-ended.ensures in
     let shown = rw c.get-2.ensures at c.reply_to.ensures in (
       case_of_run (plain c.args.typed) c.run_module-ended.result,
@@ -17,7 +17,7 @@ returns-clause-ends g c = λ bytes.
           (stream (g.K.Sink.written c.args.out.now) (g.K.Sink.faults c.args.out.now)) c.args.steps.now)
           (scene (feed (g.S.Source.left c.run_module-ended.new.input) (g.S.Source.faults c.run_module-ended.new.input))
           (stream (g.K.Sink.written c.run_module-ended.new.out) (g.K.Sink.faults c.run_module-ended.new.out)) c.run_module-ended.new.steps)
-          c.run_module-ended.result bytes ensures-it.ran ensures-it.counted ensures-it.broken_off ensures-it.cut_off ensures-it.read_fault ensures-it.write_fault
+          c.run_module-ended.result ensures-it.ran ensures-it.counted ensures-it.broken_off ensures-it.cut_off ensures-it.read_fault ensures-it.write_fault
           (λ m. rw (ensures-it.no_memory_input m) (rw (ensures-it.no_memory_output m) (rw (ensures-it.no_memory_steps m) refl))),
       rw shown at c.told-status.ensures,
     )
