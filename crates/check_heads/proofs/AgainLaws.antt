@@ -13,7 +13,7 @@ use Rattle.checking_rules.specs.declared.fault.CheckFault.{CheckFault}
 use Rattle.checking_rules.specs.declared.fault.Cause.{Cause}
 use Rattle.checking_rules.specs.declared.fault.CheckFault.TheVariants.{At, Memory}
 use Rattle.check_words.specs.Gives.{Gives, GivesOnly, fault}
-use Rattle.check_heads.specs.Again.{after, dropped, faults, heads_in, is_fault, next, outcome_alone, retried}
+use Rattle.check_heads.specs.Again.{after, dropped, heads_in, is_fault, next, outcome_alone, retried}
 
 -- ---- one more
 

@@ -12,5 +12,5 @@ loop-other-init g c =
 pub loop-other-preserved : goal.loop-other-preserved
 loop-other-preserved g c =
     gone_on g.T.Tries.named (g.T.Tries.rule c.args.tries.now (words.around c.args.around.now)) c.args.others.now c.loop-other.other-index c.other-item.result
-    (passed_over (g.T.Tries.named c.args.one.now) (g.T.Tries.before c.args.tries.now)) (words.state c.loop-other.state) (words.state c.in_ok-behind.field-0)
-    c.loop-other-test.true c.other-item.is c.loop-other.invariant c.in_ok-behind.ensures
+    (passed_over (g.T.Tries.named c.args.one.now) (g.T.Tries.before c.args.tries.now)) (words.state c.loop-other.state) (words.state c.in_ok-state-2.state)
+    c.loop-other-test.true c.other-item.is c.loop-other.invariant c.in_ok-state-2.ensures
