@@ -15,7 +15,7 @@ use Rattle.image_runs.specs.declared.outcome.Outcome.{Outcome}
 use Rattle.module_runs.specs.declared.fault.ModuleFault.{ModuleFault}
 use Rattle.module_runs.specs.declared.fault.ModuleFault.TheVariants as fault
 use Rattle.mesa_command.specs.Case as c
-use Rattle.mesa_command.specs.Case.{Case, status_of, IsBeforeRun}
+use Rattle.mesa_command.specs.Case.{status_of, IsBeforeRun}
 use Rattle.mesa_command.specs.Shown.{name_in, shown, IsShownAs, signal_of, case_of_end}
 use Rattle.mesa_command.specs.Outputs.{HasFaulted}
 use Rattle.mesa_command.specs.Worlds.{Scene}

@@ -1,5 +1,5 @@
 -- The module of a text, from the law of checked texts.
-use Rattle.std.proofs.Common.{length, Ok, subst}
+use Rattle.std.proofs.Common.{length, subst}
 use Rattle.std.specs.Prelude.{IfOk}
 use Rattle.mesa_types.specs.PlainSyntax.{syntax}
 use Rattle.mesa_types.specs.Typed as t

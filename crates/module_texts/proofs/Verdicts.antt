@@ -3,7 +3,6 @@ use Rattle.std.proofs.Common.{◌≡◌, ℕ, List, Bool, true, false, Result, O
 use Rattle.mesa_base.specs.declared.place.Place.{Place}
 use Rattle.mesa_lexer.specs.Tokens.{HasTokens, HasLexFault}
 use Rattle.token_cursor.specs.Parsing.{Why, Unexpected, TooDeep}
-use Rattle.mesa_lexer.specs.declared.token.Token.{Token}
 use Rattle.mesa_lexer.specs.declared.token.Tokens.{Tokens}
 use Rattle.mesa_lexer.specs.declared.fault.SyntaxFault.{SyntaxFault}
 use Rattle.mesa_lexer.specs.declared.fault.SyntaxFault.TheVariants as s
@@ -13,7 +12,7 @@ use Rattle.mesa_types.specs.Typed as t
 use Rattle.mesa_types.specs.declared.syntax.Module.{Module}
 use Rattle.module_productions.specs.Answer.{IsFault, HasSyntaxFault, unexpected as unexpected_token, too_deep as too_deep_token, place_of, Answer, Tree, Fault as Stops, Answers}
 use Rattle.module_productions.proofs.Whole as g
-use Rattle.checking_rules.specs.Steps.{Checked, Fault}
+use Rattle.checking_rules.specs.Steps.{Checked}
 use Rattle.written_trees.specs.Laws.{IsTreeOf}
 use Rattle.module_texts.specs.Laws.{OneModule, OneFault, ReadTextsHaveNoFault}
 use Rattle.module_texts.specs.TextFaults as f
