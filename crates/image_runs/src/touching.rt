@@ -98,7 +98,7 @@ pub(crate) fn settle(turn: Turn, r: &mut Registers) -> Option<LinkTurn>
     }
 }
 
-/// The same of a call through a link.
+// The same of a call through a link.
 #[inline(always)]
 fn settle_link(turn: LinkTurn, r: &mut Registers) -> Option<LinkTurn>
     ensures { linked_or result r.new ≡ turn }

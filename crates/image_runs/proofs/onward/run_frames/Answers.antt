@@ -1,4 +1,4 @@
-use Rattle.std.proofs.Common.{◌-◌, Result, Ok, Err, Option, List, refl, ap, subst, ◌∙◌, arith}
+use Rattle.std.proofs.Common.{◌-◌, Result, Ok, Err, Option, refl, ap, subst, ◌∙◌, arith}
 use Rattle.std.specs.Prelude.{IfOk}
 use Rattle.activation_region.specs.declared.calling.Turn.{Turn}
 use Rattle.activation_region.specs.declared.calling.Turn.TheVariants.{Goes}
