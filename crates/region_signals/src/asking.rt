@@ -171,6 +171,9 @@ pub(crate) fn ask(
     ensures { (p : CodeProcedure) → procedure_of image.now row.instance row.procedure ≡ Some p
         → result ≡ next_arm p.phrases search (links_of image.now row.instance) signal }
 {
+    if search.phrase.is_none() {
+        return Found::Beyond;
+    }
     let procedure = procedure_at(image, row.instance, row.procedure);
     let own = &links.as_slice()[row.instance as usize];
     next_arm(&procedure.phrases, search, own, &signal)
