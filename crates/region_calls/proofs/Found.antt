@@ -10,8 +10,6 @@ use Rattle.object_files.specs.declared.image.Image.{Image}
 use Rattle.object_files.specs.declared.image.Instance.{Instance}
 use Rattle.object_files.specs.declared.object.Object.{Object}
 use Rattle.machine_steps.specs.LookUps.{module_number, code_in, code_of, procedure_of, Host, host_named, host_of}
-use Rattle.region_calls.specs.declared.host.HostProcedure.{HostProcedure}
-use Rattle.region_calls.specs.Hosts.{host_is}
 
 mapped : {X Y : Type 0} (f : X → Y) (o : Option X) (y : Y) → option_map f o ≡ Some y → (x : X) × (o ≡ Some x) × (f x ≡ y)
 mapped f None y e = absurd (none-some y e)
@@ -73,9 +71,6 @@ host_at image n h =
     let p = some_there (host_of image n) h in
     option_and_then_some (λ (w : WantedEntry). host_named w.item.name) (slice_get image.wanted n) p.0 p.1 (λ w there named.
     record { wanted = w; there = there; host = p.0; named = named; is = p.1 })
-
-pub host_mapped : (o : Option HostProcedure) (h : Host) → option_map host_is o ≡ Some h → (x : HostProcedure) × (o ≡ Some x) × (host_is x ≡ h)
-host_mapped o h e = mapped host_is o h e
 
 pub is_there : {X : Type 0} (o : Option X) (x : X) → o ≡ Some x → IsSome o
 is_there {X} o x e = subst (λ (p : Option X). IsSome p) (sym e) refl

@@ -1,6 +1,7 @@
 pub mod Behind
 pub mod Found
 pub mod HostWrites
+pub mod HostNames
 pub mod HostReads
 pub mod LinkFits
 pub mod Calling

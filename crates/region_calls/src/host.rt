@@ -31,12 +31,17 @@ fn host_named(name: &[u8]) -> HostProcedure
     requires { IsSome (host_named name.now) }
     ensures { host_named name.now ≡ Some (host_is result) }
 {
-    match name.len() {
-        8 => HostProcedure::Read(Reading::Next),
-        9 => HostProcedure::Write(Writing::Char),
-        10 => HostProcedure::Read(Reading::AtEnd),
-        11 => HostProcedure::Write(Writing::Text),
-        _ => HostProcedure::Write(Writing::Decimal),
+    let length = name.len();
+    if length == 9 {
+        HostProcedure::Write(Writing::Char)
+    } else if length == 8 {
+        HostProcedure::Read(Reading::Next)
+    } else if length == 10 {
+        HostProcedure::Read(Reading::AtEnd)
+    } else if length == 11 {
+        HostProcedure::Write(Writing::Text)
+    } else {
+        HostProcedure::Write(Writing::Decimal)
     }
 }
 

@@ -1,5 +1,5 @@
 -- What the search for an arm reads where an activation waits.
-use Rattle.std.proofs.Common.{◌≡◌, ℕ, ◌<◌, List, length, get_or, Bool, false, Option, None, Some, refl, sym, ap, subst, ◌∙◌, arith}
+use Rattle.std.proofs.Common.{◌≡◌, ℕ, ◌<◌, List, length, get_or, Bool, true, false, Option, None, Some, refl, sym, ap, subst, ◌∙◌, arith}
 use Rattle.std.specs.Prelude.{slice_get, IsSome, IsSomeAnd}
 use Rattle.std.specs.List.{AllZip}
 use Rattle.std.proofs.lemmas.Option.{MatchOption-at_some, same_Some, slice_get_within, slice_get-get_or, get_or_from_slice_get}
@@ -12,11 +12,13 @@ use Rattle.code_forms.proofs.Leading.{begins_there}
 use Rattle.object_files.specs.declared.image.Image.{Image}
 use Rattle.object_files.specs.declared.image.Instance.{Instance}
 use Rattle.signaller.specs.declared.search.Found.{Found}
+use Rattle.signaller.specs.declared.search.Found.TheVariants.{Beyond}
+use Rattle.code_forms.specs.declared.module_code.Phrase.{Phrase}
 use Rattle.signaller.specs.declared.search.Links.{Links}
 use Rattle.signaller.specs.declared.search.Search.{Search}
 use Rattle.signaller.specs.declared.signal_id.SignalId.{SignalId}
 use Rattle.signaller.specs.Index.{Indexes}
-use Rattle.signaller.specs.Search.{innermost_of, search_at, next_arm, unwind_next}
+use Rattle.signaller.specs.Search.{asked, first_place, fits_signal, innermost_of, numbered, search_at, next_arm, unwind_next}
 use Rattle.signaller.specs.Tables.{IsCatchTable}
 use Rattle.signaller.specs.Laws.{IsBegun}
 use Rattle.signaller.proofs.Lying.{tables_of_valid}
@@ -157,3 +159,8 @@ module _ (image : Image) (layout : Layout) (prepared : IsPrepared image layout) 
   pub unwind_is : (search : Search) (found : Found) → found ≡ unwind_next p.phrases search → (q : CodeProcedure) → procedure_of image row.instance row.procedure ≡ Some q → found ≡ unwind_next q.phrases search
   unwind_is search found said q is_q =
       let same : p ≡ q = same_Some p q (sym is ∙ is_q) in said ∙ ap (λ (x : CodeProcedure). unwind_next x.phrases search) same
+
+-- where no phrase is left none is asked
+pub none_left : (table : List Phrase) (search : Search) (links : Links) (signal : SignalId) → search.phrase ≡ None → Beyond ≡ next_arm table search links signal
+unfolding first_place
+none_left table search links signal none = sym (ap (λ o. numbered true table (first_place (fits_signal links signal) table (asked true table o))) none)

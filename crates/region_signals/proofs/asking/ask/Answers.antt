@@ -1,4 +1,6 @@
-use Rattle.region_signals.proofs.Asks.{table_there, links_within, answer_is}
+use Rattle.std.proofs.Common.{rules}
+use Rattle.machine_steps.specs.LookUps.{links_of}
+use Rattle.region_signals.proofs.Asks.{none_left, table_there, links_within, answer_is}
 use Rattle.region_signals.proofs.asking.ask.Goals as goal
 
 pub bounds-as_slice-row : goal.bounds-as_slice-row
@@ -14,3 +16,6 @@ pub returns : goal.returns
 returns c =
     answer_is c.args.image.now c.args.layout c.requires.prepared c.args.row c.requires.read c.procedure_at-procedure.result.now c.procedure_at-procedure.ensures
     c.args.links.now c.requires.links c.as_slice.result.now c.as_slice.ensures c.index-as_slice-row.result c.index-as_slice-row.is c.args.search c.args.signal c.next_arm.result c.next_arm.ensures
+
+pub returns-then-is_none : goal.returns-then-is_none
+returns-then-is_none c = λ p is. none_left p.phrases c.args.search (links_of c.args.image.now c.args.row.instance) c.args.signal (search rules)
