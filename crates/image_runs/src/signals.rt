@@ -60,6 +60,7 @@ pub(crate) fn raise_signal<L: Ledger>(
 }
 
 /// The topmost activation raises a signal of its own module.
+#[inline(never)]
 pub(crate) fn raise_of_module<L: Ledger>(
     image: &Image,
     parts: &mut Prepared,
@@ -99,6 +100,7 @@ pub(crate) fn raise_of_module<L: Ledger>(
 }
 
 /// It raises a signal of another module, by the number of a link.
+#[inline(never)]
 pub(crate) fn raise_through_link<L: Ledger>(
     image: &Image,
     parts: &mut Prepared,
@@ -138,6 +140,7 @@ pub(crate) fn raise_through_link<L: Ledger>(
 }
 
 /// It raises a predeclared signal.
+#[inline(never)]
 pub(crate) fn raise_predeclared<L: Ledger>(
     image: &Image,
     parts: &mut Prepared,

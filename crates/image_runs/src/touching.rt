@@ -28,7 +28,7 @@ use region_calls::LinkTurn;
 use std::sync::ledger::Ledger;
 
 // What the instruction leads to, at which the topmost activation stands and which neither calls nor returns.
-#[inline(never)]
+#[inline(always)]
 fn signal<L: Ledger>(
     image: &Image,
     parts: &mut Prepared,
