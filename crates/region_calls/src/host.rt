@@ -27,6 +27,7 @@ pub enum HostProcedure {
 }
 
 // The one of a name that is one of theirs: each has a length of its own.
+#[inline(always)]
 fn host_named(name: &[u8]) -> HostProcedure
     requires { IsSome (host_named name.now) }
     ensures { host_named name.now ≡ Some (host_is result) }
@@ -46,6 +47,7 @@ fn host_named(name: &[u8]) -> HostProcedure
 }
 
 /// The one for which an entry of the wanted items stands.
+#[inline(always)]
 pub(crate) fn host_of(image: &Image, wanted: u32) -> HostProcedure
     requires { IsSome (host_of image.now wanted) }
     ensures { host_of image.now wanted ≡ Some (host_is result) }

@@ -5,7 +5,7 @@ ghost use Rattle.code_forms.specs.declared.instruction.Instruction.TheVariants.{
 ghost use Rattle.machine_steps.specs.Calls.{call as called_with, call_bound as bound_call};
 ghost use Rattle.machine_steps.specs.Moves.{spend};
 ghost use Rattle.machine_steps.specs.State.{Stepped, Store};
-ghost use Rattle.activation_region.specs.Calling.{AddsFrame, CallsThen, IsAmpleFor, LeadsTo, StandsIn};
+ghost use Rattle.activation_region.specs.Calling.{AddsFrame, CallsThen, Enters, EntersSome, IsAmpleFor, LeadsTo, StandsIn};
 ghost use Rattle.activation_region.specs.Reaching.{IsUnstuck, Reaches, Shown};
 ghost use Rattle.activation_region.specs.Shows.{IsAmple, IsPrepared, IsReserved};
 ghost use Rattle.region_calls.specs.Linking.{AddsFrameForLink, CallsLink, EntersBody, IsAmpleForLink, LinkedTo, StandsAt, WaitsToCall};
@@ -14,6 +14,7 @@ ghost use Rattle.region_calls.specs.Started.{ShowsStarted};
 use crate::host::{HostProcedure, host_of};
 use crate::look_ups::{bound_to, is_started, link_called, procedure_of, row_of};
 use activation_region::{Layout, Row, Turn, add_frame};
+use code_forms::CodeProcedure;
 use machine_steps::End;
 use object_files::{Image, Link};
 use quiet_run::Registers;
@@ -27,7 +28,32 @@ pub enum LinkTurn {
     Host(HostProcedure),
 }
 
+// Makes the frame of a procedure of an instance that is called through a link.
+#[inline(never)]
+fn add_called(
+    called: &CodeProcedure,
+    instance: u32,
+    number: u32,
+    region: &mut Vec<u16>,
+    table: &mut [Row],
+    r: Registers,
+    layout: Layout,
+) -> Turn
+    requires enters { EntersSome layout region.old.items table.old r called.now instance number }
+    requires ample { IsAmple layout region.old.items table.old r.top }
+    requires reserved { IsReserved layout (vec_capacity region.old) }
+    ensures ample { IsAmpleFor layout region.new.items table.new result }
+    ensures reserved { vec_capacity region.old ≤ vec_capacity region.new }
+    ensures adds { AddsFrame layout table.old r table.new result }
+    ensures leads { (image : Image) → IsPrepared image layout → (e : Enters image layout region.old.items table.old r called.now instance number)
+        → (s : Stepped) (m : Store) → Reaches image s (called_with instance number called.now e.top e.rest m)
+        → LeadsTo image layout region.new.items table.new s m result }
+{
+    add_frame(called, instance, number, region, table, r, layout)
+}
+
 // Starts an instance for a call of the topmost activation: a turn is spent, and the frame of its body is made.
+#[inline(never)]
 fn start_first(
     image: &Image,
     instance: u32,
@@ -58,6 +84,7 @@ fn start_first(
 }
 
 // Calls what the link of this number of the topmost activation's instance is bound to; the turn is spent.
+#[inline(always)]
 fn call_bound(
     image: &Image,
     number: u32,
@@ -88,7 +115,7 @@ fn call_bound(
         Link::To { instance, number } => {
             if is_started(started, caller, instance) {
                 let called = procedure_of(image, instance, number);
-                return LinkTurn::Done(add_frame(
+                return LinkTurn::Done(add_called(
                     called, instance, number, region, table, r, layout,
                 ));
             }
@@ -101,6 +128,7 @@ fn call_bound(
 /// Calls what the link of this number of the topmost activation's instance is bound to. A turn is spent. A procedure of
 /// another instance that was not started is not called yet: that instance is started above the call, which costs another
 /// turn and marks it; when its body returns, the call is done again (`call_again`). A procedure of the host is told.
+#[inline(always)]
 pub fn call_link(
     image: &Image,
     number: u32,

@@ -22,6 +22,7 @@ pub(crate) fn row_of(table: &[Row], place: usize) -> Row
 }
 
 /// Whether an instance needs no start for a call of its procedures: it is the caller's, or was started.
+#[inline(always)]
 pub(crate) fn is_started(marks: &[bool], caller: u32, instance: u32) -> bool
     requires there { instance < length marks.now }
     ensures { result ≡ (nat_eq caller instance || slice_index_or marks.now instance false) }
@@ -30,6 +31,7 @@ pub(crate) fn is_started(marks: &[bool], caller: u32, instance: u32) -> bool
 }
 
 /// What a link of an instance is bound to.
+#[inline(always)]
 #[tactic(auto, unfolding(machine_steps::specs::LookUps::bound_to))]
 pub(crate) fn bound_to(image: &Image, instance: u32, number: u32) -> Link
     requires { IsSome (bound_to image.now instance number) }
