@@ -15,8 +15,8 @@ is_started-requires c =
 pub procedure_of-called-requires : goal.procedure_of-called-requires
 procedure_of-called-requires c = target_some c.args.image.now c.args.layout c.requires.prepared c.args.region.now.items c.args.table.now c.args.r c.args.number c.requires.calls c.row_of-caller.result c.row_of-caller.ensures c.bound_to.result c.bound_to.ensures c.in-To.instance c.in-To.number c.in-To.is
 
-pub add_frame-requires-clause-enters : goal.add_frame-requires-clause-enters
-add_frame-requires-clause-enters c = record {
+pub add_called-requires-clause-enters : goal.add_called-requires-clause-enters
+add_called-requires-clause-enters c = record {
   image = c.args.image.now;
   prepared = c.requires.prepared;
   enters = target_enters c.args.image.now c.args.layout c.requires.prepared c.args.region.now.items c.args.table.now c.args.r c.args.number c.requires.calls c.row_of-caller.result c.row_of-caller.ensures c.bound_to.result c.bound_to.ensures c.in-To.instance c.in-To.number c.in-To.is c.procedure_of-called.result.now c.procedure_of-called.ensures;
@@ -27,7 +27,7 @@ returns-then-is_started-clause-leads c e s m turns shown reaches =
     call_linked c.args.image.now c.args.layout c.requires.prepared c.args.region.now.items c.args.table.now c.args.r c.args.number e c.row_of-caller.result c.row_of-caller.ensures c.bound_to.result c.bound_to.ensures c.in-To.instance c.in-To.number c.in-To.is c.args.started.now
     (subst (λ n. c.in-To.instance < n) (sym c.requires.marks) (instance_there c.args.image.now c.args.layout c.requires.prepared c.args.region.now.items c.args.table.now c.args.r c.args.number c.requires.calls c.row_of-caller.result c.row_of-caller.ensures c.bound_to.result c.bound_to.ensures c.in-To.instance c.in-To.number c.in-To.is))
     (sym c.is_started.ensures ∙ c.if-is_started.true) c.procedure_of-called.result.now c.procedure_of-called.ensures
-    c.add_frame.new.region.items c.add_frame.new.table c.add_frame.result (λ e s m reaches. c.add_frame.ensures.leads c.args.image.now c.requires.prepared e s m reaches)
+    c.add_called.new.region.items c.add_called.new.table c.add_called.result (λ e s m reaches. c.add_called.ensures.leads c.args.image.now c.requires.prepared e s m reaches)
     s m c.args.turns.now turns shown reaches
 
 pub bounds-started-instance : goal.bounds-started-instance
