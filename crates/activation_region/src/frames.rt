@@ -17,6 +17,7 @@ pub(crate) fn row_of(table: &[Row], place: usize) -> Row
     table[place]
 }
 
+#[inline(always)]
 #[tactic(auto, unfolding(crate::specs::Frames::owner_place))]
 fn owner_of(kind: Kind, place: usize) -> usize
     ensures { result ≡ owner_place kind place }

@@ -11,7 +11,8 @@ ghost use Rattle.region_calls.specs.Linking.{StandsAt};
 ghost use Rattle.region_signals.specs.Raising.{ArmsHold, HoldsOn};
 
 use crate::standing::top_code;
-use activation_region::Turn;
+use crate::next::{Next, told};
+use machine_steps::End;
 use mesa_base::Steps;
 use object_files::Image;
 use quiet_run::Registers;
@@ -24,27 +25,15 @@ use std::sync::ledger::Ledger;
 pub(crate) fn end_arm<L: Ledger>(
     image: &Image,
     parts: &mut Prepared,
-    r: Registers,
+    at: &mut Registers,
+    end: &mut End,
     turns: &mut u64,
     comparisons: &mut Steps<L>,
-) -> Turn
-    requires ready { IsReady image.now parts.old }
-    requires ample { IsAmple parts.old.layout parts.old.region.items parts.old.rows.items r.top }
-    requires arms { ArmsHold image.now parts.old.rows.items r.top }
-    requires stands { StandsIn image.now parts.old.layout parts.old.region.items parts.old.rows.items r }
-    requires at { StandsAt image.now parts.old.rows.items r ArmEnd }
-    ensures ready { IsReady image.now parts.new }
-    ensures ample { IsAmpleFor parts.new.layout parts.new.region.items parts.new.rows.items result }
-    ensures arms { HoldsOn image.now parts.new.rows.items result }
-    ensures globals { parts.new.globals.items ≡ parts.old.globals.items }
-    ensures marks { parts.new.started.items ≡ parts.old.started.items }
-    ensures turns_fall { turns.new ≤ turns.old }
-    ensures leads { (s : Stepped) (m : Store) → IsUnstuck image.now s → m.turns ≡ turns.old
-        → Shown image.now parts.old.layout parts.old.region.items parts.old.rows.items r s m
-        → LeadsTo image.now parts.new.layout parts.new.region.items parts.new.rows.items s (record m { turns = turns.new; begun = suc m.begun }) result }
+) -> Next
 {
+    let r = *at;
     let code = top_code(image, parts.rows.as_slice(), r);
-    arm_end(
+    let turn = arm_end(
         image,
         &parts.plans,
         &parts.links,
@@ -55,7 +44,8 @@ pub(crate) fn end_arm<L: Ledger>(
         parts.layout,
         turns,
         comparisons,
-    )
+    );
+    told(turn, at, end)
 }
 
 /// It resumes with so many words.
@@ -64,27 +54,15 @@ pub(crate) fn resume_raiser<L: Ledger>(
     image: &Image,
     parts: &mut Prepared,
     words: u16,
-    r: Registers,
+    at: &mut Registers,
+    end: &mut End,
     turns: &mut u64,
     comparisons: &mut Steps<L>,
-) -> Turn
-    requires ready { IsReady image.now parts.old }
-    requires ample { IsAmple parts.old.layout parts.old.region.items parts.old.rows.items r.top }
-    requires arms { ArmsHold image.now parts.old.rows.items r.top }
-    requires stands { StandsIn image.now parts.old.layout parts.old.region.items parts.old.rows.items r }
-    requires at { StandsAt image.now parts.old.rows.items r (Resume words) }
-    ensures ready { IsReady image.now parts.new }
-    ensures ample { IsAmpleFor parts.new.layout parts.new.region.items parts.new.rows.items result }
-    ensures arms { HoldsOn image.now parts.new.rows.items result }
-    ensures globals { parts.new.globals.items ≡ parts.old.globals.items }
-    ensures marks { parts.new.started.items ≡ parts.old.started.items }
-    ensures turns_fall { turns.new ≤ turns.old }
-    ensures leads { (s : Stepped) (m : Store) → IsUnstuck image.now s → m.turns ≡ turns.old
-        → Shown image.now parts.old.layout parts.old.region.items parts.old.rows.items r s m
-        → LeadsTo image.now parts.new.layout parts.new.region.items parts.new.rows.items s (record m { turns = turns.new; begun = suc m.begun }) result }
+) -> Next
 {
+    let r = *at;
     let code = top_code(image, parts.rows.as_slice(), r);
-    resume(
+    let turn = resume(
         image,
         &parts.plans,
         &parts.links,
@@ -96,7 +74,8 @@ pub(crate) fn resume_raiser<L: Ledger>(
         parts.layout,
         turns,
         comparisons,
-    )
+    );
+    told(turn, at, end)
 }
 
 /// A jump leaves it, and the arms that hold it, to an offset of its procedure.
@@ -105,27 +84,15 @@ pub(crate) fn leave_arms<L: Ledger>(
     image: &Image,
     parts: &mut Prepared,
     target: u32,
-    r: Registers,
+    at: &mut Registers,
+    end: &mut End,
     turns: &mut u64,
     comparisons: &mut Steps<L>,
-) -> Turn
-    requires ready { IsReady image.now parts.old }
-    requires ample { IsAmple parts.old.layout parts.old.region.items parts.old.rows.items r.top }
-    requires arms { ArmsHold image.now parts.old.rows.items r.top }
-    requires stands { StandsIn image.now parts.old.layout parts.old.region.items parts.old.rows.items r }
-    requires at { (arms : ℕ) × StandsAt image.now parts.old.rows.items r (Leave arms target) }
-    ensures ready { IsReady image.now parts.new }
-    ensures ample { IsAmpleFor parts.new.layout parts.new.region.items parts.new.rows.items result }
-    ensures arms { HoldsOn image.now parts.new.rows.items result }
-    ensures globals { parts.new.globals.items ≡ parts.old.globals.items }
-    ensures marks { parts.new.started.items ≡ parts.old.started.items }
-    ensures turns_fall { turns.new ≤ turns.old }
-    ensures leads { (s : Stepped) (m : Store) → IsUnstuck image.now s → m.turns ≡ turns.old
-        → Shown image.now parts.old.layout parts.old.region.items parts.old.rows.items r s m
-        → LeadsTo image.now parts.new.layout parts.new.region.items parts.new.rows.items s (record m { turns = turns.new; begun = suc m.begun }) result }
+) -> Next
 {
+    let r = *at;
     let code = top_code(image, parts.rows.as_slice(), r);
-    leave(
+    let turn = leave(
         image,
         &parts.plans,
         code,
@@ -136,7 +103,8 @@ pub(crate) fn leave_arms<L: Ledger>(
         parts.layout,
         turns,
         comparisons,
-    )
+    );
+    told(turn, at, end)
 }
 
 /// The same to its frame, which returns.
@@ -144,27 +112,15 @@ pub(crate) fn leave_arms<L: Ledger>(
 pub(crate) fn return_out<L: Ledger>(
     image: &Image,
     parts: &mut Prepared,
-    r: Registers,
+    at: &mut Registers,
+    end: &mut End,
     turns: &mut u64,
     comparisons: &mut Steps<L>,
-) -> Turn
-    requires ready { IsReady image.now parts.old }
-    requires ample { IsAmple parts.old.layout parts.old.region.items parts.old.rows.items r.top }
-    requires arms { ArmsHold image.now parts.old.rows.items r.top }
-    requires stands { StandsIn image.now parts.old.layout parts.old.region.items parts.old.rows.items r }
-    requires at { (arms : ℕ) × StandsAt image.now parts.old.rows.items r (LeaveReturn arms) }
-    ensures ready { IsReady image.now parts.new }
-    ensures ample { IsAmpleFor parts.new.layout parts.new.region.items parts.new.rows.items result }
-    ensures arms { HoldsOn image.now parts.new.rows.items result }
-    ensures globals { parts.new.globals.items ≡ parts.old.globals.items }
-    ensures marks { parts.new.started.items ≡ parts.old.started.items }
-    ensures turns_fall { turns.new ≤ turns.old }
-    ensures leads { (s : Stepped) (m : Store) → IsUnstuck image.now s → m.turns ≡ turns.old
-        → Shown image.now parts.old.layout parts.old.region.items parts.old.rows.items r s m
-        → LeadsTo image.now parts.new.layout parts.new.region.items parts.new.rows.items s (record m { turns = turns.new; begun = suc m.begun }) result }
+) -> Next
 {
+    let r = *at;
     let code = top_code(image, parts.rows.as_slice(), r);
-    leave_return(
+    let turn = leave_return(
         image,
         &parts.plans,
         code,
@@ -174,5 +130,6 @@ pub(crate) fn return_out<L: Ledger>(
         parts.layout,
         turns,
         comparisons,
-    )
+    );
+    told(turn, at, end)
 }

@@ -10,7 +10,7 @@ ghost use Rattle.ready_images.specs.Ready.{IsReady};
 ghost use Rattle.region_calls.specs.Linking.{AddsFrameForLink, IsAmpleForLink, LinkedTo, StandsAt, WaitsToCall};
 ghost use Rattle.region_calls.specs.Started.{ShowsStarted};
 
-use crate::look_ups::{code_of, row_of};
+use code_forms::ModuleCode;
 use activation_region::{Turn, call, give_back};
 use object_files::Image;
 use quiet_run::Registers;
@@ -18,29 +18,15 @@ use ready_images::Prepared;
 use region_calls::{LinkTurn, call_again, call_link};
 
 /// The topmost activation calls a procedure of its own instance.
+#[inline(always)]
 pub(crate) fn call_top(
-    image: &Image,
+    code: &ModuleCode,
     parts: &mut Prepared,
     number: u32,
     r: Registers,
     turns: &mut u64,
 ) -> Turn
-    requires ready { IsReady image.now parts.old }
-    requires ample { IsAmple parts.old.layout parts.old.region.items parts.old.rows.items r.top }
-    requires stands { StandsIn image.now parts.old.layout parts.old.region.items parts.old.rows.items r }
-    requires at { StandsAt image.now parts.old.rows.items r (Call number) }
-    ensures ready { IsReady image.now parts.new }
-    ensures ample { IsAmpleFor parts.new.layout parts.new.region.items parts.new.rows.items result }
-    ensures adds { AddsFrame parts.new.layout parts.old.rows.items r parts.new.rows.items result }
-    ensures globals { parts.new.globals.items ≡ parts.old.globals.items }
-    ensures marks { parts.new.started.items ≡ parts.old.started.items }
-    ensures turns_fall { turns.new ≤ turns.old }
-    ensures leads { (s : Stepped) (m : Store) → m.turns ≡ turns.old
-        → Shown image.now parts.old.layout parts.old.region.items parts.old.rows.items r s m
-        → LeadsTo image.now parts.new.layout parts.new.region.items parts.new.rows.items s (record m { turns = turns.new; begun = suc m.begun }) result }
 {
-    let instance = row_of(parts.rows.as_slice(), r.top).instance;
-    let code = code_of(image, instance);
     let table = parts.rows.as_mut_slice();
     call(
         code,
@@ -54,27 +40,15 @@ pub(crate) fn call_top(
 }
 
 /// The topmost activation returns.
-pub(crate) fn return_top(image: &Image, parts: &mut Prepared, r: Registers) -> Turn
-    requires ready { IsReady image.now parts.old }
-    requires ample { IsAmple parts.old.layout parts.old.region.items parts.old.rows.items r.top }
-    requires stands { StandsIn image.now parts.old.layout parts.old.region.items parts.old.rows.items r }
-    requires at { StandsAt image.now parts.old.rows.items r Return }
-    ensures ready { IsReady image.now parts.new }
-    ensures ample { IsAmpleFor parts.new.layout parts.new.region.items parts.new.rows.items result }
-    ensures below { GoesBelow r result }
-    ensures rows { parts.new.rows.items ≡ parts.old.rows.items }
-    ensures globals { parts.new.globals.items ≡ parts.old.globals.items }
-    ensures marks { parts.new.started.items ≡ parts.old.started.items }
-    ensures leads { (s : Stepped) (m : Store) → IsUnstuck image.now s
-        → Shown image.now parts.old.layout parts.old.region.items parts.old.rows.items r s m
-        → LeadsTo image.now parts.new.layout parts.new.region.items parts.new.rows.items s (record m { begun = suc m.begun }) result }
+#[inline(always)]
+pub(crate) fn return_top(code: &ModuleCode, parts: &mut Prepared, r: Registers) -> Turn
 {
     let table = parts.rows.as_slice();
-    let code = code_of(image, row_of(table, r.top).instance);
     give_back(code, parts.region.as_mut_slice(), table, r, parts.layout)
 }
 
 /// The topmost activation calls what a link is bound to.
+#[inline(always)]
 pub(crate) fn call_linked(
     image: &Image,
     parts: &mut Prepared,

@@ -12,7 +12,9 @@ ghost use Rattle.image_runs.specs.Happening.{CanPause, HoldsOnLink, linked_or};
 ghost use Rattle.image_runs.specs.SoFar.{PausesAt};
 
 use crate::signals::raise_signal;
-use crate::touching::{settle, touch};
+use crate::next::back;
+use crate::touching::touch;
+use code_forms::{CodeProcedure, ModuleCode};
 use activation_region::Turn;
 use machine_steps::End;
 use mesa_base::Steps;
@@ -28,38 +30,35 @@ use std::sync::ledger::Ledger;
 #[inline(always)]
 pub(crate) fn happen<L: Ledger>(
     image: &Image,
+    code: &ModuleCode,
+    procedure: &CodeProcedure,
     parts: &mut Prepared,
     r: &mut Registers,
     why: Why,
     turns: &mut u64,
     comparisons: &mut Steps<L>,
 ) -> Option<LinkTurn>
-    requires ready { IsReady image.now parts.old }
-    requires ample { IsAmple parts.old.layout parts.old.region.items parts.old.rows.items r.old.top }
-    requires arms { ArmsHold image.now parts.old.rows.items r.old.top }
-    requires pauses { CanPause image.now parts.old r.old why }
-    ensures ready { IsReady image.now parts.new }
-    ensures ample { IsAmpleForLink parts.new.layout parts.new.region.items parts.new.rows.items r.old (linked_or result r.new) }
-    ensures arms { HoldsOnLink image.now parts.new.rows.items r.old (linked_or result r.new) }
-    ensures globals { parts.new.globals.items ≡ parts.old.globals.items }
-    ensures turns_fall { turns.new ≤ turns.old }
-    ensures leads { (s : Stepped) (m : Store) → m.turns ≡ turns.old → ShowsStarted parts.old.started.items m.started → IsUnstuck image.now s
-        → PausesAt image.now parts.old.layout parts.old.region.items parts.old.rows.items r.old why s m
-        → LinkedTo image.now parts.new.layout parts.new.region.items parts.new.rows.items r.old parts.new.started.items s
-        (record m { turns = turns.new; begun = suc m.begun }) (linked_or result r.new) }
 {
     match why {
-        Why::Touches => touch(image, parts, r, turns, comparisons),
+        Why::Touches => touch(image, code, procedure, parts, r, turns, comparisons),
         Why::Spent => Some(LinkTurn::Done(Turn::Ends(End::Spent))),
-        Why::BoundsFault => {
-            let fault = SignalId::BoundsFault;
-            let turn = raise_signal(image, parts, fault, *r, turns, comparisons);
-            settle(turn, r)
-        }
-        Why::ZeroDivisor => {
-            let fault = SignalId::ZeroDivisor;
-            let turn = raise_signal(image, parts, fault, *r, turns, comparisons);
-            settle(turn, r)
-        }
+        Why::BoundsFault => raise_fault(image, parts, SignalId::BoundsFault, r, turns, comparisons),
+        Why::ZeroDivisor => raise_fault(image, parts, SignalId::ZeroDivisor, r, turns, comparisons),
     }
+}
+
+#[inline(always)]
+fn raise_fault<L: Ledger>(
+    image: &Image,
+    parts: &mut Prepared,
+    fault: SignalId,
+    r: &mut Registers,
+    turns: &mut u64,
+    comparisons: &mut Steps<L>,
+) -> Option<LinkTurn>
+{
+    let mut after = *r;
+    let mut end = End::Done;
+    let next = raise_signal(image, parts, fault, &mut after, &mut end, turns, comparisons);
+    back(next, after, end, r)
 }

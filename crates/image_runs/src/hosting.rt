@@ -17,7 +17,9 @@ ghost use Rattle.image_runs.specs.SoFar.{AtHost, Carries, SoFar, Then};
 
 use crate::outcome::RunFault;
 use crate::signals::raise_signal;
+use crate::next::Next;
 use activation_region::Turn;
+use machine_steps::End;
 use mesa_base::{Sink, Source, Steps};
 use object_files::Image;
 use quiet_run::Registers;
@@ -60,23 +62,19 @@ fn read_then<C: Ledger>(
     turns: &mut u64,
     comparisons: &mut Steps<C>,
 ) -> Turn
-    requires ready { IsReady image.now parts.old }
-    requires ample { IsAmple parts.old.layout parts.old.region.items parts.old.rows.items r.top }
-    requires arms { ArmsHold image.now parts.old.rows.items r.top }
-    requires behind { (reading : Reading) × GoesBehind r reading turn }
-    requires reads { HasRead image.now parts.old r turn }
-    ensures carries { Carries image.now parts.new result }
-    ensures globals { parts.new.globals.items ≡ parts.old.globals.items }
-    ensures marks { parts.new.started.items ≡ parts.old.started.items }
-    ensures waits_not { waits result ≡ 0 }
-    ensures leads { (s : Stepped) (m : Store) → m.turns ≡ turns.old
-        → ReadLeads image.now parts.old.layout parts.old.region.items parts.old.rows.items r s m turn
-        → LeadsTo image.now parts.new.layout parts.new.region.items parts.new.rows.items s (record m { turns = turns.new }) result }
 {
     match turn {
         ReadTurn::Goes(after) => Turn::Goes(after),
         ReadTurn::NoInput => {
-            raise_signal(image, parts, SignalId::NoInput, r, turns, comparisons)
+            let mut after = r;
+            let mut end = End::Done;
+            let next = raise_signal(image, parts, SignalId::NoInput, &mut after, &mut end, turns, comparisons);
+            match next {
+                Next::Goes => Turn::Goes(after),
+                Next::Pending => Turn::Pending(after),
+                Next::Empty => Turn::Empty,
+                Next::Ends => Turn::Ends(end),
+            }
         }
     }
 }

@@ -8,6 +8,7 @@ mod happening;
 mod hosting;
 mod look_ups;
 mod machine;
+mod next;
 mod onward;
 mod outcome;
 mod running;

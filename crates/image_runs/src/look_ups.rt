@@ -24,6 +24,7 @@ pub(crate) fn row_of(table: &[Row], place: usize) -> Row
 }
 
 /// The number of an instance's module.
+#[inline(always)]
 #[tactic(auto, unfolding(machine_steps::specs::LookUps::module_number))]
 pub(crate) fn module_of(image: &Image, instance: u32) -> u32
     requires { IsSome (module_number image.now instance) }
@@ -33,6 +34,7 @@ pub(crate) fn module_of(image: &Image, instance: u32) -> u32
 }
 
 /// The code of an instance.
+#[inline(always)]
 pub(crate) fn code_of(image: &Image, instance: u32) -> &ModuleCode
     requires { IsSome (code_of image.now instance) }
     ensures { code_of image.now instance ≡ Some result.now }
@@ -42,6 +44,7 @@ pub(crate) fn code_of(image: &Image, instance: u32) -> &ModuleCode
 }
 
 /// A procedure of a module.
+#[inline(always)]
 pub(crate) fn procedure_in(code: &ModuleCode, number: u32) -> &CodeProcedure
     requires { IsSome (slice_get code.now.procedures number) }
     ensures { slice_get code.now.procedures number ≡ Some result.now }
@@ -50,6 +53,7 @@ pub(crate) fn procedure_in(code: &ModuleCode, number: u32) -> &CodeProcedure
 }
 
 /// The plan of a procedure of an instance.
+#[inline(always)]
 pub(crate) fn plan_of<'a>(
     image: &Image,
     plans: &'a List<Plans>,

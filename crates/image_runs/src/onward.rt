@@ -8,6 +8,7 @@ ghost use Rattle.image_runs.specs.SoFar.{At, Carries};
 
 use crate::calls::call_pending;
 use crate::happening::happen;
+use crate::look_ups::{code_of, procedure_in, row_of};
 use crate::hosting::call_host;
 use crate::outcome::RunFault;
 use crate::topmost::run_top;
@@ -50,22 +51,15 @@ fn go_on<S: Source, K: Sink, L: Ledger, C: Ledger>(
     steps: &mut Steps<L>,
     comparisons: &mut Steps<C>,
 ) -> Result<Option<Turn>, RunFault>
-    requires carries { Carries image.now parts.old (Goes r.old) }
-    requires run { CanGoOn image.now parts.old turns.old ahead.old (S.left input.old) (K.written out.old) (At image.now parts.old (Goes r.old)) }
-    ensures ready { IsReady image.now parts.new }
-    ensures carries { IfOk (onward_or result r.new) (Carries image.now parts.new) }
-    ensures follows { Follows image.now parts.old parts.new turns.old turns.new (steps.new - steps.old) ahead.old ahead.new
-        (S.left input.old) (S.left input.new) (K.written out.old) (K.written out.new) (At image.now parts.old (Goes r.old)) (onward_or result r.new) }
-    ensures counted { steps.old < steps.new }
-    ensures few { BeginsFew image.now parts.old turns.old (steps.new - steps.old) ahead.old (S.left input.old) (K.written out.old)
-        (At image.now parts.old (Goes r.old)) }
-    ensures faults { CountsFaults result (S.faults input.old) (S.faults input.new) (K.faults out.old) (K.faults out.new) }
 {
-    let pause = run_top(image, parts, *r, *turns, steps);
-    let at = pause.registers;
-    *turns = pause.turns;
-    *r = at;
-    match happen(image, parts, r, pause.why, turns, comparisons) {
+    let row = row_of(parts.rows.as_slice(), r.top);
+    let code = code_of(image, row.instance);
+    let procedure = procedure_in(code, row.procedure);
+    let mut left = *turns;
+    let why = run_top(image, code, procedure, row, parts, r, &mut left, steps);
+    *turns = left;
+    let at = *r;
+    match happen(image, code, procedure, parts, r, why, turns, comparisons) {
         None => Ok(None),
         Some(linked) => match linked {
             LinkTurn::Done(turn) => Ok(Some(turn)),

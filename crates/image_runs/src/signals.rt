@@ -11,7 +11,8 @@ ghost use Rattle.region_calls.specs.Linking.{StandsAt};
 ghost use Rattle.region_signals.specs.Raising.{ArmsHold, CanRaise, HoldsOn, Raises, RunsArm};
 
 use crate::standing::top_code;
-use activation_region::Turn;
+use crate::next::{Next, told};
+use machine_steps::End;
 use mesa_base::Steps;
 use object_files::Image;
 use quiet_run::Registers;
@@ -26,25 +27,14 @@ pub(crate) fn raise_signal<L: Ledger>(
     image: &Image,
     parts: &mut Prepared,
     signal: SignalId,
-    r: Registers,
+    at: &mut Registers,
+    end: &mut End,
     turns: &mut u64,
     comparisons: &mut Steps<L>,
-) -> Turn
-    requires ready { IsReady image.now parts.old }
-    requires ample { IsAmple parts.old.layout parts.old.region.items parts.old.rows.items r.top }
-    requires raises { CanRaise image.now parts.old.layout parts.old.region.items parts.old.rows.items r signal 0 }
-    ensures ready { IsReady image.now parts.new }
-    ensures ample { IsAmpleFor parts.new.layout parts.new.region.items parts.new.rows.items result }
-    ensures arms { ArmsHold image.now parts.old.rows.items r.top → HoldsOn image.now parts.new.rows.items result }
-    ensures runs { RunsArm result }
-    ensures globals { parts.new.globals.items ≡ parts.old.globals.items }
-    ensures marks { parts.new.started.items ≡ parts.old.started.items }
-    ensures turns_fall { turns.new ≤ turns.old }
-    ensures leads { (s : Stepped) (m : Store) → m.turns ≡ turns.old
-        → Raises image.now parts.old.layout parts.old.region.items parts.old.rows.items r signal 0 s m
-        → LeadsTo image.now parts.new.layout parts.new.region.items parts.new.rows.items s (record m { turns = turns.new }) result }
+) -> Next
 {
-    raise(
+    let r = *at;
+    let turn = raise(
         image,
         &parts.plans,
         &parts.links,
@@ -56,7 +46,8 @@ pub(crate) fn raise_signal<L: Ledger>(
         parts.layout,
         turns,
         comparisons,
-    )
+    );
+    told(turn, at, end)
 }
 
 /// The topmost activation raises a signal of its own module.
@@ -65,26 +56,15 @@ pub(crate) fn raise_of_module<L: Ledger>(
     image: &Image,
     parts: &mut Prepared,
     number: u32,
-    r: Registers,
+    at: &mut Registers,
+    end: &mut End,
     turns: &mut u64,
     comparisons: &mut Steps<L>,
-) -> Turn
-    requires ready { IsReady image.now parts.old }
-    requires ample { IsAmple parts.old.layout parts.old.region.items parts.old.rows.items r.top }
-    requires stands { StandsIn image.now parts.old.layout parts.old.region.items parts.old.rows.items r }
-    requires at { StandsAt image.now parts.old.rows.items r (Raise number) }
-    ensures ready { IsReady image.now parts.new }
-    ensures ample { IsAmpleFor parts.new.layout parts.new.region.items parts.new.rows.items result }
-    ensures arms { ArmsHold image.now parts.old.rows.items r.top → HoldsOn image.now parts.new.rows.items result }
-    ensures globals { parts.new.globals.items ≡ parts.old.globals.items }
-    ensures marks { parts.new.started.items ≡ parts.old.started.items }
-    ensures turns_fall { turns.new ≤ turns.old }
-    ensures leads { (s : Stepped) (m : Store) → m.turns ≡ turns.old
-        → Shown image.now parts.old.layout parts.old.region.items parts.old.rows.items r s m
-        → LeadsTo image.now parts.new.layout parts.new.region.items parts.new.rows.items s (record m { turns = turns.new; begun = suc m.begun }) result }
+) -> Next
 {
+    let r = *at;
     let code = top_code(image, parts.rows.as_slice(), r);
-    raise_own(
+    let turn = raise_own(
         image,
         &parts.plans,
         &parts.links,
@@ -96,7 +76,8 @@ pub(crate) fn raise_of_module<L: Ledger>(
         parts.layout,
         turns,
         comparisons,
-    )
+    );
+    told(turn, at, end)
 }
 
 /// It raises a signal of another module, by the number of a link.
@@ -105,26 +86,15 @@ pub(crate) fn raise_through_link<L: Ledger>(
     image: &Image,
     parts: &mut Prepared,
     link: u32,
-    r: Registers,
+    at: &mut Registers,
+    end: &mut End,
     turns: &mut u64,
     comparisons: &mut Steps<L>,
-) -> Turn
-    requires ready { IsReady image.now parts.old }
-    requires ample { IsAmple parts.old.layout parts.old.region.items parts.old.rows.items r.top }
-    requires stands { StandsIn image.now parts.old.layout parts.old.region.items parts.old.rows.items r }
-    requires at { StandsAt image.now parts.old.rows.items r (RaiseLink link) }
-    ensures ready { IsReady image.now parts.new }
-    ensures ample { IsAmpleFor parts.new.layout parts.new.region.items parts.new.rows.items result }
-    ensures arms { ArmsHold image.now parts.old.rows.items r.top → HoldsOn image.now parts.new.rows.items result }
-    ensures globals { parts.new.globals.items ≡ parts.old.globals.items }
-    ensures marks { parts.new.started.items ≡ parts.old.started.items }
-    ensures turns_fall { turns.new ≤ turns.old }
-    ensures leads { (s : Stepped) (m : Store) → m.turns ≡ turns.old
-        → Shown image.now parts.old.layout parts.old.region.items parts.old.rows.items r s m
-        → LeadsTo image.now parts.new.layout parts.new.region.items parts.new.rows.items s (record m { turns = turns.new; begun = suc m.begun }) result }
+) -> Next
 {
+    let r = *at;
     let code = top_code(image, parts.rows.as_slice(), r);
-    raise_linked(
+    let turn = raise_linked(
         image,
         &parts.plans,
         &parts.links,
@@ -136,7 +106,8 @@ pub(crate) fn raise_through_link<L: Ledger>(
         parts.layout,
         turns,
         comparisons,
-    )
+    );
+    told(turn, at, end)
 }
 
 /// It raises a predeclared signal.
@@ -145,26 +116,15 @@ pub(crate) fn raise_predeclared<L: Ledger>(
     image: &Image,
     parts: &mut Prepared,
     fault: u8,
-    r: Registers,
+    at: &mut Registers,
+    end: &mut End,
     turns: &mut u64,
     comparisons: &mut Steps<L>,
-) -> Turn
-    requires ready { IsReady image.now parts.old }
-    requires ample { IsAmple parts.old.layout parts.old.region.items parts.old.rows.items r.top }
-    requires stands { StandsIn image.now parts.old.layout parts.old.region.items parts.old.rows.items r }
-    requires at { StandsAt image.now parts.old.rows.items r (RaiseHost fault) }
-    ensures ready { IsReady image.now parts.new }
-    ensures ample { IsAmpleFor parts.new.layout parts.new.region.items parts.new.rows.items result }
-    ensures arms { ArmsHold image.now parts.old.rows.items r.top → HoldsOn image.now parts.new.rows.items result }
-    ensures globals { parts.new.globals.items ≡ parts.old.globals.items }
-    ensures marks { parts.new.started.items ≡ parts.old.started.items }
-    ensures turns_fall { turns.new ≤ turns.old }
-    ensures leads { (s : Stepped) (m : Store) → m.turns ≡ turns.old
-        → Shown image.now parts.old.layout parts.old.region.items parts.old.rows.items r s m
-        → LeadsTo image.now parts.new.layout parts.new.region.items parts.new.rows.items s (record m { turns = turns.new; begun = suc m.begun }) result }
+) -> Next
 {
+    let r = *at;
     let code = top_code(image, parts.rows.as_slice(), r);
-    raise_host(
+    let turn = raise_host(
         image,
         &parts.plans,
         &parts.links,
@@ -176,5 +136,6 @@ pub(crate) fn raise_predeclared<L: Ledger>(
         parts.layout,
         turns,
         comparisons,
-    )
+    );
+    told(turn, at, end)
 }

@@ -17,6 +17,7 @@ use quiet_run::Registers;
 use ready_images::Prepared;
 
 /// The code of the topmost activation's instance.
+#[inline(always)]
 pub(crate) fn top_code<'a>(image: &'a Image, table: &[Row], r: Registers) -> &'a ModuleCode
     requires there { r.top < length table.now }
     requires code { IsSome (code_of image.now (row_at table.now r.top).instance) }
@@ -26,22 +27,9 @@ pub(crate) fn top_code<'a>(image: &'a Image, table: &[Row], r: Registers) -> &'a
 }
 
 // The instruction of an entry.
-fn instruction_of(procedure: &CodeProcedure, entry: usize) -> Instruction
-    requires { IsSome (slice_get procedure.now.code entry) }
-    ensures { (e : CodeEntry) → slice_get procedure.now.code entry ≡ Some e → e.instruction ≡ result }
+#[inline(always)]
+pub(crate) fn instruction_of(procedure: &CodeProcedure, entry: usize) -> Instruction
 {
     procedure.code.as_slice()[entry].instruction
 }
 
-/// The instruction at which the topmost activation stands.
-pub(crate) fn top_instruction(image: &Image, parts: &Prepared, r: Registers) -> Instruction
-    requires ready { IsReady image.now parts.now }
-    requires ample { IsAmple parts.now.layout parts.now.region.items parts.now.rows.items r.top }
-    requires stands { StandsIn image.now parts.now.layout parts.now.region.items parts.now.rows.items r }
-    ensures { StandsAt image.now parts.now.rows.items r result }
-{
-    let row = row_of(parts.rows.as_slice(), r.top);
-    let code = code_of(image, row.instance);
-    let procedure = procedure_in(code, row.procedure);
-    instruction_of(procedure, r.entry)
-}

@@ -13,47 +13,33 @@ ghost use Rattle.ready_images.specs.Order.{ImageInOrder};
 ghost use Rattle.ready_images.specs.Ready.{IsPlanned, IsReady};
 ghost use Rattle.image_runs.specs.SoFar.{Paused, ShowsGlobals, TopRuns};
 
-use crate::look_ups::{code_of, module_of, plan_of, procedure_in, row_of};
-use activation_region::{Layout, Row};
+use crate::look_ups::{module_of, plan_of};
+use activation_region::Row;
+use code_forms::{CodeProcedure, ModuleCode};
 use mesa_base::{List, Steps};
 use object_files::Image;
-use quiet_run::{Pause, Registers, quiet};
+use quiet_run::{Registers, Why, quiet};
 use ready_images::{Plans, Prepared};
 use std::sync::ledger::Ledger;
 
 // Runs the topmost activation over the globals of its instance.
+#[inline(always)]
 fn run_procedure<L: Ledger>(
     image: &Image,
     plans: &List<Plans>,
-    layout: Layout,
-    table: &[Row],
+    code: &ModuleCode,
+    procedure: &CodeProcedure,
+    row: Row,
+    floor: usize,
     region: &mut [u16],
     globals: &mut [u16],
-    r: Registers,
-    turns: u64,
+    r: &mut Registers,
+    turns: &mut u64,
     steps: &mut Steps<L>,
-) -> Pause
-    requires order { ImageInOrder image.now }
-    requires prepared { IsPrepared image.now layout }
-    requires planned { AllZip IsPlanned image.now.modules plans.now }
-    requires ample { IsAmple layout region.old table.now r.top }
-    requires stands { StandsIn image.now layout region.old table.now r }
-    requires all_globals { length globals.old ≡ globals_in (code_of image.now (row_at table.now r.top).instance) }
-    ensures ample { IsAmple layout region.new table.now r.top }
-    ensures globals { length globals.new ≡ length globals.old }
-    ensures top { result.registers.top ≡ r.top }
-    ensures turns_fall { result.turns ≤ turns }
-    ensures counted { steps.old < steps.new }
-    ensures leads { (s : Stepped) (m : Store) → m.turns ≡ turns → m.globals (row_at table.now r.top).instance ≡ globals.old
-        → Shown image.now layout region.old table.now r s m
-        → TopRuns image.now layout region.new table.now (row_at table.now r.top).instance globals.new result (steps.new - steps.old) s m }
+) -> Why
 {
-    let row = row_of(table, r.top);
     let module = module_of(image, row.instance);
-    let code = code_of(image, row.instance);
-    let procedure = procedure_in(code, row.procedure);
     let plan = plan_of(image, plans, row.instance, row.procedure);
-    let floor = r.top * layout.part + layout.frame;
     quiet(
         code,
         procedure,
@@ -70,34 +56,27 @@ fn run_procedure<L: Ledger>(
 }
 
 /// Runs the topmost activation until an instruction that touches more than it or that cannot go on.
+#[inline(always)]
 pub(crate) fn run_top<L: Ledger>(
     image: &Image,
+    code: &ModuleCode,
+    procedure: &CodeProcedure,
+    row: Row,
     parts: &mut Prepared,
-    r: Registers,
-    turns: u64,
+    r: &mut Registers,
+    turns: &mut u64,
     steps: &mut Steps<L>,
-) -> Pause
-    requires ready { IsReady image.now parts.old }
-    requires ample { IsAmple parts.old.layout parts.old.region.items parts.old.rows.items r.top }
-    requires stands { StandsIn image.now parts.old.layout parts.old.region.items parts.old.rows.items r }
-    ensures ready { IsReady image.now parts.new }
-    ensures ample { IsAmple parts.new.layout parts.new.region.items parts.new.rows.items r.top }
-    ensures rows { parts.new.rows.items ≡ parts.old.rows.items }
-    ensures marks { parts.new.started.items ≡ parts.old.started.items }
-    ensures top { result.registers.top ≡ r.top }
-    ensures turns_fall { result.turns ≤ turns }
-    ensures counted { steps.old < steps.new }
-    ensures leads { (s : Stepped) (m : Store) → m.turns ≡ turns → ShowsGlobals parts.old m.globals
-        → Shown image.now parts.old.layout parts.old.region.items parts.old.rows.items r s m
-        → Paused image.now parts.new result (steps.new - steps.old) s m }
+) -> Why
 {
-    let table = parts.rows.as_slice();
-    let instance = row_of(table, r.top).instance as usize;
+    let instance = row.instance as usize;
+    let floor = 0;
     run_procedure(
         image,
         &parts.plans,
-        parts.layout,
-        table,
+        code,
+        procedure,
+        row,
+        floor,
         parts.region.as_mut_slice(),
         parts.globals[instance].as_mut_slice(),
         r,

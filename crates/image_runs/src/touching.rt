@@ -17,9 +17,11 @@ ghost use Rattle.image_runs.specs.SoFar.{PausesAt};
 use crate::arms::{end_arm, leave_arms, resume_raiser, return_out};
 use crate::calls::{call_linked, call_top, return_top};
 use crate::signals::{raise_of_module, raise_predeclared, raise_through_link};
-use crate::standing::top_instruction;
+use crate::next::{Next, back};
+use crate::standing::instruction_of;
 use activation_region::Turn;
-use code_forms::Instruction;
+use code_forms::{CodeProcedure, Instruction, ModuleCode};
+use machine_steps::End;
 use mesa_base::Steps;
 use object_files::Image;
 use quiet_run::Registers;
@@ -33,54 +35,42 @@ fn signal<L: Ledger>(
     image: &Image,
     parts: &mut Prepared,
     instruction: Instruction,
-    r: Registers,
+    at: &mut Registers,
+    end: &mut End,
     turns: &mut u64,
     comparisons: &mut Steps<L>,
-) -> Turn
-    requires ready { IsReady image.now parts.old }
-    requires ample { IsAmple parts.old.layout parts.old.region.items parts.old.rows.items r.top }
-    requires arms { ArmsHold image.now parts.old.rows.items r.top }
-    requires stands { StandsIn image.now parts.old.layout parts.old.region.items parts.old.rows.items r }
-    requires at { StandsAt image.now parts.old.rows.items r instruction }
-    requires no_call { is_call instruction ≡ false }
-    ensures ready { IsReady image.now parts.new }
-    ensures ample { IsAmpleFor parts.new.layout parts.new.region.items parts.new.rows.items result }
-    ensures arms { HoldsOn image.now parts.new.rows.items result }
-    ensures globals { parts.new.globals.items ≡ parts.old.globals.items }
-    ensures marks { parts.new.started.items ≡ parts.old.started.items }
-    ensures turns_fall { turns.new ≤ turns.old }
-    ensures leads { (s : Stepped) (m : Store) → m.turns ≡ turns.old → IsUnstuck image.now s
-        → PausesAt image.now parts.old.layout parts.old.region.items parts.old.rows.items r Touches s m
-        → LeadsTo image.now parts.new.layout parts.new.region.items parts.new.rows.items s (record m { turns = turns.new; begun = suc m.begun }) result }
+) -> Next
 {
     match instruction {
         Instruction::Raise { signal } => raise_of_module(
             image,
             parts,
             signal,
-            r,
+            at,
+            end,
             turns,
             comparisons,
         ),
         Instruction::RaiseLink { link } => {
-            raise_through_link(image, parts, link, r, turns, comparisons)
+            raise_through_link(image, parts, link, at, end, turns, comparisons)
         }
         Instruction::RaiseHost { fault } => {
-            raise_predeclared(image, parts, fault, r, turns, comparisons)
+            raise_predeclared(image, parts, fault, at, end, turns, comparisons)
         }
-        Instruction::ArmEnd => end_arm(image, parts, r, turns, comparisons),
-        Instruction::Resume { words } => resume_raiser(image, parts, words, r, turns, comparisons),
+        Instruction::ArmEnd => end_arm(image, parts, at, end, turns, comparisons),
+        Instruction::Resume { words } => resume_raiser(image, parts, words, at, end, turns, comparisons),
         Instruction::Leave { target, .. } => leave_arms(
             image,
             parts,
             target,
-            r,
+            at,
+            end,
             turns,
             comparisons,
         ),
-        Instruction::LeaveReturn { .. } => return_out(image, parts, r, turns, comparisons),
+        Instruction::LeaveReturn { .. } => return_out(image, parts, at, end, turns, comparisons),
         // The run of the topmost activation has done each other one.
-        _ => Turn::Empty,
+        _ => Next::Empty,
     }
 }
 
@@ -114,30 +104,19 @@ fn settle_link(turn: LinkTurn, r: &mut Registers) -> Option<LinkTurn>
 #[inline(always)]
 pub(crate) fn touch<L: Ledger>(
     image: &Image,
+    code: &ModuleCode,
+    procedure: &CodeProcedure,
     parts: &mut Prepared,
     r: &mut Registers,
     turns: &mut u64,
     comparisons: &mut Steps<L>,
 ) -> Option<LinkTurn>
-    requires ready { IsReady image.now parts.old }
-    requires ample { IsAmple parts.old.layout parts.old.region.items parts.old.rows.items r.old.top }
-    requires arms { ArmsHold image.now parts.old.rows.items r.old.top }
-    requires pauses { CanPause image.now parts.old r.old Touches }
-    ensures ready { IsReady image.now parts.new }
-    ensures ample { IsAmpleForLink parts.new.layout parts.new.region.items parts.new.rows.items r.old (linked_or result r.new) }
-    ensures arms { HoldsOnLink image.now parts.new.rows.items r.old (linked_or result r.new) }
-    ensures globals { parts.new.globals.items ≡ parts.old.globals.items }
-    ensures turns_fall { turns.new ≤ turns.old }
-    ensures leads { (s : Stepped) (m : Store) → m.turns ≡ turns.old → ShowsStarted parts.old.started.items m.started → IsUnstuck image.now s
-        → PausesAt image.now parts.old.layout parts.old.region.items parts.old.rows.items r.old Touches s m
-        → LinkedTo image.now parts.new.layout parts.new.region.items parts.new.rows.items r.old parts.new.started.items s
-        (record m { turns = turns.new; begun = suc m.begun }) (linked_or result r.new) }
 {
     let at = *r;
-    let instruction = top_instruction(image, parts, at);
+    let instruction = instruction_of(procedure, at.entry);
     match instruction {
         Instruction::Call { procedure } => {
-            let called = call_top(image, parts, procedure, at, turns);
+            let called = call_top(code, parts, procedure, at, turns);
             settle(called, r)
         }
         Instruction::CallLink { link } => {
@@ -145,12 +124,14 @@ pub(crate) fn touch<L: Ledger>(
             settle_link(linked, r)
         }
         Instruction::Return => {
-            let returned = return_top(image, parts, at);
+            let returned = return_top(code, parts, at);
             settle(returned, r)
         }
         _ => {
-            let turn = signal(image, parts, instruction, at, turns, comparisons);
-            settle(turn, r)
+            let mut after = at;
+            let mut end = End::Done;
+            let next = signal(image, parts, instruction, &mut after, &mut end, turns, comparisons);
+            back(next, after, end, r)
         }
     }
 }
