@@ -10,6 +10,7 @@ ghost use Rattle.activation_region.specs.Shows.{IsAmple, IsPrepared, IsReserved}
 
 use crate::frames::{give, row_of};
 use crate::framing::add_frame;
+use crate::next::Next;
 use crate::row::{Layout, Row};
 use code_forms::ModuleCode;
 use machine_steps::End;
@@ -36,24 +37,13 @@ pub fn call(
     number: u32,
     region: &mut Vec<u16>,
     table: &mut [Row],
-    r: Registers,
+    r: &mut Registers,
     layout: Layout,
     turns: &mut u64,
-) -> Turn
-    requires stands { Stands layout code.now region.old.items table.old r }
-    requires ample { IsAmple layout region.old.items table.old r.top }
-    requires reserved { IsReserved layout (vec_capacity region.old) }
-    requires at { IsAt code.now table.old r (Call number) }
-    ensures ample { IsAmpleFor layout region.new.items table.new result }
-    ensures reserved { vec_capacity region.old ≤ vec_capacity region.new }
-    ensures adds { AddsFrame layout table.old r table.new result }
-    ensures turns_fall { turns.new ≤ turns.old }
-    ensures leads { (image : Image) → IsPrepared image layout → IsCodeOf image code.now table.old r
-        → (s : Stepped) (m : Store) → m.turns ≡ turns.old → Shown image layout region.old.items table.old r s m
-        → LeadsTo image layout region.new.items table.new s (record m { turns = turns.new; begun = suc m.begun }) result }
+) -> Next
 {
     if *turns == 0 {
-        return Turn::Ends(End::Spent);
+        return Next::Spent;
     }
     *turns -= 1;
     let called = &code.procedures.as_slice()[number as usize];
@@ -68,20 +58,12 @@ pub fn give_back(
     code: &ModuleCode,
     region: &mut [u16],
     table: &[Row],
-    r: Registers,
+    r: &mut Registers,
     layout: Layout,
-) -> Turn
-    requires stands { Stands layout code.now region.old table.now r }
-    requires ample { IsAmple layout region.old table.now r.top }
-    requires at { IsAt code.now table.now r Return }
-    ensures ample { IsAmpleFor layout region.new table.now result }
-    ensures below { GoesBelow r result }
-    ensures leads { (image : Image) → IsPrepared image layout → IsCodeOf image code.now table.now r
-        → (s : Stepped) (m : Store) → IsUnstuck image s → Shown image layout region.old table.now r s m
-        → LeadsTo image layout region.new table.now s (record m { begun = suc m.begun }) result }
+) -> Next
 {
     if r.top == 0 {
-        return Turn::Empty;
+        return Next::Empty;
     }
     let row = row_of(table, r.top);
     let procedure = &code.procedures.as_slice()[row.procedure as usize];
@@ -89,8 +71,10 @@ pub fn give_back(
     let below = row_of(table, place);
     let from = r.slots + usize::from(procedure.args);
     if row.procedure == 0 {
-        return Turn::Pending(give(region, below, place, layout, from, 0, below.entry));
+        *r = give(region, below, place, layout, from, 0, below.entry);
+        return Next::Pending;
     }
     let results = usize::from(procedure.results);
-    Turn::Goes(give(region, below, place, layout, from, results, below.entry + 1))
+    *r = give(region, below, place, layout, from, results, below.entry + 1);
+    Next::Goes
 }

@@ -31,10 +31,23 @@ fn owner_of(kind: Kind, place: usize) -> usize
 /// Sets words of the region to 0.
 #[inline(always)]
 pub(crate) fn clear(region: &mut [u16], at: usize, count: usize)
-    requires room { at + count ≤ length region.old }
-    ensures { region.new ≡ with_part region.old at (replicate count 0) }
 {
-    region[at..at + count].fill(0);
+    if count > 4 {
+        region[at..at + count].fill(0);
+        return;
+    }
+    if count > 0 {
+        region[at] = 0;
+        if count > 1 {
+            region[at + 1] = 0;
+            if count > 2 {
+                region[at + 2] = 0;
+                if count > 3 {
+                    region[at + 3] = 0;
+                }
+            }
+        }
+    }
 }
 
 /// Adds the row of a frame on top; the activation below waits, without the operands that are the frame's arguments.
@@ -68,7 +81,24 @@ fn add_row(
     };
 }
 
-/// Makes a frame on top, with the last operands of the activation below as its arguments, and its other variables 0.
+/// Moves words down or up.
+#[inline(always)]
+fn carry(region: &mut [u16], from: usize, to: usize, count: usize)
+{
+    if count > 2 {
+        region.copy_within(from..from + count, to);
+        return;
+    }
+    if count > 0 {
+        let first = region[from];
+        if count > 1 {
+            region[to + 1] = region[from + 1];
+        }
+        region[to] = first;
+    }
+}
+
+// Makes a frame on top, with the last operands of the activation below as its arguments, and its other variables 0.
 #[inline(always)]
 pub(crate) fn enter(
     region: &mut [u16],
@@ -94,7 +124,7 @@ pub(crate) fn enter(
     add_row(table, r, layout, args, instance, procedure);
     let top = r.top + 1;
     let slots = top * layout.part;
-    region.copy_within(r.sp - args..r.sp, slots);
+    carry(region, r.sp - args, slots, args);
     clear(region, slots + args, frame - args);
     Registers {
         top,
@@ -122,7 +152,7 @@ pub(crate) fn give(
     ensures registers { result ≡ back_registers row place layout count entry }
 {
     let end = place * layout.part + layout.frame + row.count;
-    region.copy_within(from..from + count, end);
+    carry(region, from, end, count);
     Registers {
         top: place,
         slots: owner_of(row.kind, place) * layout.part,

@@ -8,12 +8,11 @@ ghost use Rattle.activation_region.specs.Calling.{AddsFrame, Enters, EntersSome,
 ghost use Rattle.activation_region.specs.Reaching.{Reaches};
 ghost use Rattle.activation_region.specs.Shows.{IsAmple, IsPrepared, IsReserved};
 
-use crate::calling::Turn;
+use crate::next::Next;
 use crate::frames::enter;
 use crate::growing::make_room;
 use crate::row::{Layout, Row};
 use code_forms::CodeProcedure;
-use machine_steps::End;
 use mesa_base::limits::ACTIVATIONS;
 use quiet_run::Registers;
 
@@ -26,25 +25,17 @@ pub fn add_frame(
     number: u32,
     region: &mut Vec<u16>,
     table: &mut [Row],
-    r: Registers,
+    r: &mut Registers,
     layout: Layout,
-) -> Turn
-    requires enters { EntersSome layout region.old.items table.old r called.now instance number }
-    requires ample { IsAmple layout region.old.items table.old r.top }
-    requires reserved { IsReserved layout (vec_capacity region.old) }
-    ensures ample { IsAmpleFor layout region.new.items table.new result }
-    ensures reserved { vec_capacity region.old ≤ vec_capacity region.new }
-    ensures adds { AddsFrame layout table.old r table.new result }
-    ensures leads { (image : Image) → IsPrepared image layout → (e : Enters image layout region.old.items table.old r called.now instance number)
-        → (s : Stepped) (m : Store) → Reaches image s (called_with instance number called.now e.top e.rest m)
-        → LeadsTo image layout region.new.items table.new s m result }
+) -> Next
 {
     if r.top + 1 >= ACTIVATIONS {
-        return Turn::Ends(End::FrameLimit);
+        return Next::FrameLimit;
     }
     make_room(region, layout, r.top + 1);
     let args = usize::from(called.args);
     let frame = usize::from(called.frame);
     let words = region.as_mut_slice();
-    Turn::Goes(enter(words, table, r, layout, args, frame, instance, number))
+    *r = enter(words, table, *r, layout, args, frame, instance, number);
+    Next::Goes
 }

@@ -7,11 +7,13 @@ mod frames;
 mod framing;
 mod growing;
 mod laws;
+mod next;
 mod row;
 
 pub use beginning::begin;
 pub use calling::{Turn, call, give_back};
 pub use framing::add_frame;
 pub use growing::make_room;
+pub use next::Next;
 pub use laws::runs_as_defined;
 pub use row::{Kind, Layout, Reason, Row, Target};

@@ -11,12 +11,13 @@ ghost use Rattle.region_calls.specs.Linking.{StandsAt};
 ghost use Rattle.region_signals.specs.Raising.{ArmsHold, HoldsOn};
 
 use crate::standing::top_code;
-use crate::next::{Next, told};
-use machine_steps::End;
+use crate::next::told;
+use activation_region::Next;
 use mesa_base::Steps;
 use object_files::Image;
 use quiet_run::Registers;
 use ready_images::Prepared;
+use signaller::SignalId;
 use region_signals::{arm_end, leave, leave_return, resume};
 use std::sync::ledger::Ledger;
 
@@ -26,7 +27,7 @@ pub(crate) fn end_arm<L: Ledger>(
     image: &Image,
     parts: &mut Prepared,
     at: &mut Registers,
-    end: &mut End,
+    uncaught: &mut SignalId,
     turns: &mut u64,
     comparisons: &mut Steps<L>,
 ) -> Next
@@ -45,7 +46,7 @@ pub(crate) fn end_arm<L: Ledger>(
         turns,
         comparisons,
     );
-    told(turn, at, end)
+    told(turn, at, uncaught)
 }
 
 /// It resumes with so many words.
@@ -55,7 +56,7 @@ pub(crate) fn resume_raiser<L: Ledger>(
     parts: &mut Prepared,
     words: u16,
     at: &mut Registers,
-    end: &mut End,
+    uncaught: &mut SignalId,
     turns: &mut u64,
     comparisons: &mut Steps<L>,
 ) -> Next
@@ -75,7 +76,7 @@ pub(crate) fn resume_raiser<L: Ledger>(
         turns,
         comparisons,
     );
-    told(turn, at, end)
+    told(turn, at, uncaught)
 }
 
 /// A jump leaves it, and the arms that hold it, to an offset of its procedure.
@@ -85,7 +86,7 @@ pub(crate) fn leave_arms<L: Ledger>(
     parts: &mut Prepared,
     target: u32,
     at: &mut Registers,
-    end: &mut End,
+    uncaught: &mut SignalId,
     turns: &mut u64,
     comparisons: &mut Steps<L>,
 ) -> Next
@@ -104,7 +105,7 @@ pub(crate) fn leave_arms<L: Ledger>(
         turns,
         comparisons,
     );
-    told(turn, at, end)
+    told(turn, at, uncaught)
 }
 
 /// The same to its frame, which returns.
@@ -113,7 +114,7 @@ pub(crate) fn return_out<L: Ledger>(
     image: &Image,
     parts: &mut Prepared,
     at: &mut Registers,
-    end: &mut End,
+    uncaught: &mut SignalId,
     turns: &mut u64,
     comparisons: &mut Steps<L>,
 ) -> Next
@@ -131,5 +132,5 @@ pub(crate) fn return_out<L: Ledger>(
         turns,
         comparisons,
     );
-    told(turn, at, end)
+    told(turn, at, uncaught)
 }

@@ -11,7 +11,7 @@ ghost use Rattle.region_calls.specs.Linking.{AddsFrameForLink, IsAmpleForLink, L
 ghost use Rattle.region_calls.specs.Started.{ShowsStarted};
 
 use code_forms::ModuleCode;
-use activation_region::{Turn, call, give_back};
+use activation_region::{Next, call, give_back};
 use object_files::Image;
 use quiet_run::Registers;
 use ready_images::Prepared;
@@ -23,9 +23,9 @@ pub(crate) fn call_top(
     code: &ModuleCode,
     parts: &mut Prepared,
     number: u32,
-    r: Registers,
+    r: &mut Registers,
     turns: &mut u64,
-) -> Turn
+) -> Next
 {
     let table = parts.rows.as_mut_slice();
     call(
@@ -41,7 +41,7 @@ pub(crate) fn call_top(
 
 /// The topmost activation returns.
 #[inline(always)]
-pub(crate) fn return_top(code: &ModuleCode, parts: &mut Prepared, r: Registers) -> Turn
+pub(crate) fn return_top(code: &ModuleCode, parts: &mut Prepared, r: &mut Registers) -> Next
 {
     let table = parts.rows.as_slice();
     give_back(code, parts.region.as_mut_slice(), table, r, parts.layout)
@@ -53,22 +53,9 @@ pub(crate) fn call_linked(
     image: &Image,
     parts: &mut Prepared,
     number: u32,
-    r: Registers,
+    r: &mut Registers,
     turns: &mut u64,
 ) -> LinkTurn
-    requires ready { IsReady image.now parts.old }
-    requires ample { IsAmple parts.old.layout parts.old.region.items parts.old.rows.items r.top }
-    requires stands { StandsIn image.now parts.old.layout parts.old.region.items parts.old.rows.items r }
-    requires at { StandsAt image.now parts.old.rows.items r (CallLink number) }
-    ensures ready { IsReady image.now parts.new }
-    ensures ample { IsAmpleForLink parts.new.layout parts.new.region.items parts.new.rows.items r result }
-    ensures adds { AddsFrameForLink parts.new.layout parts.old.rows.items r parts.new.rows.items result }
-    ensures globals { parts.new.globals.items ≡ parts.old.globals.items }
-    ensures turns_fall { turns.new ≤ turns.old }
-    ensures leads { (s : Stepped) (m : Store) → m.turns ≡ turns.old → ShowsStarted parts.old.started.items m.started
-        → Shown image.now parts.old.layout parts.old.region.items parts.old.rows.items r s m
-        → LinkedTo image.now parts.new.layout parts.new.region.items parts.new.rows.items r parts.new.started.items s
-        (record m { turns = turns.new; begun = suc m.begun }) result }
 {
     call_link(
         image,
@@ -86,20 +73,9 @@ pub(crate) fn call_linked(
 pub(crate) fn call_pending(
     image: &Image,
     parts: &mut Prepared,
-    r: Registers,
+    r: &mut Registers,
     turns: &mut u64,
 ) -> LinkTurn
-    requires ready { IsReady image.now parts.old }
-    requires ample { IsAmple parts.old.layout parts.old.region.items parts.old.rows.items r.top }
-    requires waits { WaitsToCall image.now parts.old.layout parts.old.region.items parts.old.rows.items r }
-    ensures ready { IsReady image.now parts.new }
-    ensures ample { IsAmpleForLink parts.new.layout parts.new.region.items parts.new.rows.items r result }
-    ensures adds { AddsFrameForLink parts.new.layout parts.old.rows.items r parts.new.rows.items result }
-    ensures globals { parts.new.globals.items ≡ parts.old.globals.items }
-    ensures turns_fall { turns.new ≤ turns.old }
-    ensures leads { (s : Stepped) (m : Store) → m.turns ≡ turns.old → ShowsStarted parts.old.started.items m.started → IsUnstuck image.now s
-        → CallsThen image.now parts.old.layout parts.old.region.items parts.old.rows.items r s m
-        → LinkedTo image.now parts.new.layout parts.new.region.items parts.new.rows.items r parts.new.started.items s (record m { turns = turns.new }) result }
 {
     call_again(
         image,

@@ -12,11 +12,9 @@ ghost use Rattle.image_runs.specs.Happening.{CanPause, HoldsOnLink, linked_or};
 ghost use Rattle.image_runs.specs.SoFar.{PausesAt};
 
 use crate::signals::raise_signal;
-use crate::next::back;
 use crate::touching::touch;
 use code_forms::{CodeProcedure, ModuleCode};
-use activation_region::Turn;
-use machine_steps::End;
+use activation_region::Next;
 use mesa_base::Steps;
 use object_files::Image;
 use quiet_run::{Registers, Why};
@@ -34,16 +32,17 @@ pub(crate) fn happen<L: Ledger>(
     procedure: &CodeProcedure,
     parts: &mut Prepared,
     r: &mut Registers,
+    uncaught: &mut SignalId,
     why: Why,
     turns: &mut u64,
     comparisons: &mut Steps<L>,
-) -> Option<LinkTurn>
+) -> LinkTurn
 {
     match why {
-        Why::Touches => touch(image, code, procedure, parts, r, turns, comparisons),
-        Why::Spent => Some(LinkTurn::Done(Turn::Ends(End::Spent))),
-        Why::BoundsFault => raise_fault(image, parts, SignalId::BoundsFault, r, turns, comparisons),
-        Why::ZeroDivisor => raise_fault(image, parts, SignalId::ZeroDivisor, r, turns, comparisons),
+        Why::Touches => touch(image, code, procedure, parts, r, uncaught, turns, comparisons),
+        Why::Spent => LinkTurn::Done(Next::Spent),
+        Why::BoundsFault => raise_fault(image, parts, SignalId::BoundsFault, r, uncaught, turns, comparisons),
+        Why::ZeroDivisor => raise_fault(image, parts, SignalId::ZeroDivisor, r, uncaught, turns, comparisons),
     }
 }
 
@@ -53,12 +52,13 @@ fn raise_fault<L: Ledger>(
     parts: &mut Prepared,
     fault: SignalId,
     r: &mut Registers,
+    uncaught: &mut SignalId,
     turns: &mut u64,
     comparisons: &mut Steps<L>,
-) -> Option<LinkTurn>
+) -> LinkTurn
 {
     let mut after = *r;
-    let mut end = End::Done;
-    let next = raise_signal(image, parts, fault, &mut after, &mut end, turns, comparisons);
-    back(next, after, end, r)
+    let next = raise_signal(image, parts, fault, &mut after, uncaught, turns, comparisons);
+    *r = after;
+    LinkTurn::Done(next)
 }

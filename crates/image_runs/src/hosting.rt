@@ -17,9 +17,7 @@ ghost use Rattle.image_runs.specs.SoFar.{AtHost, Carries, SoFar, Then};
 
 use crate::outcome::RunFault;
 use crate::signals::raise_signal;
-use crate::next::Next;
-use activation_region::Turn;
-use machine_steps::End;
+use activation_region::Next;
 use mesa_base::{Sink, Source, Steps};
 use object_files::Image;
 use quiet_run::Registers;
@@ -34,111 +32,74 @@ fn write_out<K: Sink>(
     writing: Writing,
     image: &Image,
     parts: &Prepared,
-    r: Registers,
+    r: &mut Registers,
     out: &mut K,
-) -> Result<Turn, RunFault>
-    requires ready { IsReady image.now parts.now }
-    requires ample { IsAmple parts.now.layout parts.now.region.items parts.now.rows.items r.top }
-    requires calls { CallsHost image.now parts.now.layout parts.now.region.items parts.now.rows.items r (host_is (Write writing)) }
-    ensures goes { IfOk result (λ turn. turn ≡ Goes (behind_call (Write writing) r)) }
-    ensures follows { (bound : ℕ) (control : List ℕ) (turns begun : ℕ) (ahead : Option Coming) (told left held : Option (List ℕ))
-        → length control ≤ length image.now.control
-        → SoFar image.now bound parts.now control turns begun ahead told left held (K.written out.old) (AtHost image.now parts.now r (Write writing))
-        → Then image.now bound parts.now control turns begun ahead told left held (K.written out.new) result }
-    ensures faults { (read : ℕ) → CountsFaults result read read (K.faults out.old) (K.faults out.new) }
+) -> Told
 {
-    match write(writing, image, parts.region.as_slice(), r, out) {
-        Ok(after) => Ok(Turn::Goes(after)),
-        Err(_) => Err(RunFault::WriteFault),
-    }
-}
-
-// Goes on behind a call that has read, or raises NoInput.
-fn read_then<C: Ledger>(
-    turn: ReadTurn,
-    image: &Image,
-    parts: &mut Prepared,
-    r: Registers,
-    turns: &mut u64,
-    comparisons: &mut Steps<C>,
-) -> Turn
-{
-    match turn {
-        ReadTurn::Goes(after) => Turn::Goes(after),
-        ReadTurn::NoInput => {
-            let mut after = r;
-            let mut end = End::Done;
-            let next = raise_signal(image, parts, SignalId::NoInput, &mut after, &mut end, turns, comparisons);
-            match next {
-                Next::Goes => Turn::Goes(after),
-                Next::Pending => Turn::Pending(after),
-                Next::Empty => Turn::Empty,
-                Next::Ends => Turn::Ends(end),
-            }
+    match write(writing, image, parts.region.as_slice(), *r, out) {
+        Ok(after) => {
+            *r = after;
+            Told::Next(Next::Goes)
         }
+        Err(_) => Told::Fails(RunFault::WriteFault),
     }
 }
 
-// Reads what the call of the topmost activation asks for.
+/// What a call of the host leads to.
+#[derive(Clone, Copy)]
+pub(crate) enum Told {
+    Next(Next),
+    Fails(RunFault),
+}
+
+// Reads, out of line.
 #[inline(never)]
 fn read_in<S: Source, C: Ledger>(
     reading: Reading,
     image: &Image,
     parts: &mut Prepared,
-    r: Registers,
+    r: &mut Registers,
+    uncaught: &mut SignalId,
     ahead: &mut Option<Coming>,
     turns: &mut u64,
     input: &mut S,
     comparisons: &mut Steps<C>,
-) -> Result<Turn, RunFault>
-    requires ready { IsReady image.now parts.old }
-    requires ample { IsAmple parts.old.layout parts.old.region.items parts.old.rows.items r.top }
-    requires arms { ArmsHold image.now parts.old.rows.items r.top }
-    requires run { (holds : Option (List ℕ))
-        × CanGoOn image.now parts.old turns.old ahead.old (S.left input.old) holds (AtHost image.now parts.old r (Read reading)) }
-    ensures ready { IsReady image.now parts.new }
-    ensures carries { IfOk result (Carries image.now parts.new) }
-    ensures waits_not { IfOk result (λ turn. waits turn ≡ 0) }
-    ensures follows { (holds : Option (List ℕ))
-        → Follows image.now parts.old parts.new turns.old turns.new 0 ahead.old ahead.new (S.left input.old) (S.left input.new) holds holds
-        (AtHost image.now parts.old r (Read reading)) result }
-    ensures faults { (written : ℕ) → CountsFaults result (S.faults input.old) (S.faults input.new) written written }
+) -> Told
 {
-    match read(reading, parts.region.as_mut_slice(), r, ahead, input) {
-        Ok(turn) => Ok(read_then(turn, image, parts, r, turns, comparisons)),
-        Err(_) => Err(RunFault::ReadFault),
+    match read(reading, parts.region.as_mut_slice(), *r, ahead, input) {
+        Ok(turn) => match turn {
+            ReadTurn::Goes(after) => {
+                *r = after;
+                Told::Next(Next::Goes)
+            }
+            ReadTurn::NoInput => Told::Next(raise_signal(image, parts, SignalId::NoInput, r, uncaught, turns, comparisons)),
+        },
+        Err(_) => Told::Fails(RunFault::ReadFault),
     }
 }
 
-/// Does the call of the topmost activation, of a procedure of the host: the run goes on, or breaks off where the source or
-/// the sink fails.
+/// What a call of the host leads to.
 #[inline(always)]
 pub(crate) fn call_host<S: Source, K: Sink, C: Ledger>(
     host: HostProcedure,
     image: &Image,
     parts: &mut Prepared,
-    r: Registers,
+    r: &mut Registers,
+    uncaught: &mut SignalId,
     ahead: &mut Option<Coming>,
     turns: &mut u64,
     input: &mut S,
     out: &mut K,
     comparisons: &mut Steps<C>,
-) -> Result<Turn, RunFault>
-    requires ready { IsReady image.now parts.old }
-    requires ample { IsAmple parts.old.layout parts.old.region.items parts.old.rows.items r.top }
-    requires arms { ArmsHold image.now parts.old.rows.items r.top }
-    requires run { CanGoOn image.now parts.old turns.old ahead.old (S.left input.old) (K.written out.old) (AtHost image.now parts.old r host) }
-    ensures ready { IsReady image.now parts.new }
-    ensures carries { IfOk result (Carries image.now parts.new) }
-    ensures waits_not { IfOk result (λ turn. waits turn ≡ 0) }
-    ensures follows { Follows image.now parts.old parts.new turns.old turns.new 0 ahead.old ahead.new (S.left input.old) (S.left input.new)
-        (K.written out.old) (K.written out.new) (AtHost image.now parts.old r host) result }
-    ensures faults { CountsFaults result (S.faults input.old) (S.faults input.new) (K.faults out.old) (K.faults out.new) }
+) -> Told
 {
     match host {
         HostProcedure::Write(writing) => write_out(writing, image, parts, r, out),
         HostProcedure::Read(reading) => {
-            read_in(reading, image, parts, r, ahead, turns, input, comparisons)
+            let mut after = *r;
+            let told = read_in(reading, image, parts, &mut after, uncaught, ahead, turns, input, comparisons);
+            *r = after;
+            told
         }
     }
 }

@@ -1,22 +1,13 @@
-//! What a signal leads to, told in few words.
+//! What a turn is in few words, and back.
 
-use activation_region::Turn;
+use activation_region::{Next, Turn};
 use machine_steps::End;
 use quiet_run::Registers;
-use region_calls::LinkTurn;
+use signaller::SignalId;
 
-/// What an instruction leads to; the registers and the end are written beside it.
-#[derive(Clone, Copy)]
-pub(crate) enum Next {
-    Goes,
-    Pending,
-    Empty,
-    Ends,
-}
-
-/// A turn in these words.
+/// A turn in few words; the registers and the signal are written beside it.
 #[inline(always)]
-pub(crate) fn told(turn: Turn, r: &mut Registers, end: &mut End) -> Next
+pub(crate) fn told(turn: Turn, r: &mut Registers, signal: &mut SignalId) -> Next
 {
     match turn {
         Turn::Goes(after) => {
@@ -28,24 +19,27 @@ pub(crate) fn told(turn: Turn, r: &mut Registers, end: &mut End) -> Next
             Next::Pending
         }
         Turn::Empty => Next::Empty,
-        Turn::Ends(last) => {
-            *end = last;
-            Next::Ends
-        }
+        Turn::Ends(last) => match last {
+            End::Done => Next::Empty,
+            End::Spent => Next::Spent,
+            End::FrameLimit => Next::FrameLimit,
+            End::Uncaught(uncaught) => {
+                *signal = uncaught;
+                Next::Uncaught
+            }
+        },
     }
 }
 
-/// The same, back.
-#[inline(always)]
-pub(crate) fn back(next: Next, at: Registers, end: End, r: &mut Registers) -> Option<LinkTurn>
+/// The turn that was told so.
+pub(crate) fn back(next: Next, r: Registers, signal: SignalId) -> Turn
 {
     match next {
-        Next::Goes => {
-            *r = at;
-            None
-        }
-        Next::Pending => Some(LinkTurn::Done(Turn::Pending(at))),
-        Next::Empty => Some(LinkTurn::Done(Turn::Empty)),
-        Next::Ends => Some(LinkTurn::Done(Turn::Ends(end))),
+        Next::Goes => Turn::Goes(r),
+        Next::Pending => Turn::Pending(r),
+        Next::Empty => Turn::Empty,
+        Next::Spent => Turn::Ends(End::Spent),
+        Next::FrameLimit => Turn::Ends(End::FrameLimit),
+        Next::Uncaught => Turn::Ends(End::Uncaught(signal)),
     }
 }

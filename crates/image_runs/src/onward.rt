@@ -9,10 +9,12 @@ ghost use Rattle.image_runs.specs.SoFar.{At, Carries};
 use crate::calls::call_pending;
 use crate::happening::happen;
 use crate::look_ups::{code_of, procedure_in, row_of};
-use crate::hosting::call_host;
+use crate::hosting::{Told, call_host};
+use crate::next::back;
+use signaller::SignalId;
 use crate::outcome::RunFault;
 use crate::topmost::run_top;
-use activation_region::Turn;
+use activation_region::{Next, Turn};
 use mesa_base::{Sink, Source, Steps};
 use object_files::Image;
 use quiet_run::Registers;
@@ -22,26 +24,9 @@ use std::sync::ledger::Ledger;
 
 // Where an activation goes on, the registers are its; else what a call of the host leads to is given.
 #[inline(always)]
-fn settle_told(told: Result<Turn, RunFault>, r: &mut Registers) -> Result<Option<Turn>, RunFault>
-    ensures { onward_or result r.new ≡ told }
-{
-    match told {
-        Ok(turn) => match turn {
-            Turn::Goes(after) => {
-                *r = after;
-                Ok(None)
-            }
-            _ => Ok(Some(turn)),
-        },
-        Err(fault) => Err(fault),
-    }
-}
-
-// The topmost activation runs up to an instruction that touches more than it or that cannot go on, and that is done. The
-// registers are those of the activation that goes on, unless something else is told.
-#[inline(always)]
 fn go_on<S: Source, K: Sink, L: Ledger, C: Ledger>(
     r: &mut Registers,
+    uncaught: &mut SignalId,
     image: &Image,
     parts: &mut Prepared,
     ahead: &mut Option<Coming>,
@@ -50,7 +35,7 @@ fn go_on<S: Source, K: Sink, L: Ledger, C: Ledger>(
     out: &mut K,
     steps: &mut Steps<L>,
     comparisons: &mut Steps<C>,
-) -> Result<Option<Turn>, RunFault>
+) -> Told
 {
     let row = row_of(parts.rows.as_slice(), r.top);
     let code = code_of(image, row.instance);
@@ -58,26 +43,9 @@ fn go_on<S: Source, K: Sink, L: Ledger, C: Ledger>(
     let mut left = *turns;
     let why = run_top(image, code, procedure, row, parts, r, &mut left, steps);
     *turns = left;
-    let at = *r;
-    match happen(image, code, procedure, parts, r, why, turns, comparisons) {
-        None => Ok(None),
-        Some(linked) => match linked {
-            LinkTurn::Done(turn) => Ok(Some(turn)),
-            LinkTurn::Host(host) => {
-                let told = call_host(
-                    host,
-                    image,
-                    parts,
-                    at,
-                    ahead,
-                    turns,
-                    input,
-                    out,
-                    comparisons,
-                );
-                settle_told(told, r)
-            }
-        },
+    match happen(image, code, procedure, parts, r, uncaught, why, turns, comparisons) {
+        LinkTurn::Done(next) => Told::Next(next),
+        LinkTurn::Host(host) => call_host(host, image, parts, r, uncaught, ahead, turns, input, out, comparisons),
     }
 }
 
@@ -93,42 +61,23 @@ fn run_frames<S: Source, K: Sink, L: Ledger, C: Ledger>(
     steps: &mut Steps<L>,
     comparisons: &mut Steps<C>,
 ) -> Result<Turn, RunFault>
-    requires carries { Carries image.now parts.old (Goes first) }
-    requires run { CanGoOn image.now parts.old turns.old ahead.old (S.left input.old) (K.written out.old) (At image.now parts.old (Goes first)) }
-    ensures ready { IsReady image.now parts.new }
-    ensures carries { IfOk result (Carries image.now parts.new) }
-    ensures follows { Follows image.now parts.old parts.new turns.old turns.new (steps.new - steps.old) ahead.old ahead.new
-        (S.left input.old) (S.left input.new) (K.written out.old) (K.written out.new) (At image.now parts.old (Goes first)) result }
-    ensures counted { steps.old < steps.new }
-    ensures few { BeginsFew image.now parts.old turns.old (steps.new - steps.old) ahead.old (S.left input.old) (K.written out.old)
-        (At image.now parts.old (Goes first)) }
-    ensures faults { CountsFaults result (S.faults input.old) (S.faults input.new) (K.faults out.old) (K.faults out.new) }
 {
     let mut r = first;
+    let mut uncaught = SignalId::Unnamed;
     'running: loop {
-        match go_on(
-            &mut r,
-            image,
-            parts,
-            ahead,
-            turns,
-            input,
-            out,
-            steps,
-            comparisons,
-        ) {
-            Ok(other) => match other {
-                None => {}
-                Some(turn) => return Ok(turn),
+        match go_on(&mut r, &mut uncaught, image, parts, ahead, turns, input, out, steps, comparisons) {
+            Told::Next(next) => match next {
+                Next::Goes => {}
+                _ => return Ok(back(next, r, uncaught)),
             },
-            Err(fault) => return Err(fault),
+            Told::Fails(fault) => return Err(fault),
         }
     }
 }
 
 // The topmost activation does the call for which an instance was started first.
 fn call_then<S: Source, K: Sink, C: Ledger>(
-    r: Registers,
+    first: Registers,
     image: &Image,
     parts: &mut Prepared,
     ahead: &mut Option<Coming>,
@@ -137,28 +86,15 @@ fn call_then<S: Source, K: Sink, C: Ledger>(
     out: &mut K,
     comparisons: &mut Steps<C>,
 ) -> Result<Turn, RunFault>
-    requires carries { Carries image.now parts.old (Pending r) }
-    requires run { CanGoOn image.now parts.old turns.old ahead.old (S.left input.old) (K.written out.old) (At image.now parts.old (Pending r)) }
-    ensures ready { IsReady image.now parts.new }
-    ensures carries { IfOk result (Carries image.now parts.new) }
-    ensures follows { Follows image.now parts.old parts.new turns.old turns.new 0 ahead.old ahead.new (S.left input.old) (S.left input.new)
-        (K.written out.old) (K.written out.new) (At image.now parts.old (Pending r)) result }
-    ensures waits_not { IfOk result (λ turn. waits turn ≡ 0) }
-    ensures faults { CountsFaults result (S.faults input.old) (S.faults input.new) (K.faults out.old) (K.faults out.new) }
 {
-    match call_pending(image, parts, r, turns) {
-        LinkTurn::Done(turn) => Ok(turn),
-        LinkTurn::Host(host) => call_host(
-            host,
-            image,
-            parts,
-            r,
-            ahead,
-            turns,
-            input,
-            out,
-            comparisons,
-        ),
+    let mut r = first;
+    let mut uncaught = SignalId::Unnamed;
+    match call_pending(image, parts, &mut r, turns) {
+        LinkTurn::Done(next) => Ok(back(next, r, uncaught)),
+        LinkTurn::Host(host) => match call_host(host, image, parts, &mut r, &mut uncaught, ahead, turns, input, out, comparisons) {
+            Told::Next(next) => Ok(back(next, r, uncaught)),
+            Told::Fails(fault) => Err(fault),
+        },
     }
 }
 

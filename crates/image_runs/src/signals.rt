@@ -11,8 +11,8 @@ ghost use Rattle.region_calls.specs.Linking.{StandsAt};
 ghost use Rattle.region_signals.specs.Raising.{ArmsHold, CanRaise, HoldsOn, Raises, RunsArm};
 
 use crate::standing::top_code;
-use crate::next::{Next, told};
-use machine_steps::End;
+use crate::next::told;
+use activation_region::Next;
 use mesa_base::Steps;
 use object_files::Image;
 use quiet_run::Registers;
@@ -28,7 +28,7 @@ pub(crate) fn raise_signal<L: Ledger>(
     parts: &mut Prepared,
     signal: SignalId,
     at: &mut Registers,
-    end: &mut End,
+    uncaught: &mut SignalId,
     turns: &mut u64,
     comparisons: &mut Steps<L>,
 ) -> Next
@@ -47,7 +47,7 @@ pub(crate) fn raise_signal<L: Ledger>(
         turns,
         comparisons,
     );
-    told(turn, at, end)
+    told(turn, at, uncaught)
 }
 
 /// The topmost activation raises a signal of its own module.
@@ -57,7 +57,7 @@ pub(crate) fn raise_of_module<L: Ledger>(
     parts: &mut Prepared,
     number: u32,
     at: &mut Registers,
-    end: &mut End,
+    uncaught: &mut SignalId,
     turns: &mut u64,
     comparisons: &mut Steps<L>,
 ) -> Next
@@ -77,7 +77,7 @@ pub(crate) fn raise_of_module<L: Ledger>(
         turns,
         comparisons,
     );
-    told(turn, at, end)
+    told(turn, at, uncaught)
 }
 
 /// It raises a signal of another module, by the number of a link.
@@ -87,7 +87,7 @@ pub(crate) fn raise_through_link<L: Ledger>(
     parts: &mut Prepared,
     link: u32,
     at: &mut Registers,
-    end: &mut End,
+    uncaught: &mut SignalId,
     turns: &mut u64,
     comparisons: &mut Steps<L>,
 ) -> Next
@@ -107,7 +107,7 @@ pub(crate) fn raise_through_link<L: Ledger>(
         turns,
         comparisons,
     );
-    told(turn, at, end)
+    told(turn, at, uncaught)
 }
 
 /// It raises a predeclared signal.
@@ -117,7 +117,7 @@ pub(crate) fn raise_predeclared<L: Ledger>(
     parts: &mut Prepared,
     fault: u8,
     at: &mut Registers,
-    end: &mut End,
+    uncaught: &mut SignalId,
     turns: &mut u64,
     comparisons: &mut Steps<L>,
 ) -> Next
@@ -137,5 +137,5 @@ pub(crate) fn raise_predeclared<L: Ledger>(
         turns,
         comparisons,
     );
-    told(turn, at, end)
+    told(turn, at, uncaught)
 }

@@ -17,11 +17,10 @@ ghost use Rattle.image_runs.specs.SoFar.{PausesAt};
 use crate::arms::{end_arm, leave_arms, resume_raiser, return_out};
 use crate::calls::{call_linked, call_top, return_top};
 use crate::signals::{raise_of_module, raise_predeclared, raise_through_link};
-use crate::next::{Next, back};
 use crate::standing::instruction_of;
-use activation_region::Turn;
+use activation_region::Next;
 use code_forms::{CodeProcedure, Instruction, ModuleCode};
-use machine_steps::End;
+use signaller::SignalId;
 use mesa_base::Steps;
 use object_files::Image;
 use quiet_run::Registers;
@@ -36,7 +35,7 @@ fn signal<L: Ledger>(
     parts: &mut Prepared,
     instruction: Instruction,
     at: &mut Registers,
-    end: &mut End,
+    uncaught: &mut SignalId,
     turns: &mut u64,
     comparisons: &mut Steps<L>,
 ) -> Next
@@ -47,60 +46,34 @@ fn signal<L: Ledger>(
             parts,
             signal,
             at,
-            end,
+            uncaught,
             turns,
             comparisons,
         ),
         Instruction::RaiseLink { link } => {
-            raise_through_link(image, parts, link, at, end, turns, comparisons)
+            raise_through_link(image, parts, link, at, uncaught, turns, comparisons)
         }
         Instruction::RaiseHost { fault } => {
-            raise_predeclared(image, parts, fault, at, end, turns, comparisons)
+            raise_predeclared(image, parts, fault, at, uncaught, turns, comparisons)
         }
-        Instruction::ArmEnd => end_arm(image, parts, at, end, turns, comparisons),
-        Instruction::Resume { words } => resume_raiser(image, parts, words, at, end, turns, comparisons),
+        Instruction::ArmEnd => end_arm(image, parts, at, uncaught, turns, comparisons),
+        Instruction::Resume { words } => resume_raiser(image, parts, words, at, uncaught, turns, comparisons),
         Instruction::Leave { target, .. } => leave_arms(
             image,
             parts,
             target,
             at,
-            end,
+            uncaught,
             turns,
             comparisons,
         ),
-        Instruction::LeaveReturn { .. } => return_out(image, parts, at, end, turns, comparisons),
+        Instruction::LeaveReturn { .. } => return_out(image, parts, at, uncaught, turns, comparisons),
         // The run of the topmost activation has done each other one.
         _ => Next::Empty,
     }
 }
 
-/// Where an activation goes on, the registers are its; else what a turn leads to is given.
-#[inline(always)]
-pub(crate) fn settle(turn: Turn, r: &mut Registers) -> Option<LinkTurn>
-    ensures { linked_or result r.new ≡ Done turn }
-{
-    match turn {
-        Turn::Goes(after) => {
-            *r = after;
-            None
-        }
-        _ => Some(LinkTurn::Done(turn)),
-    }
-}
-
-// The same of a call through a link.
-#[inline(always)]
-fn settle_link(turn: LinkTurn, r: &mut Registers) -> Option<LinkTurn>
-    ensures { linked_or result r.new ≡ turn }
-{
-    match turn {
-        LinkTurn::Done(turn) => settle(turn, r),
-        LinkTurn::Host(host) => Some(LinkTurn::Host(host)),
-    }
-}
-
-/// What the instruction leads to, at which the topmost activation stands and which touches more than that activation: the
-/// registers are those of the activation that goes on, unless something else is told.
+/// What the instruction leads to, at which the topmost activation stands.
 #[inline(always)]
 pub(crate) fn touch<L: Ledger>(
     image: &Image,
@@ -108,30 +81,21 @@ pub(crate) fn touch<L: Ledger>(
     procedure: &CodeProcedure,
     parts: &mut Prepared,
     r: &mut Registers,
+    uncaught: &mut SignalId,
     turns: &mut u64,
     comparisons: &mut Steps<L>,
-) -> Option<LinkTurn>
+) -> LinkTurn
 {
-    let at = *r;
-    let instruction = instruction_of(procedure, at.entry);
+    let instruction = instruction_of(procedure, r.entry);
     match instruction {
-        Instruction::Call { procedure } => {
-            let called = call_top(code, parts, procedure, at, turns);
-            settle(called, r)
-        }
-        Instruction::CallLink { link } => {
-            let linked = call_linked(image, parts, link, at, turns);
-            settle_link(linked, r)
-        }
-        Instruction::Return => {
-            let returned = return_top(code, parts, at);
-            settle(returned, r)
-        }
+        Instruction::Call { procedure } => LinkTurn::Done(call_top(code, parts, procedure, r, turns)),
+        Instruction::CallLink { link } => call_linked(image, parts, link, r, turns),
+        Instruction::Return => LinkTurn::Done(return_top(code, parts, r)),
         _ => {
-            let mut after = at;
-            let mut end = End::Done;
-            let next = signal(image, parts, instruction, &mut after, &mut end, turns, comparisons);
-            back(next, after, end, r)
+            let mut after = *r;
+            let next = signal(image, parts, instruction, &mut after, uncaught, turns, comparisons);
+            *r = after;
+            LinkTurn::Done(next)
         }
     }
 }

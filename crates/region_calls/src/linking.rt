@@ -13,9 +13,8 @@ ghost use Rattle.region_calls.specs.Started.{ShowsStarted};
 
 use crate::host::{HostProcedure, host_of};
 use crate::look_ups::{bound_to, is_started, link_called, procedure_of, row_of};
-use activation_region::{Layout, Row, Turn, add_frame};
+use activation_region::{Layout, Next, Row, add_frame};
 use code_forms::CodeProcedure;
-use machine_steps::End;
 use object_files::{Image, Link};
 use quiet_run::Registers;
 
@@ -23,7 +22,7 @@ use quiet_run::Registers;
 #[derive(Clone, Copy)]
 pub enum LinkTurn {
     /// What other instructions lead to.
-    Done(Turn),
+    Done(Next),
     /// The topmost activation calls this procedure of the host; the turn for that is spent.
     Host(HostProcedure),
 }
@@ -36,18 +35,9 @@ fn add_called(
     number: u32,
     region: &mut Vec<u16>,
     table: &mut [Row],
-    r: Registers,
+    r: &mut Registers,
     layout: Layout,
-) -> Turn
-    requires enters { EntersSome layout region.old.items table.old r called.now instance number }
-    requires ample { IsAmple layout region.old.items table.old r.top }
-    requires reserved { IsReserved layout (vec_capacity region.old) }
-    ensures ample { IsAmpleFor layout region.new.items table.new result }
-    ensures reserved { vec_capacity region.old ≤ vec_capacity region.new }
-    ensures adds { AddsFrame layout table.old r table.new result }
-    ensures leads { (image : Image) → IsPrepared image layout → (e : Enters image layout region.old.items table.old r called.now instance number)
-        → (s : Stepped) (m : Store) → Reaches image s (called_with instance number called.now e.top e.rest m)
-        → LeadsTo image layout region.new.items table.new s m result }
+) -> Next
 {
     add_frame(called, instance, number, region, table, r, layout)
 }
@@ -59,28 +49,40 @@ fn start_first(
     instance: u32,
     region: &mut Vec<u16>,
     table: &mut [Row],
-    r: Registers,
+    r: &mut Registers,
     layout: Layout,
     turns: &mut u64,
-) -> Turn
-    requires prepared { IsPrepared image.now layout }
-    requires enters { EntersBody image.now layout region.old.items table.old r instance }
-    requires ample { IsAmple layout region.old.items table.old r.top }
-    requires reserved { IsReserved layout (vec_capacity region.old) }
-    ensures ample { IsAmpleFor layout region.new.items table.new result }
-    ensures reserved { vec_capacity region.old ≤ vec_capacity region.new }
-    ensures adds { AddsFrame layout table.old r table.new result }
-    ensures turns_fall { turns.new ≤ turns.old }
-    ensures leads { (b : EntersBody image.now layout region.old.items table.old r instance) (s : Stepped) (m : Store) → m.turns ≡ turns.old
-        → Reaches image.now s (spend m (λ m1. called_with instance 0 b.body b.enters.top b.enters.rest m1))
-        → LeadsTo image.now layout region.new.items table.new s (record m { turns = turns.new }) result }
+) -> Next
 {
     if *turns == 0 {
-        return Turn::Ends(End::Spent);
+        return Next::Spent;
     }
     *turns -= 1;
     let body = procedure_of(image, instance, 0);
     add_frame(body, instance, 0, region, table, r, layout)
+}
+
+// Calls a procedure of an instance, or starts that first.
+#[inline(never)]
+fn call_instance(
+    image: &Image,
+    caller: u32,
+    instance: u32,
+    number: u32,
+    started: &mut [bool],
+    region: &mut Vec<u16>,
+    table: &mut [Row],
+    r: &mut Registers,
+    layout: Layout,
+    turns: &mut u64,
+) -> Next
+{
+    if is_started(started, caller, instance) {
+        let called = procedure_of(image, instance, number);
+        return add_called(called, instance, number, region, table, r, layout);
+    }
+    started[instance as usize] = true;
+    start_first(image, instance, region, table, r, layout, turns)
 }
 
 // Calls what the link of this number of the topmost activation's instance is bound to; the turn is spent.
@@ -91,36 +93,19 @@ fn call_bound(
     started: &mut [bool],
     region: &mut Vec<u16>,
     table: &mut [Row],
-    r: Registers,
+    r: &mut Registers,
     layout: Layout,
     turns: &mut u64,
 ) -> LinkTurn
-    requires prepared { IsPrepared image.now layout }
-    requires calls { CallsLink image.now layout region.old.items table.old r number }
-    requires marks { length started.old ≡ length image.now.instances }
-    requires ample { IsAmple layout region.old.items table.old r.top }
-    requires reserved { IsReserved layout (vec_capacity region.old) }
-    ensures marks { length started.new ≡ length started.old }
-    ensures ample { IsAmpleForLink layout region.new.items table.new r result }
-    ensures reserved { vec_capacity region.old ≤ vec_capacity region.new }
-    ensures adds { AddsFrameForLink layout table.old r table.new result }
-    ensures turns_fall { turns.new ≤ turns.old }
-    ensures leads { (e : CallsLink image.now layout region.old.items table.old r number) (s : Stepped) (m : Store) → m.turns ≡ turns.old
-        → ShowsStarted started.old m.started → Reaches image.now s (bound_call image.now e.bound e.top e.rest m)
-        → LinkedTo image.now layout region.new.items table.new r started.new s (record m { turns = turns.new }) result }
 {
     let caller = row_of(table, r.top).instance;
     match bound_to(image, caller, number) {
         Link::Wanted(wanted) => LinkTurn::Host(host_of(image, wanted)),
         Link::To { instance, number } => {
-            if is_started(started, caller, instance) {
-                let called = procedure_of(image, instance, number);
-                return LinkTurn::Done(add_called(
-                    called, instance, number, region, table, r, layout,
-                ));
-            }
-            started[instance as usize] = true;
-            LinkTurn::Done(start_first(image, instance, region, table, r, layout, turns))
+            let mut after = *r;
+            let next = call_instance(image, caller, instance, number, started, region, table, &mut after, layout, turns);
+            *r = after;
+            LinkTurn::Done(next)
         }
     }
 }
@@ -135,27 +120,13 @@ pub fn call_link(
     started: &mut [bool],
     region: &mut Vec<u16>,
     table: &mut [Row],
-    r: Registers,
+    r: &mut Registers,
     layout: Layout,
     turns: &mut u64,
 ) -> LinkTurn
-    requires prepared { IsPrepared image.now layout }
-    requires stands { StandsIn image.now layout region.old.items table.old r }
-    requires at { StandsAt image.now table.old r (CallLink number) }
-    requires marks { length started.old ≡ length image.now.instances }
-    requires ample { IsAmple layout region.old.items table.old r.top }
-    requires reserved { IsReserved layout (vec_capacity region.old) }
-    ensures marks { length started.new ≡ length started.old }
-    ensures ample { IsAmpleForLink layout region.new.items table.new r result }
-    ensures reserved { vec_capacity region.old ≤ vec_capacity region.new }
-    ensures adds { AddsFrameForLink layout table.old r table.new result }
-    ensures turns_fall { turns.new ≤ turns.old }
-    ensures leads { (s : Stepped) (m : Store) → m.turns ≡ turns.old → ShowsStarted started.old m.started
-        → Shown image.now layout region.old.items table.old r s m
-        → LinkedTo image.now layout region.new.items table.new r started.new s (record m { turns = turns.new; begun = suc m.begun }) result }
 {
     if *turns == 0 {
-        return LinkTurn::Done(Turn::Ends(End::Spent));
+        return LinkTurn::Done(Next::Spent);
     }
     *turns -= 1;
     call_bound(image, number, started, region, table, r, layout, turns)
@@ -167,23 +138,10 @@ pub fn call_again(
     started: &mut [bool],
     region: &mut Vec<u16>,
     table: &mut [Row],
-    r: Registers,
+    r: &mut Registers,
     layout: Layout,
     turns: &mut u64,
 ) -> LinkTurn
-    requires prepared { IsPrepared image.now layout }
-    requires waits { WaitsToCall image.now layout region.old.items table.old r }
-    requires marks { length started.old ≡ length image.now.instances }
-    requires ample { IsAmple layout region.old.items table.old r.top }
-    requires reserved { IsReserved layout (vec_capacity region.old) }
-    ensures marks { length started.new ≡ length started.old }
-    ensures ample { IsAmpleForLink layout region.new.items table.new r result }
-    ensures reserved { vec_capacity region.old ≤ vec_capacity region.new }
-    ensures adds { AddsFrameForLink layout table.old r table.new result }
-    ensures turns_fall { turns.new ≤ turns.old }
-    ensures leads { (s : Stepped) (m : Store) → m.turns ≡ turns.old → ShowsStarted started.old m.started → IsUnstuck image.now s
-        → CallsThen image.now layout region.old.items table.old r s m
-        → LinkedTo image.now layout region.new.items table.new r started.new s (record m { turns = turns.new }) result }
 {
     let row = row_of(table, r.top);
     let procedure = procedure_of(image, row.instance, row.procedure);
