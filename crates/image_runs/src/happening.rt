@@ -58,7 +58,9 @@ fn raise_fault<L: Ledger>(
 ) -> LinkTurn
 {
     let mut after = *r;
-    let next = raise_signal(image, parts, fault, &mut after, uncaught, turns, comparisons);
+    let mut left = *turns;
+    let next = raise_signal(image, parts, fault, &mut after, uncaught, &mut left, comparisons);
+    *turns = left;
     *r = after;
     LinkTurn::Done(next)
 }

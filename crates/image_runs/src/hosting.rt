@@ -36,11 +36,8 @@ fn write_out<K: Sink>(
     out: &mut K,
 ) -> Told
 {
-    match write(writing, image, parts.region.as_slice(), *r, out) {
-        Ok(after) => {
-            *r = after;
-            Told::Next(Next::Goes)
-        }
+    match write(writing, image, parts.region.as_slice(), r, out) {
+        Ok(()) => Told::Next(Next::Goes),
         Err(_) => Told::Fails(RunFault::WriteFault),
     }
 }
@@ -97,7 +94,9 @@ pub(crate) fn call_host<S: Source, K: Sink, C: Ledger>(
         HostProcedure::Write(writing) => write_out(writing, image, parts, r, out),
         HostProcedure::Read(reading) => {
             let mut after = *r;
-            let told = read_in(reading, image, parts, &mut after, uncaught, ahead, turns, input, comparisons);
+            let mut left = *turns;
+            let told = read_in(reading, image, parts, &mut after, uncaught, ahead, &mut left, input, comparisons);
+            *turns = left;
             *r = after;
             told
         }

@@ -40,9 +40,7 @@ fn go_on<S: Source, K: Sink, L: Ledger, C: Ledger>(
     let row = row_of(parts.rows.as_slice(), r.top);
     let code = code_of(image, row.instance);
     let procedure = procedure_in(code, row.procedure);
-    let mut left = *turns;
-    let why = run_top(image, code, procedure, row, parts, r, &mut left, steps);
-    *turns = left;
+    let why = run_top(image, code, procedure, row, parts, r, turns, steps);
     match happen(image, code, procedure, parts, r, uncaught, why, turns, comparisons) {
         LinkTurn::Done(next) => Told::Next(next),
         LinkTurn::Host(host) => call_host(host, image, parts, r, uncaught, ahead, turns, input, out, comparisons),
@@ -50,6 +48,7 @@ fn go_on<S: Source, K: Sink, L: Ledger, C: Ledger>(
 }
 
 // Runs on while an activation goes on.
+#[inline(never)]
 fn run_frames<S: Source, K: Sink, L: Ledger, C: Ledger>(
     first: Registers,
     image: &Image,
@@ -63,14 +62,21 @@ fn run_frames<S: Source, K: Sink, L: Ledger, C: Ledger>(
 ) -> Result<Turn, RunFault>
 {
     let mut r = first;
+    let mut left = *turns;
     let mut uncaught = SignalId::Unnamed;
     'running: loop {
-        match go_on(&mut r, &mut uncaught, image, parts, ahead, turns, input, out, steps, comparisons) {
+        match go_on(&mut r, &mut uncaught, image, parts, ahead, &mut left, input, out, steps, comparisons) {
             Told::Next(next) => match next {
                 Next::Goes => {}
-                _ => return Ok(back(next, r, uncaught)),
+                _ => {
+                    *turns = left;
+                    return Ok(back(next, r, uncaught));
+                }
             },
-            Told::Fails(fault) => return Err(fault),
+            Told::Fails(fault) => {
+                *turns = left;
+                return Err(fault);
+            },
         }
     }
 }

@@ -93,7 +93,9 @@ pub(crate) fn touch<L: Ledger>(
         Instruction::Return => LinkTurn::Done(return_top(code, parts, r)),
         _ => {
             let mut after = *r;
-            let next = signal(image, parts, instruction, &mut after, uncaught, turns, comparisons);
+            let mut left = *turns;
+            let next = signal(image, parts, instruction, &mut after, uncaught, &mut left, comparisons);
+            *turns = left;
             *r = after;
             LinkTurn::Done(next)
         }

@@ -103,7 +103,9 @@ fn call_bound(
         Link::Wanted(wanted) => LinkTurn::Host(host_of(image, wanted)),
         Link::To { instance, number } => {
             let mut after = *r;
-            let next = call_instance(image, caller, instance, number, started, region, table, &mut after, layout, turns);
+            let mut left = *turns;
+            let next = call_instance(image, caller, instance, number, started, region, table, &mut after, layout, &mut left);
+            *turns = left;
             *r = after;
             LinkTurn::Done(next)
         }

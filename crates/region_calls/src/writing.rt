@@ -37,32 +37,21 @@ fn put_operands<K: Sink>(
 
 /// Writes what the topmost operands say, and gives the registers behind the call. Where it fails a prefix was written of
 /// what the machine has written then.
+#[inline(always)]
 pub fn write<K: Sink>(
     writing: Writing,
     image: &Image,
     region: &[u16],
-    r: Registers,
+    r: &mut Registers,
     out: &mut K,
-) -> Result<Registers, Failed>
-    requires can { CanCall region.now r (Write writing) }
-    ensures wrote { OnOk result (IfSome (K.written out.old) (λ bytes.
-        K.written out.new ≡ Some (bytes ++ text_written image.now region.now r writing))) }
-    ensures partly { OnErr result (IfSome (K.written out.old) (λ bytes.
-        AppendsPrefix bytes (text_written image.now region.now r writing) (K.written out.new))) }
-    ensures behind { IfOk result (λ after. after ≡ behind_call (Write writing) r) }
-    ensures leads { WritesOn image.now region.now r writing (text_written image.now region.now r writing) (behind_call (Write writing) r) }
-    ensures fault { OnErr result (Rose (K.faults out.old) (K.faults out.new)) }
-    ensures faults_stay { K.faults out.old ≤ K.faults out.new }
+) -> Result<(), Failed>
 {
-    put_operands(writing, image, region, r, out)?;
+    put_operands(writing, image, region, *r, out)?;
     let takes = match writing {
         Writing::Text => 2,
         Writing::Char | Writing::Decimal => 1,
     };
-    Ok(Registers {
-        top: r.top,
-        slots: r.slots,
-        sp: r.sp - takes,
-        entry: r.entry + 1,
-    })
+    r.sp -= takes;
+    r.entry += 1;
+    Ok(())
 }
