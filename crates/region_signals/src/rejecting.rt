@@ -16,13 +16,14 @@ ghost use Rattle.region_signals.specs.Raising.{ArmsHold, HoldsOn};
 use crate::leaving::leave_on;
 use crate::rows::row_of;
 use crate::seeking::seek_arm;
-use activation_region::{Kind, Layout, Reason, Row, Turn};
+use crate::told::told;
+use activation_region::{Kind, Layout, Reason, Row, Next};
 use code_forms::ModuleCode;
 use mesa_base::{List, Steps};
 use object_files::Image;
 use quiet_run::Registers;
 use ready_images::Plans;
-use signaller::Links;
+use signaller::{Links, SignalId};
 use std::sync::ledger::Ledger;
 
 // Where the operands of the activation of this row and place end.
@@ -41,28 +42,15 @@ pub(crate) fn reject<L: Ledger>(
     links: &List<Links>,
     region: &mut Vec<u16>,
     table: &mut [Row],
-    r: Registers,
+    r: &mut Registers,
+    uncaught: &mut SignalId,
     layout: Layout,
     turns: &mut u64,
     comparisons: &mut Steps<L>,
-) -> Turn
-    requires prepared { IsPrepared image.now layout }
-    requires planned { AllZip IsPlanned image.now.modules plans.now }
-    requires links { ReadsLinks image.now links.now }
-    requires ample { IsAmple layout region.old.items table.old r.top }
-    requires reserved { IsReserved layout (vec_capacity region.old) }
-    requires arms { ArmsHold image.now table.old r.top }
-    requires rejects { CanReject image.now layout region.old.items table.old r }
-    ensures ample { IsAmpleFor layout region.new.items table.new result }
-    ensures reserved { vec_capacity region.old ≤ vec_capacity region.new }
-    ensures turns_fall { turns.new ≤ turns.old }
-    ensures arms { HoldsOn image.now table.new result }
-    ensures leads { (s : Stepped) (m : Store) → IsUnstuck image.now s → m.turns ≡ turns.old
-        → Rejects image.now layout region.old.items table.old r s m
-        → LeadsTo image.now layout region.new.items table.new s (record m { turns = turns.new }) result }
+) -> Next
 {
     match row_of(table, r.top).kind {
-        Kind::Frame => Turn::Empty,
+        Kind::Frame => Next::Empty,
         Kind::Arm { owner, reason, .. } => {
             let under = r.top - 1;
             match reason {
@@ -84,12 +72,15 @@ pub(crate) fn reject<L: Ledger>(
                         region,
                         table,
                         under,
+                        r,
+                        uncaught,
                         layout,
                         turns,
                         comparisons,
                     )
                 }
-                Reason::Jump { target, beyond } => leave_on(
+                Reason::Jump { target, beyond } => {
+                    let turn = leave_on(
                     image,
                     plans,
                     target,
@@ -100,7 +91,9 @@ pub(crate) fn reject<L: Ledger>(
                     layout,
                     turns,
                     comparisons,
-                ),
+                );
+                    told(turn, r, uncaught)
+                }
             }
         }
     }
@@ -114,27 +107,12 @@ pub fn arm_end<L: Ledger>(
     code: &ModuleCode,
     region: &mut Vec<u16>,
     table: &mut [Row],
-    r: Registers,
+    r: &mut Registers,
+    uncaught: &mut SignalId,
     layout: Layout,
     turns: &mut u64,
     comparisons: &mut Steps<L>,
-) -> Turn
-    requires prepared { IsPrepared image.now layout }
-    requires planned { AllZip IsPlanned image.now.modules plans.now }
-    requires links { ReadsLinks image.now links.now }
-    requires ample { IsAmple layout region.old.items table.old r.top }
-    requires reserved { IsReserved layout (vec_capacity region.old) }
-    requires arms { ArmsHold image.now table.old r.top }
-    requires stands { StandsIn image.now layout region.old.items table.old r }
-    requires code { IsCodeOf image.now code.now table.old r }
-    requires at { IsAt code.now table.old r ArmEnd }
-    ensures ample { IsAmpleFor layout region.new.items table.new result }
-    ensures reserved { vec_capacity region.old ≤ vec_capacity region.new }
-    ensures turns_fall { turns.new ≤ turns.old }
-    ensures arms { HoldsOn image.now table.new result }
-    ensures leads { (s : Stepped) (m : Store) → IsUnstuck image.now s → m.turns ≡ turns.old
-        → Shown image.now layout region.old.items table.old r s m
-        → LeadsTo image.now layout region.new.items table.new s (record m { turns = turns.new; begun = suc m.begun }) result }
+) -> Next
 {
     reject(
         image,
@@ -143,6 +121,7 @@ pub fn arm_end<L: Ledger>(
         region,
         table,
         r,
+        uncaught,
         layout,
         turns,
         comparisons,

@@ -19,7 +19,7 @@ ghost use Rattle.region_signals.specs.Raising.{ArmsHold, HoldsOn};
 use crate::arriving::give;
 use crate::rejecting::reject;
 use crate::rows::row_of;
-use activation_region::{Kind, Layout, Reason, Row, Turn};
+use activation_region::{Kind, Layout, Reason, Row, Next};
 use code_forms::{CodeKind, CodeSignal, ModuleCode};
 use mesa_base::{List, Steps};
 use object_files::Image;
@@ -95,24 +95,13 @@ fn give_words(
     count: usize,
     region: &mut [u16],
     table: &[Row],
-    r: Registers,
+    r: &mut Registers,
     layout: Layout,
-) -> Turn
-    requires prepared { IsPrepared image.now layout }
-    requires ample { IsAmple layout region.old table.now r.top }
-    requires stands { StandsIn image.now layout region.old table.now r }
-    requires code { IsCodeOf image.now code.now table.now r }
-    requires at { IsAt code.now table.now r (Resume count) }
-    requires resumes { resumes_with image.now (row_at table.now r.top).kind count ≡ true }
-    requires arms { ArmsHold image.now table.now r.top }
-    ensures ample { IsAmpleFor layout region.new table.now result }
-    ensures arms { HoldsOn image.now table.now result }
-    ensures leads { (s : Stepped) (m : Store) → Shown image.now layout region.old table.now r s m
-        → LeadsTo image.now layout region.new table.now s (record m { begun = suc m.begun }) result }
+) -> Next
 {
     let under = r.top - 1;
     let below = row_of(table, under);
-    Turn::Goes(give(
+    *r = give(
         region,
         below,
         under,
@@ -120,7 +109,8 @@ fn give_words(
         r.sp - count,
         count,
         below.entry + 1,
-    ))
+    );
+    Next::Goes
 }
 
 /// An arm, whose code this is, resumes with so many words: its raiser goes on with them, where its signal takes so many
@@ -134,27 +124,12 @@ pub fn resume<L: Ledger>(
     words: u16,
     region: &mut Vec<u16>,
     table: &mut [Row],
-    r: Registers,
+    r: &mut Registers,
+    uncaught: &mut SignalId,
     layout: Layout,
     turns: &mut u64,
     comparisons: &mut Steps<L>,
-) -> Turn
-    requires prepared { IsPrepared image.now layout }
-    requires planned { AllZip IsPlanned image.now.modules plans.now }
-    requires links { ReadsLinks image.now links.now }
-    requires ample { IsAmple layout region.old.items table.old r.top }
-    requires reserved { IsReserved layout (vec_capacity region.old) }
-    requires arms { ArmsHold image.now table.old r.top }
-    requires stands { StandsIn image.now layout region.old.items table.old r }
-    requires code { IsCodeOf image.now code.now table.old r }
-    requires at { IsAt code.now table.old r (Resume words) }
-    ensures ample { IsAmpleFor layout region.new.items table.new result }
-    ensures reserved { vec_capacity region.old ≤ vec_capacity region.new }
-    ensures turns_fall { turns.new ≤ turns.old }
-    ensures arms { HoldsOn image.now table.new result }
-    ensures leads { (s : Stepped) (m : Store) → IsUnstuck image.now s → m.turns ≡ turns.old
-        → Shown image.now layout region.old.items table.old r s m
-        → LeadsTo image.now layout region.new.items table.new s (record m { turns = turns.new; begun = suc m.begun }) result }
+) -> Next
 {
     if resumes(image, row_of(table, r.top).kind, words) {
         let count = usize::from(words);
@@ -167,6 +142,7 @@ pub fn resume<L: Ledger>(
         region,
         table,
         r,
+        uncaught,
         layout,
         turns,
         comparisons,

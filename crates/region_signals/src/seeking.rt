@@ -15,8 +15,8 @@ ghost use Rattle.region_signals.specs.Seeking.{CanSeek, IsLanding, Seeked, Seeki
 use crate::asking::{around, ask};
 use crate::entering::enter_arm;
 use crate::rows::{owner_of, row_of};
-use activation_region::{Layout, Reason, Row, Turn};
-use machine_steps::End;
+use activation_region::{Layout, Next, Reason, Row};
+use quiet_run::Registers;
 use mesa_base::{List, Steps};
 use object_files::Image;
 use ready_images::Plans;
@@ -87,25 +87,12 @@ pub(crate) fn seek_arm<L: Ledger>(
     region: &mut Vec<u16>,
     table: &mut [Row],
     top: usize,
+    r: &mut Registers,
+    uncaught: &mut SignalId,
     layout: Layout,
     turns: &mut u64,
     comparisons: &mut Steps<L>,
-) -> Turn
-    requires prepared { IsPrepared image.now layout }
-    requires planned { AllZip IsPlanned image.now.modules plans.now }
-    requires links { ReadsLinks image.now links.now }
-    requires ample { IsAmple layout region.old.items table.old top }
-    requires reserved { IsReserved layout (vec_capacity region.old) }
-    requires asks { AskedOf image.now (row_at table.old place) search }
-    requires seeks { CanSeek image.now layout region.old.items table.old top signal from args place search }
-    ensures ample { IsAmpleFor layout region.new.items table.new result }
-    ensures reserved { vec_capacity region.old ≤ vec_capacity region.new }
-    ensures turns_fall { turns.new ≤ turns.old }
-    ensures arms { ArmsHold image.now table.old top → HoldsOn image.now table.new result }
-    ensures runs { RunsArm result }
-    ensures leads { (s : Stepped) (m : Store) → m.turns ≡ turns.old
-        → Seeking image.now layout region.old.items table.old top signal from args place search s m
-        → LeadsTo image.now layout region.new.items table.new s (record m { turns = turns.new }) result }
+) -> Next
 {
     match seek(
         image,
@@ -134,10 +121,14 @@ pub(crate) fn seek_arm<L: Ledger>(
                 region,
                 table,
                 top,
+                r,
                 layout,
                 turns,
             )
         }
-        None => Turn::Ends(End::Uncaught(signal)),
+        None => {
+            *uncaught = signal;
+            Next::Uncaught
+        }
     }
 }
