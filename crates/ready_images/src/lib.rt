@@ -11,6 +11,7 @@ mod plan;
 mod prepared;
 mod sizes;
 mod targets;
+mod ways;
 
 pub use fault::ReadyFault;
 pub use law::{
@@ -20,3 +21,4 @@ pub use law::{
 pub use machine::{Machine, ready};
 pub use plan::{Plan, Plans};
 pub use prepared::Prepared;
+pub use ways::{Around, Way};

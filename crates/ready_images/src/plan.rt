@@ -4,6 +4,7 @@ ghost use Rattle.code_forms.specs.Valid.{Valid};
 ghost use Rattle.ready_images.specs.Ready.{CanBePlanned, IsPlan, IsPlanned};
 
 use crate::targets::targets_of;
+use crate::ways::{Around, Way, arounds_of, catches_of, ways_of};
 use code_forms::{CodeProcedure, ModuleCode};
 use mesa_base::{List, Numbers, OutOfMemory};
 use object_files::Object;
@@ -16,18 +17,22 @@ use std::alloc::Global;
 pub struct Plan {
     pub targets: Numbers,
     pub index: CatchIndex,
+    pub catches: List<Option<u32>>,
+    pub ways: List<Way>,
+    pub arounds: List<Around>,
 }
 
 /// Those of the procedures of a module.
 pub type Plans = List<Plan>;
 
 fn plan_of(alloc: Global, procedure: &CodeProcedure) -> Result<Plan, OutOfMemory>
-    requires { CanBePlanned procedure.now }
-    ensures { IfOk result (IsPlan procedure.now) }
 {
     Ok(Plan {
         targets: targets_of(alloc, procedure.code.as_slice())?,
         index: index(alloc, &procedure.phrases)?,
+        catches: catches_of(alloc, procedure)?,
+        ways: ways_of(alloc, procedure)?,
+        arounds: arounds_of(alloc, &procedure.phrases)?,
     })
 }
 

@@ -8,7 +8,7 @@ ghost use Rattle.code_forms.specs.declared.module_code.CodeProcedure.{CodeProced
 ghost use Rattle.machine_steps.specs.LookUps.{links_of, procedure_of};
 ghost use Rattle.ready_images.specs.Ready.{IsPlanned};
 ghost use Rattle.signaller.specs.Index.{Indexes};
-ghost use Rattle.signaller.specs.Search.{around, covers, first_of, has, next_arm, search_at, unwind_next};
+ghost use Rattle.signaller.specs.Search.{around, covers, first_of, has, next_arm, search_at, arm_for, unwind_next};
 ghost use Rattle.signaller.specs.Sought.{passed};
 ghost use Rattle.activation_region.specs.Shows.{IsPrepared};
 ghost use Rattle.region_signals.specs.Indexed.{AskedOf, BeginsThere, IsRead, ReadsLinks};
@@ -18,8 +18,8 @@ use activation_region::{Layout, Row};
 use code_forms::{Arm, CodeProcedure, Phrase};
 use mesa_base::{List, Steps};
 use object_files::Image;
-use ready_images::Plans;
-use signaller::{CatchIndex, Found, Links, Search, SignalId, innermost, next_arm, unwind_next};
+use ready_images::{Plan, Plans};
+use signaller::{CatchIndex, Found, Links, Search, SignalId, innermost, next_arm, arm_for, unwind_next};
 use std::sync::ledger::Ledger;
 
 fn covers(phrase: &Phrase, offset: u32) -> bool
@@ -99,6 +99,14 @@ fn search_about<L: Ledger>(
     }
 }
 
+/// The plan of a procedure.
+#[inline(always)]
+pub(crate) fn plan_of<'a>(image: &Image, plans: &'a List<Plans>, instance: u32, number: u32) -> &'a Plan
+{
+    let module = image.instances.as_slice()[instance as usize].module as usize;
+    &plans.as_slice()[module].as_slice()[number as usize]
+}
+
 // The index of the phrases of a procedure of an instance.
 #[inline(always)]
 fn index_of<'a>(image: &Image, plans: &'a List<Plans>, instance: u32, number: u32) -> &'a CatchIndex
@@ -119,16 +127,10 @@ pub(crate) fn around<L: Ledger>(
     layout: Layout,
     comparisons: &mut Steps<L>,
 ) -> Search
-    requires prepared { IsPrepared image.now layout }
-    requires planned { AllZip IsPlanned image.now.modules plans.now }
-    requires read { IsRead image.now row }
-    ensures begins { BeginsThere image.now true row result }
-    ensures asks { AskedOf image.now row result }
 {
-    let procedure = procedure_at(image, row.instance, row.procedure);
-    let offset = procedure.code.as_slice()[row.entry].at;
-    let index = index_of(image, plans, row.instance, row.procedure);
-    search_about(procedure, index, offset, comparisons)
+    Search {
+        phrase: plan_of(image, plans, row.instance, row.procedure).catches.as_slice()[row.entry],
+    }
 }
 
 /// The search of a jump that begins in the region where the activation of a row waits: with the innermost phrase, if one is
@@ -158,25 +160,29 @@ pub(crate) fn around_within<L: Ledger>(
 #[inline(always)]
 pub(crate) fn ask(
     image: &Image,
+    plans: &List<Plans>,
     links: &List<Links>,
     row: Row,
     layout: Layout,
     search: Search,
     signal: SignalId,
 ) -> Found
-    requires prepared { IsPrepared image.now layout }
-    requires links { ReadsLinks image.now links.now }
-    requires read { IsRead image.now row }
-    requires asks { AskedOf image.now row search }
-    ensures { (p : CodeProcedure) → procedure_of image.now row.instance row.procedure ≡ Some p
-        → result ≡ next_arm p.phrases search (links_of image.now row.instance) signal }
 {
-    if search.phrase.is_none() {
-        return Found::Beyond;
+    match search.phrase {
+        None => Found::Beyond,
+        Some(number) => {
+            let procedure = procedure_at(image, row.instance, row.procedure);
+            let own = &links.as_slice()[row.instance as usize];
+            let phrase = &procedure.phrases.as_slice()[number as usize];
+            match arm_for(own, signal, phrase.arms.as_slice()) {
+                Some(arm) => {
+                    let around = plan_of(image, plans, row.instance, row.procedure).arounds.as_slice()[number as usize];
+                    Found::Arm(around.first + arm as u32, Search { phrase: around.beyond })
+                }
+                None => next_arm(&procedure.phrases, search, own, &signal),
+            }
+        }
     }
-    let procedure = procedure_at(image, row.instance, row.procedure);
-    let own = &links.as_slice()[row.instance as usize];
-    next_arm(&procedure.phrases, search, own, &signal)
 }
 
 /// What the table of the activation of a row says to the passing of a jump, from a search on.

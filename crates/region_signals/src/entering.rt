@@ -9,13 +9,15 @@ ghost use Rattle.activation_region.specs.Calling.{IsAmpleFor, LeadsTo};
 ghost use Rattle.activation_region.specs.Shows.{IsAmple, IsPrepared, IsReserved};
 ghost use Rattle.region_signals.specs.Arms.{arm_registers, with_params, AddsArm, Awaits, CanEnter};
 
-use crate::arms::{span_at, taken};
-use crate::lookups::{entry_at, procedure_at};
+use crate::arms::taken;
+use crate::asking::plan_of;
 use crate::rows::{owner_of, row_of};
 use activation_region::{Kind, Layout, Next, Reason, Row, Turn, make_room};
 use machine_steps::End;
 use mesa_base::limits::ACTIVATIONS;
+use mesa_base::List;
 use object_files::Image;
+use ready_images::Plans;
 use quiet_run::Registers;
 
 /// Makes a running arm at a place: its parameters are put into the frame of its owner.
@@ -34,7 +36,9 @@ fn open(
 ) -> Registers
 {
     let slots = owner * layout.part;
-    region.copy_within(from..from + words, slots + slot);
+    if words > 0 {
+        region.copy_within(from..from + words, slots + slot);
+    }
     table[top] = row;
     Registers {
         top,
@@ -49,6 +53,7 @@ fn open(
 #[inline(always)]
 pub(crate) fn enter_arm(
     image: &Image,
+    plans: &List<Plans>,
     place: usize,
     arm: u32,
     reason: Reason,
@@ -71,9 +76,8 @@ pub(crate) fn enter_arm(
     }
     make_room(region, layout, top + 1);
     let holder = row_of(table, place);
-    let procedure = procedure_at(image, holder.instance, holder.procedure);
-    let span = span_at(procedure.phrases.as_slice(), arm);
-    let entry = entry_at(procedure.code.as_slice(), span.start);
+    let way = plan_of(image, plans, holder.instance, holder.procedure).ways.as_slice()[arm as usize];
+    let entry = way.entry as usize;
     let owner = owner_of(holder.kind, place);
     let row = Row {
         instance: holder.instance,
@@ -82,8 +86,8 @@ pub(crate) fn enter_arm(
         count: 0,
         kind: Kind::Arm { owner, arm, reason },
     };
-    let words = taken(given, usize::from(span.words));
-    let slot = usize::from(span.slot);
+    let words = taken(given, usize::from(way.words));
+    let slot = usize::from(way.slot);
     let region_words = region.as_mut_slice();
     *r = open(
         region_words,
@@ -103,6 +107,7 @@ pub(crate) fn enter_arm(
 /// The same, told as a turn.
 pub(crate) fn turn_to_arm(
     image: &Image,
+    plans: &List<Plans>,
     place: usize,
     arm: u32,
     reason: Reason,
@@ -119,7 +124,7 @@ pub(crate) fn turn_to_arm(
         sp: 0,
         entry: 0,
     };
-    match enter_arm(image, place, arm, reason, 0, 0, region, table, top, &mut r, layout, turns) {
+    match enter_arm(image, plans, place, arm, reason, 0, 0, region, table, top, &mut r, layout, turns) {
         Next::Goes => Turn::Goes(r),
         Next::FrameLimit => Turn::Ends(End::FrameLimit),
         _ => Turn::Ends(End::Spent),

@@ -114,7 +114,7 @@ pub(crate) fn leave_on<L: Ledger>(
                 beyond: landed.beyond,
             };
             let place = landed.place;
-            turn_to_arm(image, place, landed.arm, reason, region, table, place, layout, turns)
+            turn_to_arm(image, plans, place, landed.arm, reason, region, table, place, layout, turns)
         }
         None => {
             let words = region.as_mut_slice();

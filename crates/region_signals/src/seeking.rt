@@ -44,22 +44,12 @@ pub(crate) fn seek<L: Ledger>(
     first: Search,
     comparisons: &mut Steps<L>,
 ) -> Option<Landed>
-    requires prepared { IsPrepared image.now layout }
-    requires planned { AllZip IsPlanned image.now.modules plans.now }
-    requires links { ReadsLinks image.now links.now }
-    requires rows { (q : ℕ) → q ≤ from → IsAsked image.now table.now q }
-    requires long { from < length table.now }
-    requires first { AskedOf image.now (row_at table.now from) first }
-    ensures landing { IfSome result (IsLanding image.now table.now from) }
-    ensures seeks { (region : List ℕ) → (x : Over) → (S : Activations) → (args : List ℕ) → (m : Store)
-        → Below image.now layout region table.now x S → from < length S
-        → Seeked image.now signal args S m (Goes (Seeks signal args from first S m)) result }
 {
     let mut place = from;
     let mut search = first;
     'seeking: loop {
         let row = row_of(table, place);
-        match ask(image, links, row, layout, search, signal) {
+        match ask(image, plans, links, row, layout, search, signal) {
             Found::Arm(arm, beyond) => return Some(Landed { place, arm, beyond }),
             Found::Beyond => {}
         }
@@ -113,6 +103,7 @@ pub(crate) fn seek_arm<L: Ledger>(
             };
             enter_arm(
                 image,
+                plans,
                 landed.place,
                 landed.arm,
                 reason,

@@ -14,7 +14,7 @@ pub use law::{
     asks_all, asks_enabled, begins_innermost, finds_enabled, finds_first, finds_innermost,
     finds_none, goes_outward, leaves_the_rest, numbers_arms, stays_inside, tables_of_valid,
 };
-pub use outward::{Sought, beyond, place_for};
+pub use outward::{Sought, arm_for, beyond, place_for};
 pub use place::Place;
 pub use search::{Found, LinkSignals, Links, Search, next_arm, unwind_next};
 pub use signal_id::SignalId;

@@ -16,6 +16,7 @@ pub enum Sought<'a> {
     Jump,
 }
 
+#[inline(always)]
 fn same_signal(one: SignalId, other: SignalId) -> bool
     ensures { result ≡ same_signal one other }
 {
@@ -32,6 +33,7 @@ fn same_signal(one: SignalId, other: SignalId) -> bool
 }
 
 // The signal to which a link is bound.
+#[inline(always)]
 fn linked(links: &Links, number: u32) -> Option<SignalId>
     ensures { result ≡ linked (slice_get links.now.signals number) }
 {
@@ -42,6 +44,7 @@ fn linked(links: &Links, number: u32) -> Option<SignalId>
 }
 
 // The signal that the label means.
+#[inline(always)]
 fn meant(links: &Links, label: Label) -> Option<SignalId>
     ensures { result ≡ meant links.now label }
 {
@@ -55,6 +58,7 @@ fn meant(links: &Links, label: Label) -> Option<SignalId>
     }
 }
 
+#[inline(always)]
 fn is_meant(one: Option<SignalId>, signal: SignalId) -> bool
     ensures { result ≡ is_meant one signal }
 {
@@ -70,12 +74,14 @@ fn is_unwind(label: Label) -> bool
     matches!(label, Label::Unwind)
 }
 
+#[inline(always)]
 fn is_any(label: Label) -> bool
     ensures { result ≡ is_any label }
 {
     matches!(label, Label::Any)
 }
 
+#[inline(always)]
 fn label_fits(links: &Links, signal: SignalId, label: Label) -> bool
     ensures { result ≡ label_fits links.now signal label }
 {
@@ -268,4 +274,27 @@ pub fn beyond(table: &CatchTable, outward: bool, phrase: usize) -> Search
     Search {
         phrase: outward_of(outward, table.as_slice(), phrase),
     }
+}
+
+/// The first arm of a phrase that is for a signal.
+#[inline(always)]
+pub fn arm_for(links: &Links, signal: SignalId, arms: &[Arm]) -> Option<usize>
+{
+    for i in 0..arms.len() {
+        if any_label(links, signal, arms[i].labels.as_slice()) {
+            return Some(i);
+        }
+    }
+    None
+}
+
+#[inline(always)]
+fn any_label(links: &Links, signal: SignalId, labels: &[Label]) -> bool
+{
+    for i in 0..labels.len() {
+        if label_fits(links, signal, labels[i]) {
+            return true;
+        }
+    }
+    false
 }
