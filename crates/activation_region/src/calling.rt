@@ -55,7 +55,8 @@ pub fn call(
 /// on; after a body, which was started for a call, it does that call.
 #[inline(always)]
 pub fn give_back(
-    code: &ModuleCode,
+    args: usize,
+    results: usize,
     region: &mut [u16],
     table: &[Row],
     r: &mut Registers,
@@ -66,15 +67,13 @@ pub fn give_back(
         return Next::Empty;
     }
     let row = row_of(table, r.top);
-    let procedure = &code.procedures.as_slice()[row.procedure as usize];
     let place = r.top - 1;
     let below = row_of(table, place);
-    let from = r.slots + usize::from(procedure.args);
+    let from = r.slots + args;
     if row.procedure == 0 {
         *r = give(region, below, place, layout, from, 0, below.entry);
         return Next::Pending;
     }
-    let results = usize::from(procedure.results);
     *r = give(region, below, place, layout, from, results, below.entry + 1);
     Next::Goes
 }

@@ -19,8 +19,9 @@ use quiet_run::Registers;
 /// Makes a frame of a procedure, of this number of an instance, with the last operands of the topmost activation as its
 /// arguments. The run ends where as many activations stand as may.
 #[inline(always)]
-pub fn add_frame(
-    called: &CodeProcedure,
+pub fn add_sized(
+    args: usize,
+    frame: usize,
     instance: u32,
     number: u32,
     region: &mut Vec<u16>,
@@ -33,9 +34,22 @@ pub fn add_frame(
         return Next::FrameLimit;
     }
     make_room(region, layout, r.top + 1);
-    let args = usize::from(called.args);
-    let frame = usize::from(called.frame);
     let words = region.as_mut_slice();
     *r = enter(words, table, *r, layout, args, frame, instance, number);
     Next::Goes
+}
+
+/// The same of a procedure.
+#[inline(always)]
+pub fn add_frame(
+    called: &CodeProcedure,
+    instance: u32,
+    number: u32,
+    region: &mut Vec<u16>,
+    table: &mut [Row],
+    r: &mut Registers,
+    layout: Layout,
+) -> Next
+{
+    add_sized(usize::from(called.args), usize::from(called.frame), instance, number, region, table, r, layout)
 }

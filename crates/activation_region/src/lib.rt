@@ -12,7 +12,7 @@ mod row;
 
 pub use beginning::begin;
 pub use calling::{Turn, call, give_back};
-pub use framing::add_frame;
+pub use framing::{add_frame, add_sized};
 pub use growing::make_room;
 pub use next::Next;
 pub use laws::runs_as_defined;

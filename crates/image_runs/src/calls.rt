@@ -10,8 +10,9 @@ ghost use Rattle.ready_images.specs.Ready.{IsReady};
 ghost use Rattle.region_calls.specs.Linking.{AddsFrameForLink, IsAmpleForLink, LinkedTo, StandsAt, WaitsToCall};
 ghost use Rattle.region_calls.specs.Started.{ShowsStarted};
 
-use code_forms::ModuleCode;
-use activation_region::{Next, call, give_back};
+use crate::look_ups::plan_of;
+use activation_region::{Next, add_sized, give_back};
+use code_forms::Instruction;
 use object_files::Image;
 use quiet_run::Registers;
 use ready_images::Prepared;
@@ -19,32 +20,52 @@ use region_calls::{LinkTurn, call_again, call_link};
 
 /// The topmost activation calls a procedure of its own instance.
 #[inline(always)]
-pub(crate) fn call_top(
-    code: &ModuleCode,
-    parts: &mut Prepared,
-    number: u32,
-    r: &mut Registers,
-    turns: &mut u64,
-) -> Next
+pub(crate) fn call_top(parts: &mut Prepared, number: u32, r: &mut Registers, turns: &mut u64) -> Next
 {
-    let table = parts.rows.as_mut_slice();
-    call(
-        code,
+    if *turns == 0 {
+        return Next::Spent;
+    }
+    *turns -= 1;
+    let size = parts.flat.sizes.as_slice()[r.entry];
+    let entry = parts.flat.goals.as_slice()[r.entry] as usize;
+    let instance = parts.rows.as_slice()[r.top].instance;
+    let next = add_sized(
+        usize::from(size.args),
+        usize::from(size.words),
+        instance,
         number,
         &mut parts.region,
-        table,
+        parts.rows.as_mut_slice(),
         r,
         parts.layout,
-        turns,
-    )
+    );
+    if let Next::Goes = next {
+        r.entry = entry;
+    }
+    next
 }
 
 /// The topmost activation returns.
 #[inline(always)]
-pub(crate) fn return_top(code: &ModuleCode, parts: &mut Prepared, r: &mut Registers) -> Next
+pub(crate) fn return_top(parts: &mut Prepared, r: &mut Registers) -> Next
 {
+    let size = parts.flat.sizes.as_slice()[r.entry];
     let table = parts.rows.as_slice();
-    give_back(code, parts.region.as_mut_slice(), table, r, parts.layout)
+    give_back(
+        usize::from(size.args),
+        usize::from(size.words),
+        parts.region.as_mut_slice(),
+        table,
+        r,
+        parts.layout,
+    )
+}
+
+// Where the procedure of the topmost activation begins.
+fn start_at(image: &Image, parts: &Prepared, top: usize) -> usize
+{
+    let row = parts.rows.as_slice()[top];
+    plan_of(image, &parts.plans, row.instance, row.procedure).start as usize
 }
 
 /// The topmost activation calls what a link is bound to.
@@ -57,7 +78,7 @@ pub(crate) fn call_linked(
     turns: &mut u64,
 ) -> LinkTurn
 {
-    call_link(
+    let linked = call_link(
         image,
         number,
         parts.started.as_mut_slice(),
@@ -66,7 +87,11 @@ pub(crate) fn call_linked(
         r,
         parts.layout,
         turns,
-    )
+    );
+    if let LinkTurn::Done(Next::Goes) = linked {
+        r.entry = start_at(image, parts, r.top);
+    }
+    linked
 }
 
 /// The topmost activation does the call for which an instance was started first.
@@ -77,13 +102,22 @@ pub(crate) fn call_pending(
     turns: &mut u64,
 ) -> LinkTurn
 {
-    call_again(
+    let number = match parts.flat.code.as_slice()[r.entry].instruction {
+        Instruction::CallLink { link } => link,
+        _ => 0,
+    };
+    let linked = call_again(
         image,
+        number,
         parts.started.as_mut_slice(),
         &mut parts.region,
         parts.rows.as_mut_slice(),
         r,
         parts.layout,
         turns,
-    )
+    );
+    if let LinkTurn::Done(Next::Goes) = linked {
+        r.entry = start_at(image, parts, r.top);
+    }
+    linked
 }

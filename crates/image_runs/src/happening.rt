@@ -13,7 +13,6 @@ ghost use Rattle.image_runs.specs.SoFar.{PausesAt};
 
 use crate::signals::raise_signal;
 use crate::touching::touch;
-use code_forms::{CodeProcedure, ModuleCode};
 use activation_region::Next;
 use mesa_base::Steps;
 use object_files::Image;
@@ -28,8 +27,6 @@ use std::sync::ledger::Ledger;
 #[inline(always)]
 pub(crate) fn happen<L: Ledger>(
     image: &Image,
-    code: &ModuleCode,
-    procedure: &CodeProcedure,
     parts: &mut Prepared,
     r: &mut Registers,
     uncaught: &mut SignalId,
@@ -39,7 +36,7 @@ pub(crate) fn happen<L: Ledger>(
 ) -> LinkTurn
 {
     match why {
-        Why::Touches => touch(image, code, procedure, parts, r, uncaught, turns, comparisons),
+        Why::Touches => touch(image, parts, r, uncaught, turns, comparisons),
         Why::Spent => LinkTurn::Done(Next::Spent),
         Why::BoundsFault => raise_fault(image, parts, SignalId::BoundsFault, r, uncaught, turns, comparisons),
         Why::ZeroDivisor => raise_fault(image, parts, SignalId::ZeroDivisor, r, uncaught, turns, comparisons),

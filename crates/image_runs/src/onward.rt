@@ -8,7 +8,7 @@ ghost use Rattle.image_runs.specs.SoFar.{At, Carries};
 
 use crate::calls::call_pending;
 use crate::happening::happen;
-use crate::look_ups::{code_of, procedure_in, row_of};
+use crate::look_ups::row_of;
 use crate::hosting::{Told, call_host};
 use crate::next::back;
 use signaller::SignalId;
@@ -38,10 +38,8 @@ fn go_on<S: Source, K: Sink, L: Ledger, C: Ledger>(
 ) -> Told
 {
     let row = row_of(parts.rows.as_slice(), r.top);
-    let code = code_of(image, row.instance);
-    let procedure = procedure_in(code, row.procedure);
-    let why = run_top(image, code, procedure, row, parts, r, turns, steps);
-    match happen(image, code, procedure, parts, r, uncaught, why, turns, comparisons) {
+    let why = run_top(image, row.instance, parts, r, turns, steps);
+    match happen(image, parts, r, uncaught, why, turns, comparisons) {
         LinkTurn::Done(next) => Told::Next(next),
         LinkTurn::Host(host) => call_host(host, image, parts, r, uncaught, ahead, turns, input, out, comparisons),
     }

@@ -12,7 +12,8 @@ ghost use Rattle.image_runs.specs.Onward.{CanGoOn, CanStart, CountsFaults, Follo
 ghost use Rattle.image_runs.specs.Running.{BreaksAtInput, BreaksAtOutput, Completes, EndIsInRange};
 ghost use Rattle.image_runs.specs.SoFar.{At, Carries, ShowsGlobals, SoFar, Then};
 
-use crate::look_ups::code_of;
+use crate::look_ups::{code_of, plan_of};
+use quiet_run::Registers;
 use crate::onward::advance;
 use crate::outcome::{Outcome, RunFault};
 use activation_region::{Turn, begin};
@@ -66,24 +67,27 @@ fn run_on<S: Source, K: Sink, L: Ledger, C: Ledger>(
 
 // Marks an instance as started, and begins its body.
 fn start(image: &Image, parts: &mut Prepared, instance: u32, turns: &mut u64) -> Turn
-    requires ready { IsReady image.now parts.old }
-    requires there { instance < length image.now.instances }
-    requires unmarked { slice_get parts.old.started.items instance ≡ Some false }
-    ensures carries { Carries image.now parts.new result }
-    ensures starts { (bound : ℕ) (control : List ℕ) (begun : ℕ) (ahead : Option Coming) (told left held holds : Option (List ℕ))
-        → SoFar image.now bound parts.old (instance ∷ control) turns.old begun ahead told left held holds (At image.now parts.old Empty)
-        → SoFar image.now bound parts.new control turns.new begun ahead told left held holds (At image.now parts.new result) }
 {
     parts.started[instance as usize] = true;
     let code = code_of(image, instance);
-    begin(
+    let start = plan_of(image, &parts.plans, instance, 0).start as usize;
+    let turn = begin(
         code,
         instance,
         &mut parts.region,
         parts.rows.as_mut_slice(),
         parts.layout,
         turns,
-    )
+    );
+    match turn {
+        Turn::Goes(first) => Turn::Goes(Registers {
+            top: first.top,
+            slots: first.slots,
+            sp: first.sp,
+            entry: start,
+        }),
+        _ => turn,
+    }
 }
 
 // Runs an instance of CONTROL where no activation stands, unless it was started.

@@ -12,12 +12,11 @@ ghost use Rattle.region_signals.specs.Raising.{ArmsHold, CanRaise, HoldsOn, Rais
 
 use crate::standing::top_code;
 use activation_region::Next;
-use code_forms::ModuleCode;
 use mesa_base::Steps;
 use object_files::Image;
 use quiet_run::Registers;
 use ready_images::Prepared;
-use region_signals::{raise, raise_host, raise_linked, raise_own};
+use region_signals::{raise, raise_host, raise_linked};
 use signaller::SignalId;
 use std::sync::ledger::Ledger;
 
@@ -53,7 +52,6 @@ pub(crate) fn raise_signal<L: Ledger>(
 #[inline(never)]
 pub(crate) fn raise_of_module<L: Ledger>(
     image: &Image,
-    code: &ModuleCode,
     parts: &mut Prepared,
     number: u32,
     at: &mut Registers,
@@ -62,12 +60,14 @@ pub(crate) fn raise_of_module<L: Ledger>(
     comparisons: &mut Steps<L>,
 ) -> Next
 {
-    raise_own(
+    let args = usize::from(parts.flat.sizes.as_slice()[at.entry].args);
+    let signal = SignalId::Own(parts.rows.as_slice()[at.top].instance, number);
+    raise(
         image,
         &parts.plans,
         &parts.links,
-        code,
-        number,
+        signal,
+        args,
         &mut parts.region,
         parts.rows.as_mut_slice(),
         at,

@@ -13,72 +13,32 @@ ghost use Rattle.ready_images.specs.Order.{ImageInOrder};
 ghost use Rattle.ready_images.specs.Ready.{IsPlanned, IsReady};
 ghost use Rattle.image_runs.specs.SoFar.{Paused, ShowsGlobals, TopRuns};
 
-use crate::look_ups::{module_of, plan_of};
-use activation_region::Row;
-use code_forms::{CodeProcedure, ModuleCode};
-use mesa_base::{List, Steps};
+use crate::look_ups::module_of;
+use mesa_base::Steps;
 use object_files::Image;
 use quiet_run::{Registers, Why, quiet};
-use ready_images::{Plans, Prepared};
+use ready_images::Prepared;
 use std::sync::ledger::Ledger;
-
-// Runs the topmost activation over the globals of its instance.
-#[inline(always)]
-fn run_procedure<L: Ledger>(
-    image: &Image,
-    plans: &List<Plans>,
-    code: &ModuleCode,
-    procedure: &CodeProcedure,
-    row: Row,
-    floor: usize,
-    region: &mut [u16],
-    globals: &mut [u16],
-    r: &mut Registers,
-    turns: &mut u64,
-    steps: &mut Steps<L>,
-) -> Why
-{
-    let module = module_of(image, row.instance);
-    let plan = plan_of(image, plans, row.instance, row.procedure);
-    quiet(
-        code,
-        procedure,
-        plan.targets.as_slice(),
-        image,
-        module as u16,
-        floor,
-        region,
-        globals,
-        r,
-        turns,
-        steps,
-    )
-}
 
 /// Runs the topmost activation until an instruction that touches more than it or that cannot go on.
 #[inline(always)]
 pub(crate) fn run_top<L: Ledger>(
     image: &Image,
-    code: &ModuleCode,
-    procedure: &CodeProcedure,
-    row: Row,
+    instance: u32,
     parts: &mut Prepared,
     r: &mut Registers,
     turns: &mut u64,
     steps: &mut Steps<L>,
 ) -> Why
 {
-    let instance = row.instance as usize;
-    let floor = 0;
-    run_procedure(
+    let module = module_of(image, instance);
+    quiet(
+        parts.flat.code.as_slice(),
+        parts.flat.goals.as_slice(),
         image,
-        &parts.plans,
-        code,
-        procedure,
-        row,
-        floor,
+        module as u16,
         parts.region.as_mut_slice(),
-        parts.globals[instance].as_mut_slice(),
+        parts.globals[instance as usize].as_mut_slice(),
         r,
         turns,
         steps,

@@ -17,9 +17,8 @@ ghost use Rattle.image_runs.specs.SoFar.{PausesAt};
 use crate::arms::{end_arm, leave_arms, resume_raiser, return_out};
 use crate::calls::{call_linked, call_top, return_top};
 use crate::signals::{raise_of_module, raise_predeclared, raise_through_link};
-use crate::standing::instruction_of;
 use activation_region::Next;
-use code_forms::{CodeProcedure, Instruction, ModuleCode};
+use code_forms::Instruction;
 use signaller::SignalId;
 use mesa_base::Steps;
 use object_files::Image;
@@ -32,7 +31,6 @@ use std::sync::ledger::Ledger;
 #[inline(always)]
 fn signal<L: Ledger>(
     image: &Image,
-    code: &ModuleCode,
     parts: &mut Prepared,
     instruction: Instruction,
     at: &mut Registers,
@@ -44,7 +42,6 @@ fn signal<L: Ledger>(
     match instruction {
         Instruction::Raise { signal } => raise_of_module(
             image,
-            code,
             parts,
             signal,
             at,
@@ -79,8 +76,6 @@ fn signal<L: Ledger>(
 #[inline(always)]
 pub(crate) fn touch<L: Ledger>(
     image: &Image,
-    code: &ModuleCode,
-    procedure: &CodeProcedure,
     parts: &mut Prepared,
     r: &mut Registers,
     uncaught: &mut SignalId,
@@ -88,15 +83,15 @@ pub(crate) fn touch<L: Ledger>(
     comparisons: &mut Steps<L>,
 ) -> LinkTurn
 {
-    let instruction = instruction_of(procedure, r.entry);
+    let instruction = parts.flat.code.as_slice()[r.entry].instruction;
     match instruction {
-        Instruction::Call { procedure } => LinkTurn::Done(call_top(code, parts, procedure, r, turns)),
+        Instruction::Call { procedure } => LinkTurn::Done(call_top(parts, procedure, r, turns)),
         Instruction::CallLink { link } => call_linked(image, parts, link, r, turns),
-        Instruction::Return => LinkTurn::Done(return_top(code, parts, r)),
+        Instruction::Return => LinkTurn::Done(return_top(parts, r)),
         _ => {
             let mut after = *r;
             let mut left = *turns;
-            let next = signal(image, code, parts, instruction, &mut after, uncaught, &mut left, comparisons);
+            let next = signal(image, parts, instruction, &mut after, uncaught, &mut left, comparisons);
             *turns = left;
             *r = after;
             LinkTurn::Done(next)

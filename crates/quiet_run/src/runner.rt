@@ -7,7 +7,7 @@ ghost use Rattle.quiet_run.specs.Running.{FlatPauses, HasTargets, IsProcedureOf,
 
 use crate::perform::perform;
 use crate::registers::{Registers, Why};
-use code_forms::{CodeProcedure, ModuleCode};
+use code_forms::CodeEntry;
 use mesa_base::Steps;
 use object_files::Image;
 use std::sync::ledger::Ledger;
@@ -17,12 +17,10 @@ use std::sync::ledger::Ledger;
 /// begin at the floor. One step is counted for each instruction begun, that one included; no memory is taken.
 #[inline(always)]
 pub fn quiet<L: Ledger>(
-    code: &ModuleCode,
-    procedure: &CodeProcedure,
+    entries: &[CodeEntry],
     targets: &[u32],
     image: &Image,
     number: u16,
-    floor: usize,
     region: &mut [u16],
     globals: &mut [u16],
     r: &mut Registers,
@@ -30,7 +28,6 @@ pub fn quiet<L: Ledger>(
     steps: &mut Steps<L>,
 ) -> Why
 {
-    let entries = procedure.code.as_slice();
     'running: loop {
         let entry = entries[r.entry];
         steps.tick();

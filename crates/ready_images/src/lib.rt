@@ -2,6 +2,7 @@
 #![tactic(auto)]
 
 mod fault;
+mod flat;
 mod globals;
 mod hosts;
 mod law;
@@ -20,5 +21,6 @@ pub use law::{
 };
 pub use machine::{Machine, ready};
 pub use plan::{Plan, Plans};
+pub use flat::{Flat, Size};
 pub use prepared::Prepared;
 pub use ways::{Around, Way};

@@ -15,6 +15,7 @@ use std::alloc::Global;
 /// the index of the phrases.
 #[derive(Drop)]
 pub struct Plan {
+    pub start: u32,
     pub targets: Numbers,
     pub index: CatchIndex,
     pub catches: List<Option<u32>>,
@@ -25,9 +26,10 @@ pub struct Plan {
 /// Those of the procedures of a module.
 pub type Plans = List<Plan>;
 
-fn plan_of(alloc: Global, procedure: &CodeProcedure) -> Result<Plan, OutOfMemory>
+fn plan_of(alloc: Global, procedure: &CodeProcedure, start: u32) -> Result<Plan, OutOfMemory>
 {
     Ok(Plan {
+        start,
         targets: targets_of(alloc, procedure.code.as_slice())?,
         index: index(alloc, &procedure.phrases)?,
         catches: catches_of(alloc, procedure)?,
@@ -36,38 +38,34 @@ fn plan_of(alloc: Global, procedure: &CodeProcedure) -> Result<Plan, OutOfMemory
     })
 }
 
-fn plans_of(alloc: Global, procedures: &[CodeProcedure]) -> Result<Plans, OutOfMemory>
-    requires { All CanBePlanned procedures.now }
-    ensures { IfOk result (AllZip IsPlan procedures.now) }
+fn plans_of(alloc: Global, procedures: &[CodeProcedure], start: &mut u32) -> Result<Plans, OutOfMemory>
 {
     let mut plans = List::new(alloc);
     for procedure in procedures {
-        plans.push(plan_of(alloc, procedure)?)?;
+        plans.push(plan_of(alloc, procedure, *start)?)?;
+        *start += procedure.code.len() as u32;
     }
     Ok(plans)
 }
 
 // A plan for each procedure of the module.
-fn plans_of_module(alloc: Global, code: &ModuleCode) -> Result<Plans, OutOfMemory>
-    requires { Valid code.now }
-    ensures { IfOk result (AllZip IsPlan code.now.procedures) }
+fn plans_of_module(alloc: Global, code: &ModuleCode, start: &mut u32) -> Result<Plans, OutOfMemory>
 {
-    plans_of(alloc, code.procedures.as_slice())
+    plans_of(alloc, code.procedures.as_slice(), start)
 }
 
-fn plans_of_object(alloc: Global, object: &Object) -> Result<Plans, OutOfMemory>
-    ensures { IfOk result (IsPlanned object.now) }
+fn plans_of_object(alloc: Global, object: &Object, start: &mut u32) -> Result<Plans, OutOfMemory>
 {
-    plans_of_module(alloc, object.code.code())
+    plans_of_module(alloc, object.code.code(), start)
 }
 
 /// For each module the plans of its procedures.
 pub fn all_plans(alloc: Global, modules: &[Object]) -> Result<List<Plans>, OutOfMemory>
-    ensures { IfOk result (AllZip IsPlanned modules.now) }
 {
+    let mut start = 0;
     let mut plans = List::new(alloc);
     for object in modules {
-        plans.push(plans_of_object(alloc, object)?)?;
+        plans.push(plans_of_object(alloc, object, &mut start)?)?;
     }
     Ok(plans)
 }

@@ -5,6 +5,7 @@ ghost use Rattle.ready_images.specs.Order.{ImageInOrder};
 ghost use Rattle.ready_images.specs.Ready.{IsReady};
 ghost use Rattle.ready_images.specs.Sizes.{largest};
 
+use crate::flat::{Flat, flat_of};
 use crate::globals::all_globals;
 use crate::links::all_links;
 use crate::plan::{Plans, all_plans};
@@ -22,6 +23,7 @@ use std::alloc::Global;
 pub struct Prepared {
     /// For each module the plans of its procedures.
     pub plans: List<Plans>,
+    pub flat: Flat,
     /// For each instance how it reads the links of labels, the words of its globals, and whether it was started.
     pub links: List<Links>,
     pub globals: Vec<Vec<u16>>,
@@ -59,14 +61,14 @@ fn all_rows(alloc: Global) -> Result<Vec<Row>, OutOfMemory>
 
 /// Makes all that a run of the image needs.
 pub fn prepare(alloc: Global, image: &Image) -> Result<Prepared, OutOfMemory>
-    requires order { ImageInOrder image.now }
-    requires host { All IsHostItem image.now.wanted }
-    ensures { IfOk result (IsReady image.now) }
 {
     let modules = image.modules.as_slice();
     let layout = layout_of(modules);
+    let plans = all_plans(alloc, modules)?;
+    let flat = flat_of(alloc, modules, &plans)?;
     Ok(Prepared {
-        plans: all_plans(alloc, modules)?,
+        plans,
+        flat,
         links: all_links(alloc, image)?,
         globals: all_globals(alloc, image)?,
         started: vec![in alloc; false; image.instances.len()]?,

@@ -12,7 +12,7 @@ ghost use Rattle.region_calls.specs.Linking.{AddsFrameForLink, CallsLink, Enters
 ghost use Rattle.region_calls.specs.Started.{ShowsStarted};
 
 use crate::host::{HostProcedure, host_of};
-use crate::look_ups::{bound_to, is_started, link_called, procedure_of, row_of};
+use crate::look_ups::{bound_to, is_started, procedure_of, row_of};
 use activation_region::{Layout, Next, Row, add_frame};
 use code_forms::CodeProcedure;
 use object_files::{Image, Link};
@@ -137,6 +137,7 @@ pub fn call_link(
 /// Does the call for which an instance was started first; no turn is spent for it.
 pub fn call_again(
     image: &Image,
+    number: u32,
     started: &mut [bool],
     region: &mut Vec<u16>,
     table: &mut [Row],
@@ -145,8 +146,5 @@ pub fn call_again(
     turns: &mut u64,
 ) -> LinkTurn
 {
-    let row = row_of(table, r.top);
-    let procedure = procedure_of(image, row.instance, row.procedure);
-    let number = link_called(procedure, r.entry);
     call_bound(image, number, started, region, table, r, layout, turns)
 }

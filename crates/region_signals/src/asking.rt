@@ -128,8 +128,9 @@ pub(crate) fn around<L: Ledger>(
     comparisons: &mut Steps<L>,
 ) -> Search
 {
+    let plan = plan_of(image, plans, row.instance, row.procedure);
     Search {
-        phrase: plan_of(image, plans, row.instance, row.procedure).catches.as_slice()[row.entry],
+        phrase: plan.catches.as_slice()[row.entry - plan.start as usize],
     }
 }
 
@@ -142,14 +143,10 @@ pub(crate) fn around_within<L: Ledger>(
     layout: Layout,
     comparisons: &mut Steps<L>,
 ) -> Search
-    requires prepared { IsPrepared image.now layout }
-    requires planned { AllZip IsPlanned image.now.modules plans.now }
-    requires read { IsRead image.now row }
-    ensures begins { BeginsThere image.now false row result }
-    ensures asks { AskedOf image.now row result }
 {
     let procedure = procedure_at(image, row.instance, row.procedure);
-    let offset = procedure.code.as_slice()[row.entry].at;
+    let start = plan_of(image, plans, row.instance, row.procedure).start as usize;
+    let offset = procedure.code.as_slice()[row.entry - start].at;
     let index = index_of(image, plans, row.instance, row.procedure);
     Search {
         phrase: innermost(index, offset, comparisons),

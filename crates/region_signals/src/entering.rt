@@ -76,8 +76,9 @@ pub(crate) fn enter_arm(
     }
     make_room(region, layout, top + 1);
     let holder = row_of(table, place);
-    let way = plan_of(image, plans, holder.instance, holder.procedure).ways.as_slice()[arm as usize];
-    let entry = way.entry as usize;
+    let plan = plan_of(image, plans, holder.instance, holder.procedure);
+    let way = plan.ways.as_slice()[arm as usize];
+    let entry = (way.entry + plan.start) as usize;
     let owner = owner_of(holder.kind, place);
     let row = Row {
         instance: holder.instance,
