@@ -36,7 +36,7 @@ pub(crate) fn happen<L: Ledger>(
 ) -> LinkTurn
 {
     match why {
-        Why::Touches => touch(image, parts, r, uncaught, turns, comparisons),
+        Why::Touches(instruction) => touch(image, instruction, parts, r, uncaught, turns, comparisons),
         Why::Spent => LinkTurn::Done(Next::Spent),
         Why::BoundsFault => raise_fault(image, parts, SignalId::BoundsFault, r, uncaught, turns, comparisons),
         Why::ZeroDivisor => raise_fault(image, parts, SignalId::ZeroDivisor, r, uncaught, turns, comparisons),

@@ -13,7 +13,6 @@ ghost use Rattle.ready_images.specs.Order.{ImageInOrder};
 ghost use Rattle.ready_images.specs.Ready.{IsPlanned, IsReady};
 ghost use Rattle.image_runs.specs.SoFar.{Paused, ShowsGlobals, TopRuns};
 
-use crate::look_ups::module_of;
 use mesa_base::Steps;
 use object_files::Image;
 use quiet_run::{Registers, Why, quiet};
@@ -31,14 +30,13 @@ pub(crate) fn run_top<L: Ledger>(
     steps: &mut Steps<L>,
 ) -> Why
 {
-    let module = module_of(image, instance);
     quiet(
         parts.flat.code.as_slice(),
         parts.flat.goals.as_slice(),
         image,
-        module as u16,
         parts.region.as_mut_slice(),
-        parts.globals[instance as usize].as_mut_slice(),
+        &mut parts.globals,
+        instance as usize,
         r,
         turns,
         steps,

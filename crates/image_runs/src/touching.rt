@@ -76,6 +76,7 @@ fn signal<L: Ledger>(
 #[inline(always)]
 pub(crate) fn touch<L: Ledger>(
     image: &Image,
+    instruction: Instruction,
     parts: &mut Prepared,
     r: &mut Registers,
     uncaught: &mut SignalId,
@@ -83,7 +84,6 @@ pub(crate) fn touch<L: Ledger>(
     comparisons: &mut Steps<L>,
 ) -> LinkTurn
 {
-    let instruction = parts.flat.code.as_slice()[r.entry].instruction;
     match instruction {
         Instruction::Call { procedure } => LinkTurn::Done(call_top(parts, procedure, r, turns)),
         Instruction::CallLink { link } => call_linked(image, parts, link, r, turns),

@@ -193,7 +193,7 @@ pub(crate) fn operate(
         Instruction::CheckC { least, most } => return check(Base::Unsigned, least, most, region, r),
         Instruction::StrLen => string_length(image, region, r),
         Instruction::StrAt => return string_at(image, region, r),
-        _ => return Some(Why::Touches),
+        _ => return Some(Why::Touches(instruction)),
     }
     None
 }

@@ -23,27 +23,20 @@ pub(crate) fn perform(
     instruction: Instruction,
     targets: &[u32],
     image: &Image,
-    number: u16,
     region: &mut [u16],
-    globals: &mut [u16],
+    all: &mut Vec<Vec<u16>>,
+    instance: usize,
     r: &mut Registers,
     turns: &mut u64,
 ) -> Option<Why>
-    requires fits { Fits instruction (length region.old) (length globals.old) r.old }
-    requires target { r.old.entry < length targets.now }
-    requires number { number < 65535 }
-    ensures { Flows (flat (text_of image.now) number instruction (slice_index targets.now r.old.entry)
-        (record { region = region.old; globals = globals.old; registers = r.old; turns = turns.old })) result
-        (record { region = region.old; globals = globals.old; registers = r.old; turns = turns.old })
-        (record { region = region.new; globals = globals.new; registers = r.new; turns = turns.new }) }
 {
     match instruction {
         Instruction::Lit { word } => literal(word, region, r),
-        Instruction::Str { literal } => string(number, literal, region, r),
+        Instruction::Str { literal } => string(targets[r.entry] as u16, literal, region, r),
         Instruction::LoadL { slot, words } => load(slot, words, region, r),
         Instruction::StoreL { slot, words } => store(slot, words, region, r),
-        Instruction::LoadG { slot, words } => load_global(slot, words, globals, region, r),
-        Instruction::StoreG { slot, words } => store_global(slot, words, globals, region, r),
+        Instruction::LoadG { slot, words } => load_global(slot, words, all[instance].as_slice(), region, r),
+        Instruction::StoreG { slot, words } => store_global(slot, words, all[instance].as_mut_slice(), region, r),
         Instruction::LoadLX {
             slot,
             extent,
@@ -63,19 +56,19 @@ pub(crate) fn perform(
             extent,
             words,
         } => {
-            return load_global_indexed(slot, extent, words, globals, region, r);
+            return load_global_indexed(slot, extent, words, all[instance].as_slice(), region, r);
         }
         Instruction::StoreGX {
             slot,
             extent,
             words,
         } => {
-            return store_global_indexed(slot, extent, words, globals, region, r);
+            return store_global_indexed(slot, extent, words, all[instance].as_mut_slice(), region, r);
         }
         Instruction::Pop { words } => pop(words, r),
         Instruction::Roll { words, over } => roll(words, over, region, r),
         Instruction::ZeroL { slot, words } => zero(slot, words, region, r),
-        Instruction::ZeroG { slot, words } => zero_global(slot, words, globals, r),
+        Instruction::ZeroG { slot, words } => zero_global(slot, words, all[instance].as_mut_slice(), r),
         Instruction::Jump { .. } => r.entry = targets[r.entry] as usize,
         Instruction::JumpIf { .. } => jump_if(targets, region, r),
         Instruction::JumpIfNot { .. } => jump_if_not(targets, region, r),

@@ -1,3 +1,5 @@
+use code_forms::Instruction;
+
 /// Where the topmost activation stands: its place, where its variables begin in the region of words, where the next operand
 /// goes there, and the number of its next entry.
 #[derive(Clone, Copy)]
@@ -12,7 +14,7 @@ pub struct Registers {
 #[derive(Clone, Copy)]
 pub enum Why {
     /// It touches more than this activation.
-    Touches,
+    Touches(Instruction),
     /// No turn is left for it.
     Spent,
     BoundsFault,

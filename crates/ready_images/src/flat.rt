@@ -21,10 +21,11 @@ pub struct Flat {
     pub sizes: List<Size>,
 }
 
-fn goal_of(instruction: Instruction, target: u32, start: u32, plans: &[Plan]) -> u32
+fn goal_of(instruction: Instruction, module: u32, target: u32, start: u32, plans: &[Plan]) -> u32
 {
     match instruction {
         Instruction::Call { procedure } => plans[procedure as usize].start,
+        Instruction::Str { .. } => module,
         _ => target + start,
     }
 }
@@ -51,22 +52,22 @@ fn size_of(instruction: Instruction, code: &ModuleCode, own: &CodeProcedure) -> 
     }
 }
 
-fn add_procedure(flat: &mut Flat, code: &ModuleCode, own: &CodeProcedure, plans: &[Plan], plan: &Plan) -> Result<(), OutOfMemory>
+fn add_procedure(flat: &mut Flat, code: &ModuleCode, own: &CodeProcedure, plans: &[Plan], plan: &Plan, module: u32) -> Result<(), OutOfMemory>
 {
     let entries = own.code.as_slice();
     for number in 0..entries.len() {
         let entry = entries[number];
         flat.code.push(entry)?;
-        flat.goals.push(goal_of(entry.instruction, plan.targets.as_slice()[number], plan.start, plans))?;
+        flat.goals.push(goal_of(entry.instruction, module, plan.targets.as_slice()[number], plan.start, plans))?;
         flat.sizes.push(size_of(entry.instruction, code, own))?;
     }
     Ok(())
 }
 
-fn add_module(flat: &mut Flat, code: &ModuleCode, plans: &[Plan]) -> Result<(), OutOfMemory>
+fn add_module(flat: &mut Flat, code: &ModuleCode, plans: &[Plan], module: u32) -> Result<(), OutOfMemory>
 {
     for number in 0..code.procedures.len() {
-        add_procedure(flat, code, &code.procedures.as_slice()[number], plans, &plans[number])?;
+        add_procedure(flat, code, &code.procedures.as_slice()[number], plans, &plans[number], module)?;
     }
     Ok(())
 }
@@ -80,7 +81,7 @@ pub fn flat_of(alloc: Global, modules: &[Object], plans: &List<Plans>) -> Result
         sizes: List::new(alloc),
     };
     for number in 0..modules.len() {
-        add_module(&mut flat, modules[number].code.code(), plans.as_slice()[number].as_slice())?;
+        add_module(&mut flat, modules[number].code.code(), plans.as_slice()[number].as_slice(), number as u32)?;
     }
     Ok(flat)
 }
