@@ -6,39 +6,63 @@ ghost use Rattle.quiet_run.specs.Flat.{part, with_part, behind};
 use crate::registers::Registers;
 
 /// Copies words of the region to a part of it that has none of them.
-#[inline(always)]
-pub(crate) fn copy(region: &mut [u16], from: usize, to: usize, count: usize)
-    requires apart { (from + count ≤ to) ⊎ (to + count ≤ from) }
-    requires source { from + count ≤ length region.old }
-    requires room { to + count ≤ length region.old }
-    ensures { region.new ≡ with_part region.old to (part region.old from count) }
+#[inline(never)]
+fn copy_many(region: &mut [u16], from: usize, to: usize, count: usize)
 {
     for i in 0..count {
         region[to + i] = region[from + i];
     }
 }
 
-/// Copies words of another list to the region, or of the region to another list.
+/// The same, one word in line.
 #[inline(always)]
-pub(crate) fn bring(words: &[u16], from: usize, region: &mut [u16], to: usize, count: usize)
-    requires source { from + count ≤ length words.now }
-    requires room { to + count ≤ length region.old }
-    ensures { region.new ≡ with_part region.old to (part words.now from count) }
+pub(crate) fn copy(region: &mut [u16], from: usize, to: usize, count: usize)
+{
+    if count == 1 {
+        region[to] = region[from];
+        return;
+    }
+    copy_many(region, from, to, count);
+}
+
+/// Copies words of another list to the region, or of the region to another list.
+#[inline(never)]
+fn bring_many(words: &[u16], from: usize, region: &mut [u16], to: usize, count: usize)
 {
     for i in 0..count {
         region[to + i] = words[from + i];
     }
 }
 
-/// Sets words to 0.
+/// The same, one word in line.
 #[inline(always)]
-pub(crate) fn clear(region: &mut [u16], at: usize, count: usize)
-    requires room { at + count ≤ length region.old }
-    ensures { region.new ≡ with_part region.old at (replicate count 0) }
+pub(crate) fn bring(words: &[u16], from: usize, region: &mut [u16], to: usize, count: usize)
+{
+    if count == 1 {
+        region[to] = words[from];
+        return;
+    }
+    bring_many(words, from, region, to, count);
+}
+
+/// Sets words to 0.
+#[inline(never)]
+fn clear_many(region: &mut [u16], at: usize, count: usize)
 {
     for i in 0..count {
         region[at + i] = 0;
     }
+}
+
+/// The same, one word in line.
+#[inline(always)]
+pub(crate) fn clear(region: &mut [u16], at: usize, count: usize)
+{
+    if count == 1 {
+        region[at] = 0;
+        return;
+    }
+    clear_many(region, at, count);
 }
 
 /// The operand of this number, the topmost one being 1.

@@ -5,9 +5,9 @@ use code_forms::Instruction;
 #[derive(Clone, Copy)]
 pub struct Registers {
     pub top: usize,
-    pub slots: usize,
-    pub sp: usize,
     pub entry: usize,
+    pub sp: usize,
+    pub slots: usize,
 }
 
 /// Why the run of the topmost activation pauses at an instruction.
