@@ -68,7 +68,7 @@ fn add_row(
 }
 
 /// Makes a frame on top, with the last operands of the activation below as its arguments, and its other variables 0.
-#[inline(never)]
+#[inline(always)]
 pub(crate) fn enter(
     region: &mut [u16],
     table: &mut [Row],
@@ -104,7 +104,7 @@ pub(crate) fn enter(
 }
 
 /// Gives up the activation on top: the one below, of this row, goes on at an entry, and is given words that stand above it.
-#[inline(never)]
+#[inline(always)]
 pub(crate) fn give(
     region: &mut [u16],
     row: Row,

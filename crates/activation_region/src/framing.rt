@@ -19,6 +19,7 @@ use quiet_run::Registers;
 
 /// Makes a frame of a procedure, of this number of an instance, with the last operands of the topmost activation as its
 /// arguments. The run ends where as many activations stand as may.
+#[inline(always)]
 pub fn add_frame(
     called: &CodeProcedure,
     instance: u32,

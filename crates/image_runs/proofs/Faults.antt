@@ -1,10 +1,12 @@
 -- How the faults of the source and of the sink are counted.
 use Rattle.std.proofs.Common.{◌≡◌, ℕ, ◌≤◌, inl, inr, refl, subst, arith}
-use Rattle.std.specs.Prelude.{Ok, Err, IsErrOf}
+use Rattle.std.specs.Prelude.{Option, Some, None, Result, Ok, Err, IsErrOf}
 use Rattle.mesa_base.specs.Outside.{Rose}
+use Rattle.quiet_run.specs.declared.registers.Registers.{Registers}
+use Rattle.activation_region.specs.declared.calling.Turn.{Turn}
 use Rattle.image_runs.specs.declared.outcome.RunFault.{RunFault}
 use Rattle.image_runs.specs.declared.outcome.RunFault.TheVariants.{ReadFault, WriteFault}
-use Rattle.image_runs.specs.Onward.{CountsFaults}
+use Rattle.image_runs.specs.Onward.{CountsFaults, onward_or}
 
 pub rose_later : (old low new : ℕ) → old ≤ low → Rose low new → Rose old new
 rose_later old low new l (inl less) = inl (omega (arith, l, less))
@@ -31,3 +33,10 @@ later_failed {A} {B} fault read low read' written least written' l k c = record 
   source_stays = let s = c.source_stays in omega (arith, l, s);
   sink_stays = let s = c.sink_stays in omega (arith, k, s);
 }
+
+-- where the activation goes on in its registers
+pub settled_faults : (result : Result (Option Turn) RunFault) (r : Registers) (read read' written written' : ℕ) → CountsFaults (onward_or result r) read read' written written'
+    → CountsFaults result read read' written written'
+settled_faults (Ok None) r read read' written written' c = none_failed None read read' written written' c.source_stays c.sink_stays
+settled_faults (Ok (Some turn)) r read read' written written' c = none_failed (Some turn) read read' written written' c.source_stays c.sink_stays
+settled_faults (Err fault) r read read' written written' c = later_failed fault read read read' written written written' (omega arith) (omega arith) c

@@ -277,3 +277,25 @@ falls image p0 p turns0 turns first steps steps' ahead0 ahead left0 left holds0 
     let k = few c.bound c.control (c.begun + (steps - first)) c.told c.held c.short (f c.bound c.control c.begun (c.begun + (steps - first)) c.told c.held c.short refl c.so) in
     let m = most_of_bound image c.bound c.few in
     falls_by (most image 18446744073709551616) first steps steps' (waits turn') l more (omega (arith, k, m, l, more)) (waits_little turn')
+
+-- the same of the loop in which an activation goes on
+pub frame_falls : (image : Image) (p0 p : Prepared) (turns0 turns first steps steps' : ℕ) (ahead0 ahead : Option Coming) (left0 left holds0 holds : Option (List ℕ)) (begin : Turn) (r : Registers)
+    → first ≤ steps → CanGoOn image p0 turns0 ahead0 left0 holds0 (At image p0 begin)
+    → Follows image p0 p turns0 turns (steps - first) ahead0 ahead left0 left holds0 holds (At image p0 begin) (Ok (GoesOn r))
+    → steps < steps' → BeginsFew image p turns (steps' - steps) ahead left holds (At image p (GoesOn r))
+    → still_most image first steps' < still_most image first steps
+frame_falls image p0 p turns0 turns first steps steps' ahead0 ahead left0 left holds0 holds begin r l c f more few =
+    let k = few c.bound c.control (c.begun + (steps - first)) c.told c.held c.short (f c.bound c.control c.begun (c.begun + (steps - first)) c.told c.held c.short refl c.so) in
+    let m = most_of_bound image c.bound c.few in
+    frame_falls_by (most image 18446744073709551616) first steps steps' l more (omega (arith, k, m, l, more))
+  where
+    frame_falls_by : (M first steps steps' : ℕ) → first ≤ steps → steps < steps' → steps' ≤ M + first → M + first - steps' < M + first - steps
+    frame_falls_by M first steps steps' a b c = omega (arith, a, b, c)
+
+-- what began few instructions after others did in all
+pub few_in_all : (image : Image) (p0 p : Prepared) (turns0 turns one two count : ℕ) (ahead0 ahead : Option Coming) (left0 left holds0 holds : Option (List ℕ)) (begin : Turn) (r : Registers)
+    → Follows image p0 p turns0 turns one ahead0 ahead left0 left holds0 holds (At image p0 begin) (Ok (GoesOn r))
+    → BeginsFew image p turns two ahead left holds (At image p (GoesOn r)) → count ≡ one + two
+    → BeginsFew image p0 turns0 count ahead0 left0 holds0 (At image p0 begin)
+few_in_all image p0 p turns0 turns one two count ahead0 ahead left0 left holds0 holds begin r f few e bound control begun told held short so =
+    let k = few bound control (begun + one) told held short (f bound control begun (begun + one) told held short refl so) in omega (arith, k, e)

@@ -1,11 +1,12 @@
 -- On what the pause of the topmost activation stands, and what the rows of arms hold afterwards (rule of this project).
-use Rattle.std.specs.Prelude.{List, Bool, true, false}
+use Rattle.std.specs.Prelude.{List, Bool, true, false, Option, Some, None}
 use Rattle.code_forms.specs.declared.instruction.Instruction.{Instruction}
 use Rattle.code_forms.specs.declared.instruction.Instruction.TheVariants.{Call, CallLink, Return}
 use Rattle.object_files.specs.declared.image.Image.{Image}
 use Rattle.machine_steps.specs.State.{Store, Stepped}
 use Rattle.quiet_run.specs.declared.registers.Registers.{Registers}
 use Rattle.quiet_run.specs.declared.registers.Why.{Why}
+use Rattle.activation_region.specs.declared.calling.Turn.TheVariants.{Goes}
 use Rattle.activation_region.specs.declared.row.Row.{Row}
 use Rattle.activation_region.specs.Reaching.{IsUnstuck}
 use Rattle.region_calls.specs.declared.linking.LinkTurn.{LinkTurn}
@@ -25,6 +26,11 @@ pub record CanPause (image : Image) (p : Prepared) (r : Registers) (why : Why) :
 abbrev pub HoldsOnLink : Image → List Row → Registers → LinkTurn → Type 0
 HoldsOnLink image rows r (Done turn) = HoldsOn image rows turn
 HoldsOnLink image rows r (Host h) = ArmsHold image rows r.top
+
+-- where a call or an arm leads: to the activation that goes on with these registers, unless something else is told
+abbrev pub linked_or : Option LinkTurn → Registers → LinkTurn
+linked_or None r = Done (Goes r)
+linked_or (Some turn) r = turn
 
 -- an instruction that calls or returns
 abbrev pub is_call : Instruction → Bool

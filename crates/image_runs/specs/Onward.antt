@@ -77,6 +77,12 @@ last_turn (Ok None) = Ok Empty
 last_turn (Ok (Some end)) = Ok (Ends end)
 last_turn (Err fault) = Err fault
 
+-- where a turn leads: to the activation that goes on with these registers, unless something else is told
+abbrev pub onward_or : Result (Option Turn) RunFault → Registers → Result Turn RunFault
+onward_or (Ok None) r = Ok (Goes r)
+onward_or (Ok (Some turn)) r = Ok turn
+onward_or (Err fault) r = Err fault
+
 -- where a run breaks off, the source or the sink has failed once more; their counts of faults never fall
 pub record CountsFaults {A : Type 0} (result : Result A RunFault) (read read' written written' : ℕ) : Type 0 where
   pub of_source : IsErrOf result ReadFault → Rose read read'

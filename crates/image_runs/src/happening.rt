@@ -8,11 +8,11 @@ ghost use Rattle.ready_images.specs.Ready.{IsReady};
 ghost use Rattle.region_calls.specs.Linking.{IsAmpleForLink, LinkedTo};
 ghost use Rattle.region_calls.specs.Started.{ShowsStarted};
 ghost use Rattle.region_signals.specs.Raising.{ArmsHold};
-ghost use Rattle.image_runs.specs.Happening.{CanPause, HoldsOnLink};
+ghost use Rattle.image_runs.specs.Happening.{CanPause, HoldsOnLink, linked_or};
 ghost use Rattle.image_runs.specs.SoFar.{PausesAt};
 
 use crate::signals::raise_signal;
-use crate::touching::touch;
+use crate::touching::{settle, touch};
 use activation_region::Turn;
 use machine_steps::End;
 use mesa_base::Steps;
@@ -24,47 +24,42 @@ use signaller::SignalId;
 use std::sync::ledger::Ledger;
 
 /// What the pause of the topmost activation leads to: the instruction that touches more is done, the run ends for want of
-/// a turn, or the fault is raised.
+/// a turn, or the fault is raised. The registers are those of the activation that goes on, unless something else is told.
+#[inline(always)]
 pub(crate) fn happen<L: Ledger>(
     image: &Image,
     parts: &mut Prepared,
-    r: Registers,
+    r: &mut Registers,
     why: Why,
     turns: &mut u64,
     comparisons: &mut Steps<L>,
-) -> LinkTurn
+) -> Option<LinkTurn>
     requires ready { IsReady image.now parts.old }
-    requires ample { IsAmple parts.old.layout parts.old.region.items parts.old.rows.items r.top }
-    requires arms { ArmsHold image.now parts.old.rows.items r.top }
-    requires pauses { CanPause image.now parts.old r why }
+    requires ample { IsAmple parts.old.layout parts.old.region.items parts.old.rows.items r.old.top }
+    requires arms { ArmsHold image.now parts.old.rows.items r.old.top }
+    requires pauses { CanPause image.now parts.old r.old why }
     ensures ready { IsReady image.now parts.new }
-    ensures ample { IsAmpleForLink parts.new.layout parts.new.region.items parts.new.rows.items r result }
-    ensures arms { HoldsOnLink image.now parts.new.rows.items r result }
+    ensures ample { IsAmpleForLink parts.new.layout parts.new.region.items parts.new.rows.items r.old (linked_or result r.new) }
+    ensures arms { HoldsOnLink image.now parts.new.rows.items r.old (linked_or result r.new) }
     ensures globals { parts.new.globals.items ≡ parts.old.globals.items }
     ensures turns_fall { turns.new ≤ turns.old }
     ensures leads { (s : Stepped) (m : Store) → m.turns ≡ turns.old → ShowsStarted parts.old.started.items m.started → IsUnstuck image.now s
-        → PausesAt image.now parts.old.layout parts.old.region.items parts.old.rows.items r why s m
-        → LinkedTo image.now parts.new.layout parts.new.region.items parts.new.rows.items r parts.new.started.items s
-        (record m { turns = turns.new; begun = suc m.begun }) result }
+        → PausesAt image.now parts.old.layout parts.old.region.items parts.old.rows.items r.old why s m
+        → LinkedTo image.now parts.new.layout parts.new.region.items parts.new.rows.items r.old parts.new.started.items s
+        (record m { turns = turns.new; begun = suc m.begun }) (linked_or result r.new) }
 {
     match why {
         Why::Touches => touch(image, parts, r, turns, comparisons),
-        Why::Spent => LinkTurn::Done(Turn::Ends(End::Spent)),
-        Why::BoundsFault => LinkTurn::Done(raise_signal(
-            image,
-            parts,
-            SignalId::BoundsFault,
-            r,
-            turns,
-            comparisons,
-        )),
-        Why::ZeroDivisor => LinkTurn::Done(raise_signal(
-            image,
-            parts,
-            SignalId::ZeroDivisor,
-            r,
-            turns,
-            comparisons,
-        )),
+        Why::Spent => Some(LinkTurn::Done(Turn::Ends(End::Spent))),
+        Why::BoundsFault => {
+            let fault = SignalId::BoundsFault;
+            let turn = raise_signal(image, parts, fault, *r, turns, comparisons);
+            settle(turn, r)
+        }
+        Why::ZeroDivisor => {
+            let fault = SignalId::ZeroDivisor;
+            let turn = raise_signal(image, parts, fault, *r, turns, comparisons);
+            settle(turn, r)
+        }
     }
 }

@@ -27,6 +27,7 @@ use signaller::SignalId;
 use std::sync::ledger::Ledger;
 
 // Writes what the call of the topmost activation says.
+#[inline(always)]
 fn write_out<K: Sink>(
     writing: Writing,
     image: &Image,
@@ -81,6 +82,7 @@ fn read_then<C: Ledger>(
 }
 
 // Reads what the call of the topmost activation asks for.
+#[inline(never)]
 fn read_in<S: Source, C: Ledger>(
     reading: Reading,
     image: &Image,
@@ -112,6 +114,7 @@ fn read_in<S: Source, C: Ledger>(
 
 /// Does the call of the topmost activation, of a procedure of the host: the run goes on, or breaks off where the source or
 /// the sink fails.
+#[inline(always)]
 pub(crate) fn call_host<S: Source, K: Sink, C: Ledger>(
     host: HostProcedure,
     image: &Image,

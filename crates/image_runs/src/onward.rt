@@ -3,7 +3,7 @@
 ghost use Rattle.std.specs.Prelude.{◌≡◌, ◌-◌, ◌<◌, ◌≤◌, IfOk};
 ghost use Rattle.activation_region.specs.declared.calling.Turn.TheVariants.{Goes, Pending};
 ghost use Rattle.ready_images.specs.Ready.{IsReady};
-ghost use Rattle.image_runs.specs.Onward.{Advances, BeginsFew, CanGoOn, CountsFaults, Follows, waits};
+ghost use Rattle.image_runs.specs.Onward.{Advances, BeginsFew, CanGoOn, CountsFaults, Follows, onward_or, waits};
 ghost use Rattle.image_runs.specs.SoFar.{At, Carries};
 
 use crate::calls::call_pending;
@@ -19,9 +19,77 @@ use ready_images::Prepared;
 use region_calls::{Coming, LinkTurn};
 use std::sync::ledger::Ledger;
 
-// The topmost activation runs up to an instruction that touches more than it or that cannot go on, and that is done.
+// Where an activation goes on, the registers are its; else what a call of the host leads to is given.
+#[inline(always)]
+fn settle_told(told: Result<Turn, RunFault>, r: &mut Registers) -> Result<Option<Turn>, RunFault>
+    ensures { onward_or result r.new ≡ told }
+{
+    match told {
+        Ok(turn) => match turn {
+            Turn::Goes(after) => {
+                *r = after;
+                Ok(None)
+            }
+            _ => Ok(Some(turn)),
+        },
+        Err(fault) => Err(fault),
+    }
+}
+
+// The topmost activation runs up to an instruction that touches more than it or that cannot go on, and that is done. The
+// registers are those of the activation that goes on, unless something else is told.
+#[inline(always)]
 fn go_on<S: Source, K: Sink, L: Ledger, C: Ledger>(
-    r: Registers,
+    r: &mut Registers,
+    image: &Image,
+    parts: &mut Prepared,
+    ahead: &mut Option<Coming>,
+    turns: &mut u64,
+    input: &mut S,
+    out: &mut K,
+    steps: &mut Steps<L>,
+    comparisons: &mut Steps<C>,
+) -> Result<Option<Turn>, RunFault>
+    requires carries { Carries image.now parts.old (Goes r.old) }
+    requires run { CanGoOn image.now parts.old turns.old ahead.old (S.left input.old) (K.written out.old) (At image.now parts.old (Goes r.old)) }
+    ensures ready { IsReady image.now parts.new }
+    ensures carries { IfOk (onward_or result r.new) (Carries image.now parts.new) }
+    ensures follows { Follows image.now parts.old parts.new turns.old turns.new (steps.new - steps.old) ahead.old ahead.new
+        (S.left input.old) (S.left input.new) (K.written out.old) (K.written out.new) (At image.now parts.old (Goes r.old)) (onward_or result r.new) }
+    ensures counted { steps.old < steps.new }
+    ensures few { BeginsFew image.now parts.old turns.old (steps.new - steps.old) ahead.old (S.left input.old) (K.written out.old)
+        (At image.now parts.old (Goes r.old)) }
+    ensures faults { CountsFaults result (S.faults input.old) (S.faults input.new) (K.faults out.old) (K.faults out.new) }
+{
+    let pause = run_top(image, parts, *r, *turns, steps);
+    let at = pause.registers;
+    *turns = pause.turns;
+    *r = at;
+    match happen(image, parts, r, pause.why, turns, comparisons) {
+        None => Ok(None),
+        Some(linked) => match linked {
+            LinkTurn::Done(turn) => Ok(Some(turn)),
+            LinkTurn::Host(host) => {
+                let told = call_host(
+                    host,
+                    image,
+                    parts,
+                    at,
+                    ahead,
+                    turns,
+                    input,
+                    out,
+                    comparisons,
+                );
+                settle_told(told, r)
+            }
+        },
+    }
+}
+
+// Runs on while an activation goes on.
+fn run_frames<S: Source, K: Sink, L: Ledger, C: Ledger>(
+    first: Registers,
     image: &Image,
     parts: &mut Prepared,
     ahead: &mut Option<Coming>,
@@ -31,33 +99,36 @@ fn go_on<S: Source, K: Sink, L: Ledger, C: Ledger>(
     steps: &mut Steps<L>,
     comparisons: &mut Steps<C>,
 ) -> Result<Turn, RunFault>
-    requires carries { Carries image.now parts.old (Goes r) }
-    requires run { CanGoOn image.now parts.old turns.old ahead.old (S.left input.old) (K.written out.old) (At image.now parts.old (Goes r)) }
+    requires carries { Carries image.now parts.old (Goes first) }
+    requires run { CanGoOn image.now parts.old turns.old ahead.old (S.left input.old) (K.written out.old) (At image.now parts.old (Goes first)) }
     ensures ready { IsReady image.now parts.new }
     ensures carries { IfOk result (Carries image.now parts.new) }
     ensures follows { Follows image.now parts.old parts.new turns.old turns.new (steps.new - steps.old) ahead.old ahead.new
-        (S.left input.old) (S.left input.new) (K.written out.old) (K.written out.new) (At image.now parts.old (Goes r)) result }
+        (S.left input.old) (S.left input.new) (K.written out.old) (K.written out.new) (At image.now parts.old (Goes first)) result }
     ensures counted { steps.old < steps.new }
     ensures few { BeginsFew image.now parts.old turns.old (steps.new - steps.old) ahead.old (S.left input.old) (K.written out.old)
-        (At image.now parts.old (Goes r)) }
+        (At image.now parts.old (Goes first)) }
     ensures faults { CountsFaults result (S.faults input.old) (S.faults input.new) (K.faults out.old) (K.faults out.new) }
 {
-    let pause = run_top(image, parts, r, *turns, steps);
-    *turns = pause.turns;
-    let r = pause.registers;
-    match happen(image, parts, r, pause.why, turns, comparisons) {
-        LinkTurn::Done(turn) => Ok(turn),
-        LinkTurn::Host(host) => call_host(
-            host,
+    let mut r = first;
+    'running: loop {
+        match go_on(
+            &mut r,
             image,
             parts,
-            r,
             ahead,
             turns,
             input,
             out,
+            steps,
             comparisons,
-        ),
+        ) {
+            Ok(other) => match other {
+                None => {}
+                Some(turn) => return Ok(turn),
+            },
+            Err(fault) => return Err(fault),
+        }
     }
 }
 
@@ -120,7 +191,7 @@ pub(crate) fn advance<S: Source, K: Sink, L: Ledger, C: Ledger>(
     ensures faults { CountsFaults result (S.faults input.old) (S.faults input.new) (K.faults out.old) (K.faults out.new) }
 {
     match turn {
-        Turn::Goes(r) => go_on(
+        Turn::Goes(r) => run_frames(
             r,
             image,
             parts,

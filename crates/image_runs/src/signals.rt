@@ -21,6 +21,7 @@ use signaller::SignalId;
 use std::sync::ledger::Ledger;
 
 /// The topmost activation raises a signal without arguments.
+#[inline(never)]
 pub(crate) fn raise_signal<L: Ledger>(
     image: &Image,
     parts: &mut Prepared,

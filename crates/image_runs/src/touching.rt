@@ -7,10 +7,11 @@ ghost use Rattle.activation_region.specs.Calling.{IsAmpleFor, LeadsTo, StandsIn}
 ghost use Rattle.activation_region.specs.Reaching.{IsUnstuck};
 ghost use Rattle.activation_region.specs.Shows.{IsAmple};
 ghost use Rattle.ready_images.specs.Ready.{IsReady};
+ghost use Rattle.region_calls.specs.declared.linking.LinkTurn.TheVariants.{Done};
 ghost use Rattle.region_calls.specs.Linking.{IsAmpleForLink, LinkedTo, StandsAt};
 ghost use Rattle.region_calls.specs.Started.{ShowsStarted};
 ghost use Rattle.region_signals.specs.Raising.{ArmsHold, HoldsOn};
-ghost use Rattle.image_runs.specs.Happening.{CanPause, HoldsOnLink, is_call};
+ghost use Rattle.image_runs.specs.Happening.{CanPause, HoldsOnLink, is_call, linked_or};
 ghost use Rattle.image_runs.specs.SoFar.{PausesAt};
 
 use crate::arms::{end_arm, leave_arms, resume_raiser, return_out};
@@ -27,6 +28,7 @@ use region_calls::LinkTurn;
 use std::sync::ledger::Ledger;
 
 // What the instruction leads to, at which the topmost activation stands and which neither calls nor returns.
+#[inline(never)]
 fn signal<L: Ledger>(
     image: &Image,
     parts: &mut Prepared,
@@ -82,35 +84,73 @@ fn signal<L: Ledger>(
     }
 }
 
-/// What the instruction leads to, at which the topmost activation stands and which touches more than that activation.
+/// Where an activation goes on, the registers are its; else what a turn leads to is given.
+#[inline(always)]
+pub(crate) fn settle(turn: Turn, r: &mut Registers) -> Option<LinkTurn>
+    ensures { linked_or result r.new ≡ Done turn }
+{
+    match turn {
+        Turn::Goes(after) => {
+            *r = after;
+            None
+        }
+        _ => Some(LinkTurn::Done(turn)),
+    }
+}
+
+/// The same of a call through a link.
+#[inline(always)]
+fn settle_link(turn: LinkTurn, r: &mut Registers) -> Option<LinkTurn>
+    ensures { linked_or result r.new ≡ turn }
+{
+    match turn {
+        LinkTurn::Done(turn) => settle(turn, r),
+        LinkTurn::Host(host) => Some(LinkTurn::Host(host)),
+    }
+}
+
+/// What the instruction leads to, at which the topmost activation stands and which touches more than that activation: the
+/// registers are those of the activation that goes on, unless something else is told.
+#[inline(always)]
 pub(crate) fn touch<L: Ledger>(
     image: &Image,
     parts: &mut Prepared,
-    r: Registers,
+    r: &mut Registers,
     turns: &mut u64,
     comparisons: &mut Steps<L>,
-) -> LinkTurn
+) -> Option<LinkTurn>
     requires ready { IsReady image.now parts.old }
-    requires ample { IsAmple parts.old.layout parts.old.region.items parts.old.rows.items r.top }
-    requires arms { ArmsHold image.now parts.old.rows.items r.top }
-    requires pauses { CanPause image.now parts.old r Touches }
+    requires ample { IsAmple parts.old.layout parts.old.region.items parts.old.rows.items r.old.top }
+    requires arms { ArmsHold image.now parts.old.rows.items r.old.top }
+    requires pauses { CanPause image.now parts.old r.old Touches }
     ensures ready { IsReady image.now parts.new }
-    ensures ample { IsAmpleForLink parts.new.layout parts.new.region.items parts.new.rows.items r result }
-    ensures arms { HoldsOnLink image.now parts.new.rows.items r result }
+    ensures ample { IsAmpleForLink parts.new.layout parts.new.region.items parts.new.rows.items r.old (linked_or result r.new) }
+    ensures arms { HoldsOnLink image.now parts.new.rows.items r.old (linked_or result r.new) }
     ensures globals { parts.new.globals.items ≡ parts.old.globals.items }
     ensures turns_fall { turns.new ≤ turns.old }
     ensures leads { (s : Stepped) (m : Store) → m.turns ≡ turns.old → ShowsStarted parts.old.started.items m.started → IsUnstuck image.now s
-        → PausesAt image.now parts.old.layout parts.old.region.items parts.old.rows.items r Touches s m
-        → LinkedTo image.now parts.new.layout parts.new.region.items parts.new.rows.items r parts.new.started.items s
-        (record m { turns = turns.new; begun = suc m.begun }) result }
+        → PausesAt image.now parts.old.layout parts.old.region.items parts.old.rows.items r.old Touches s m
+        → LinkedTo image.now parts.new.layout parts.new.region.items parts.new.rows.items r.old parts.new.started.items s
+        (record m { turns = turns.new; begun = suc m.begun }) (linked_or result r.new) }
 {
-    let instruction = top_instruction(image, parts, r);
+    let at = *r;
+    let instruction = top_instruction(image, parts, at);
     match instruction {
         Instruction::Call { procedure } => {
-            LinkTurn::Done(call_top(image, parts, procedure, r, turns))
+            let called = call_top(image, parts, procedure, at, turns);
+            settle(called, r)
         }
-        Instruction::CallLink { link } => call_linked(image, parts, link, r, turns),
-        Instruction::Return => LinkTurn::Done(return_top(image, parts, r)),
-        _ => LinkTurn::Done(signal(image, parts, instruction, r, turns, comparisons)),
+        Instruction::CallLink { link } => {
+            let linked = call_linked(image, parts, link, at, turns);
+            settle_link(linked, r)
+        }
+        Instruction::Return => {
+            let returned = return_top(image, parts, at);
+            settle(returned, r)
+        }
+        _ => {
+            let turn = signal(image, parts, instruction, at, turns, comparisons);
+            settle(turn, r)
+        }
     }
 }

@@ -7,23 +7,23 @@ use Rattle.image_runs.proofs.Faults.{none_failed}
 use Rattle.image_runs.proofs.Onwards.{as_turn, stays}
 use Rattle.image_runs.proofs.onward.advance.Goals as goal
 
-pub go_on-requires-clause-carries : goal.go_on-requires-clause-carries
-go_on-requires-clause-carries g c = subst (λ (t : Turn). Carries c.args.image.now c.args.parts.now t) c.in-Goes.is c.requires.carries
+pub run_frames-requires-clause-carries : goal.run_frames-requires-clause-carries
+run_frames-requires-clause-carries g c = subst (λ (t : Turn). Carries c.args.image.now c.args.parts.now t) c.in-Goes.is c.requires.carries
 
-pub go_on-requires-clause-run : goal.go_on-requires-clause-run
-go_on-requires-clause-run g c =
+pub run_frames-requires-clause-run : goal.run_frames-requires-clause-run
+run_frames-requires-clause-run g c =
     subst (λ (t : Turn). CanGoOn c.args.image.now c.args.parts.now c.args.turns.now c.args.ahead.now (g.S.Source.left c.args.input.now) (g.K.Sink.written c.args.out.now)
     (At c.args.image.now c.args.parts.now t)) c.in-Goes.is c.requires.run
 
 pub returns-in-Goes-clause-follows : goal.returns-in-Goes-clause-follows
 returns-in-Goes-clause-follows g c =
-    as_turn c.args.image.now c.args.parts.now c.go_on.new.parts c.args.turns.now c.go_on.new.turns c.args.ahead.now c.go_on.new.ahead (g.S.Source.left c.args.input.now) (g.S.Source.left c.go_on.new.input)
-    (g.K.Sink.written c.args.out.now) (g.K.Sink.written c.go_on.new.out) c.args.turn (Goes c.in-Goes.r) c.in-Goes.is c.go_on.result _ _ refl c.go_on.ensures.follows
+    as_turn c.args.image.now c.args.parts.now c.run_frames.new.parts c.args.turns.now c.run_frames.new.turns c.args.ahead.now c.run_frames.new.ahead (g.S.Source.left c.args.input.now) (g.S.Source.left c.run_frames.new.input)
+    (g.K.Sink.written c.args.out.now) (g.K.Sink.written c.run_frames.new.out) c.args.turn (Goes c.in-Goes.r) c.in-Goes.is c.run_frames.result _ _ refl c.run_frames.ensures.follows
 
 pub returns-in-Goes-clause-advances : goal.returns-in-Goes-clause-advances
 returns-in-Goes-clause-advances g c =
-    subst (λ (t : Turn). Advances c.args.image.now c.args.parts.now c.args.turns.now c.args.ahead.now (g.S.Source.left c.args.input.now) (g.K.Sink.written c.args.out.now) t c.args.steps.now c.go_on.new.steps c.go_on.result)
-    (sym c.in-Goes.is) (c.go_on.ensures.counted, c.go_on.ensures.few)
+    subst (λ (t : Turn). Advances c.args.image.now c.args.parts.now c.args.turns.now c.args.ahead.now (g.S.Source.left c.args.input.now) (g.K.Sink.written c.args.out.now) t c.args.steps.now c.run_frames.new.steps c.run_frames.result)
+    (sym c.in-Goes.is) (c.run_frames.ensures.counted, c.run_frames.ensures.few)
 
 pub call_then-requires-clause-carries : goal.call_then-requires-clause-carries
 call_then-requires-clause-carries g c = subst (λ (t : Turn). Carries c.args.image.now c.args.parts.now t) c.in-Pending.is c.requires.carries

@@ -1,73 +1,111 @@
 use Rattle.std.proofs.Common.{suc, List, sym, subst}
 use Rattle.activation_region.specs.declared.row.Row.{Row}
 use Rattle.activation_region.specs.Calling.{LeadsTo}
-use Rattle.region_calls.specs.Linking.{StandsAt}
+use Rattle.region_calls.specs.declared.linking.LinkTurn.{LinkTurn}
+use Rattle.region_calls.specs.Linking.{IsAmpleForLink, LinkedTo, StandsAt}
 use Rattle.region_signals.specs.Raising.{HoldsOn}
 use Rattle.ready_images.proofs.Preparing.{ready_is_prepared}
+use Rattle.image_runs.specs.Happening.{HoldsOnLink}
 use Rattle.image_runs.proofs.Pauses.{touches_shown}
 use Rattle.image_runs.proofs.Touches.{can_stand, top_there, arms_added, arms_linked, arms_below, linked_by, no_call}
 use Rattle.image_runs.proofs.touching.touch.Goals as goal
 
 pub top_instruction-instruction-requires-clause-stands : goal.top_instruction-instruction-requires-clause-stands
-top_instruction-instruction-requires-clause-stands g c = can_stand c.args.image.now c.args.parts.now c.args.r c.requires.pauses
+top_instruction-instruction-requires-clause-stands g c = can_stand c.args.image.now c.args.parts.now c.args.r.now c.requires.pauses
 
-pub call_top-requires-clause-stands : goal.call_top-requires-clause-stands
-call_top-requires-clause-stands g c = can_stand c.args.image.now c.args.parts.now c.args.r c.requires.pauses
+pub call_top-called-requires-clause-stands : goal.call_top-called-requires-clause-stands
+call_top-called-requires-clause-stands g c = can_stand c.args.image.now c.args.parts.now c.args.r.now c.requires.pauses
 
-pub call_top-requires-clause-at : goal.call_top-requires-clause-at
-call_top-requires-clause-at g c = subst (λ i. StandsAt c.args.image.now c.args.parts.now.rows.items c.args.r i) c.in-Call.is c.top_instruction-instruction.ensures
+pub call_top-called-requires-clause-at : goal.call_top-called-requires-clause-at
+call_top-called-requires-clause-at g c = subst (λ i. StandsAt c.args.image.now c.args.parts.now.rows.items c.args.r.now i) c.in-Call.is c.top_instruction-instruction.ensures
 
 pub returns-in-Call-clause-arms : goal.returns-in-Call-clause-arms
 returns-in-Call-clause-arms g c =
-    arms_added c.args.image.now c.call_top.new.parts.layout c.args.parts.now.rows.items c.args.r c.call_top.new.parts.rows.items c.call_top.result
-    (top_there c.args.image.now c.args.parts.now.layout (ready_is_prepared c.args.image.now c.args.parts.now c.requires.ready) c.args.parts.now.region.items c.args.parts.now.rows.items c.args.r (can_stand c.args.image.now c.args.parts.now c.args.r c.requires.pauses) c.requires.ample) c.call_top.ensures.adds c.requires.arms
+    subst (λ (l : LinkTurn). HoldsOnLink c.args.image.now c.call_top-called.new.parts.rows.items c.args.r.now l) (sym c.settle.ensures)
+    (arms_added c.args.image.now c.call_top-called.new.parts.layout c.args.parts.now.rows.items c.args.r.now c.call_top-called.new.parts.rows.items c.call_top-called.result
+    (top_there c.args.image.now c.args.parts.now.layout (ready_is_prepared c.args.image.now c.args.parts.now c.requires.ready) c.args.parts.now.region.items c.args.parts.now.rows.items c.args.r.now (can_stand c.args.image.now c.args.parts.now c.args.r.now c.requires.pauses) c.requires.ample) c.call_top-called.ensures.adds c.requires.arms)
 
 pub returns-in-Call-clause-leads : goal.returns-in-Call-clause-leads
 returns-in-Call-clause-leads g c s m turns marks free q =
-    linked_by c.args.image.now c.call_top.new.parts.layout c.call_top.new.parts.region.items c.call_top.new.parts.rows.items c.args.r c.args.parts.now.started.items c.call_top.new.parts.started.items s
-    (record m { turns = c.call_top.new.turns; begun = suc m.begun }) c.call_top.result c.call_top.ensures.marks marks
-    (c.call_top.ensures.leads s m turns (touches_shown c.args.image.now c.args.parts.now.layout c.args.parts.now.region.items c.args.parts.now.rows.items c.args.r s m q))
+    subst (λ (l : LinkTurn). LinkedTo c.args.image.now c.call_top-called.new.parts.layout c.call_top-called.new.parts.region.items c.call_top-called.new.parts.rows.items c.args.r.now c.call_top-called.new.parts.started.items s
+    (record m { turns = c.call_top-called.new.turns; begun = suc m.begun }) l) (sym c.settle.ensures)
+    (linked_by c.args.image.now c.call_top-called.new.parts.layout c.call_top-called.new.parts.region.items c.call_top-called.new.parts.rows.items c.args.r.now c.args.parts.now.started.items c.call_top-called.new.parts.started.items s
+    (record m { turns = c.call_top-called.new.turns; begun = suc m.begun }) c.call_top-called.result c.call_top-called.ensures.marks marks
+    (c.call_top-called.ensures.leads s m turns (touches_shown c.args.image.now c.args.parts.now.layout c.args.parts.now.region.items c.args.parts.now.rows.items c.args.r.now s m q)))
 
-pub call_linked-requires-clause-stands : goal.call_linked-requires-clause-stands
-call_linked-requires-clause-stands g c = can_stand c.args.image.now c.args.parts.now c.args.r c.requires.pauses
+pub call_linked-linked-requires-clause-stands : goal.call_linked-linked-requires-clause-stands
+call_linked-linked-requires-clause-stands g c = can_stand c.args.image.now c.args.parts.now c.args.r.now c.requires.pauses
 
-pub call_linked-requires-clause-at : goal.call_linked-requires-clause-at
-call_linked-requires-clause-at g c = subst (λ i. StandsAt c.args.image.now c.args.parts.now.rows.items c.args.r i) c.in-CallLink.is c.top_instruction-instruction.ensures
+pub call_linked-linked-requires-clause-at : goal.call_linked-linked-requires-clause-at
+call_linked-linked-requires-clause-at g c = subst (λ i. StandsAt c.args.image.now c.args.parts.now.rows.items c.args.r.now i) c.in-CallLink.is c.top_instruction-instruction.ensures
 
 pub returns-in-CallLink-clause-arms : goal.returns-in-CallLink-clause-arms
 returns-in-CallLink-clause-arms g c =
-    arms_linked c.args.image.now c.call_linked.new.parts.layout c.args.parts.now.rows.items c.args.r c.call_linked.new.parts.rows.items c.call_linked.result
-    (top_there c.args.image.now c.args.parts.now.layout (ready_is_prepared c.args.image.now c.args.parts.now c.requires.ready) c.args.parts.now.region.items c.args.parts.now.rows.items c.args.r (can_stand c.args.image.now c.args.parts.now c.args.r c.requires.pauses) c.requires.ample) c.call_linked.ensures.adds c.requires.arms
+    subst (λ (l : LinkTurn). HoldsOnLink c.args.image.now c.call_linked-linked.new.parts.rows.items c.args.r.now l) (sym c.settle_link.ensures)
+    (arms_linked c.args.image.now c.call_linked-linked.new.parts.layout c.args.parts.now.rows.items c.args.r.now c.call_linked-linked.new.parts.rows.items c.call_linked-linked.result
+    (top_there c.args.image.now c.args.parts.now.layout (ready_is_prepared c.args.image.now c.args.parts.now c.requires.ready) c.args.parts.now.region.items c.args.parts.now.rows.items c.args.r.now (can_stand c.args.image.now c.args.parts.now c.args.r.now c.requires.pauses) c.requires.ample) c.call_linked-linked.ensures.adds c.requires.arms)
 
 pub returns-in-CallLink-clause-leads : goal.returns-in-CallLink-clause-leads
 returns-in-CallLink-clause-leads g c s m turns marks free q =
-    c.call_linked.ensures.leads s m turns marks (touches_shown c.args.image.now c.args.parts.now.layout c.args.parts.now.region.items c.args.parts.now.rows.items c.args.r s m q)
+    subst (λ (l : LinkTurn). LinkedTo c.args.image.now c.call_linked-linked.new.parts.layout c.call_linked-linked.new.parts.region.items c.call_linked-linked.new.parts.rows.items c.args.r.now c.call_linked-linked.new.parts.started.items s
+    (record m { turns = c.call_linked-linked.new.turns; begun = suc m.begun }) l) (sym c.settle_link.ensures)
+    (c.call_linked-linked.ensures.leads s m turns marks (touches_shown c.args.image.now c.args.parts.now.layout c.args.parts.now.region.items c.args.parts.now.rows.items c.args.r.now s m q))
 
-pub return_top-requires-clause-stands : goal.return_top-requires-clause-stands
-return_top-requires-clause-stands g c = can_stand c.args.image.now c.args.parts.now c.args.r c.requires.pauses
+pub return_top-returned-requires-clause-stands : goal.return_top-returned-requires-clause-stands
+return_top-returned-requires-clause-stands g c = can_stand c.args.image.now c.args.parts.now c.args.r.now c.requires.pauses
 
-pub return_top-requires-clause-at : goal.return_top-requires-clause-at
-return_top-requires-clause-at g c = subst (λ i. StandsAt c.args.image.now c.args.parts.now.rows.items c.args.r i) c.in-Return.is c.top_instruction-instruction.ensures
+pub return_top-returned-requires-clause-at : goal.return_top-returned-requires-clause-at
+return_top-returned-requires-clause-at g c = subst (λ i. StandsAt c.args.image.now c.args.parts.now.rows.items c.args.r.now i) c.in-Return.is c.top_instruction-instruction.ensures
 
 pub returns-in-Return-clause-arms : goal.returns-in-Return-clause-arms
 returns-in-Return-clause-arms g c =
-    subst (λ (t : List Row). HoldsOn c.args.image.now t c.return_top.result) (sym c.return_top.ensures.rows)
-    (arms_below c.args.image.now c.args.parts.now.rows.items c.args.r c.return_top.result c.return_top.ensures.below c.requires.arms)
+    subst (λ (l : LinkTurn). HoldsOnLink c.args.image.now c.return_top-returned.new.parts.rows.items c.args.r.now l) (sym c.settle-in-Return.ensures)
+    (subst (λ (t : List Row). HoldsOn c.args.image.now t c.return_top-returned.result) (sym c.return_top-returned.ensures.rows)
+    (arms_below c.args.image.now c.args.parts.now.rows.items c.args.r.now c.return_top-returned.result c.return_top-returned.ensures.below c.requires.arms))
 
 pub returns-in-Return-clause-leads : goal.returns-in-Return-clause-leads
 returns-in-Return-clause-leads g c s m turns marks free q =
-    linked_by c.args.image.now c.return_top.new.parts.layout c.return_top.new.parts.region.items c.return_top.new.parts.rows.items c.args.r c.args.parts.now.started.items c.return_top.new.parts.started.items s
-    (record m { turns = c.args.turns.now; begun = suc m.begun }) c.return_top.result c.return_top.ensures.marks marks
-    (subst (λ t. LeadsTo c.args.image.now c.return_top.new.parts.layout c.return_top.new.parts.region.items c.return_top.new.parts.rows.items s (record m { turns = t; begun = suc m.begun }) c.return_top.result) turns (c.return_top.ensures.leads s m free (touches_shown c.args.image.now c.args.parts.now.layout c.args.parts.now.region.items c.args.parts.now.rows.items c.args.r s m q)))
+    subst (λ (l : LinkTurn). LinkedTo c.args.image.now c.return_top-returned.new.parts.layout c.return_top-returned.new.parts.region.items c.return_top-returned.new.parts.rows.items c.args.r.now c.return_top-returned.new.parts.started.items s
+    (record m { turns = c.args.turns.now; begun = suc m.begun }) l) (sym c.settle-in-Return.ensures)
+    (linked_by c.args.image.now c.return_top-returned.new.parts.layout c.return_top-returned.new.parts.region.items c.return_top-returned.new.parts.rows.items c.args.r.now c.args.parts.now.started.items c.return_top-returned.new.parts.started.items s
+    (record m { turns = c.args.turns.now; begun = suc m.begun }) c.return_top-returned.result c.return_top-returned.ensures.marks marks
+    (subst (λ t. LeadsTo c.args.image.now c.return_top-returned.new.parts.layout c.return_top-returned.new.parts.region.items c.return_top-returned.new.parts.rows.items s (record m { turns = t; begun = suc m.begun }) c.return_top-returned.result) turns (c.return_top-returned.ensures.leads s m free (touches_shown c.args.image.now c.args.parts.now.layout c.args.parts.now.region.items c.args.parts.now.rows.items c.args.r.now s m q))))
 
-pub signal-requires-clause-stands : goal.signal-requires-clause-stands
-signal-requires-clause-stands g c = can_stand c.args.image.now c.args.parts.now c.args.r c.requires.pauses
+pub signal-turn-requires-clause-stands : goal.signal-turn-requires-clause-stands
+signal-turn-requires-clause-stands g c = can_stand c.args.image.now c.args.parts.now c.args.r.now c.requires.pauses
 
-pub signal-requires-clause-no_call : goal.signal-requires-clause-no_call
-signal-requires-clause-no_call g c = no_call c.top_instruction-instruction.result c.in_default.not-Call c.in_default.not-CallLink c.in_default.not-Return
+pub signal-turn-requires-clause-no_call : goal.signal-turn-requires-clause-no_call
+signal-turn-requires-clause-no_call g c = no_call c.top_instruction-instruction.result c.in_default.not-Call c.in_default.not-CallLink c.in_default.not-Return
 
 pub returns-in_default-clause-leads : goal.returns-in_default-clause-leads
 returns-in_default-clause-leads g c s m turns marks free q =
-    linked_by c.args.image.now c.signal.new.parts.layout c.signal.new.parts.region.items c.signal.new.parts.rows.items c.args.r c.args.parts.now.started.items c.signal.new.parts.started.items s
-    (record m { turns = c.signal.new.turns; begun = suc m.begun }) c.signal.result c.signal.ensures.marks marks
-    (c.signal.ensures.leads s m turns free q)
+    subst (λ (l : LinkTurn). LinkedTo c.args.image.now c.signal-turn.new.parts.layout c.signal-turn.new.parts.region.items c.signal-turn.new.parts.rows.items c.args.r.now c.signal-turn.new.parts.started.items s
+    (record m { turns = c.signal-turn.new.turns; begun = suc m.begun }) l) (sym c.settle-in_default.ensures)
+    (linked_by c.args.image.now c.signal-turn.new.parts.layout c.signal-turn.new.parts.region.items c.signal-turn.new.parts.rows.items c.args.r.now c.args.parts.now.started.items c.signal-turn.new.parts.started.items s
+    (record m { turns = c.signal-turn.new.turns; begun = suc m.begun }) c.signal-turn.result c.signal-turn.ensures.marks marks
+    (c.signal-turn.ensures.leads s m turns free q))
+
+pub returns-in-Call-clause-ample : goal.returns-in-Call-clause-ample
+returns-in-Call-clause-ample g c =
+    subst (λ (l : LinkTurn). IsAmpleForLink c.call_top-called.new.parts.layout c.call_top-called.new.parts.region.items c.call_top-called.new.parts.rows.items c.args.r.now l) (sym c.settle.ensures)
+    (c.call_top-called.ensures.ample)
+
+pub returns-in-CallLink-clause-ample : goal.returns-in-CallLink-clause-ample
+returns-in-CallLink-clause-ample g c =
+    subst (λ (l : LinkTurn). IsAmpleForLink c.call_linked-linked.new.parts.layout c.call_linked-linked.new.parts.region.items c.call_linked-linked.new.parts.rows.items c.args.r.now l) (sym c.settle_link.ensures)
+    (c.call_linked-linked.ensures.ample)
+
+pub returns-in-Return-clause-ample : goal.returns-in-Return-clause-ample
+returns-in-Return-clause-ample g c =
+    subst (λ (l : LinkTurn). IsAmpleForLink c.return_top-returned.new.parts.layout c.return_top-returned.new.parts.region.items c.return_top-returned.new.parts.rows.items c.args.r.now l) (sym c.settle-in-Return.ensures)
+    (c.return_top-returned.ensures.ample)
+
+pub returns-in_default-clause-ample : goal.returns-in_default-clause-ample
+returns-in_default-clause-ample g c =
+    subst (λ (l : LinkTurn). IsAmpleForLink c.signal-turn.new.parts.layout c.signal-turn.new.parts.region.items c.signal-turn.new.parts.rows.items c.args.r.now l) (sym c.settle-in_default.ensures)
+    (c.signal-turn.ensures.ample)
+
+pub returns-in_default-clause-arms : goal.returns-in_default-clause-arms
+returns-in_default-clause-arms g c =
+    subst (λ (l : LinkTurn). HoldsOnLink c.args.image.now c.signal-turn.new.parts.rows.items c.args.r.now l) (sym c.settle-in_default.ensures)
+    (c.signal-turn.ensures.arms)
