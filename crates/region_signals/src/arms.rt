@@ -21,6 +21,7 @@ const NONE: Span = Span {
     words: 0,
 };
 
+#[inline(always)]
 fn of_arm(arm: &Arm) -> Span
     ensures { result ≡ span_of arm.now }
 {
@@ -33,6 +34,7 @@ fn of_arm(arm: &Arm) -> Span
 }
 
 /// That of the arm of a number, as arms are numbered over the phrases; of none it is empty.
+#[inline(always)]
 pub(crate) fn span_at(phrases: &[Phrase], number: u32) -> Span
     ensures { result ≡ span_in (slice_get (arms_in phrases.now) number) }
 {
@@ -48,6 +50,7 @@ pub(crate) fn span_at(phrases: &[Phrase], number: u32) -> Span
 }
 
 /// How many of the words given an arm takes as its parameters.
+#[inline(always)]
 pub(crate) fn taken(given: usize, words: usize) -> usize
     ensures { result ≡ taken given words }
 {

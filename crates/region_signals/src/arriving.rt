@@ -19,7 +19,7 @@ use object_files::Image;
 use quiet_run::Registers;
 
 /// The activation of this row and place goes on at an entry, and is given words that stand above it.
-#[inline(never)]
+#[inline(always)]
 pub(crate) fn give(
     region: &mut [u16],
     row: Row,

@@ -76,6 +76,7 @@ fn first_around(table: &[Phrase], offset: u32) -> Option<u32>
 
 // The search of a signal that begins at an offset of a procedure: with the innermost phrase, or, where no phrase is enabled
 // there, outward of the arm in whose region it is.
+#[inline(always)]
 fn search_about<L: Ledger>(
     procedure: &CodeProcedure,
     index: &CatchIndex,
@@ -99,6 +100,7 @@ fn search_about<L: Ledger>(
 }
 
 // The index of the phrases of a procedure of an instance.
+#[inline(always)]
 fn index_of<'a>(image: &Image, plans: &'a List<Plans>, instance: u32, number: u32) -> &'a CatchIndex
     requires planned { AllZip IsPlanned image.now.modules plans.now }
     requires there { IsSome (procedure_of image.now instance number) }
@@ -109,6 +111,7 @@ fn index_of<'a>(image: &Image, plans: &'a List<Plans>, instance: u32, number: u3
 }
 
 /// The search of a signal that begins where the activation of a row waits.
+#[inline(always)]
 pub(crate) fn around<L: Ledger>(
     image: &Image,
     plans: &List<Plans>,
@@ -152,6 +155,7 @@ pub(crate) fn around_within<L: Ledger>(
 }
 
 /// What the table of the activation of a row says to a signal, from a search on.
+#[inline(always)]
 pub(crate) fn ask(
     image: &Image,
     links: &List<Links>,

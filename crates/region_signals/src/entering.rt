@@ -19,7 +19,7 @@ use object_files::Image;
 use quiet_run::Registers;
 
 /// Makes a running arm at a place: its parameters are put into the frame of its owner.
-#[inline(never)]
+#[inline(always)]
 fn open(
     region: &mut [u16],
     table: &mut [Row],
@@ -53,6 +53,7 @@ fn open(
 
 /// Runs an arm of the activation at a place over all activations, the topmost of which stands at `top`; its words stand in
 /// the region. A turn is spent, and the run ends where as many activations stand as may.
+#[inline(always)]
 pub(crate) fn enter_arm(
     image: &Image,
     place: usize,

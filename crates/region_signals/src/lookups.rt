@@ -9,6 +9,7 @@ use code_forms::{CodeEntry, CodeProcedure, ModuleCode};
 use object_files::Image;
 
 /// The number of the instruction that begins at the offset, where one does.
+#[inline(always)]
 pub(crate) fn entry_at(code: &[CodeEntry], offset: u32) -> usize
     requires { InOrder code.now }
     ensures { IsStart (spots code.now) offset → Begins (spots code.now) result offset }
@@ -21,6 +22,7 @@ pub(crate) fn entry_at(code: &[CodeEntry], offset: u32) -> usize
 }
 
 /// The code of an instance.
+#[inline(always)]
 pub(crate) fn code_of(image: &Image, instance: u32) -> &ModuleCode
     requires { IsSome (code_of image.now instance) }
     ensures { code_of image.now instance ≡ Some result.now }
@@ -30,6 +32,7 @@ pub(crate) fn code_of(image: &Image, instance: u32) -> &ModuleCode
 }
 
 /// A procedure of an instance.
+#[inline(always)]
 pub(crate) fn procedure_at(image: &Image, instance: u32, number: u32) -> &CodeProcedure
     requires { IsSome (procedure_of image.now instance number) }
     ensures { procedure_of image.now instance number ≡ Some result.now }

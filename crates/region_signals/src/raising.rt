@@ -28,6 +28,7 @@ use std::sync::ledger::Ledger;
 /// The topmost activation raises a signal, with so many of its operands as arguments: a turn is spent, the phrases are
 /// asked from the innermost outward, and the arm that catches it is run; or the run ends. A fault of an instruction and
 /// the host's signal at the end of the input are raised with none.
+#[inline(always)]
 pub fn raise<L: Ledger>(
     image: &Image,
     plans: &List<Plans>,
@@ -81,6 +82,7 @@ pub fn raise<L: Ledger>(
 }
 
 /// The instruction that raises a signal of the topmost activation's module, whose code this is.
+#[inline(always)]
 pub fn raise_own<L: Ledger>(
     image: &Image,
     plans: &List<Plans>,
@@ -138,6 +140,7 @@ fn raised_by(bound: Link) -> SignalId
 
 /// The instruction that raises a signal of another module, by the number of a link of the topmost activation's module,
 /// whose code this is.
+#[inline(always)]
 pub fn raise_linked<L: Ledger>(
     image: &Image,
     plans: &List<Plans>,
@@ -198,6 +201,7 @@ fn host_signal(fault: u8) -> SignalId
 }
 
 /// The instruction that raises a predeclared signal; the code is that of the topmost activation.
+#[inline(always)]
 pub fn raise_host<L: Ledger>(
     image: &Image,
     plans: &List<Plans>,

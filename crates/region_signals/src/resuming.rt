@@ -29,6 +29,7 @@ use signaller::{Links, SignalId};
 use std::sync::ledger::Ledger;
 
 // The signal or error of a number of an instance, where there is one.
+#[inline(always)]
 #[tactic(auto, unfolding(machine_steps::specs::LookUps::signal_of, machine_steps::specs::LookUps::code_of, machine_steps::specs::LookUps::code_in, machine_steps::specs::LookUps::module_number))]
 fn signal_at(image: &Image, instance: u32, number: u32) -> Option<&CodeSignal>
     ensures { option_copied result ≡ signal_of image.now instance number }
@@ -42,6 +43,7 @@ fn signal_at(image: &Image, instance: u32, number: u32) -> Option<&CodeSignal>
     }
 }
 
+#[inline(always)]
 #[tactic(auto, unfolding(machine_steps::specs::Signals::takes_of))]
 fn takes(kind: CodeKind, results: u16, words: u16) -> bool
     ensures { result ≡ takes_of kind results words }
@@ -54,6 +56,7 @@ fn takes(kind: CodeKind, results: u16, words: u16) -> bool
 }
 
 // Whether a signal takes back so many words.
+#[inline(always)]
 #[tactic(auto, unfolding(machine_steps::specs::Signals::takes_back, machine_steps::specs::Signals::takes_in))]
 fn takes_back(image: &Image, signal: SignalId, words: u16) -> bool
     ensures { result ≡ takes_back image.now signal words }
@@ -71,6 +74,7 @@ fn takes_back(image: &Image, signal: SignalId, words: u16) -> bool
 }
 
 // Whether an activation of this kind resumes with so many words.
+#[inline(always)]
 fn resumes(image: &Image, kind: Kind, words: u16) -> bool
     ensures { result ≡ resumes_with image.now kind words }
 {
@@ -84,6 +88,7 @@ fn resumes(image: &Image, kind: Kind, words: u16) -> bool
 }
 
 /// The raiser under the topmost activation, which is given up, goes on with so many of its operands.
+#[inline(always)]
 fn give_words(
     code: &ModuleCode,
     image: &Image,
@@ -120,6 +125,7 @@ fn give_words(
 
 /// An arm, whose code this is, resumes with so many words: its raiser goes on with them, where its signal takes so many
 /// back; else the arm rejects.
+#[inline(always)]
 pub fn resume<L: Ledger>(
     image: &Image,
     plans: &List<Plans>,

@@ -18,6 +18,7 @@ pub(crate) fn row_of(table: &[Row], place: usize) -> Row
 }
 
 /// The place of the frame of an activation.
+#[inline(always)]
 #[tactic(auto, unfolding(activation_region::specs::Frames::owner_place))]
 pub(crate) fn owner_of(kind: Kind, place: usize) -> usize
     ensures { result ≡ owner_place kind place }
@@ -29,6 +30,7 @@ pub(crate) fn owner_of(kind: Kind, place: usize) -> usize
 }
 
 /// The topmost activation waits where it stands, without so many of its operands.
+#[inline(always)]
 pub(crate) fn wait(table: &mut [Row], r: Registers, layout: Layout, args: usize)
     requires there { r.top < length table.old }
     requires operands { r.top * layout.part + layout.frame + args ≤ r.sp }

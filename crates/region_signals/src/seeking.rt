@@ -32,6 +32,7 @@ pub struct Landed {
 }
 
 /// Seeks the arm for a signal from the activation at a place outward, from a search on; none exactly where none catches it.
+#[inline(always)]
 pub(crate) fn seek<L: Ledger>(
     image: &Image,
     plans: &List<Plans>,
@@ -73,6 +74,7 @@ pub(crate) fn seek<L: Ledger>(
 
 /// A signal that the topmost activation raised, with so many words of arguments, which stand in the region, seeks its arm
 /// from a search on: the arm that catches it is run, or the run ends.
+#[inline(always)]
 pub(crate) fn seek_arm<L: Ledger>(
     image: &Image,
     plans: &List<Plans>,
