@@ -26,23 +26,17 @@ pub enum HostProcedure {
     Read(Reading),
 }
 
-// The one of a name.
-#[tactic(auto, unfolding(machine_steps::specs::LookUps::host_named))]
-fn host_named(name: &[u8]) -> Option<HostProcedure>
-    ensures { option_map host_is result ≡ host_named name.now }
+// The one of a name that is one of theirs: each has a length of its own.
+fn host_named(name: &[u8]) -> HostProcedure
+    requires { IsSome (host_named name.now) }
+    ensures { host_named name.now ≡ Some (host_is result) }
 {
-    if name == b"WriteChar".as_slice() {
-        Some(HostProcedure::Write(Writing::Char))
-    } else if name == b"WriteString".as_slice() {
-        Some(HostProcedure::Write(Writing::Text))
-    } else if name == b"WriteDecimal".as_slice() {
-        Some(HostProcedure::Write(Writing::Decimal))
-    } else if name == b"ReadChar".as_slice() {
-        Some(HostProcedure::Read(Reading::Next))
-    } else if name == b"EndOfInput".as_slice() {
-        Some(HostProcedure::Read(Reading::AtEnd))
-    } else {
-        None
+    match name.len() {
+        8 => HostProcedure::Read(Reading::Next),
+        9 => HostProcedure::Write(Writing::Char),
+        10 => HostProcedure::Read(Reading::AtEnd),
+        11 => HostProcedure::Write(Writing::Text),
+        _ => HostProcedure::Write(Writing::Decimal),
     }
 }
 
@@ -52,5 +46,5 @@ pub(crate) fn host_of(image: &Image, wanted: u32) -> HostProcedure
     ensures { host_of image.now wanted ≡ Some (host_is result) }
 {
     let item = &image.wanted.as_slice()[wanted as usize].item;
-    host_named(item.name.bytes()).unwrap()
+    host_named(item.name.bytes())
 }
