@@ -1,9 +1,7 @@
 -- Arms one behind the other, before the last one is known.
-use Rattle.std.proofs.Common.{◌≡◌, refl, sym, ap, ◌∙◌, ℕ, ◌+◌, List, [], ◌∷◌, ◌++◌, map, arith}
+use Rattle.std.proofs.Common.{◌≡◌, refl, ap, ◌∙◌, ℕ, ◌+◌, List, [], ◌∷◌, ◌++◌, map, arith}
 use Rattle.code_blocks.specs.Blocks as tree
-use Rattle.code_forms.specs.declared.module_code.Label.{Label}
-use Rattle.block_trees.specs.Excess.{excess, excess_in_arms}
-use Rattle.block_trees.specs.Plain.{SeenArm, Seen, seen, seen_arm, arm_step, block_step, arms_in, arms_off, plain, plain_arms, off, off_in_arms}
+use Rattle.block_trees.specs.Plain.{SeenArm, Seen, seen_arm, arm_step, block_step, arms_in, arms_off, plain, plain_arms, off, off_in_arms}
 use Rattle.block_trees.specs.ArmRows.{arms_before}
 use Rattle.block_trees.specs.declared.block.ArmBlock.{ArmBlock}
 use Rattle.block_trees.specs.declared.block.Block.TheFolds.{fold_out-ArmBlock}

@@ -1,5 +1,5 @@
 -- IF and SELECT: the block of a list of tests or cases by the blocks of each.
-use Rattle.std.proofs.Common.{◌≡◌, refl, sym, ap, ◌∙◌, ℕ, zero, suc, ◌+◌, ◌≤◌, ◌<◌, List, [], ◌∷◌, ◌++◌, length, get_or, drop, map, Bool, true, false, not, arith}
+use Rattle.std.proofs.Common.{◌≡◌, refl, sym, ap, ◌∙◌, ℕ, zero, suc, ◌+◌, ◌≤◌, ◌<◌, List, [], ◌∷◌, ◌++◌, length, map, Bool, true, false, not, arith}
 use Rattle.mesa_types.specs.Chain.{chain}
 use Rattle.mesa_types.specs.Counts.{hidden, hidden_cases, hidden_expr, hidden_interval, hidden_tests}
 use Rattle.mesa_types.specs.Plain.{Layer, case, expr, interval, stmt, test, test_step}
@@ -15,10 +15,9 @@ use Rattle.mesa_types.specs.declared.typed_tree.Test.TheVariants as v
 use Rattle.mesa_types.specs.declared.typed_tree.TypedExpr.{TypedExpr}
 use Rattle.mesa_types.specs.declared.typed_tree.Condition.TheOpen.{Test-F}
 use Rattle.mesa_types.specs.declared.typed_tree.Condition.TheFolds.{fold_out-Test, fold-roll-Test}
-use Rattle.code_blocks.specs.Blocks.{Block, Both, Anyhow, Out, nothing}
+use Rattle.code_blocks.specs.Blocks.{Block, Both}
 use Rattle.code_relation.specs.Reading.{Coded}
 use Rattle.code_blocks.specs.Translation as spec
-use Rattle.block_trees.specs.Excess.{excess}
 use Rattle.block_trees.specs.Forms.{case_blocks, case_of, goes_on, is_null, past_if, related_of, test_blocks, test_of, tests_end, within_test_of}
 use Rattle.block_trees.specs.Plain.{in_order}
 use Rattle.block_trees.proofs.StatementSplits.{case_is}

@@ -2,19 +2,19 @@
 use Rattle.std.specs.Prelude.{nat_eq, not}
 use Rattle.std.proofs.lemmas.Bool.{false≢true}
 use Rattle.std.proofs.Math.Dec.{eqb-suc-zero}
-use Rattle.std.proofs.Common.{◌≡◌, ◌≢◌, refl, sym, ap, ◌∙◌, ℕ, zero, suc, ◌+◌, ◌≤◌, ◌<◌, List, [], ◌∷◌, ◌++◌, length, get_or, drop, map, Bool, true, false, arith}
+use Rattle.std.proofs.Common.{◌≡◌, ◌≢◌, refl, sym, ap, ◌∙◌, ℕ, zero, suc, ◌+◌, ◌≤◌, ◌<◌, List, [], ◌∷◌, ◌++◌, length, map, Bool, true, false, arith}
 use Rattle.mesa_types.specs.Chain.{chain}
-use Rattle.mesa_types.specs.Counts.{hidden, hidden_exits}
-use Rattle.mesa_types.specs.Plain.{exit, stmt}
+use Rattle.mesa_types.specs.Counts.{hidden}
+use Rattle.mesa_types.specs.Plain.{exit}
 use Rattle.mesa_types.specs.Typed as t
 use Rattle.mesa_types.specs.declared.typed_tree.Exit.{Exit}
-use Rattle.code_blocks.specs.Blocks.{Block, Both, Ends, Labels, Out, Anyhow, nothing}
+use Rattle.code_blocks.specs.Blocks.{Block, Both, Ends, Labels, Out, Anyhow}
 use Rattle.code_relation.specs.Reading.{Coded}
 use Rattle.code_blocks.specs.Translation as spec
 use Rattle.block_trees.specs.Excess.{excess}
 use Rattle.block_trees.specs.Forms.{exit_blocks, labelled, past_if}
 use Rattle.block_trees.specs.Rows.{excess_among}
-use Rattle.block_trees.proofs.StatementSplits.{exit_is, exits_split}
+use Rattle.block_trees.proofs.StatementSplits.{exit_is}
 
 pub exits_are : (P : Coded) (z : ℕ) (es : t.Exits) (before : Block) → spec.exits P z es before ≡ labelled es (exit_blocks P z es) before
 unfolding labelled exit_blocks

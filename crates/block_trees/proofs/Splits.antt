@@ -12,7 +12,6 @@ use Rattle.mesa_types.specs.declared.typed_tree.Suffix.{Suffix}
 use Rattle.mesa_types.specs.declared.typed_tree.Suffix.TheVariants as v
 use Rattle.mesa_types.specs.declared.typed_tree.TypedExpr.{TypedExpr}
 use Rattle.mesa_types.specs.declared.typed_tree.Condition.TheFolds.{fold-roll-Suffix, fold_out-Arm, fold_out-Operation}
-use Rattle.code_relation.specs.Slots.{fields_of}
 use Rattle.code_blocks.specs.Translation.{has_index}
 
 pub item_at : {A : Type 0} (xs : List A) (i : ℕ) (x : A) → i < length xs → x ≡ get_or xs i x → drop i xs ≡ x ∷ drop (i + 1) xs

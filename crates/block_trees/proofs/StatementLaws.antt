@@ -1,21 +1,14 @@
 -- The block of each form of a statement by those of its parts, where each part begins with its hidden words behind those before it.
 use Rattle.std.proofs.Common.{◌≡◌, refl, sym, ap, ◌∙◌, ℕ, suc, ◌+◌, ◌≤◌, List, [], ◌∷◌, ◌++◌, map, Bool, true, false, not, if◌then◌else◌, arith}
-use Rattle.std.specs.Prelude.{Option, option_map}
 use Rattle.mesa_types.specs.Chain.{chain}
-use Rattle.mesa_types.specs.Counts.{hidden, hidden_cases, hidden_exits, hidden_expr, hidden_exprs, hidden_finish, hidden_interval, hidden_loop, hidden_phrase, hidden_stmts, hidden_suffixes, hidden_targets, words_given, words_of}
-use Rattle.mesa_types.specs.Plain.{case, condition, exit, expr, exprs, interval, kind_of, loop, phrase, stmt, stmts, suffix, target}
+use Rattle.mesa_types.specs.Counts.{hidden, hidden_cases, hidden_expr, hidden_suffixes, hidden_targets, words_of}
+use Rattle.mesa_types.specs.Plain.{case, expr, kind_of, stmt, suffix, target}
 use Rattle.mesa_types.specs.Plain as twin
 use Rattle.mesa_types.specs.Shapes.{words_in}
 use Rattle.mesa_types.specs.Typed as t
-use Rattle.mesa_types.specs.declared.typed_parts.Base.{Base}
-use Rattle.mesa_types.specs.declared.typed_parts.Given.{Given}
 use Rattle.mesa_types.specs.declared.typed_parts.Home.{Home}
 use Rattle.mesa_types.specs.declared.types.TypeTree.{TypeTree}
 use Rattle.mesa_types.specs.declared.typed_tree.Case.{Case}
-use Rattle.mesa_types.specs.declared.typed_tree.Exit.{Exit}
-use Rattle.mesa_types.specs.declared.typed_tree.Interval.{Interval}
-use Rattle.mesa_types.specs.declared.typed_tree.Loop.{Loop}
-use Rattle.mesa_types.specs.declared.typed_tree.Phrase.{Phrase}
 use Rattle.mesa_types.specs.declared.typed_tree.Suffix.{Suffix}
 use Rattle.mesa_types.specs.declared.typed_tree.Target.{Target}
 use Rattle.mesa_types.specs.declared.typed_tree.TypedExpr.{TypedExpr}
@@ -23,14 +16,13 @@ use Rattle.mesa_types.specs.declared.typed_tree.TypedStmt.{TypedStmt}
 use Rattle.mesa_types.specs.declared.typed_tree.TypedStmt.TheVariants as v
 use Rattle.code_forms.specs.declared.instruction.Instruction.TheVariants as i
 use Rattle.code_relation.specs.Loops as loops
-use Rattle.code_relation.specs.OwnCode.{arrange_code, pop_code, total}
+use Rattle.code_relation.specs.OwnCode.{pop_code}
 use Rattle.code_relation.specs.Reading.{Coded}
 use Rattle.code_relation.specs.Slots.{fields_of, spread_code, store, store_within, zero_code}
-use Rattle.code_blocks.specs.Blocks.{Block, Anyhow, Both, Does, Ends, Goes, Here, Out, Statement, nothing}
+use Rattle.code_blocks.specs.Blocks.{Block, Both, Does, Ends, Here, nothing}
 use Rattle.code_blocks.specs.Translation as spec
 use Rattle.block_trees.specs.Excess.{excess, excess_in}
-use Rattle.block_trees.specs.Forms.{assign_of, case_blocks, exit_blocks, if_of, is_null, labelled, past_if, rounds_of, select_of}
-use Rattle.block_trees.specs.Plain.{in_order}
+use Rattle.block_trees.specs.Forms.{assign_of, case_blocks, if_of, is_null, past_if, select_of}
 use Rattle.typed_counts.proofs.WordLaws.{hidden_last}
 use Rattle.block_trees.proofs.CaseLaws.{cases_are, past_second}
 use Rattle.block_trees.proofs.Splits.{nothing_hidden}

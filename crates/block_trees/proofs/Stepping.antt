@@ -14,8 +14,8 @@ use Rattle.block_trees.specs.Excess.{excess}
 use Rattle.block_trees.specs.Forms.{case_blocks, case_of, exit_blocks, goes_on, target_of}
 use Rattle.block_trees.specs.Plain.{in_order}
 use Rattle.block_trees.specs.Rows.{excess_among, sizes_in}
-use Rattle.block_trees.proofs.RowFits.{among_fit, among_joined, in_order_joined, last_fits, row_size, sizes_joined}
-use Rattle.block_trees.proofs.TargetLaws.{first_target, newest}
+use Rattle.block_trees.proofs.RowFits.{among_fit, in_order_joined, last_fits, row_size, sizes_joined}
+use Rattle.block_trees.proofs.TargetLaws.{first_target}
 
 -- blocks more, before what ends a row
 

@@ -1,17 +1,15 @@
 -- The targets of an extractor, and the parts that were taken in the order of the text or in the other one.
-use Rattle.std.proofs.Common.{◌≡◌, refl, sym, ap, ◌∙◌, ℕ, zero, suc, ◌+◌, ◌-◌, ◌≤◌, List, [], ◌∷◌, ◌++◌, reverse, Bool, true, false, if◌then◌else◌, arith}
-use Rattle.std.specs.Prelude.{nat_lt}
+use Rattle.std.proofs.Common.{◌≡◌, refl, ap, ◌∙◌, ℕ, zero, suc, ◌+◌, ◌-◌, ◌≤◌, List, [], ◌∷◌, ◌++◌, reverse, Bool, true, false, if◌then◌else◌, arith}
 use Rattle.std.proofs.lemmas.List.{reverse-append}
-use Rattle.mesa_types.specs.Counts.{hidden_suffixes, hidden_targets}
+use Rattle.mesa_types.specs.Counts.{hidden_suffixes}
 use Rattle.mesa_types.specs.Typed as t
 use Rattle.mesa_types.specs.declared.typed_parts.Home.{Home}
 use Rattle.mesa_types.specs.declared.typed_parts.Part.{Part}
 use Rattle.mesa_types.specs.declared.typed_parts.Range.{Range}
-use Rattle.code_blocks.specs.Blocks.{Block, Both, Does, nothing}
+use Rattle.code_blocks.specs.Blocks.{nothing}
 use Rattle.code_relation.specs.CodeFor.{taken_behind, words_over, words_taken}
 use Rattle.code_relation.specs.Reading.{Coded}
 use Rattle.code_blocks.specs.Translation.{has_index, path, targets}
-use Rattle.block_trees.specs.Excess.{excess}
 use Rattle.block_trees.specs.Forms.{target_of}
 use Rattle.block_trees.specs.Plain.{in_order}
 use Rattle.block_trees.proofs.Splits.{nothing_hidden}

@@ -9,11 +9,11 @@ use Rattle.code_relation.specs.Links.{label_code}
 use Rattle.code_relation.specs.OwnCode.{check_code, index_code, operator_code}
 use Rattle.code_relation.specs.Reading.{Coded, scratch}
 use Rattle.code_relation.specs.Slots.{local_slot, sizes, words_from}
-use Rattle.code_blocks.specs.Blocks.{Block, ArmBlocks, AndArmBlock, Both, Does}
+use Rattle.code_blocks.specs.Blocks.{Block, AndArmBlock, Both, Does}
 use Rattle.code_blocks.specs.Own.{bytes_in}
 use Rattle.code_blocks.specs.Sizes.{size}
 use Rattle.code_blocks.specs.Translation as spec
-use Rattle.block_trees.specs.Excess.{excess, excess_in, excess_in_arms, excess_of_labels}
+use Rattle.block_trees.specs.Excess.{excess, excess_in, excess_in_arms}
 use Rattle.block_trees.specs.Plain.{in_order}
 
 -- the bytes of the first of two fit where those of both do

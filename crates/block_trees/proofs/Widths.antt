@@ -1,12 +1,12 @@
 -- Numbers of words that fit into an instruction.
-use Rattle.std.proofs.Common.{◌≡◌, refl, sym, ap, ◌∙◌, ℕ, zero, suc, ◌+◌, ◌≤◌, List, [], ◌∷◌, ◌++◌, arith}
+use Rattle.std.proofs.Common.{◌≡◌, refl, ap, ◌∙◌, ℕ, zero, suc, ◌+◌, ◌≤◌, List, [], ◌∷◌, ◌++◌, arith}
 use Rattle.std.specs.Prelude.{min}
 use Rattle.mesa_types.specs.declared.typed_parts.Home.{Home}
 use Rattle.mesa_types.specs.declared.typed_parts.Home.TheVariants.{Global, Local}
 use Rattle.code_forms.specs.declared.instruction.Instruction.{Instruction}
 use Rattle.code_relation.specs.OwnCode.{lift_code, pop_code}
 use Rattle.code_relation.specs.Reading.{Coded}
-use Rattle.code_relation.specs.Slots.{clear, copy_code, spread_code, store, zero_code}
+use Rattle.code_relation.specs.Slots.{clear, spread_code, store, zero_code}
 use Rattle.block_trees.specs.Excess.{excess_in, excess_of}
 
 cleared : (P : Coded) (h : Home) (w : ℕ) → excess_of (clear P h w) ≡ 0 → w ≤ 65535

@@ -16,7 +16,7 @@ use Rattle.block_writer.proofs.Queue.{Stage, Onward, first_stage, onward, end_of
 use Rattle.code_blocks.specs.Blocks.{Block}
 use Rattle.code_blocks.specs.Modules.{deepest}
 use Rattle.code_blocks.specs.Sizes.{size, phrase_count}
-use Rattle.code_blocks.specs.Writing.{Env, in_procedure, in_arms, block_code, block_phrases, arms_code, arms_phrases, arms_size, phrase_from}
+use Rattle.code_blocks.specs.Writing.{in_procedure, in_arms, block_code, block_phrases, arms_code, arms_phrases, arms_size, phrase_from}
 use Rattle.code_blocks.specs.Writing as w
 use Rattle.code_blocks.specs.Regions.{Written, returning, first_region, with_arms, written}
 

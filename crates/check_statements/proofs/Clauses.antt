@@ -1,5 +1,5 @@
 -- What checking each form of a statement is, clause by clause.
-use Rattle.std.proofs.Common.{◌≡◌, Bool, true, false, List, [], Ok, refl, sym, ap, ◌∙◌}
+use Rattle.std.proofs.Common.{◌≡◌, Bool, true, false, [], Ok, refl, ap, ◌∙◌}
 use Rattle.std.specs.Prelude.{◌||◌}
 use Rattle.mesa_base.specs.declared.place.Place.{Place}
 use Rattle.mesa_types.specs.Syntax as s
@@ -13,7 +13,6 @@ use Rattle.checking_rules.specs.Ranges.{Into}
 use Rattle.checking_rules.specs.Statements.{Held, held, labels_of_exits, labels_of_repeats, looped, numbered, whole}
 use Rattle.checking_rules.specs.Scopes.{nothing}
 use Rattle.checking_rules.specs.Steps.{Check, State, and_then, ◌>>=◌, pure, in_scope}
-use Rattle.check_clauses.specs.Rules.{truth_of}
 use Rattle.check_clauses.specs.Whole.{from_start}
 use Rattle.check_nested.specs.Turns.{statements_behind}
 use Rattle.check_statements.specs.Rules.{block_inside, block_numbered, block_scope, enable_of, if_inside, loop_inside, marked_if, round, round_in, select_inside, within}

@@ -1,5 +1,5 @@
 -- What stands around the statements of a block or loop, with its labels.
-use Rattle.std.proofs.Common.{◌≡◌, ℕ, List, Some, refl, ap, ◌∙◌}
+use Rattle.std.proofs.Common.{◌≡◌, ℕ, List, Some, refl, ◌∙◌}
 use Rattle.mesa_base.specs.declared.identifier.Identifier.{Identifier}
 use Rattle.checking_rules.specs.Around.{Around, Seen, in_round, in_statement, with_labels}
 use Rattle.checking_rules.specs.Scopes.{Scope}

@@ -9,11 +9,11 @@ use Rattle.mesa_types.specs.declared.syntax.Operator.TheVariants.{Or, And, Add, 
 use Rattle.checking_rules.specs.Typed as t
 use Rattle.checking_rules.specs.Typed.{Base, Signed, Unsigned}
 use Rattle.checking_rules.specs.PlainTypes as v
-use Rattle.checking_rules.specs.PlainTypes.{PlainType, base_of, conforms}
+use Rattle.checking_rules.specs.PlainTypes.{PlainType}
 use Rattle.checking_rules.specs.Operators.{Sort, Number, Letter, Truth, Other, Meeting, Applied, number_type, arithmetic, on_letter, meet, operation}
 use Rattle.checking_rules.specs.Parts.{and_operation, and_part}
 use Rattle.checking_rules.specs.Ranges as ranges
-use Rattle.checking_rules.specs.Ranges.{Typed, range_for}
+use Rattle.checking_rules.specs.Ranges.{Typed}
 use Rattle.checking_rules.proofs.Keeping.{OfSome}
 use Rattle.checking_rules.proofs.SoundTypes.{both_right, none_is_no}
 use Rattle.checking_rules.proofs.SoundConstants.{wrapped}

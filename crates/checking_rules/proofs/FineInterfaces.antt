@@ -10,7 +10,7 @@ use Rattle.mesa_types.specs.declared.faces.ItemKind.TheVariants as item
 use Rattle.mesa_types.specs.declared.syntax.DirectoryItem.{DirectoryItem}
 use Rattle.interface_records.specs.declared.interface.Interface.{Interface}
 use Rattle.checking_rules.specs.PlainTypes as v
-use Rattle.checking_rules.specs.PlainTypes.{PlainType, PlainField, PlainItem, PlainConstant, PlainName, PlainInterface, base_of, fields_of_parts, interface_of, plain_interface}
+use Rattle.checking_rules.specs.PlainTypes.{PlainType, PlainField, PlainItem, PlainConstant, PlainName, PlainInterface, fields_of_parts, interface_of, plain_interface}
 use Rattle.checking_rules.specs.Scopes.{Scope, over, has}
 use Rattle.checking_rules.specs.Meanings as m
 use Rattle.checking_rules.specs.Meanings.{Meaning}

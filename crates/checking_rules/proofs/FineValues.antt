@@ -12,7 +12,7 @@ use Rattle.mesa_types.specs.declared.syntax.Operator.{Operator}
 use Rattle.mesa_types.specs.declared.syntax.Sign.{Sign}
 use Rattle.mesa_types.specs.declared.syntax.Sign.TheVariants.{Positive, Negative}
 use Rattle.checking_rules.specs.Typed as t
-use Rattle.checking_rules.specs.Typed.{Base, Signed, Unsigned, Relation, Home}
+use Rattle.checking_rules.specs.Typed.{Signed, Unsigned, Relation, Home}
 use Rattle.checking_rules.specs.PlainTypes as v
 use Rattle.checking_rules.specs.PlainTypes.{PlainType, PlainField, base_of, conforms, fields, array_parts, is_text, one_base, words_of}
 use Rattle.checking_rules.specs.Scopes.{Scope, nothing, outer}

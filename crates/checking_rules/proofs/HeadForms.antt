@@ -10,7 +10,7 @@ use Rattle.mesa_types.specs.declared.faces.ItemKind.TheVariants as item
 use Rattle.interface_records.specs.declared.interface.Interface.{Interface}
 use Rattle.checking_rules.specs.PlainTypes.{PlainType, PlainField, PlainItem, PlainInterface, field_of, item_of, interface_of, plain_interface}
 use Rattle.checking_rules.specs.Scopes.{nothing}
-use Rattle.checking_rules.specs.Meanings.{Meaning, Later}
+use Rattle.checking_rules.specs.Meanings.{Later}
 use Rattle.checking_rules.specs.Steps.{lift, State, Checked, and_then, ◌>>=◌, only, back}
 use Rattle.checking_rules.specs.Around.{Around, Known, in_constant, body_of, inside}
 use Rattle.checking_rules.specs.Parts.{names_of, each_of, first, first_name}

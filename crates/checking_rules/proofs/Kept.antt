@@ -9,9 +9,8 @@ use Rattle.mesa_types.specs.SyntaxNodes as sn
 use Rattle.mesa_types.specs.declared.faces.ItemKind.TheVariants as item
 use Rattle.mesa_types.specs.Operators as words
 use Rattle.checking_rules.specs.Typed as t
-use Rattle.checking_rules.specs.Typed.{Home}
 use Rattle.checking_rules.specs.PlainTypes as v
-use Rattle.checking_rules.specs.PlainTypes.{PlainType, PlainField, words_of, words_of_fields, kind_of}
+use Rattle.checking_rules.specs.PlainTypes.{PlainType, PlainField, words_of, words_of_fields}
 use Rattle.checking_rules.specs.Scopes.{nothing, has}
 use Rattle.checking_rules.specs.Meanings.{TypeName, Procedure}
 use Rattle.checking_rules.specs.Steps.{refuse, Checked, Check, ◌>>=◌, pure, lift}

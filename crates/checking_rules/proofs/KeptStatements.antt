@@ -12,7 +12,7 @@ use Rattle.mesa_types.specs.declared.syntax.RepeatLabels.TheVariants as repeat
 use Rattle.mesa_types.specs.declared.syntax.TypeBase.{TypeBase}
 use Rattle.mesa_types.specs.declared.syntax.TypeBase.TheVariants.{Unsaid, OfInteger, OfCardinal, OfCharacter, OfName}
 use Rattle.checking_rules.specs.Typed as t
-use Rattle.checking_rules.specs.Typed.{Range, Relation, Home, Given}
+use Rattle.checking_rules.specs.Typed.{Relation, Home, Given}
 use Rattle.checking_rules.specs.PlainTypes.{kind_of, PlainType, PlainField, base_of, conforms, is_text, words_of, depth_of, sign_of}
 use Rattle.checking_rules.specs.Meanings.{Meaning, Variable}
 use Rattle.checking_rules.specs.Steps.{Check, ◌>>=◌, pure, or_refuse}

@@ -14,7 +14,7 @@ use Rattle.mesa_types.specs.declared.syntax.Sign.TheVariants.{Positive, Negative
 use Rattle.checking_rules.specs.Typed as t
 use Rattle.checking_rules.specs.Typed.{Base, Signed, Unsigned, Range, Every, From, Relation, Home}
 use Rattle.checking_rules.specs.PlainTypes as v
-use Rattle.checking_rules.specs.PlainTypes.{PlainType, PlainField, PlainItem, words_of_fields, elements_of, base_of, bounds, conforms, fields, is_text, array_parts, words_of, one_base, same}
+use Rattle.checking_rules.specs.PlainTypes.{PlainType, PlainField, words_of_fields, elements_of, base_of, bounds, conforms, fields, is_text, array_parts, words_of, one_base, same}
 use Rattle.checking_rules.specs.Meanings as m
 use Rattle.checking_rules.specs.Meanings.{Meaning}
 use Rattle.checking_rules.specs.Steps.{Check, Checked, ◌>>=◌, pure, lift}

@@ -23,7 +23,7 @@ use Rattle.checking_rules.specs.Ranges.{Typed, Into}
 use Rattle.checking_rules.specs.Statements.{numbered, Headed, Nothing, Variables, Held, held, text_constant, constant_by, constant_meaning, labels_of_exits, numbers_from}
 use Rattle.checking_rules.specs.Phrases.{holds, is_catch}
 use Rattle.checking_rules.specs.Checking.{phrase, arms, statement, statements, exits, block, heads, head, initials, initial}
-use Rattle.checking_rules.specs.Written.{ExprWritten, TypeWritten, LabelsWritten, PhraseWritten, ArmsWritten, StatementWritten, StatementsWritten, BlockWritten, LocalsWritten, ItemWritten, ExitsWritten}
+use Rattle.checking_rules.specs.Written.{ExprWritten, PhraseWritten, ArmsWritten, StatementWritten, StatementsWritten, BlockWritten, LocalsWritten, ItemWritten, ExitsWritten}
 use Rattle.checking_rules.specs.Written as written
 use Rattle.checking_rules.proofs.SoundTypes.{TypeIn, no_truth, word_kind}
 use Rattle.checking_rules.proofs.SoundConstants.{constant_word}

@@ -9,12 +9,12 @@ use Rattle.mesa_types.specs.declared.faces.ItemKind.TheVariants as item
 use Rattle.mesa_types.specs.declared.faces.Item.{Item}
 use Rattle.mesa_types.specs.Sound as sound
 use Rattle.mesa_types.specs.Counts as counts
-use Rattle.mesa_types.specs.Counts.{operands, operands_of, hidden_expr, hidden_exprs, hidden_phrase, words_given}
+use Rattle.mesa_types.specs.Counts.{operands, operands_of, hidden_expr, hidden_exprs, hidden_phrase}
 use Rattle.mesa_types.specs.Shapes.{one, copies, count_in, KindAt, words_in_all}
 use Rattle.mesa_types.proofs.WordSizes.{sizes_agree}
 use Rattle.checking_rules.specs.Typed as t
 use Rattle.checking_rules.specs.PlainTypes as v
-use Rattle.checking_rules.specs.PlainTypes.{PlainType, PlainField, PlainItem, kind_of, kinds_of, fields, array_parts, words_of, words_of_fields, elements_of, field_of, item_of}
+use Rattle.checking_rules.specs.PlainTypes.{PlainType, PlainField, PlainItem, kind_of, kinds_of, fields, words_of, words_of_fields, elements_of, item_of}
 use Rattle.checking_rules.specs.Scopes.{has}
 use Rattle.checking_rules.specs.Meanings.{Meaning}
 use Rattle.checking_rules.specs.Meanings as m

@@ -13,7 +13,7 @@ use Rattle.mesa_types.specs.declared.syntax.Sign.{Sign}
 use Rattle.mesa_types.specs.declared.relation.Relation.{Relation}
 use Rattle.checking_rules.specs.Typed as t
 use Rattle.checking_rules.specs.PlainTypes as v
-use Rattle.checking_rules.specs.PlainTypes.{PlainType, kind_of}
+use Rattle.checking_rules.specs.PlainTypes.{PlainType}
 use Rattle.checking_rules.specs.Steps.{Check, lift}
 use Rattle.checking_rules.specs.Around.{Around}
 use Rattle.checking_rules.specs.Parts.{and_operation}

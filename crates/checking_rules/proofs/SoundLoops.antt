@@ -23,7 +23,7 @@ use Rattle.checking_rules.specs.Ranges.{Typed, Free, Into, range_for}
 use Rattle.checking_rules.specs.Statements.{Ends, between, bases, lies_in, test_by, tested, tested_inside, Rounds, rounds_by, rounds, Counter, counter, given, Counted, NotCounted, By, Controlled, looped, labels_of, labels_of_repeats, numbers_from, Left, also_left, new_labels, is_finished}
 use Rattle.checking_rules.specs.Phrases.{holds, in_interval, in_tests, in_cases}
 use Rattle.checking_rules.specs.Checking.{statement, statements, phrase, tests, cases, control, counted, condition, repeats}
-use Rattle.checking_rules.specs.Written.{ExprWritten, IntervalWritten, StatementWritten, OtherWritten, StatementsWritten, TestsWritten, CasesWritten, ControlWritten, CountWritten, ConditionWritten, RepeatsWritten, RepeatWritten, PhraseWritten}
+use Rattle.checking_rules.specs.Written.{StatementWritten, StatementsWritten, TestsWritten, CasesWritten, ControlWritten, CountWritten, ConditionWritten, RepeatsWritten, RepeatWritten, PhraseWritten}
 use Rattle.checking_rules.specs.Written as written
 use Rattle.checking_rules.proofs.SoundTypes.{TypeIn, or_left, or_right, some_base}
 use Rattle.checking_rules.proofs.SoundOperators.{related_in, given_range}

@@ -12,7 +12,7 @@ use Rattle.mesa_types.specs.Syntax as s
 use Rattle.mesa_types.specs.Sound as sound
 use Rattle.mesa_types.specs.Typed as points
 use Rattle.mesa_types.specs.Counts as counts
-use Rattle.mesa_types.specs.Counts.{operands, operands_of, operands_in, operands_of_stmt, hidden, hidden_expr, hidden_exprs, hidden_suffixes, hidden_stmts}
+use Rattle.mesa_types.specs.Counts.{operands_of_stmt, hidden, hidden_stmts}
 use Rattle.mesa_types.specs.Shapes.{one, words_in_all}
 use Rattle.mesa_types.proofs.WordSizes.{sizes_agree}
 use Rattle.checking_rules.specs.Typed as t

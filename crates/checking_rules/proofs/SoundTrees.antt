@@ -7,14 +7,14 @@ use Rattle.mesa_types.specs.Plain as p
 use Rattle.mesa_types.specs.Plain.{Shaped, shape_step, field_kind_step, field_kind}
 use Rattle.mesa_types.specs.Shapes.{AllHaveWords, words_in}
 use Rattle.mesa_types.specs.Types as types
-use Rattle.mesa_types.specs.Types.{Measure, measure_step, field_step, measure_of, depth_step, field_depth_step, longest_step, field_longest_step, longest_of, IsWithinLimits, types_in}
+use Rattle.mesa_types.specs.Types.{depth_step, field_depth_step, longest_step, field_longest_step, IsWithinLimits, types_in}
 use Rattle.mesa_types.specs.declared.types.TypeTree.{TypeTree, roll-TypeTree}
 use Rattle.mesa_types.specs.declared.types.TypeTree.TheVariants as tree
 use Rattle.mesa_types.specs.declared.types.TypeTree.TheOpen.{TypeTree-F, FieldType-F}
 use Rattle.mesa_types.specs.declared.types.TypeTree.TheFolds.{fold-TypeTree, fold-FieldType, fold-roll-TypeTree, fold-roll-FieldType, map-TypeTree}
 use Rattle.mesa_types.specs.declared.types.FieldType.{FieldType, roll-FieldType, out-roll-FieldType}
 use Rattle.checking_rules.specs.PlainTypes as v
-use Rattle.checking_rules.specs.PlainTypes.{PlainType, Parts, PlainField, kind_of, kinds_of, kinds_of_parts, elements_of, words_of, words_of_parts, depth_of, depth_of_parts, tree_of, trees_of, field_of}
+use Rattle.checking_rules.specs.PlainTypes.{PlainType, Parts, PlainField, kind_of, kinds_of, kinds_of_parts, elements_of, words_of, depth_of, depth_of_parts, tree_of, trees_of, field_of}
 use Rattle.checking_rules.proofs.SoundTypes.{TypeIn, PartsIn, FieldsIn, words_agree, fields_have_words}
 use Rattle.mesa_types.proofs.KindWords.{kind_words}
 use Rattle.mesa_types.specs.Sound as sound

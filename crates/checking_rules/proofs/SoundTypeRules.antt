@@ -12,7 +12,7 @@ use Rattle.mesa_types.specs.declared.syntax.TypeBase.{TypeBase}
 use Rattle.mesa_types.specs.declared.types.Origin.{Origin}
 use Rattle.checking_rules.specs.Typed as t
 use Rattle.checking_rules.specs.PlainTypes as v
-use Rattle.checking_rules.specs.PlainTypes.{PlainType, Parts, PlainField, base_of, kind_of, elements_of, words_of, words_of_parts, depth_of, depth_of_parts, parts_of, bounds, same}
+use Rattle.checking_rules.specs.PlainTypes.{PlainType, Parts, PlainField, base_of, kind_of, elements_of, words_of, depth_of, parts_of, same}
 use Rattle.checking_rules.specs.declared.fault.Cause.{Cause}
 use Rattle.checking_rules.specs.Meanings as m
 use Rattle.checking_rules.specs.Meanings.{Meaning}

@@ -4,7 +4,7 @@ use Rattle.std.specs.Prelude.{◌≤◌, ◌<◌, Bool, true, false, ◌&&◌, �
 use Rattle.mesa_types.specs.Typed as t
 use Rattle.mesa_types.specs.Shapes.{words_in, words_in_all, HasWords, AllHaveWords}
 use Rattle.checking_rules.specs.PlainTypes as v
-use Rattle.checking_rules.specs.PlainTypes.{PlainType, Parts, PlainField, PlainItem, base_of, kind_of, kinds_of, kinds_of_parts, fields_of_parts, parts_of, elements_of, words_of, words_of_parts, words_of_fields, depth_of, depth_of_parts, same, conforms, one_base, bounds, array_parts, fields, is_number, is_integer, is_cardinal, is_text}
+use Rattle.checking_rules.specs.PlainTypes.{PlainType, Parts, PlainField, base_of, kind_of, kinds_of, kinds_of_parts, fields_of_parts, elements_of, words_of, words_of_parts, words_of_fields, depth_of, one_base, bounds, fields}
 
 -- ---- truth values
 

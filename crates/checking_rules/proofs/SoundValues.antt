@@ -15,7 +15,7 @@ use Rattle.mesa_types.specs.declared.typed_parts.Range.{Range}
 use Rattle.mesa_types.specs.declared.typed_parts.Range.TheVariants.{Every, From}
 use Rattle.checking_rules.specs.Typed as t
 use Rattle.checking_rules.specs.PlainTypes as v
-use Rattle.checking_rules.specs.PlainTypes.{PlainType, PlainField, base_of, kind_of, kinds_of, conforms}
+use Rattle.checking_rules.specs.PlainTypes.{PlainType, kind_of, conforms}
 use Rattle.checking_rules.specs.declared.fault.Cause.{Cause}
 use Rattle.checking_rules.specs.Steps.{and_then, only, refuse, or_refuse}
 use Rattle.checking_rules.specs.Ranges.{Typed, typed, Aim, Free, Into, Several, checked, range_for, fitted_if, finish}
@@ -24,7 +24,7 @@ use Rattle.checking_rules.specs.Statements.{Ends, between, bases, is_meeting, ar
 use Rattle.checking_rules.specs.Values.{number, letter, truth, is_truth_sort, is_truth, not_of, signed_by, signed, related_value, compared, negated_by, within, Done, done_by, step, truth_operand}
 use Rattle.checking_rules.proofs.SoundTypes.{TypeIn, no_truth, both_left, both_right}
 use Rattle.checking_rules.proofs.SoundSame.{conforming_kind}
-use Rattle.checking_rules.proofs.SoundOperators.{Met, Good, GoodPair, Relates, word_sort, operation_in, related_in, number_word, plain_words, plain_types, given_range, given_words, OnlyWords}
+use Rattle.checking_rules.proofs.SoundOperators.{word_sort, operation_in, related_in, number_word, plain_words, plain_types, given_range, given_words, OnlyWords}
 use Rattle.checking_rules.proofs.SoundOperators as operators
 use Rattle.checking_rules.proofs.SoundSteps.{World, Spot, at}
 use Rattle.checking_rules.proofs.SoundnessStatements.{ValueIn, SeveralIn, CheckedIn, FreshIn, AimIn, GaveIn, EndsIn}

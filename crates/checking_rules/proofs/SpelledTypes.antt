@@ -12,7 +12,7 @@ use Rattle.mesa_types.specs.declared.types.Origin.{Origin}
 use Rattle.mesa_types.specs.Operators.{fits, shifted, tried, truth, wrap}
 use Rattle.checking_rules.specs.Typed.{Base, Signed, Unsigned, From}
 use Rattle.checking_rules.specs.PlainTypes as v
-use Rattle.checking_rules.specs.PlainTypes.{PlainType, PlainField, base_of, bounds, conforms, depth_of, elements_of, fields_of_parts, is_number, is_integer, is_cardinal, one_base, parts_of, same, sign_of, sign_by, words_of, words_of_parts}
+use Rattle.checking_rules.specs.PlainTypes.{PlainType, PlainField, base_of, bounds, conforms, depth_of, elements_of, fields_of_parts, is_number, one_base, parts_of, same, sign_of, words_of, words_of_parts}
 use Rattle.checking_rules.specs.Interfaces.{HasPart}
 use Rattle.checking_rules.specs.Operators.{number_type}
 use Rattle.checking_rules.specs.Parts.{names_of}

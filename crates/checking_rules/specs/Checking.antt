@@ -21,7 +21,7 @@ use Rattle.checking_rules.specs.TypeRules.{origin, limited, elements, few, is_in
 use Rattle.checking_rules.specs.Statements.{whole, held, numbered, returned, declare, given_initial, Ends, tested, tested_inside, rounds, counter, given, Counted, NotCounted, By, Controlled, looped, source, extracted, enter_arm, Headed, Nothing, Variables, constant_meaning, labels_of_exits, labels_of_repeats, numbers_from, Left, also_left, new_labels, is_finished, labels_of}
 use Rattle.checking_rules.specs.Phrases.{holds, in_left, in_raise, in_targets, in_cases, in_items, is_catch}
 use Rattle.checking_rules.specs.declared.fault.Cause.TheVariants.{TypeMismatch, WrongCount, TwiceDeclared}
-use Rattle.checking_rules.specs.PlainTypes.{PlainField, PlainItem, PlainType, base_of, kind_of, parts_of, words_of, words_of_fields}
+use Rattle.checking_rules.specs.PlainTypes.{PlainField, PlainItem, PlainType, kind_of, parts_of, words_of, words_of_fields}
 
 unfoldable mutual
   -- Expressions.

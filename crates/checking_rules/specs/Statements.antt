@@ -5,7 +5,7 @@ use Rattle.mesa_base.specs.declared.place.Place.{Place}
 use Rattle.mesa_types.specs.Shapes.{join, one, count_in, words_in_all}
 use Rattle.mesa_types.specs.Syntax as s
 use Rattle.checking_rules.specs.Typed as t
-use Rattle.checking_rules.specs.Typed.{Home, Global, Local, Base, Range, Given, Relation}
+use Rattle.checking_rules.specs.Typed.{Home, Global, Local, Base, Given, Relation}
 use Rattle.mesa_base.specs.declared.identifier.Identifier.{Identifier}
 use Rattle.mesa_types.specs.declared.syntax.RepeatLabels.{RepeatLabels}
 use Rattle.mesa_types.specs.declared.syntax.RepeatLabels.TheVariants as repeat

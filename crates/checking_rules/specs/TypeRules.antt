@@ -17,7 +17,7 @@ use Rattle.checking_rules.specs.Names.{is_declared, element_in}
 use Rattle.checking_rules.specs.Steps.{Check, Checked, and_then, pure, refuse, only, or_refuse}
 use Rattle.checking_rules.specs.declared.fault.Cause.TheVariants.{TwiceDeclared, TypeMismatch, NotConstant, TypeTooLarge}
 -- a record or enumeration is that of its declaration: how many of them begin before it in the text
-use Rattle.checking_rules.specs.PlainTypes.{PlainType, base_of, bounds, depth_of, elements_of, is_text, same, sign_of, words_of}
+use Rattle.checking_rules.specs.PlainTypes.{PlainType, base_of, bounds, depth_of, is_text, same, sign_of, words_of}
 
 abbrev pub origin : Known → Place → Origin
 origin known p = record { «module» = known.name; stamp = known.stamp; number = length (filter (λ n. nat_lt n p.token) known.origins) }

@@ -23,7 +23,7 @@ use Rattle.checking_rules.specs.Statements.{Ends, bases, between, lies_in}
 use Rattle.checking_rules.specs.Steps.{Check, Checked, and_then, ◌>>=◌, pure, fail, refuse, or_refuse, only, ensure, spend}
 use Rattle.checking_rules.specs.declared.fault.Cause.TheVariants.{TypeMismatch, WrongCount, GlobalsTooLarge}
 -- a literal up to 32767 takes the type of another operand; a larger one is CARDINAL
-use Rattle.checking_rules.specs.PlainTypes.{PlainField, PlainItem, PlainType, sign_of, words_of, words_of_fields}
+use Rattle.checking_rules.specs.PlainTypes.{PlainField, PlainItem, PlainType, words_of, words_of_fields}
 
 unfoldable pub number : ℕ → Typed
 number n =

@@ -7,7 +7,7 @@ use Rattle.mesa_types.specs.Counts.{hidden_phrase, hidden_stmts}
 use Rattle.code_relation.specs.CodeFor.{PhraseCode, StmtsCode, no_phrase, no_range, in_range, block, label_at, with_labels}
 use Rattle.code_relation.specs.Reading.{Coded, Place, beyond}
 use Rattle.code_blocks.specs.Blocks as tree
-use Rattle.code_blocks.specs.Blocks.{Here, Ends, Enables, ArmBlocks, NoArmBlock, AndArmBlock, ◌▹◌}
+use Rattle.code_blocks.specs.Blocks.{Here, Enables, ArmBlocks, NoArmBlock, AndArmBlock, ◌▹◌}
 use Rattle.code_blocks.specs.Sizes.{size, depth_behind}
 use Rattle.code_blocks.specs.Translation.{past_exits, enabled, caught_by, arm_blocks, blocks, exits}
 use Rattle.code_blocks.specs.Writing.{Env, Pending, in_part, end_at, block_phrases, own_phrase, unless_empty}

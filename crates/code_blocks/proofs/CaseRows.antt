@@ -17,7 +17,7 @@ use Rattle.code_blocks.specs.Blocks as tree
 use Rattle.code_blocks.specs.Blocks.{Here, Anyhow, Where, Does, Ends, Out, nothing, ◌▹◌}
 use Rattle.code_blocks.specs.Own.{bytes_in, left_of}
 use Rattle.code_blocks.specs.Sizes.{size, depth_behind}
-use Rattle.code_blocks.specs.Translation.{within_of, where_related, past_else, past_cases, is_last, if_last, a_case, unless, forms, block, selected, cases, tests}
+use Rattle.code_blocks.specs.Translation.{within_of, where_related, past_cases, forms, block, cases, tests}
 use Rattle.code_blocks.specs.Translation as t
 use Rattle.code_blocks.specs.Writing.{Env, in_part, end_at}
 use Rattle.code_blocks.proofs.Known.{Known}

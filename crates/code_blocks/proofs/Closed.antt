@@ -20,7 +20,7 @@ use Rattle.code_relation.specs.OwnCode.{lift_code, check_code, arrange_code}
 use Rattle.code_relation.specs.Reading.{Coded, scratch}
 use Rattle.code_relation.specs.Slots.{fields_of, sizes}
 use Rattle.code_blocks.specs.Blocks as tree
-use Rattle.code_blocks.specs.Blocks.{Mark, Statement, Labels, Here, Leap, Anyhow, Where, Does, Calls, Both, Ends, Out, Goes, Rounds, Enables, ArmBlocks, NoArmBlock, AndArmBlock, ◌▹◌}
+use Rattle.code_blocks.specs.Blocks.{Statement, Labels, Here, Does, Calls, Both, Ends, Out, Goes, Rounds, Enables, ArmBlocks, NoArmBlock, AndArmBlock, ◌▹◌}
 use Rattle.code_blocks.specs.Own.{AreOwn}
 use Rattle.code_blocks.specs.Translation.{Forms, by_value, turned, answer, has_index, within_of, start_of, head_code, gives_next, past_else, past_cases, past_exits, enabled, is_last, is_endless, unless, forms, values, operands, bounds, operations, path, caught_by, arm_blocks, block, blocks, targets, selected, cases, tests, exits, loop, condition, finish}
 use Rattle.code_blocks.proofs.Own.{own_both, pop_own, lift_own, field_own, check_own, index_own, comparison_own, relation_own, operator_own, within_own, arrange_own, load_own, store_own, load_within_own, store_within_own, zero_own, spread_own, start_own, give_own, step_own}

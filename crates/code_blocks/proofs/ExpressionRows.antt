@@ -20,10 +20,10 @@ use Rattle.code_relation.specs.Reading.{Coded, Place, Own, past, past_all, deepe
 use Rattle.code_relation.proofs.Depths.{own_code_keeps_words}
 use Rattle.code_relation.specs.Slots.{load, load_within, fields_of, sizes, HasIndex, HasNoIndex}
 use Rattle.code_blocks.specs.Blocks as tree
-use Rattle.code_blocks.specs.Blocks.{Here, Anyhow, Where, Does, Ends, Out, nothing, ◌▹◌}
+use Rattle.code_blocks.specs.Blocks.{Does, ◌▹◌}
 use Rattle.code_blocks.specs.Own.{bytes_in, left_of, AreOwn}
 use Rattle.code_blocks.specs.Sizes.{size, depth_behind}
-use Rattle.code_blocks.specs.Translation.{without_code, has_index, at_element, within_of, turned, answer, where_related, forms, values, operands, path}
+use Rattle.code_blocks.specs.Translation.{has_index, at_element, forms, values, operands, path}
 use Rattle.code_blocks.specs.Translation as t
 use Rattle.code_blocks.specs.Writing.{Env, end_at}
 use Rattle.code_blocks.proofs.Known.{Known}

@@ -7,7 +7,7 @@ use Rattle.code_relation.specs.CodeFor.{ExitsCode, Onward, label_at, no_exits, a
 use Rattle.code_relation.specs.Points.{Way, NoWay, OutOf, Points, here_or, in_labelled, is_among}
 use Rattle.code_relation.specs.Reading.{Coded, Destination, Offset, Place, beyond}
 use Rattle.code_blocks.specs.Blocks as tree
-use Rattle.code_blocks.specs.Blocks.{Labels, Here, Ends, ◌▹◌}
+use Rattle.code_blocks.specs.Blocks.{Labels, Ends, ◌▹◌}
 use Rattle.code_blocks.specs.Sizes.{size}
 use Rattle.code_blocks.specs.Translation.{past_exits, block, exits}
 use Rattle.code_blocks.specs.Writing.{Env, in_part, end_at}

@@ -16,10 +16,10 @@ use Rattle.code_relation.specs.Slots.{store}
 use Rattle.code_relation.specs.Reading.{Coded, Place, Own, no_more, past, beyond, entry_at, phrases_around}
 use Rattle.code_relation.proofs.Depths.{own_code_keeps_words}
 use Rattle.code_blocks.specs.Blocks as tree
-use Rattle.code_blocks.specs.Blocks.{Here, Where, Anyhow, Does, Ends, Out, Rounds, nothing, ◌▹◌}
+use Rattle.code_blocks.specs.Blocks.{Here, Where, Does, Ends, Out, Rounds, nothing, ◌▹◌}
 use Rattle.code_blocks.specs.Own.{bytes_in, left_of}
 use Rattle.code_blocks.specs.Sizes.{size, depth_behind}
-use Rattle.code_blocks.specs.Translation.{start_of, head_code, gives_next, past_exits, is_endless, unless, forms, block, exits, condition, finish}
+use Rattle.code_blocks.specs.Translation.{head_code, gives_next, past_exits, is_endless, unless, block, exits, condition, finish}
 use Rattle.code_blocks.specs.Translation as t
 use Rattle.code_blocks.specs.Writing.{Env, in_part, end_at, entry, block_code, block_phrases}
 use Rattle.code_blocks.proofs.Around.{Spot, split, bare}

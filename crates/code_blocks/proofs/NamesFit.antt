@@ -19,7 +19,7 @@ use Rattle.mesa_types.specs.declared.typed_parts.Raised.{Raised}
 use Rattle.mesa_types.specs.declared.typed_parts.Raised.TheVariants.{OwnSignal, LinkedSignal, TheBoundsFault, TheZeroDivisor, TheUnnamed}
 use Rattle.mesa_types.specs.Links.{links_of}
 use Rattle.mesa_types.specs.Shapes.{words_in, words_in_all, words_before, count_in, HasWords, AllHaveWords, KindAt}
-use Rattle.mesa_types.specs.Sound.{Scope, VariableIn, SuffixesIn, UsedItem, CalleeIs, IsSignal, RaisedIs, NamesSignal, AreLabels, AreGiven, LocalsFrom, HeadIn, FaceIn, ImportIn}
+use Rattle.mesa_types.specs.Sound.{Scope, VariableIn, SuffixesIn, UsedItem, CalleeIs, IsSignal, RaisedIs, NamesSignal, AreLabels, AreGiven, LocalsFrom, HeadIn, ImportIn}
 use Rattle.mesa_types.specs.Sound as sound
 use Rattle.mesa_types.specs.Typed.{Kind, Array, Kinds, NoKinds, AndKind, Suffixes, NoSuffix, Field, Index}
 use Rattle.code_forms.specs.Operands.{IsCalled, IsRaised, CalledLink, RaisedLink, LabelTakes, SignalTakes, LinkTakes}

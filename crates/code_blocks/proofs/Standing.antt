@@ -5,7 +5,7 @@ use Rattle.mesa_types.specs.Typed.{Kind, Record, Kinds, Start, After, Expr, Numb
 use Rattle.mesa_types.specs.Counts.{hidden}
 use Rattle.mesa_types.specs.Shapes.{one}
 use Rattle.mesa_types.specs.Sound as sound
-use Rattle.mesa_types.specs.Sound.{Scope, a_word, CountIn, Selects, HasTest, Reaches, ExprIn, ExprsIn, WordsIn, SuffixesIn, OperationsIn, IntervalIn, PhraseIn, ArmsIn, StmtIn, StmtsIn, TargetsIn, CasesIn, TestsIn, ExitsIn, LoopIn, FinishIn, ConditionIn}
+use Rattle.mesa_types.specs.Sound.{Scope, a_word, CountIn, Selects, Reaches, ExprIn, ExprsIn, WordsIn, SuffixesIn, OperationsIn, IntervalIn, PhraseIn, ArmsIn, StmtIn, StmtsIn, TargetsIn, CasesIn, TestsIn, ExitsIn, LoopIn, FinishIn, ConditionIn}
 use Rattle.code_forms.specs.declared.instruction.Instruction.TheVariants as i
 use Rattle.code_relation.specs.CodeFor.{no_arms, and_arm}
 use Rattle.code_relation.specs.Loops.{Counter, NoCounter, CountedIn}

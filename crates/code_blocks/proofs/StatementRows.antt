@@ -16,7 +16,7 @@ use Rattle.code_relation.specs.Points.{OutOf, Points}
 use Rattle.code_relation.specs.Reading.{Coded, Destination, Place, Own, no_more, one_more, past, past_all, deeper, beyond, in_region, jump_to}
 use Rattle.code_relation.specs.Slots.{local_slot, store, store_within, clear, load, zero_code, copy_code, spread_code, fields_of, sizes}
 use Rattle.code_blocks.specs.Blocks as tree
-use Rattle.code_blocks.specs.Blocks.{Statement, Here, Anyhow, Does, Ends, Out, Goes, nothing, ◌▹◌}
+use Rattle.code_blocks.specs.Blocks.{Statement, Here, Anyhow, Does, Ends, Out, Goes, ◌▹◌}
 use Rattle.code_blocks.specs.Own.{bytes_in, left_of}
 use Rattle.code_blocks.specs.Sizes.{size, depth_behind}
 use Rattle.code_blocks.specs.Translation.{has_index, at_element, past_else, forms, values, path, block, blocks}

@@ -9,7 +9,7 @@ use Rattle.mesa_types.specs.Typed.{Kind, Ordinal, Record, Kinds, Start, After, L
 use Rattle.mesa_types.specs.Counts.{hidden, hidden_expr, hidden_exprs, hidden_suffixes, hidden_operations, hidden_interval, hidden_phrase, hidden_arms, hidden_stmts, hidden_targets, hidden_cases, hidden_tests, hidden_exits, hidden_loop, hidden_finish, hidden_condition, words_of, words_given}
 use Rattle.mesa_types.specs.Shapes.{words_in, words_before, one}
 use Rattle.mesa_types.specs.Sound as sound
-use Rattle.mesa_types.specs.Sound.{Scope, a_word, VariableIn, Reaches, LabelsIn, GivenIn, CountIn, Selects, HasTest, ExprIn, ExprsIn, WordsIn, SuffixesIn, OperationsIn, IntervalIn, PhraseIn, ArmsIn, StmtIn, StmtsIn, TargetsIn, CasesIn, TestsIn, ExitsIn, LoopIn, FinishIn, ConditionIn}
+use Rattle.mesa_types.specs.Sound.{Scope, a_word, VariableIn, Reaches, LabelsIn, GivenIn, CountIn, Selects, ExprIn, ExprsIn, WordsIn, SuffixesIn, OperationsIn, IntervalIn, PhraseIn, ArmsIn, StmtIn, StmtsIn, TargetsIn, CasesIn, TestsIn, ExitsIn, LoopIn, FinishIn, ConditionIn}
 use Rattle.mesa_types.proofs.Arranged.{arranged_words}
 use Rattle.mesa_types.proofs.WordSizes.{sizes_agree}
 use Rattle.code_forms.specs.Routine.{Routine}
@@ -20,7 +20,7 @@ use Rattle.code_relation.specs.Points.{in_marked, in_arm}
 use Rattle.code_relation.specs.Reading.{Coded, scratch}
 use Rattle.code_relation.specs.Slots.{local_slot, zero_code, copy_code, spread_code, fields_of, sizes}
 use Rattle.code_blocks.specs.Blocks as tree
-use Rattle.code_blocks.specs.Blocks.{Does, Goes, ◌▹◌}
+use Rattle.code_blocks.specs.Blocks.{◌▹◌}
 use Rattle.code_blocks.specs.Translation.{has_index, head_code, gives_next, past_else, past_cases, past_exits, is_last, is_endless, forms, values, operands, bounds, operations, path, caught_by, arm_blocks, block, blocks, targets, selected, cases, tests, exits, loop, condition, finish}
 use Rattle.code_blocks.proofs.ExtractRows.{variable_has}
 use Rattle.code_blocks.proofs.Fits.{Ways, NotBack, AllFit, Fits, ArmsFit, all_fit_both, FormsFit, by_value_fits, if_fits, unless_fits, turned_fits, enabled_fits}

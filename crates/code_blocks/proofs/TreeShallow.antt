@@ -25,7 +25,7 @@ use Rattle.code_relation.specs.Reading.{Coded, scratch}
 use Rattle.code_relation.specs.Slots.{local_slot, store, store_within, load, zero_code, spread_code, fields_of, sizes}
 use Rattle.code_relation.proofs.Depths.{own_code_keeps_words}
 use Rattle.code_blocks.specs.Blocks as tree
-use Rattle.code_blocks.specs.Blocks.{Anyhow, Where, Does, Out, Goes, ArmBlocks, NoArmBlock, AndArmBlock, ◌▹◌}
+use Rattle.code_blocks.specs.Blocks.{ArmBlocks, NoArmBlock, AndArmBlock, ◌▹◌}
 use Rattle.code_blocks.specs.Own.{left_of}
 use Rattle.code_blocks.specs.Sizes.{depth_behind}
 use Rattle.code_blocks.specs.Translation.{Forms, by_value, has_index, within_of, start_of, turned, head_code, gives_next, past_else, past_cases, past_exits, enabled, a_case, is_last, is_endless, forms, values, operands as operand_jumps, bounds, operations, path, caught_by, arm_blocks, block, blocks, targets, cases, tests, exits, loop, condition, finish}

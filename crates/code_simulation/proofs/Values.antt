@@ -4,7 +4,7 @@ use Rattle.std.specs.Prelude.{slice_index}
 use Rattle.std.proofs.lemmas.Bool.{cases_lt}
 use Rattle.mesa_types.specs.Typed.{Kind, Ordinal, Texts, Array, Record, Kinds, NoKinds, AndKind}
 use Rattle.mesa_types.specs.Shapes.{one, words_in, words_in_all, words_before, KindAt}
-use Rattle.source_meaning.specs.Value.{Value, Word, Text, Many, Values, NoValues, AndValue, nth, parts, part_at}
+use Rattle.source_meaning.specs.Value.{Value, Word, Text, Many, NoValues, AndValue, nth, parts, part_at}
 use Rattle.source_meaning.specs.Value as value
 use Rattle.machine_steps.specs.Words.{words_at}
 use Rattle.code_simulation.specs.Layout.{Strings, Slots, Small, slots_of, each, value_at, values_at, Show}

@@ -13,11 +13,11 @@ use Rattle.code_forms.specs.declared.instruction.Instruction.TheVariants.{CallLi
 use Rattle.object_files.specs.declared.image.Link.TheVariants.{To}
 use Rattle.source_meaning.specs.Value.{Values}
 use Rattle.source_meaning.specs.Program as source
-use Rattle.source_meaning.specs.Program.{Target, ToProcedure, ToHost, ToSignal, SignalOf, BoundsFault, ZeroDivisor, NoInput, Unnamed, module_of, procedure_of, procedure_in, no_procedure, or_else, instance_of, callee_of}
+use Rattle.source_meaning.specs.Program.{module_of, procedure_of, procedure_in, no_procedure, or_else}
 use Rattle.source_meaning.specs.State.{ProcedureId, State, Answer, Normal, Gives, Go, Resumed, Rejected, Retried, Continued, Uncaught, Spent, FrameLimit, Broken, Result, Run, give, look, leave, branch, after, carry, on_normal, normal_then}
 use Rattle.source_meaning.specs.Variables.{put_at}
 use Rattle.source_meaning.specs.Calls as meaning
-use Rattle.source_meaning.specs.Calls.{run_procedure, results, start_first, call_to}
+use Rattle.source_meaning.specs.Calls.{run_procedure, results, start_first}
 use Rattle.machine_steps.specs.State.{Store, Stepped}
 use Rattle.machine_steps.specs.Words.{push}
 use Rattle.machine_steps.specs.LookUps.{called, bound_to}

@@ -27,7 +27,7 @@ use Rattle.image_agreement.specs.Contexts.{Site, InPlace, Inside}
 use Rattle.image_agreement.specs.Answers.{Valued}
 use Rattle.image_agreement.specs.Promises as promise
 use Rattle.image_agreement.specs.Promises.{next, SignalsFollow, CallFollows, ValueFollows, ValuesFollow, PathFollows, OperationsFollow, BranchFollows, ExpressionsFollow}
-use Rattle.image_agreement.proofs.Branches.{Led, Chose}
+use Rattle.image_agreement.proofs.Branches.{Chose}
 use Rattle.image_agreement.proofs.Branches as led
 use Rattle.image_agreement.proofs.Calling.{call_row, raise_row}
 use Rattle.image_agreement.proofs.Fields.{variable_small, literal_row, field_row}

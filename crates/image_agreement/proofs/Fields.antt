@@ -11,7 +11,7 @@ use Rattle.mesa_types.specs.Counts.{last_words}
 use Rattle.mesa_types.specs.Sound.{FieldsIn, VariableIn, scope_of}
 use Rattle.code_forms.specs.declared.instruction.Instruction.TheVariants as i
 use Rattle.code_forms.specs.declared.module_code.ModuleCode.{ModuleCode}
-use Rattle.source_meaning.specs.Value.{Text, Value, Values, nth, part_at}
+use Rattle.source_meaning.specs.Value.{Text, nth, part_at}
 use Rattle.source_meaning.specs.Value as value
 use Rattle.source_meaning.specs.Program.{or_else, string_of, module_of}
 use Rattle.source_meaning.specs.State.{ProcedureId, State, Result, give, give_value, value_then}

@@ -3,7 +3,7 @@ use Rattle.std.proofs.Common.{ℕ, ◌<◌, List, ◌∷◌, sym, subst}
 use Rattle.mesa_types.specs.Typed.{Kind, Kinds}
 use Rattle.mesa_types.specs.Shapes.{one}
 use Rattle.mesa_types.specs.Sound.{a_word}
-use Rattle.source_meaning.specs.Value.{Value, Values, nth, word}
+use Rattle.source_meaning.specs.Value.{Value, nth, word}
 use Rattle.source_meaning.specs.Value as value
 use Rattle.source_meaning.specs.State.{State, Answer, Result, Run, value_then}
 use Rattle.machine_steps.specs.State.{Store, Stepped}

@@ -3,7 +3,7 @@ use Rattle.std.proofs.Common.{◌≡◌, ℕ, zero, suc, ◌+◌, ◌*◌, ◌<�
 use Rattle.mesa_types.specs.Typed.{Kind, Ordinal, Texts, Array, Record, Kinds, NoKinds, AndKind}
 use Rattle.mesa_types.specs.Shapes.{words_in, words_in_all, words_before, count_in, KindAt}
 use Rattle.mesa_types.specs.Shapes as shape
-use Rattle.source_meaning.specs.Value.{Value, Word, Text, Many, Values, NoValues, AndValue, copies, zero_of, some_from}
+use Rattle.source_meaning.specs.Value.{Value, Word, Text, Many, Values, AndValue, copies, zero_of, some_from}
 use Rattle.source_meaning.specs.Value as value
 use Rattle.machine_steps.specs.Words.{zeros, words_at}
 use Rattle.code_simulation.specs.Layout.{Strings, Slots, slots_of, each, value_at, values_at, Show}

@@ -5,7 +5,7 @@ use Rattle.object_files.specs.declared.image.Image.{Image}
 use Rattle.source_meaning.specs.Value.{Values}
 use Rattle.source_meaning.specs.State.{State, Answer, Normal, Gives, Go, Resumed, Rejected, Retried, Continued, Uncaught, Spent, FrameLimit, Broken, Result, Run, give, value_then}
 use Rattle.machine_steps.specs.State as machine
-use Rattle.machine_steps.specs.State.{Store, Stepped, Goes, Stops}
+use Rattle.machine_steps.specs.State.{Store, Stepped, Goes}
 use Rattle.machine_steps.specs.Words.{push}
 use Rattle.machine_steps.specs.Steps.{step, Ends, goes}
 use Rattle.code_simulation.specs.Layout.{Show}

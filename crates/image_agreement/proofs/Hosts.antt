@@ -8,17 +8,16 @@ use Rattle.mesa_types.specs.Sound.{a_word}
 use Rattle.code_forms.specs.declared.instruction.Instruction.{Instruction}
 use Rattle.code_forms.specs.Instructions.{bytes_of}
 use Rattle.signaller.specs.declared.signal_id.SignalId.TheVariants as id
-use Rattle.source_meaning.specs.Value.{Values, NoValues, Word, nth, word, bytes, how_many}
+use Rattle.source_meaning.specs.Value.{Values, NoValues, Word, nth, word, bytes}
 use Rattle.source_meaning.specs.Value as value
 use Rattle.source_meaning.specs.Program.{Host, WriteChar, WriteString, WriteDecimal, ReadChar, EndOfInput, NoInput, resumes}
 use Rattle.source_meaning.specs.State.{State, Ending, End, Fault, Gives, Broken, Result, give, give_value, give_word, put, read, read_of, peek, peek_of}
 use Rattle.source_meaning.specs.Signals.{raise}
 use Rattle.source_meaning.specs.Calls as meaning
 use Rattle.machine_steps.specs.State as machine
-use Rattle.machine_steps.specs.State.{Active, Activations, Store, Stepped, Goes, Stops}
+use Rattle.machine_steps.specs.State.{Store, Stepped, Stops}
 use Rattle.machine_steps.specs.Words.{push, under}
 use Rattle.machine_steps.specs.LookUps as machine_host
-use Rattle.machine_steps.specs.LookUps.{instruction_under, text_of}
 use Rattle.machine_steps.specs.Moves as moves
 use Rattle.machine_steps.specs.Moves.{with, onward}
 use Rattle.machine_steps.specs.Calls as calls

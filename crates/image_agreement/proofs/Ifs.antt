@@ -4,7 +4,7 @@ use Rattle.std.specs.Prelude.{if◌then◌else◌}
 use Rattle.mesa_types.specs.Typed.{Kinds}
 use Rattle.mesa_types.specs.Shapes.{words_in_all}
 use Rattle.mesa_types.specs.Operators.{differ, is_true}
-use Rattle.source_meaning.specs.Value.{Word, Values, nth, word}
+use Rattle.source_meaning.specs.Value.{nth, word}
 use Rattle.source_meaning.specs.Value as value
 use Rattle.source_meaning.specs.State.{State, Answer, Normal, Gives, Go, Resumed, Rejected, Retried, Continued, Uncaught, Spent, FrameLimit, Broken, Result, Run, give, branch, value_then, dropped_of}
 use Rattle.machine_steps.specs.State.{Store, Stepped}

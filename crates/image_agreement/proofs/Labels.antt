@@ -4,7 +4,7 @@ use Rattle.std.specs.Prelude.{All, nat_eq, if◌then◌else◌}
 use Rattle.std.proofs.lemmas.Bool.{false≢true, eq-eqb, eqb-true, or_cases}
 use Rattle.std.proofs.lemmas.Option.{none-some, same_Some}
 use Rattle.mesa_types.specs.Typed.{Start, After, At, Leave, Exits, NoExits, AndExit}
-use Rattle.mesa_types.specs.Sound.{Scope, LabelsIn, labels_in}
+use Rattle.mesa_types.specs.Sound.{LabelsIn, labels_in}
 use Rattle.mesa_types.specs.Sound as sound
 use Rattle.machine_steps.specs.State.{Target}
 use Rattle.code_relation.specs.CodeFor.{ExitsCode, no_exits, and_exit, label_at}

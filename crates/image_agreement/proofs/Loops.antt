@@ -6,17 +6,17 @@ use Rattle.mesa_types.specs.Counts.{hidden_condition}
 use Rattle.mesa_types.specs.Operators.{differ, truth, is_true}
 use Rattle.mesa_types.specs.Sound.{ConditionIn}
 use Rattle.code_forms.specs.declared.instruction.Instruction.TheVariants as i
-use Rattle.source_meaning.specs.Value.{Word, Values, nth, word}
+use Rattle.source_meaning.specs.Value.{nth, word}
 use Rattle.source_meaning.specs.Value as value
 use Rattle.source_meaning.specs.State.{State, Answer, Normal, Gives, Go, Resumed, Rejected, Retried, Continued, Uncaught, Spent, FrameLimit, Broken, Result, Run, carry, after, give, give_value, give_word, branch, value_then, on_values, on_word, spend}
 use Rattle.source_meaning.specs.Meaning as meaning
-use Rattle.source_meaning.specs.Meaning.{does, exits, condition, finish, loop, counted, one_round_less}
+use Rattle.source_meaning.specs.Meaning.{does, condition, finish}
 use Rattle.machine_steps.specs.State.{Store, Stepped}
 use Rattle.machine_steps.specs.Moves.{go_to}
 use Rattle.machine_steps.specs.Steps.{perform}
 use Rattle.machine_steps.specs.Working.{works}
 use Rattle.code_relation.specs.CodeFor as row
-use Rattle.code_relation.specs.CodeFor.{LoopCode, ConditionCode, FinishCode, ExitsCode, label_at, with_labels}
+use Rattle.code_relation.specs.CodeFor.{ConditionCode, FinishCode}
 use Rattle.code_relation.specs.Loops.{Counter, NoCounter, CountedIn}
 use Rattle.code_relation.specs.Reading.{Place, Own, no_more, one_more}
 use Rattle.code_simulation.specs.Reaches.{Reaches}

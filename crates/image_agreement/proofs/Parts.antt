@@ -10,7 +10,7 @@ use Rattle.mesa_types.specs.Shapes.{one, words_in, words_before, HasWords, KindA
 use Rattle.mesa_types.specs.Operators.{Tried, Fine, Faulty, fits, fine_if, checked}
 use Rattle.mesa_types.specs.Sound.{Scope, a_word, ChecksKind, SuffixesIn}
 use Rattle.code_forms.specs.declared.instruction.Instruction.{Instruction}
-use Rattle.source_meaning.specs.Value.{Value, Word, Values, nth, word}
+use Rattle.source_meaning.specs.Value.{Value, Values, nth, word}
 use Rattle.source_meaning.specs.Value as value
 use Rattle.source_meaning.specs.State.{State, Result, Run}
 use Rattle.source_meaning.specs.Signals.{on_tried}

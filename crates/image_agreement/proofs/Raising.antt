@@ -22,11 +22,11 @@ use Rattle.source_meaning.specs.Program.{Signal, SignalOf, resumes}
 use Rattle.source_meaning.specs.State as meaning
 use Rattle.source_meaning.specs.State.{State, Answer, Normal, Gives, Go, Resumed, Rejected, Retried, Continued, Uncaught, Spent, FrameLimit, Broken, Result, Run, give, carry, after, change, leave, branch}
 use Rattle.source_meaning.specs.Signals as signal
-use Rattle.source_meaning.specs.Signals.{Next, is_for, first_arm, arm_in, NoArm, TheArm, arm_answer, arm_body, put_parameters, run_arm, ask_arm, ask}
+use Rattle.source_meaning.specs.Signals.{is_for, first_arm, arm_in, NoArm, TheArm, arm_answer, arm_body, put_parameters, run_arm, ask_arm, ask}
 use Rattle.source_meaning.specs.Variables.{Enabled}
 use Rattle.machine_steps.specs.declared.end.End.TheVariants as end
 use Rattle.machine_steps.specs.State as machine
-use Rattle.machine_steps.specs.State.{Target, ForRaise, ForJump, Why, Role, InArm, Active, Activations, Store, Runs, Seeks, Leaves, Stepped, Goes, Stops}
+use Rattle.machine_steps.specs.State.{Target, ForRaise, Why, Activations, Store, Runs, Seeks, Leaves, Stepped, Goes}
 use Rattle.machine_steps.specs.Words.{push, popped, put_words}
 use Rattle.machine_steps.specs.LookUps.{procedure_under, phrases_under, instruction_at, instruction_under, links_of}
 use Rattle.machine_steps.specs.Activations.{own_frame}

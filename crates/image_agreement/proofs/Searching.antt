@@ -20,7 +20,7 @@ use Rattle.code_forms.specs.declared.module_code.ModuleCode.{ModuleCode}
 use Rattle.object_files.specs.declared.image.Image.{Image}
 use Rattle.object_files.specs.declared.image.Link.{Link}
 use Rattle.signaller.specs.Search as search
-use Rattle.signaller.specs.Search.{linked, is_meant, label_fits, fits_signal, fits_jump}
+use Rattle.signaller.specs.Search.{linked, is_meant, label_fits}
 use Rattle.source_meaning.specs.Program.{Signal, SignalOf, BoundsFault, ZeroDivisor, NoInput, Unnamed, module_of, linked_signal}
 use Rattle.source_meaning.specs.Signals as source
 use Rattle.source_meaning.specs.Signals.{same_signal, is_for, is_unwind, some_label, NoArm, TheArm, arm_in}

@@ -3,7 +3,7 @@ use Rattle.std.proofs.Common.{◌≡◌, ℕ, zero, suc, ◌<◌, List, [], ◌�
 use Rattle.mesa_types.specs.Typed.{Kind, Ordinal, Texts, NoKinds}
 use Rattle.mesa_types.specs.Shapes.{words_in, words_in_all, one}
 use Rattle.mesa_types.specs.Sound.{a_word}
-use Rattle.source_meaning.specs.Value.{Value, Word, Text, Values, NoValues, AndValue}
+use Rattle.source_meaning.specs.Value.{Word, Text, Values, NoValues}
 use Rattle.source_meaning.specs.Value as value
 use Rattle.code_simulation.specs.Layout.{Strings, Small, slots_of, value_at, values_at, Show}
 

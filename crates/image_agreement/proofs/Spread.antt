@@ -8,7 +8,7 @@ use Rattle.mesa_types.specs.Shapes.{one, words_in}
 use Rattle.mesa_types.specs.Sound.{VariableIn}
 use Rattle.code_forms.specs.declared.instruction.Instruction.{Instruction}
 use Rattle.code_forms.specs.Instructions.{bytes_of}
-use Rattle.source_meaning.specs.Value.{Value, Word, Values, NoValues, AndValue, nth, with_nth, with_part, part_at}
+use Rattle.source_meaning.specs.Value.{Value, Values, NoValues, AndValue, nth, with_nth, with_part, part_at}
 use Rattle.source_meaning.specs.Value as value
 use Rattle.source_meaning.specs.State as source
 use Rattle.source_meaning.specs.State.{State}

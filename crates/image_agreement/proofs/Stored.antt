@@ -3,7 +3,7 @@ use Rattle.std.proofs.Common.{◌≡◌, ⊎_elim, inl, inr, ℕ, zero, suc, ◌
 use Rattle.std.proofs.lemmas.Bool.{cases_lt}
 use Rattle.mesa_types.specs.Typed.{Kind, Ordinal, Texts, Array, Record, Kinds}
 use Rattle.mesa_types.specs.Shapes.{one, words_in, words_in_all, words_before, KindAt}
-use Rattle.source_meaning.specs.Value.{Value, Many, Values, NoValues, AndValue, nth, with_nth, parts, with_part}
+use Rattle.source_meaning.specs.Value.{Value, Many, Values, AndValue, nth, with_nth, parts, with_part}
 use Rattle.source_meaning.specs.Value as value
 use Rattle.machine_steps.specs.Words.{put_words}
 use Rattle.code_simulation.specs.Layout.{Strings, Slots, slots_of, each, value_at, values_at, Show}

@@ -4,7 +4,7 @@ use Rattle.std.specs.Prelude.{nat_eq, if◌then◌else◌}
 use Rattle.std.proofs.lemmas.Bool.{eq-eqb, eqb-true, eqb-false, ne_eqb}
 use Rattle.source_meaning.specs.Value.{Values}
 use Rattle.source_meaning.specs.State as source
-use Rattle.source_meaning.specs.State.{ProcedureId, State}
+use Rattle.source_meaning.specs.State.{State}
 use Rattle.source_meaning.specs.Variables.{at_if, put_at, set_globals, set_variables}
 use Rattle.machine_steps.specs.State.{Store}
 use Rattle.machine_steps.specs.Calls.{set_of}

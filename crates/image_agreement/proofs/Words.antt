@@ -10,7 +10,7 @@ use Rattle.mesa_types.specs.Sound.{a_word}
 use Rattle.mesa_types.specs.Operators.{Tried, Fine, opposite, related, lies_in, truth, is_true, checked, byte_at}
 use Rattle.code_forms.specs.declared.instruction.Instruction.{Instruction}
 use Rattle.code_forms.specs.declared.instruction.Instruction.TheVariants as i
-use Rattle.source_meaning.specs.Value.{Value, Word, Text, Values, nth, word, bytes}
+use Rattle.source_meaning.specs.Value.{Word, Values, nth, word, bytes}
 use Rattle.source_meaning.specs.Value as value
 use Rattle.source_meaning.specs.State.{State, Answer, Result, Run, carry, after, give, give_value, give_word, value_then, on_values, on_word}
 use Rattle.source_meaning.specs.Signals.{on_tried}

@@ -3,7 +3,7 @@
 -- holds. The meaning has a bound of turns, which is the fuel.
 use Rattle.std.specs.Prelude.{◌≡◌, ℕ, ◌<◌, ◌≤◌, List, ◌∷◌, length, All, Option, Some}
 use Rattle.source_meaning.specs.State as source
-use Rattle.source_meaning.specs.State.{ProcedureId, State}
+use Rattle.source_meaning.specs.State.{State}
 use Rattle.machine_steps.specs.State.{Target, Store, Runs, Seeks, Leaves, Stepped, Goes}
 use Rattle.signaller.specs.declared.search.Search.{Search}
 use Rattle.signaller.specs.declared.signal_id.SignalId.{SignalId}

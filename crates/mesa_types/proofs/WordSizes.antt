@@ -2,7 +2,7 @@
 use Rattle.std.proofs.Common.{◌≡◌, ℕ, zero, suc, ◌+◌, ◌*◌, ◌<◌, ◌≤◌, List, [], ◌∷◌, length, refl, sym, ap, ◌∙◌, arith}
 use Rattle.std.specs.Prelude.{◌≢◌}
 use Rattle.mesa_types.specs.Typed.{Part, Kind, Ordinal, Texts, Array, Record, Kinds, NoKinds, AndKind, Expr, Number, Literal, Variable, FieldOf, LengthOf, ByteOf, Checked, Operate, Negate, Relate, Within, Not, AllOf, SomeOf, Construct, Call, Raise, Exprs, NoExprs, AndExpr}
-use Rattle.mesa_types.specs.Shapes.{words_in, words_in_all, one, copies, HasWords, AllHaveWords}
+use Rattle.mesa_types.specs.Shapes.{words_in, words_in_all, one, copies, HasWords}
 use Rattle.mesa_types.specs.Counts.{words_of, words_given, last_words}
 use Rattle.mesa_types.specs.Sound.{Scope, a_word, Constructs, FieldsIn, ExprIn, ExprsIn}
 use Rattle.mesa_types.specs.Laws.{SizesAgree, ValuesHaveWords}

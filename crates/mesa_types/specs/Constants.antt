@@ -1,7 +1,7 @@
 -- Which expressions are constant (Language Manual, chapter 2): a literal, and an operator over constants that raises nothing.
 -- A constant's name, TRUE and FALSE are numbers in the typed tree already; a string's literal has no word.
 use Rattle.std.specs.Prelude.{ℕ, Bool, true, false, not, ◌&&◌, ◌||◌, Option, Some, None}
-use Rattle.mesa_types.specs.Typed.{Expr, Number, Checked, Operate, Negate, Relate, Within, Not, AllOf, SomeOf, Exprs, NoExprs, AndExpr, Operations, NoOperation, Then, Interval, Between}
+use Rattle.mesa_types.specs.Typed.{Expr, Number, Checked, Operate, Negate, Relate, Within, Not, AllOf, SomeOf, Exprs, NoExprs, AndExpr, Operations, NoOperation, Then, Between}
 use Rattle.mesa_types.specs.Operators.{Tried, Fine, Faulty, opposite, truth, is_true, related, lies_in, checked, tried}
 
 infixl 10 ◌>>=◌

@@ -1,13 +1,12 @@
 -- The parsers of names keep to the grammar.
-use Rattle.std.proofs.Common.{◌≡◌, ℕ, false, List, [], ◌∷◌, ◌++◌, Some, None, refl, sym, subst, ◌∙◌}
+use Rattle.std.proofs.Common.{◌≡◌, ℕ, false, List, [], ◌∷◌, ◌++◌, Some, None, refl, ◌∙◌}
 use Rattle.mesa_base.specs.declared.place.Place.{Place}
-use Rattle.mesa_lexer.specs.declared.token.Token.{Token}
 use Rattle.mesa_lexer.specs.declared.token.Kind.{Kind}
 use Rattle.mesa_lexer.specs.declared.token.Kind.TheVariants as k
 use Rattle.mesa_lexer.specs.declared.word.Word.TheVariants.{AnyWord, UnwindWord, FinishedWord}
 use Rattle.mesa_lexer.specs.declared.mark.Mark.TheVariants.{Comma, Dot}
 use Rattle.token_cursor.specs.Parsing.{token, Parser, ◌>>=◌, many_turn}
-use Rattle.token_cursor.proofs.Exact.{Test, Rel, first_none, Keeps, Took, Then, done, imply, Plainly, bind_plain}
+use Rattle.token_cursor.proofs.Exact.{Rel, first_none, Keeps, Took, Then, done, Plainly, bind_plain}
 use Rattle.token_cursor.proofs.Branches.{option_or, of_kind}
 use Rattle.token_cursor.proofs.Loops.{Eats, many_eats, many_keeps, listed}
 use Rattle.mesa_base.specs.declared.identifier.Identifier.{Identifier}
@@ -20,7 +19,7 @@ use Rattle.token_cursor.proofs.Names as n
 use Rattle.module_productions.specs.Grammar as g
 use Rattle.module_productions.specs.Grammar.{qualified}
 use Rattle.module_productions.specs.ReadNested as r
-use Rattle.module_productions.specs.ReadNested.{identifier, comma}
+use Rattle.module_productions.specs.ReadNested.{comma}
 use Rattle.module_productions.proofs.Readings.{cut}
 
 -- ---- a name that is taken

@@ -8,7 +8,7 @@ use Rattle.mesa_lexer.specs.declared.word.Word.TheVariants.{ErrorWord, ExitWord,
 use Rattle.mesa_lexer.specs.declared.word.Word.TheVariants.{IntegerWord, LoopWord, NotWord, NullWord, RecordWord, RejectWord, ResumeWord, RetryWord}
 use Rattle.mesa_lexer.specs.declared.word.Word.TheVariants.{ReturnWord, SelectWord, SignalWord, StringWord, ThroughWord, TrueWord, UntilWord, UnwindWord}
 use Rattle.mesa_lexer.specs.declared.word.Word.TheVariants.{WhileWord}
-use Rattle.mesa_lexer.specs.declared.mark.Mark.TheVariants.{Comma, Dot, LeftBracket, LeftParenthesis, LeftBrace, Plus, Minus, Tilde}
+use Rattle.mesa_lexer.specs.declared.mark.Mark.TheVariants.{Dot, LeftBracket, LeftParenthesis, LeftBrace, Plus, Minus, Tilde}
 use Rattle.token_cursor.specs.Parsing.{Parser, ◌>>=◌, pure, only, among, finds, a_name, option, many}
 pub use Rattle.token_cursor.specs.Parsing.{a_number, a_char, a_text}
 pub use Rattle.token_cursor.specs.ReadNames.{identifier, comma, names_step}

@@ -1,11 +1,12 @@
-/// Where the topmost activation stands: its place, where its variables begin in the region of words, where the next operand
-/// goes there, and the number of its next entry.
+/// Where the topmost activation stands: its place, the number of its next entry, where the next operand goes in the region
+/// of words, and where its variables begin there. Those that a call writes together don't lie side by side: they would be
+/// read back as one before they are written.
 #[derive(Clone, Copy)]
 pub struct Registers {
     pub top: usize,
-    pub slots: usize,
-    pub sp: usize,
     pub entry: usize,
+    pub sp: usize,
+    pub slots: usize,
 }
 
 /// Why the run of the topmost activation pauses at an instruction.

@@ -45,6 +45,7 @@ pub fn index(alloc: Global, table: &CatchTable) -> Result<CatchIndex, OutOfMemor
 }
 
 // The same over the segments.
+#[inline(always)]
 fn innermost_in<L: Ledger>(segments: &[Segment], at: u32, steps: &mut Steps<L>) -> Option<u32>
     ensures phrase { (table : List Phrase) → Indexes table segments.now → result ≡ innermost_of table at }
     ensures counted { (digits : ℕ) → length segments.now < 2 ^ digits → steps.new ≤ steps.old + digits }
@@ -69,6 +70,7 @@ fn innermost_in<L: Ledger>(segments: &[Segment], at: u32, steps: &mut Steps<L>) 
 
 /// The innermost phrase at an offset, None exactly where none covers it. One step is counted for each start of a
 /// segment that is compared, as many as the number of segments has binary digits at most.
+#[inline(always)]
 pub fn innermost<L: Ledger>(index: &CatchIndex, at: u32, steps: &mut Steps<L>) -> Option<u32>
     ensures phrase { (table : List Phrase) → Indexes table index.now → result ≡ innermost_of table at }
     ensures counted { (digits : ℕ) → length index.now < 2 ^ digits → steps.new ≤ steps.old + digits }

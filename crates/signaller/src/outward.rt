@@ -213,6 +213,7 @@ fn place_around(sought: Sought, table: &[Phrase], count: usize, offset: u32) -> 
 }
 
 // The first place of an arm that fits in the phrases from one on.
+#[inline(always)]
 fn place_from(sought: Sought, table: &[Phrase], number: usize) -> Option<Place>
     requires { number < length table.now }
     ensures { result ≡ first_place (fits sought.entry) table.now (asked (goes_outward sought.entry) table.now (Option.Some number)) }
@@ -229,6 +230,7 @@ fn place_from(sought: Sought, table: &[Phrase], number: usize) -> Option<Place>
 
 /// The first phrase from the search on with an arm that fits, and its first such arm; None exactly where there is none.
 /// It looks at each phrase of the table up to the search's once at most, and takes no memory.
+#[inline(always)]
 pub fn place_for(table: &CatchTable, search: Search, sought: Sought) -> Option<Place>
     requires there { IfSome search.phrase (λ n. n < length table.now) }
     ensures place { result ≡ next_place (goes_outward sought.entry) (fits sought.entry) table.now search }

@@ -45,6 +45,7 @@ fn arms_before(table: &[Phrase], number: usize) -> u32
     count
 }
 
+#[inline(always)]
 fn numbered(outward: bool, table: &CatchTable, place: Option<Place>) -> Found
     requires table { IsCatchTable table.now }
     requires there { IfSome place (IsPlace table.now) }
@@ -62,6 +63,7 @@ fn numbered(outward: bool, table: &CatchTable, place: Option<Place>) -> Found
 /// The first arm that is for the signal, in the phrases from the search outward in this table, with the search beyond
 /// its phrase; `Beyond` exactly where there is none. It looks at each phrase of the table up to the search's three
 /// times at most, and takes no memory. The phrases of a procedure of valid code are as it asks.
+#[inline(always)]
 pub fn next_arm(table: &CatchTable, search: Search, links: &Links, signal: &SignalId) -> Found
     requires table { IsCatchTable table.now }
     requires there { IfSome search.phrase (λ n. n < length table.now) }

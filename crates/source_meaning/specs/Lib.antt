@@ -1,5 +1,4 @@
 pub mod Calls
-pub mod FirstProgram
 pub mod Lawful
 pub mod Laws
 pub mod Meaning

@@ -1,20 +1,20 @@
 -- Catch phrases and arms that are sound at a place, and beside each one that is not.
-use Rattle.std.proofs.Common.{◌≡◌, ℕ, zero, suc, ◌+◌, List, [], ◌∷◌, length, Some, None, refl, sym, ap, ◌∙◌, inl, inr, arith}
+use Rattle.std.proofs.Common.{◌≡◌, ℕ, zero, suc, ◌+◌, List, [], ◌∷◌, length, Some, refl, sym, ap, ◌∙◌, inl, inr, arith}
 use Rattle.std.specs.Prelude.{Contains}
-use Rattle.mesa_types.specs.Typed.{Kind, Ordinal, Kinds, NoKinds, AndKind, Point, Start, After, At, Leave, point_of, Exprs, NoExprs, AndExpr, Number, NoPhrase, Catch, Arms, NoArms, AndArm, Stmt, Null, Jump, Resume, Reject, Retry, Continue, ReturnWith}
+use Rattle.mesa_types.specs.Typed.{Kind, Ordinal, Kinds, NoKinds, AndKind, Point, Start, point_of, Exprs, Catch, Arms, NoArms, AndArm, Stmt, Jump, Resume, Reject, Retry, Continue, ReturnWith}
 use Rattle.mesa_types.specs.declared.typed_parts.Goal.{Goal}
-use Rattle.mesa_types.specs.declared.typed_parts.Goal.TheVariants.{PastStatement, ToLabel, ToReturn}
+use Rattle.mesa_types.specs.declared.typed_parts.Goal.TheVariants.{PastStatement, ToLabel}
 use Rattle.mesa_types.specs.declared.typed_parts.Label.{Label}
 use Rattle.mesa_types.specs.declared.typed_parts.Label.TheVariants.{OnAny, OnUnwind, OnOwn, OnLinked, OnBounds, OnZero}
 use Rattle.mesa_types.specs.Plain.{kinds_of}
-use Rattle.mesa_types.specs.Counts.{operands, operands_of, operands_of_stmt}
+use Rattle.mesa_types.specs.Counts.{operands, operands_of_stmt}
 use Rattle.mesa_types.specs.Shapes.{count_in, one, KindAt}
 use Rattle.mesa_types.specs.Links.{item_in, imported, UsedIn, IsUsed}
-use Rattle.mesa_types.specs.Sound.{Seen, Fits, Arranged, UsedItem, IsSignal, RaisedIs, NamesSignal, AreLabels, LabelTakes, LabelGives, LocalsFrom, AreGiven, Reaches, points_past, in_arm, IsForRaises, HasArm, HasValue, a_word, ExprIn, ExprsIn, PhraseIn, ArmsIn, StmtIn}
+use Rattle.mesa_types.specs.Sound.{Seen, Fits, Arranged, UsedItem, IsSignal, RaisedIs, NamesSignal, AreLabels, LabelTakes, LabelGives, LocalsFrom, AreGiven, Reaches, points_past, in_arm, IsForRaises, HasArm, a_word, ExprIn, ExprsIn, PhraseIn, ArmsIn, StmtIn}
 use Rattle.mesa_types.specs.declared.faces.Item.{Item}
 use Rattle.mesa_types.specs.declared.faces.ItemKind.TheVariants as item
 use Rattle.typed_examples.proofs.Places.{all_one, all_two, how_many, takes_of, gives_of, is_error, kind_number, an_integer, here, within, known, ask, fail}
-use Rattle.typed_examples.proofs.Expressions.{one_word, one_word_in}
+use Rattle.typed_examples.proofs.Expressions.{one_word}
 
 -- ---- labels
 

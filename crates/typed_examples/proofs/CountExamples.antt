@@ -1,18 +1,16 @@
 -- Nodes, hidden words and operands of small statements.
 use Rattle.std.proofs.Common.{◌≡◌, ℕ, List, [], ◌∷◌, refl}
 use Rattle.std.specs.Prelude.{true, false}
-use Rattle.mesa_types.specs.Typed.{Endless, Ordinal, Texts, Expr, Number, Literal, Variable, FieldOf, LengthOf, ByteOf, Checked, Within, AllOf, Call, Construct, Exprs, NoExprs, AndExpr, NoSuffix, Index, Interval, Between, Phrase, NoPhrase, Catch, Arms, NoArms, AndArm, Stmt, Null, Marked, Declare, DeclareAs, Assign, Extract, Perform, If, Select, Block, Repeat, For, Continue, Stmts, NoStmts, AndStmt, Targets, NoTargets, AndTarget, Cases, Otherwise, AndCase, Tests, NoTests, IfRelated, Exits, NoExits, AndExit, Loop, LoopOf, Finish, NoFinish, Finished, Always, While}
-use Rattle.mesa_types.specs.declared.typed_parts.Home.TheVariants.{Global, Local}
+use Rattle.mesa_types.specs.Typed.{Endless, Expr, Number, Literal, Variable, FieldOf, LengthOf, ByteOf, AllOf, Call, Construct, NoExprs, AndExpr, NoSuffix, Index, Between, NoPhrase, Catch, NoArms, AndArm, Stmt, Null, Marked, Assign, Perform, Select, Block, Repeat, For, Continue, Stmts, NoStmts, AndStmt, Otherwise, AndCase, NoTests, IfRelated, NoExits, LoopOf, NoFinish, Finished, Always}
+use Rattle.mesa_types.specs.declared.typed_parts.Home.TheVariants.{Global}
 use Rattle.mesa_types.specs.declared.typed_parts.Range.TheVariants.{Every, From}
-use Rattle.mesa_types.specs.declared.typed_parts.Base.TheVariants.{Signed, Unsigned}
+use Rattle.mesa_types.specs.declared.typed_parts.Base.TheVariants.{Signed}
 use Rattle.mesa_types.specs.declared.relation.Relation.TheVariants.{Equal}
-use Rattle.mesa_types.specs.declared.typed_parts.Given.TheVariants.{NoVariable, GivenTo}
-use Rattle.mesa_types.specs.declared.typed_parts.Part.{Part}
+use Rattle.mesa_types.specs.declared.typed_parts.Given.TheVariants.{GivenTo}
 use Rattle.mesa_types.specs.declared.typed_parts.Callee.TheVariants.{OwnProcedure}
 use Rattle.mesa_types.specs.declared.typed_parts.Label.TheVariants.{OnAny}
-use Rattle.mesa_types.specs.declared.typed_parts.Bases.{Bases}
-use Rattle.mesa_types.specs.Counts.{hidden, hidden_expr, hidden_exprs, hidden_suffixes, hidden_operations, hidden_interval, hidden_phrase, hidden_arms, hidden_stmts, hidden_targets, hidden_cases, hidden_tests, hidden_exits, hidden_loop, hidden_finish, hidden_condition, last_words, unnamed, operands, operands_of, operands_in, operands_of_run, operands_of_interval, words_given, words_of, operands_of_targets, operands_of_tests, operands_of_cases, operands_of_condition, operands_of_loop, operands_of_stmt}
-use Rattle.mesa_types.specs.Nodes.{check_nodes, given_nodes, count_of, expr_nodes, exprs_nodes, suffixes_nodes, operations_nodes, interval_nodes, phrase_nodes, arms_nodes, stmt_nodes, stmts_nodes, targets_nodes, cases_nodes, tests_nodes, exits_nodes, loop_nodes, finish_nodes, condition_nodes}
+use Rattle.mesa_types.specs.Counts.{hidden, last_words, unnamed, operands, operands_of_interval, words_of, operands_of_condition, operands_of_loop, operands_of_stmt}
+use Rattle.mesa_types.specs.Nodes.{check_nodes, given_nodes, count_of, expr_nodes, suffixes_nodes, stmt_nodes, stmts_nodes}
 
 abbrev stmts : List Stmt → Stmts
 stmts [] = NoStmts

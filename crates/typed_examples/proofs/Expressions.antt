@@ -1,21 +1,20 @@
 -- Expressions that are sound at a place, and beside each one that is not.
-use Rattle.std.proofs.Common.{◌≡◌, ℕ, zero, suc, List, [], ◌∷◌, length, Some, None, refl, sym, ap, ◌∙◌, inr, arith}
+use Rattle.std.proofs.Common.{◌≡◌, ℕ, zero, suc, [], ◌∷◌, length, refl, sym, ap, ◌∙◌, inr, arith}
 use Rattle.std.specs.Prelude.{Contains, true, false}
-use Rattle.mesa_types.specs.Typed.{Kind, Ordinal, Texts, Array, Record, Kinds, NoKinds, AndKind, Expr, Number, Literal, Variable, FieldOf, LengthOf, ByteOf, Checked, Operate, Negate, Relate, Within, Not, AllOf, SomeOf, Construct, Call, Raise, Exprs, NoExprs, AndExpr, NoSuffix, Field, Index, NoOperation, Then, Interval, Between, NoPhrase}
-use Rattle.mesa_types.specs.declared.typed_parts.Home.TheVariants.{Global, Local}
+use Rattle.mesa_types.specs.Typed.{Kind, Ordinal, Texts, Array, Record, Kinds, NoKinds, AndKind, Expr, Number, Literal, Variable, FieldOf, Checked, Operate, AllOf, SomeOf, Construct, Call, Raise, Exprs, NoExprs, AndExpr, NoSuffix, Field, Index, NoOperation, Then, NoPhrase}
+use Rattle.mesa_types.specs.declared.typed_parts.Home.TheVariants.{Global}
 use Rattle.mesa_types.specs.declared.typed_parts.Range.TheVariants.{Every, From}
 use Rattle.mesa_types.specs.declared.typed_parts.Base.TheVariants.{Signed, Unsigned}
 use Rattle.mesa_types.specs.declared.typed_parts.Operator.TheVariants.{Add}
-use Rattle.mesa_types.specs.declared.typed_parts.Part.{Part}
 use Rattle.mesa_types.specs.declared.typed_parts.Callee.TheVariants.{OwnProcedure, LinkedProcedure}
 use Rattle.mesa_types.specs.declared.typed_parts.Raised.TheVariants.{OwnSignal, LinkedSignal, TheBoundsFault}
 use Rattle.mesa_types.specs.Plain.{kinds_of}
 use Rattle.mesa_types.specs.Nodes.{count_of}
-use Rattle.mesa_types.specs.Shapes.{words_in, words_in_all, words_before, count_in, one, copies, HasWords, AllHaveWords, KindAt, PartOf}
+use Rattle.mesa_types.specs.Shapes.{words_in, words_in_all, words_before, count_in, one, HasWords, AllHaveWords, KindAt, PartOf}
 use Rattle.mesa_types.specs.Links.{item_in, imported, UsedIn, IsUsed}
-use Rattle.mesa_types.specs.Sound.{VariableIn, IsCheck, RangeIn, Placed, AllDiffer, Arranged, UsedItem, CalleeIs, IsSignal, RaisedIs, a_word, Constructs, FieldsIn, ExprIn, ExprsIn, WordsIn, SuffixesIn, OperationsIn, IntervalIn, PhraseIn}
+use Rattle.mesa_types.specs.Sound.{VariableIn, IsCheck, RangeIn, Placed, AllDiffer, Arranged, UsedItem, CalleeIs, IsSignal, RaisedIs, a_word, Constructs, FieldsIn, ExprIn, ExprsIn, WordsIn, SuffixesIn, OperationsIn, PhraseIn}
 use Rattle.mesa_types.specs.declared.faces.ItemKind.TheVariants as item
-use Rattle.typed_examples.proofs.Places.{how_many, an_integer, here, pair, twice, ask, fail, others}
+use Rattle.typed_examples.proofs.Places.{how_many, an_integer, here, pair, twice, ask, fail}
 
 -- ---- numbers, strings, variables
 

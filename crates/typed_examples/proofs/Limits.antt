@@ -1,15 +1,13 @@
 -- Each limit at its edge, and one past it.
-use Rattle.std.proofs.Common.{◌≡◌, ℕ, zero, suc, ◌+◌, ◌*◌, ◌<◌, ◌≤◌, List, [], ◌∷◌, length, Some, None, refl, sym, ap, ◌∙◌, subst, inl, inr, arith}
-use Rattle.std.specs.Prelude.{All, Contains, replicate}
+use Rattle.std.proofs.Common.{◌≡◌, ℕ, zero, suc, ◌+◌, ◌*◌, ◌<◌, ◌≤◌, List, [], ◌∷◌, length, None, refl, ap, ◌∙◌, arith}
+use Rattle.std.specs.Prelude.{replicate}
 use Rattle.std.proofs.lemmas.List.{length-replicate}
-use Rattle.mesa_types.specs.Typed.{Kind, Ordinal, Texts, Array, Record, Kinds, NoKinds, AndKind, Expr, Variable, Exprs, NoExprs, AndExpr, NoSuffix, Stmt, Null, Perform, Module, Body}
+use Rattle.mesa_types.specs.Typed.{Ordinal, Array, Record, NoKinds, AndKind, Variable, NoSuffix, Stmt, Null, Perform, Module}
 use Rattle.mesa_types.specs.declared.typed_parts.Home.TheVariants.{Local}
-use Rattle.mesa_types.specs.Plain.{kinds_of}
 use Rattle.mesa_types.specs.Types.{longest_of, IsWithinLimits}
-use Rattle.mesa_types.specs.Counts.{hidden, operands, operands_in, operands_of, operands_of_stmt, words_of}
+use Rattle.mesa_types.specs.Counts.{hidden, operands, operands_in, operands_of_stmt}
 use Rattle.mesa_types.specs.Shapes.{words_in, words_in_all, join, HasWords, AllHaveWords}
-use Rattle.mesa_types.specs.Sound.{Fits, IsSignal, HeadIn, FieldsWithin, SignalIn, BodyIn, IsAscending, AllDiffer, scope_of, StmtIn, Sound}
-use Rattle.mesa_types.specs.declared.faces.Item.{Item}
+use Rattle.mesa_types.specs.Sound.{Fits, HeadIn, IsAscending, AllDiffer, scope_of, StmtIn, Sound}
 use Rattle.mesa_types.specs.declared.faces.ItemKind.TheVariants as item
 use Rattle.mesa_types.specs.declared.types.Origin.{Origin}
 use Rattle.mesa_types.specs.declared.types.FieldType.{FieldType, roll-FieldType}

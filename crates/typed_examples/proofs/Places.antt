@@ -4,11 +4,10 @@ use Rattle.std.proofs.Common.{◌≡◌, ℕ, zero, suc, ◌+◌, List, [], ◌�
 use Rattle.std.specs.Prelude.{All, Contains}
 use Rattle.mesa_types.specs.Typed.{Kind, Ordinal, Texts, Array, Record, Kinds, NoKinds, AndKind, Point, Start, After, At, Leave}
 use Rattle.mesa_types.specs.declared.typed_parts.Label.{Label}
-use Rattle.mesa_types.specs.Plain.{Shaped, shape_step, field_kind_step, kind_of, field_kind, kinds_of}
+use Rattle.mesa_types.specs.Plain.{Shaped, shape_step, field_kind_step, kind_of, kinds_of}
 use Rattle.mesa_types.specs.Shapes.{one}
 use Rattle.mesa_types.specs.Sound.{Scope, Seen, in_arm, a_word}
 use Rattle.mesa_types.specs.declared.faces.Item.{Item}
-use Rattle.mesa_types.specs.declared.faces.Face.{Face}
 use Rattle.mesa_types.specs.declared.faces.Import.{Import}
 use Rattle.mesa_types.specs.declared.faces.ItemKind.{ItemKind}
 use Rattle.mesa_types.specs.declared.faces.ItemKind.TheVariants as item

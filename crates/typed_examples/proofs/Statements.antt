@@ -1,22 +1,18 @@
 -- Statements that are sound at a place, and beside each one that is not.
-use Rattle.std.proofs.Common.{◌≡◌, ℕ, zero, suc, ◌+◌, ◌<◌, ◌≤◌, List, [], ◌∷◌, length, Some, None, refl, sym, ap, ◌∙◌, inl, inr, arith}
-use Rattle.std.specs.Prelude.{All, Contains, true, false}
-use Rattle.mesa_types.specs.Typed.{Endless, Counting, Kind, Ordinal, Texts, Array, Record, Kinds, NoKinds, AndKind, point_of, Expr, Number, Literal, Variable, Call, Exprs, NoExprs, AndExpr, NoSuffix, Interval, Between, NoPhrase, Stmt, Null, Marked, Declare, DeclareAs, Assign, Extract, Perform, If, Select, Block, Repeat, For, Jump, ReturnWith, Stmts, NoStmts, AndStmt, Targets, NoTargets, AndTarget, Cases, Otherwise, AndCase, Tests, NoTests, IfRelated, Exits, NoExits, AndExit, Loop, LoopOf, NoFinish, Always}
-use Rattle.mesa_types.specs.declared.typed_parts.Home.{Home}
+use Rattle.std.proofs.Common.{◌≡◌, ℕ, zero, suc, ◌+◌, ◌<◌, ◌≤◌, List, [], ◌∷◌, length, refl, ap, ◌∙◌, arith}
+use Rattle.std.specs.Prelude.{true, false}
+use Rattle.mesa_types.specs.Typed.{Endless, Counting, Kind, Ordinal, Record, Kinds, point_of, Expr, Number, Variable, Exprs, NoExprs, NoSuffix, NoPhrase, Stmt, Null, Marked, Declare, DeclareAs, Extract, Perform, Select, Block, Repeat, Jump, ReturnWith, NoStmts, AndStmt, Targets, NoTargets, AndTarget, Cases, Otherwise, AndCase, Tests, NoTests, IfRelated, Exits, NoExits, AndExit, Loop, LoopOf, NoFinish, Always}
 use Rattle.mesa_types.specs.declared.typed_parts.Home.TheVariants.{Global, Local}
 use Rattle.mesa_types.specs.declared.typed_parts.Range.TheVariants.{Every, From}
-use Rattle.mesa_types.specs.declared.typed_parts.Base.TheVariants.{Signed, Unsigned}
+use Rattle.mesa_types.specs.declared.typed_parts.Base.TheVariants.{Signed}
 use Rattle.mesa_types.specs.declared.typed_parts.Given.TheVariants.{NoVariable, GivenTo}
 use Rattle.mesa_types.specs.declared.relation.Relation.TheVariants.{Equal}
 use Rattle.mesa_types.specs.declared.typed_parts.Part.{Part}
-use Rattle.mesa_types.specs.declared.typed_parts.Callee.TheVariants.{OwnProcedure}
-use Rattle.mesa_types.specs.declared.typed_parts.Goal.{Goal}
-use Rattle.mesa_types.specs.declared.typed_parts.Goal.TheVariants.{PastStatement, ToLabel, ToReturn}
-use Rattle.mesa_types.specs.Plain.{kinds_of}
-use Rattle.mesa_types.specs.Counts.{operands, operands_of, operands_in, operands_of_targets, operands_of_cases, operands_of_tests, operands_of_interval, operands_of_loop, operands_of_condition, operands_of_stmt, words_of}
-use Rattle.mesa_types.specs.Shapes.{words_in, words_in_all, words_before, count_in, one, KindAt, PartOf}
-use Rattle.mesa_types.specs.Sound.{Fits, VariableIn, RangeIn, IsCheck, ChecksKind, AllDiffer, Arranged, Reaches, in_marked, labels_in, in_labelled, LabelsIn, CountIn, GivenIn, Selects, HasTest, HasValue, IsCall, taken, a_word, CalleeIs, ExprIn, ExprsIn, SuffixesIn, IntervalIn, PhraseIn, StmtIn, StmtsIn, TargetsIn, CasesIn, TestsIn, ExitsIn, LoopIn, FinishIn, ConditionIn}
-use Rattle.typed_examples.proofs.Places.{all_none, all_one, all_two, how_many, kind_number, an_integer, here, pair, twice}
+use Rattle.mesa_types.specs.declared.typed_parts.Goal.TheVariants.{PastStatement, ToLabel}
+use Rattle.mesa_types.specs.Counts.{operands, operands_of, operands_in, operands_of_targets, operands_of_cases, operands_of_tests, operands_of_loop, operands_of_condition, operands_of_stmt}
+use Rattle.mesa_types.specs.Shapes.{words_in, words_in_all, words_before, one, KindAt}
+use Rattle.mesa_types.specs.Sound.{Fits, VariableIn, RangeIn, IsCheck, ChecksKind, AllDiffer, Arranged, Reaches, in_marked, labels_in, in_labelled, LabelsIn, CountIn, GivenIn, Selects, HasTest, HasValue, IsCall, taken, a_word, ExprIn, SuffixesIn, PhraseIn, StmtIn, StmtsIn, TargetsIn, CasesIn, TestsIn, ExitsIn, LoopIn, FinishIn, ConditionIn}
+use Rattle.typed_examples.proofs.Places.{all_none, all_one, all_two, how_many, kind_number, here, pair}
 use Rattle.typed_examples.proofs.Expressions.{one_word, one_word_in}
 
 -- ---- declarations

@@ -1,5 +1,5 @@
 -- What checking gives of a text with the built-in interface alone, from the laws of checking.
-use Rattle.std.proofs.Common.{◌≡◌, refl, ℕ, zero, suc, ◌*◌, ◌≤◌, List, map, Ok, Err, arith}
+use Rattle.std.proofs.Common.{◌≡◌, refl, ℕ, zero, suc, ◌*◌, ◌≤◌, map, Ok, Err, arith}
 use Rattle.std.proofs.lemmas.List.Elements.{All-contains, All-map, All-replicate, All-weaker}
 use Rattle.std.specs.Prelude.{IfOk}
 use Rattle.std.specs.List.{All, Contains}

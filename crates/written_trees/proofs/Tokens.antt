@@ -8,7 +8,7 @@ use Rattle.mesa_lexer.specs.declared.token.Kind.{Kind}
 use Rattle.mesa_lexer.specs.declared.token.Kind.TheVariants as k
 use Rattle.mesa_lexer.specs.declared.token.Token.{Token}
 use Rattle.mesa_lexer.specs.Forms as f
-use Rattle.mesa_lexer.specs.Forms.{Form, Lexeme, Whole, Unended, IsTooLong, is_identifier}
+use Rattle.mesa_lexer.specs.Forms.{Form, Lexeme, Whole, IsTooLong, is_identifier}
 use Rattle.mesa_lexer.specs.Tokens.{Reaches, start, gap, token}
 use Rattle.written_trees.specs.Limits.{IsWithin, AreWithin}
 use Rattle.written_trees.specs.Laws.{TokensAreWithin}

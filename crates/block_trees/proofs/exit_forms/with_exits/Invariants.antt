@@ -2,7 +2,6 @@ use Rattle.std.proofs.Common.{◌≡◌, ◌+◌, ◌≤◌, length, map, drop}
 use Rattle.mesa_types.specs.Chain.{chain}
 use Rattle.mesa_types.specs.Plain.{exit}
 use Rattle.mesa_types.specs.Typed as t
-use Rattle.block_trees.specs.Excess.{excess}
 use Rattle.block_trees.specs.Forms.{blocks_of, labelled}
 use Rattle.block_trees.specs.Plain.{plain}
 use Rattle.block_trees.proofs.exit_forms.with_exits.Given as goal

@@ -1,5 +1,5 @@
 -- Where a scope is open, the last of the code is the innermost one, and all is as it was.
-use Rattle.std.proofs.Common.{◌≡◌, refl, ap, sym, ◌∙◌}
+use Rattle.std.proofs.Common.{◌≡◌, refl, ◌∙◌}
 use Rattle.check_scopes.specs.Shows.{shows}
 use Rattle.check_scopes.proofs.Innermost.{innermost_last, last_as_before, ok_also, if_ok_also}
 use Rattle.check_scopes.proofs.scopes.Scopes.share.Goals as goal
