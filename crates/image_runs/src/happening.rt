@@ -14,6 +14,7 @@ ghost use Rattle.image_runs.specs.SoFar.{PausesAt};
 use crate::signals::raise_signal;
 use crate::touching::{settle, touch};
 use activation_region::Turn;
+use code_forms::Instruction;
 use machine_steps::End;
 use mesa_base::Steps;
 use object_files::Image;
@@ -31,6 +32,7 @@ pub(crate) fn happen<L: Ledger>(
     parts: &mut Prepared,
     r: &mut Registers,
     why: Why,
+    instruction: Instruction,
     turns: &mut u64,
     comparisons: &mut Steps<L>,
 ) -> Option<LinkTurn>
@@ -49,7 +51,7 @@ pub(crate) fn happen<L: Ledger>(
         (record m { turns = turns.new; begun = suc m.begun }) (linked_or result r.new) }
 {
     match why {
-        Why::Touches => touch(image, parts, r, turns, comparisons),
+        Why::Touches => touch(image, parts, instruction, r, turns, comparisons),
         Why::Spent => Some(LinkTurn::Done(Turn::Ends(End::Spent))),
         Why::BoundsFault => {
             let fault = SignalId::BoundsFault;

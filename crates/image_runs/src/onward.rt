@@ -65,7 +65,7 @@ fn go_on<S: Source, K: Sink, L: Ledger, C: Ledger>(
     let at = pause.registers;
     *turns = pause.turns;
     *r = at;
-    match happen(image, parts, r, pause.why, turns, comparisons) {
+    match happen(image, parts, r, pause.why, pause.instruction, turns, comparisons) {
         None => Ok(None),
         Some(linked) => match linked {
             LinkTurn::Done(turn) => Ok(Some(turn)),

@@ -115,6 +115,7 @@ fn settle_link(turn: LinkTurn, r: &mut Registers) -> Option<LinkTurn>
 pub(crate) fn touch<L: Ledger>(
     image: &Image,
     parts: &mut Prepared,
+    instruction: Instruction,
     r: &mut Registers,
     turns: &mut u64,
     comparisons: &mut Steps<L>,
@@ -134,7 +135,6 @@ pub(crate) fn touch<L: Ledger>(
         (record m { turns = turns.new; begun = suc m.begun }) (linked_or result r.new) }
 {
     let at = *r;
-    let instruction = top_instruction(image, parts, at);
     match instruction {
         Instruction::Call { procedure } => {
             let called = call_top(image, parts, procedure, at, turns);

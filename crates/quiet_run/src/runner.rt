@@ -62,6 +62,7 @@ pub fn quiet<L: Ledger>(
                 registers: r,
                 turns,
                 why,
+                instruction: entry.instruction,
             };
         }
     }
