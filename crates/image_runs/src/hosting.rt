@@ -82,7 +82,7 @@ fn read_then<C: Ledger>(
 }
 
 // Reads what the call of the topmost activation asks for.
-#[inline(never)]
+#[inline(always)]
 fn read_in<S: Source, C: Ledger>(
     reading: Reading,
     image: &Image,
