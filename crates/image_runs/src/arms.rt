@@ -20,7 +20,7 @@ use region_signals::{arm_end, leave, leave_return, resume};
 use std::sync::ledger::Ledger;
 
 /// The topmost activation, an arm, ends: it rejects.
-#[inline(never)]
+#[inline(always)]
 pub(crate) fn end_arm<L: Ledger>(
     image: &Image,
     parts: &mut Prepared,
@@ -59,7 +59,7 @@ pub(crate) fn end_arm<L: Ledger>(
 }
 
 /// It resumes with so many words.
-#[inline(never)]
+#[inline(always)]
 pub(crate) fn resume_raiser<L: Ledger>(
     image: &Image,
     parts: &mut Prepared,
@@ -100,7 +100,7 @@ pub(crate) fn resume_raiser<L: Ledger>(
 }
 
 /// A jump leaves it, and the arms that hold it, to an offset of its procedure.
-#[inline(never)]
+#[inline(always)]
 pub(crate) fn leave_arms<L: Ledger>(
     image: &Image,
     parts: &mut Prepared,
@@ -140,7 +140,7 @@ pub(crate) fn leave_arms<L: Ledger>(
 }
 
 /// The same to its frame, which returns.
-#[inline(never)]
+#[inline(always)]
 pub(crate) fn return_out<L: Ledger>(
     image: &Image,
     parts: &mut Prepared,

@@ -5,7 +5,7 @@ ghost use Rattle.machine_steps.specs.State.{Stepped, Store};
 ghost use Rattle.activation_region.specs.Reaching.{IsUnstuck};
 ghost use Rattle.activation_region.specs.Shows.{IsAmple};
 ghost use Rattle.ready_images.specs.Ready.{IsReady};
-ghost use Rattle.region_calls.specs.Linking.{IsAmpleForLink, LinkedTo};
+ghost use Rattle.region_calls.specs.Linking.{IsAmpleForLink, LinkedTo, StandsAt};
 ghost use Rattle.region_calls.specs.Started.{ShowsStarted};
 ghost use Rattle.region_signals.specs.Raising.{ArmsHold};
 ghost use Rattle.image_runs.specs.Happening.{CanPause, HoldsOnLink, linked_or};
@@ -14,6 +14,7 @@ ghost use Rattle.image_runs.specs.SoFar.{PausesAt};
 use crate::signals::raise_signal;
 use crate::touching::{settle, touch};
 use activation_region::Turn;
+use code_forms::Instruction;
 use machine_steps::End;
 use mesa_base::Steps;
 use object_files::Image;
@@ -31,6 +32,7 @@ pub(crate) fn happen<L: Ledger>(
     parts: &mut Prepared,
     r: &mut Registers,
     why: Why,
+    instruction: Instruction,
     turns: &mut u64,
     comparisons: &mut Steps<L>,
 ) -> Option<LinkTurn>
@@ -38,6 +40,7 @@ pub(crate) fn happen<L: Ledger>(
     requires ample { IsAmple parts.old.layout parts.old.region.items parts.old.rows.items r.old.top }
     requires arms { ArmsHold image.now parts.old.rows.items r.old.top }
     requires pauses { CanPause image.now parts.old r.old why }
+    requires at { StandsAt image.now parts.old.rows.items r.old instruction }
     ensures ready { IsReady image.now parts.new }
     ensures ample { IsAmpleForLink parts.new.layout parts.new.region.items parts.new.rows.items r.old (linked_or result r.new) }
     ensures arms { HoldsOnLink image.now parts.new.rows.items r.old (linked_or result r.new) }
@@ -49,7 +52,7 @@ pub(crate) fn happen<L: Ledger>(
         (record m { turns = turns.new; begun = suc m.begun }) (linked_or result r.new) }
 {
     match why {
-        Why::Touches => touch(image, parts, r, turns, comparisons),
+        Why::Touches => touch(image, parts, instruction, r, turns, comparisons),
         Why::Spent => Some(LinkTurn::Done(Turn::Ends(End::Spent))),
         Why::BoundsFault => {
             let fault = SignalId::BoundsFault;

@@ -65,7 +65,15 @@ fn go_on<S: Source, K: Sink, L: Ledger, C: Ledger>(
     let at = pause.registers;
     *turns = pause.turns;
     *r = at;
-    match happen(image, parts, r, pause.why, turns, comparisons) {
+    match happen(
+        image,
+        parts,
+        r,
+        pause.why,
+        pause.instruction,
+        turns,
+        comparisons,
+    ) {
         None => Ok(None),
         Some(linked) => match linked {
             LinkTurn::Done(turn) => Ok(Some(turn)),
@@ -111,13 +119,14 @@ fn run_frames<S: Source, K: Sink, L: Ledger, C: Ledger>(
     ensures faults { CountsFaults result (S.faults input.old) (S.faults input.new) (K.faults out.old) (K.faults out.new) }
 {
     let mut r = first;
+    let mut left = *turns;
     'running: loop {
         match go_on(
             &mut r,
             image,
             parts,
             ahead,
-            turns,
+            &mut left,
             input,
             out,
             steps,
@@ -125,9 +134,15 @@ fn run_frames<S: Source, K: Sink, L: Ledger, C: Ledger>(
         ) {
             Ok(other) => match other {
                 None => {}
-                Some(turn) => return Ok(turn),
+                Some(turn) => {
+                    *turns = left;
+                    return Ok(turn);
+                }
             },
-            Err(fault) => return Err(fault),
+            Err(fault) => {
+                *turns = left;
+                return Err(fault);
+            }
         }
     }
 }

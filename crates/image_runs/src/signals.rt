@@ -21,7 +21,7 @@ use signaller::SignalId;
 use std::sync::ledger::Ledger;
 
 /// The topmost activation raises a signal without arguments.
-#[inline(never)]
+#[inline(always)]
 pub(crate) fn raise_signal<L: Ledger>(
     image: &Image,
     parts: &mut Prepared,
@@ -60,7 +60,7 @@ pub(crate) fn raise_signal<L: Ledger>(
 }
 
 /// The topmost activation raises a signal of its own module.
-#[inline(never)]
+#[inline(always)]
 pub(crate) fn raise_of_module<L: Ledger>(
     image: &Image,
     parts: &mut Prepared,
@@ -100,7 +100,7 @@ pub(crate) fn raise_of_module<L: Ledger>(
 }
 
 /// It raises a signal of another module, by the number of a link.
-#[inline(never)]
+#[inline(always)]
 pub(crate) fn raise_through_link<L: Ledger>(
     image: &Image,
     parts: &mut Prepared,
@@ -140,7 +140,7 @@ pub(crate) fn raise_through_link<L: Ledger>(
 }
 
 /// It raises a predeclared signal.
-#[inline(never)]
+#[inline(always)]
 pub(crate) fn raise_predeclared<L: Ledger>(
     image: &Image,
     parts: &mut Prepared,

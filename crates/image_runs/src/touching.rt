@@ -17,7 +17,6 @@ ghost use Rattle.image_runs.specs.SoFar.{PausesAt};
 use crate::arms::{end_arm, leave_arms, resume_raiser, return_out};
 use crate::calls::{call_linked, call_top, return_top};
 use crate::signals::{raise_of_module, raise_predeclared, raise_through_link};
-use crate::standing::top_instruction;
 use activation_region::Turn;
 use code_forms::Instruction;
 use mesa_base::Steps;
@@ -115,6 +114,7 @@ fn settle_link(turn: LinkTurn, r: &mut Registers) -> Option<LinkTurn>
 pub(crate) fn touch<L: Ledger>(
     image: &Image,
     parts: &mut Prepared,
+    instruction: Instruction,
     r: &mut Registers,
     turns: &mut u64,
     comparisons: &mut Steps<L>,
@@ -123,6 +123,7 @@ pub(crate) fn touch<L: Ledger>(
     requires ample { IsAmple parts.old.layout parts.old.region.items parts.old.rows.items r.old.top }
     requires arms { ArmsHold image.now parts.old.rows.items r.old.top }
     requires pauses { CanPause image.now parts.old r.old Touches }
+    requires at { StandsAt image.now parts.old.rows.items r.old instruction }
     ensures ready { IsReady image.now parts.new }
     ensures ample { IsAmpleForLink parts.new.layout parts.new.region.items parts.new.rows.items r.old (linked_or result r.new) }
     ensures arms { HoldsOnLink image.now parts.new.rows.items r.old (linked_or result r.new) }
@@ -134,7 +135,6 @@ pub(crate) fn touch<L: Ledger>(
         (record m { turns = turns.new; begun = suc m.begun }) (linked_or result r.new) }
 {
     let at = *r;
-    let instruction = top_instruction(image, parts, at);
     match instruction {
         Instruction::Call { procedure } => {
             let called = call_top(image, parts, procedure, at, turns);

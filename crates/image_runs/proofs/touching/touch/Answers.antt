@@ -10,14 +10,11 @@ use Rattle.image_runs.proofs.Pauses.{touches_shown}
 use Rattle.image_runs.proofs.Touches.{can_stand, top_there, arms_added, arms_linked, arms_below, linked_by, no_call}
 use Rattle.image_runs.proofs.touching.touch.Goals as goal
 
-pub top_instruction-instruction-requires-clause-stands : goal.top_instruction-instruction-requires-clause-stands
-top_instruction-instruction-requires-clause-stands g c = can_stand c.args.image.now c.args.parts.now c.args.r.now c.requires.pauses
-
 pub call_top-called-requires-clause-stands : goal.call_top-called-requires-clause-stands
 call_top-called-requires-clause-stands g c = can_stand c.args.image.now c.args.parts.now c.args.r.now c.requires.pauses
 
 pub call_top-called-requires-clause-at : goal.call_top-called-requires-clause-at
-call_top-called-requires-clause-at g c = subst (λ i. StandsAt c.args.image.now c.args.parts.now.rows.items c.args.r.now i) c.in-Call.is c.top_instruction-instruction.ensures
+call_top-called-requires-clause-at g c = subst (λ i. StandsAt c.args.image.now c.args.parts.now.rows.items c.args.r.now i) c.in-Call.is c.requires.at
 
 pub returns-in-Call-clause-arms : goal.returns-in-Call-clause-arms
 returns-in-Call-clause-arms g c =
@@ -37,7 +34,7 @@ pub call_linked-linked-requires-clause-stands : goal.call_linked-linked-requires
 call_linked-linked-requires-clause-stands g c = can_stand c.args.image.now c.args.parts.now c.args.r.now c.requires.pauses
 
 pub call_linked-linked-requires-clause-at : goal.call_linked-linked-requires-clause-at
-call_linked-linked-requires-clause-at g c = subst (λ i. StandsAt c.args.image.now c.args.parts.now.rows.items c.args.r.now i) c.in-CallLink.is c.top_instruction-instruction.ensures
+call_linked-linked-requires-clause-at g c = subst (λ i. StandsAt c.args.image.now c.args.parts.now.rows.items c.args.r.now i) c.in-CallLink.is c.requires.at
 
 pub returns-in-CallLink-clause-arms : goal.returns-in-CallLink-clause-arms
 returns-in-CallLink-clause-arms g c =
@@ -55,7 +52,7 @@ pub return_top-returned-requires-clause-stands : goal.return_top-returned-requir
 return_top-returned-requires-clause-stands g c = can_stand c.args.image.now c.args.parts.now c.args.r.now c.requires.pauses
 
 pub return_top-returned-requires-clause-at : goal.return_top-returned-requires-clause-at
-return_top-returned-requires-clause-at g c = subst (λ i. StandsAt c.args.image.now c.args.parts.now.rows.items c.args.r.now i) c.in-Return.is c.top_instruction-instruction.ensures
+return_top-returned-requires-clause-at g c = subst (λ i. StandsAt c.args.image.now c.args.parts.now.rows.items c.args.r.now i) c.in-Return.is c.requires.at
 
 pub returns-in-Return-clause-arms : goal.returns-in-Return-clause-arms
 returns-in-Return-clause-arms g c =
@@ -75,7 +72,7 @@ pub signal-turn-requires-clause-stands : goal.signal-turn-requires-clause-stands
 signal-turn-requires-clause-stands g c = can_stand c.args.image.now c.args.parts.now c.args.r.now c.requires.pauses
 
 pub signal-turn-requires-clause-no_call : goal.signal-turn-requires-clause-no_call
-signal-turn-requires-clause-no_call g c = no_call c.top_instruction-instruction.result c.in_default.not-Call c.in_default.not-CallLink c.in_default.not-Return
+signal-turn-requires-clause-no_call g c = no_call c.args.instruction c.in_default.not-Call c.in_default.not-CallLink c.in_default.not-Return
 
 pub returns-in_default-clause-leads : goal.returns-in_default-clause-leads
 returns-in_default-clause-leads g c s m turns marks free q =
