@@ -16,25 +16,22 @@ use crate::touching::{settle, touch};
 use activation_region::Turn;
 use code_forms::Instruction;
 use machine_steps::End;
-use mesa_base::Steps;
 use object_files::Image;
 use quiet_run::{Registers, Why};
 use ready_images::Prepared;
 use region_calls::LinkTurn;
 use signaller::SignalId;
-use std::sync::ledger::Ledger;
 
 /// What the pause of the topmost activation leads to: the instruction that touches more is done, the run ends for want of
 /// a turn, or the fault is raised. The registers are those of the activation that goes on, unless something else is told.
 #[inline(always)]
-pub(crate) fn happen<L: Ledger>(
+pub(crate) fn happen(
     image: &Image,
     parts: &mut Prepared,
     r: &mut Registers,
     why: Why,
     instruction: Instruction,
     turns: &mut u64,
-    comparisons: &mut Steps<L>,
 ) -> Option<LinkTurn>
     requires ready { IsReady image.now parts.old }
     requires ample { IsAmple parts.old.layout parts.old.region.items parts.old.rows.items r.old.top }
@@ -52,16 +49,16 @@ pub(crate) fn happen<L: Ledger>(
         (record m { turns = turns.new; begun = suc m.begun }) (linked_or result r.new) }
 {
     match why {
-        Why::Touches => touch(image, parts, instruction, r, turns, comparisons),
+        Why::Touches => touch(image, parts, instruction, r, turns),
         Why::Spent => Some(LinkTurn::Done(Turn::Ends(End::Spent))),
         Why::BoundsFault => {
             let fault = SignalId::BoundsFault;
-            let turn = raise_signal(image, parts, fault, *r, turns, comparisons);
+            let turn = raise_signal(image, parts, fault, *r, turns);
             settle(turn, r)
         }
         Why::ZeroDivisor => {
             let fault = SignalId::ZeroDivisor;
-            let turn = raise_signal(image, parts, fault, *r, turns, comparisons);
+            let turn = raise_signal(image, parts, fault, *r, turns);
             settle(turn, r)
         }
     }

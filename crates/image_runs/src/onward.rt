@@ -39,7 +39,7 @@ fn settle_told(told: Result<Turn, RunFault>, r: &mut Registers) -> Result<Option
 // The topmost activation runs up to an instruction that touches more than it or that cannot go on, and that is done. The
 // registers are those of the activation that goes on, unless something else is told.
 #[inline(always)]
-fn go_on<S: Source, K: Sink, L: Ledger, C: Ledger>(
+fn go_on<S: Source, K: Sink, L: Ledger>(
     r: &mut Registers,
     image: &Image,
     parts: &mut Prepared,
@@ -48,7 +48,6 @@ fn go_on<S: Source, K: Sink, L: Ledger, C: Ledger>(
     input: &mut S,
     out: &mut K,
     steps: &mut Steps<L>,
-    comparisons: &mut Steps<C>,
 ) -> Result<Option<Turn>, RunFault>
     requires carries { Carries image.now parts.old (Goes r.old) }
     requires run { CanGoOn image.now parts.old turns.old ahead.old (S.left input.old) (K.written out.old) (At image.now parts.old (Goes r.old)) }
@@ -72,7 +71,6 @@ fn go_on<S: Source, K: Sink, L: Ledger, C: Ledger>(
         pause.why,
         pause.instruction,
         turns,
-        comparisons,
     ) {
         None => Ok(None),
         Some(linked) => match linked {
@@ -87,7 +85,6 @@ fn go_on<S: Source, K: Sink, L: Ledger, C: Ledger>(
                     turns,
                     input,
                     out,
-                    comparisons,
                 );
                 settle_told(told, r)
             }
@@ -96,7 +93,7 @@ fn go_on<S: Source, K: Sink, L: Ledger, C: Ledger>(
 }
 
 // Runs on while an activation goes on.
-fn run_frames<S: Source, K: Sink, L: Ledger, C: Ledger>(
+fn run_frames<S: Source, K: Sink, L: Ledger>(
     first: Registers,
     image: &Image,
     parts: &mut Prepared,
@@ -105,7 +102,6 @@ fn run_frames<S: Source, K: Sink, L: Ledger, C: Ledger>(
     input: &mut S,
     out: &mut K,
     steps: &mut Steps<L>,
-    comparisons: &mut Steps<C>,
 ) -> Result<Turn, RunFault>
     requires carries { Carries image.now parts.old (Goes first) }
     requires run { CanGoOn image.now parts.old turns.old ahead.old (S.left input.old) (K.written out.old) (At image.now parts.old (Goes first)) }
@@ -130,7 +126,6 @@ fn run_frames<S: Source, K: Sink, L: Ledger, C: Ledger>(
             input,
             out,
             steps,
-            comparisons,
         ) {
             Ok(other) => match other {
                 None => {}
@@ -148,7 +143,7 @@ fn run_frames<S: Source, K: Sink, L: Ledger, C: Ledger>(
 }
 
 // The topmost activation does the call for which an instance was started first.
-fn call_then<S: Source, K: Sink, C: Ledger>(
+fn call_then<S: Source, K: Sink>(
     r: Registers,
     image: &Image,
     parts: &mut Prepared,
@@ -156,7 +151,6 @@ fn call_then<S: Source, K: Sink, C: Ledger>(
     turns: &mut u64,
     input: &mut S,
     out: &mut K,
-    comparisons: &mut Steps<C>,
 ) -> Result<Turn, RunFault>
     requires carries { Carries image.now parts.old (Pending r) }
     requires run { CanGoOn image.now parts.old turns.old ahead.old (S.left input.old) (K.written out.old) (At image.now parts.old (Pending r)) }
@@ -178,13 +172,12 @@ fn call_then<S: Source, K: Sink, C: Ledger>(
             turns,
             input,
             out,
-            comparisons,
         ),
     }
 }
 
 /// One turn of the loop. Where the run is at its end it stays there.
-pub(crate) fn advance<S: Source, K: Sink, L: Ledger, C: Ledger>(
+pub(crate) fn advance<S: Source, K: Sink, L: Ledger>(
     turn: Turn,
     image: &Image,
     parts: &mut Prepared,
@@ -193,7 +186,6 @@ pub(crate) fn advance<S: Source, K: Sink, L: Ledger, C: Ledger>(
     input: &mut S,
     out: &mut K,
     steps: &mut Steps<L>,
-    comparisons: &mut Steps<C>,
 ) -> Result<Turn, RunFault>
     requires carries { Carries image.now parts.old turn }
     requires run { CanGoOn image.now parts.old turns.old ahead.old (S.left input.old) (K.written out.old) (At image.now parts.old turn) }
@@ -215,9 +207,8 @@ pub(crate) fn advance<S: Source, K: Sink, L: Ledger, C: Ledger>(
             input,
             out,
             steps,
-            comparisons,
         ),
-        Turn::Pending(r) => call_then(r, image, parts, ahead, turns, input, out, comparisons),
+        Turn::Pending(r) => call_then(r, image, parts, ahead, turns, input, out),
         Turn::Empty => Ok(Turn::Empty),
         Turn::Ends(end) => Ok(Turn::Ends(end)),
     }

@@ -24,7 +24,7 @@ use region_calls::Coming;
 use std::sync::ledger::Ledger;
 
 // Runs on until no activation is left, which is no end, or to an end.
-fn run_on<S: Source, K: Sink, L: Ledger, C: Ledger>(
+fn run_on<S: Source, K: Sink, L: Ledger>(
     first: Turn,
     image: &Image,
     parts: &mut Prepared,
@@ -33,7 +33,6 @@ fn run_on<S: Source, K: Sink, L: Ledger, C: Ledger>(
     input: &mut S,
     out: &mut K,
     steps: &mut Steps<L>,
-    comparisons: &mut Steps<C>,
 ) -> Result<Option<End>, RunFault>
     requires carries { Carries image.now parts.old first }
     requires run { CanGoOn image.now parts.old turns.old ahead.old (S.left input.old) (K.written out.old) (At image.now parts.old first) }
@@ -59,7 +58,6 @@ fn run_on<S: Source, K: Sink, L: Ledger, C: Ledger>(
             input,
             out,
             steps,
-            comparisons,
         )?;
     }
 }
@@ -87,7 +85,7 @@ fn start(image: &Image, parts: &mut Prepared, instance: u32, turns: &mut u64) ->
 }
 
 // Runs an instance of CONTROL where no activation stands, unless it was started.
-fn run_instance<S: Source, K: Sink, L: Ledger, C: Ledger>(
+fn run_instance<S: Source, K: Sink, L: Ledger>(
     instance: u32,
     image: &Image,
     parts: &mut Prepared,
@@ -96,7 +94,6 @@ fn run_instance<S: Source, K: Sink, L: Ledger, C: Ledger>(
     input: &mut S,
     out: &mut K,
     steps: &mut Steps<L>,
-    comparisons: &mut Steps<C>,
 ) -> Result<Option<End>, RunFault>
     requires ready { IsReady image.now parts.old }
     requires there { instance < length image.now.instances }
@@ -123,19 +120,17 @@ fn run_instance<S: Source, K: Sink, L: Ledger, C: Ledger>(
         input,
         out,
         steps,
-        comparisons,
     )
 }
 
 /// Runs the instances of CONTROL in their order, over globals that are zero, with nothing started yet.
-pub(crate) fn run_control<S: Source, K: Sink, L: Ledger, C: Ledger>(
+pub(crate) fn run_control<S: Source, K: Sink, L: Ledger>(
     image: &Image,
     parts: &mut Prepared,
     turns: u64,
     input: &mut S,
     out: &mut K,
     steps: &mut Steps<L>,
-    comparisons: &mut Steps<C>,
 ) -> Result<Outcome, RunFault>
     requires ready { IsReady image.now parts.old }
     requires zero { ShowsGlobals parts.old (λ j. zeros (globals_in (code_of image.now j))) }
@@ -163,7 +158,6 @@ pub(crate) fn run_control<S: Source, K: Sink, L: Ledger, C: Ledger>(
             input,
             out,
             steps,
-            comparisons,
         )?;
         if let Some(end) = last {
             return Ok(Outcome { end, left });

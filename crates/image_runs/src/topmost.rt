@@ -14,12 +14,13 @@ ghost use Rattle.ready_images.specs.Ready.{IsPlanned, IsReady};
 ghost use Rattle.region_calls.specs.Linking.{StandsAt};
 ghost use Rattle.image_runs.specs.SoFar.{Paused, ShowsGlobals, TopRuns};
 
-use crate::look_ups::{code_of, module_of, plan_of, procedure_in, row_of};
+use crate::look_ups::{code_of, module_of, procedure_in, row_of};
 use activation_region::{Layout, Row};
 use mesa_base::{List, Steps};
 use object_files::Image;
 use quiet_run::{Pause, Registers, quiet};
 use ready_images::{Plans, Prepared};
+use region_signals::plan_of;
 use std::sync::ledger::Ledger;
 
 // Runs the topmost activation over the globals of its instance.

@@ -19,22 +19,19 @@ use crate::calls::{call_linked, call_top, return_top};
 use crate::signals::{raise_of_module, raise_predeclared, raise_through_link};
 use activation_region::Turn;
 use code_forms::Instruction;
-use mesa_base::Steps;
 use object_files::Image;
 use quiet_run::Registers;
 use ready_images::Prepared;
 use region_calls::LinkTurn;
-use std::sync::ledger::Ledger;
 
 // What the instruction leads to, at which the topmost activation stands and which neither calls nor returns.
 #[inline(always)]
-fn signal<L: Ledger>(
+fn signal(
     image: &Image,
     parts: &mut Prepared,
     instruction: Instruction,
     r: Registers,
     turns: &mut u64,
-    comparisons: &mut Steps<L>,
 ) -> Turn
     requires ready { IsReady image.now parts.old }
     requires ample { IsAmple parts.old.layout parts.old.region.items parts.old.rows.items r.top }
@@ -59,25 +56,23 @@ fn signal<L: Ledger>(
             signal,
             r,
             turns,
-            comparisons,
         ),
         Instruction::RaiseLink { link } => {
-            raise_through_link(image, parts, link, r, turns, comparisons)
+            raise_through_link(image, parts, link, r, turns)
         }
         Instruction::RaiseHost { fault } => {
-            raise_predeclared(image, parts, fault, r, turns, comparisons)
+            raise_predeclared(image, parts, fault, r, turns)
         }
-        Instruction::ArmEnd => end_arm(image, parts, r, turns, comparisons),
-        Instruction::Resume { words } => resume_raiser(image, parts, words, r, turns, comparisons),
+        Instruction::ArmEnd => end_arm(image, parts, r, turns),
+        Instruction::Resume { words } => resume_raiser(image, parts, words, r, turns),
         Instruction::Leave { target, .. } => leave_arms(
             image,
             parts,
             target,
             r,
             turns,
-            comparisons,
         ),
-        Instruction::LeaveReturn { .. } => return_out(image, parts, r, turns, comparisons),
+        Instruction::LeaveReturn { .. } => return_out(image, parts, r, turns),
         // The run of the topmost activation has done each other one.
         _ => Turn::Empty,
     }
@@ -111,13 +106,12 @@ fn settle_link(turn: LinkTurn, r: &mut Registers) -> Option<LinkTurn>
 /// What the instruction leads to, at which the topmost activation stands and which touches more than that activation: the
 /// registers are those of the activation that goes on, unless something else is told.
 #[inline(always)]
-pub(crate) fn touch<L: Ledger>(
+pub(crate) fn touch(
     image: &Image,
     parts: &mut Prepared,
     instruction: Instruction,
     r: &mut Registers,
     turns: &mut u64,
-    comparisons: &mut Steps<L>,
 ) -> Option<LinkTurn>
     requires ready { IsReady image.now parts.old }
     requires ample { IsAmple parts.old.layout parts.old.region.items parts.old.rows.items r.old.top }
@@ -149,7 +143,7 @@ pub(crate) fn touch<L: Ledger>(
             settle(returned, r)
         }
         _ => {
-            let turn = signal(image, parts, instruction, at, turns, comparisons);
+            let turn = signal(image, parts, instruction, at, turns);
             settle(turn, r)
         }
     }

@@ -55,6 +55,20 @@ pub zip_read : {A B : Type 0} (R : A → B → Type 0) (xs : List A) (ys zs : Li
 zip_read R xs ys zs i d y less grown h r =
     zip_more R xs ys zs i (get_or xs i d) y less (sym (get_or_from_slice_get xs i (get_or xs i d) (get_or xs i d) (slice_get-get_or xs i d less))) grown h r
 
+-- where one stands beside each, one does beside that of a number
+pub zip_within : {A B : Type 0} (R : A → B → Type 0) (xs : List A) (ys : List B) → AllZip R xs ys → (i : ℕ) → i < length xs → i < length ys
+zip_within R [] ys h i l = absurd (omega (arith, l))
+zip_within R (x ∷ xs) [] h i l = absurd h
+zip_within R (x ∷ xs) (y ∷ ys) h zero l = omega arith
+zip_within R (x ∷ xs) (y ∷ ys) h (suc i) l = let k = zip_within R xs ys h.1 i (omega (arith, l)) in omega (arith, k)
+
+pub zip_at : {A B : Type 0} (R : A → B → Type 0) (xs : List A) (ys : List B) → AllZip R xs ys → (i : ℕ) (d : A) (e : B) → i < length xs
+    → R (get_or xs i d) (get_or ys i e)
+zip_at R [] ys h i d e l = absurd (omega (arith, l))
+zip_at R (x ∷ xs) [] h i d e l = absurd h
+zip_at R (x ∷ xs) (y ∷ ys) h zero d e l = h.0
+zip_at R (x ∷ xs) (y ∷ ys) h (suc i) d e l = zip_at R xs ys h.1 i d e (omega (arith, l))
+
 -- one stands beside each of those before, and of the first so many more
 module _ {A B : Type 0} (R : A → B → Type 0) (before xs : List A) where
   pub zip_begun : (ys : List B) → AllZip R before ys → AllZip R (before ++ take 0 xs) ys
