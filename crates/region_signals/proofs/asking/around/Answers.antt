@@ -3,8 +3,8 @@ use Rattle.code_forms.proofs.Ordered.{blank}
 use Rattle.region_signals.proofs.Asks.{phrases_fill, table_there, offset_inside, innermost_within, innermost_there, begins_so, asks_so}
 use Rattle.region_signals.proofs.asking.around.Goals as goal
 
-pub bounds-as_slice-row : goal.bounds-as_slice-row
-bounds-as_slice-row c =
+pub bounds-as_slice-row-2 : goal.bounds-as_slice-row-2
+bounds-as_slice-row-2 c =
     innermost_within c.args.image.now c.args.layout c.requires.prepared c.args.row c.requires.read c.procedure_at-procedure.result.now c.procedure_at-procedure.ensures
     c.as_slice.result.now c.as_slice.ensures blank c.plan_of-plan.result.now c.plan_of-plan.ensures c.as_slice-2.result.now c.as_slice-2.ensures
 
