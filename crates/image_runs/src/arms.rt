@@ -19,12 +19,7 @@ use region_signals::{arm_end, leave, leave_return, resume};
 
 /// The topmost activation, an arm, ends: it rejects.
 #[inline(always)]
-pub(crate) fn end_arm(
-    image: &Image,
-    parts: &mut Prepared,
-    r: Registers,
-    turns: &mut u64,
-) -> Turn
+pub(crate) fn end_arm(image: &Image, parts: &mut Prepared, r: Registers, turns: &mut u64) -> Turn
     requires ready { IsReady image.now parts.old }
     requires ample { IsAmple parts.old.layout parts.old.region.items parts.old.rows.items r.top }
     requires arms { ArmsHold image.now parts.old.rows.items r.top }
@@ -133,12 +128,7 @@ pub(crate) fn leave_arms(
 
 /// The same to its frame, which returns.
 #[inline(always)]
-pub(crate) fn return_out(
-    image: &Image,
-    parts: &mut Prepared,
-    r: Registers,
-    turns: &mut u64,
-) -> Turn
+pub(crate) fn return_out(image: &Image, parts: &mut Prepared, r: Registers, turns: &mut u64) -> Turn
     requires ready { IsReady image.now parts.old }
     requires ample { IsAmple parts.old.layout parts.old.region.items parts.old.rows.items r.top }
     requires arms { ArmsHold image.now parts.old.rows.items r.top }

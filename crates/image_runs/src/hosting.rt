@@ -73,9 +73,7 @@ fn read_then(
 {
     match turn {
         ReadTurn::Goes(after) => Turn::Goes(after),
-        ReadTurn::NoInput => {
-            raise_signal(image, parts, SignalId::NoInput, r, turns)
-        }
+        ReadTurn::NoInput => { raise_signal(image, parts, SignalId::NoInput, r, turns) }
     }
 }
 
@@ -135,8 +133,6 @@ pub(crate) fn call_host<S: Source, K: Sink>(
 {
     match host {
         HostProcedure::Write(writing) => write_out(writing, image, parts, r, out),
-        HostProcedure::Read(reading) => {
-            read_in(reading, image, parts, r, ahead, turns, input)
-        }
+        HostProcedure::Read(reading) => { read_in(reading, image, parts, r, ahead, turns, input) }
     }
 }

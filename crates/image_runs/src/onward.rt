@@ -64,28 +64,12 @@ fn go_on<S: Source, K: Sink, L: Ledger>(
     let at = pause.registers;
     *turns = pause.turns;
     *r = at;
-    match happen(
-        image,
-        parts,
-        r,
-        pause.why,
-        pause.instruction,
-        turns,
-    ) {
+    match happen(image, parts, r, pause.why, pause.instruction, turns) {
         None => Ok(None),
         Some(linked) => match linked {
             LinkTurn::Done(turn) => Ok(Some(turn)),
             LinkTurn::Host(host) => {
-                let told = call_host(
-                    host,
-                    image,
-                    parts,
-                    at,
-                    ahead,
-                    turns,
-                    input,
-                    out,
-                );
+                let told = call_host(host, image, parts, at, ahead, turns, input, out);
                 settle_told(told, r)
             }
         },
@@ -117,16 +101,7 @@ fn run_frames<S: Source, K: Sink, L: Ledger>(
     let mut r = first;
     let mut left = *turns;
     'running: loop {
-        match go_on(
-            &mut r,
-            image,
-            parts,
-            ahead,
-            &mut left,
-            input,
-            out,
-            steps,
-        ) {
+        match go_on(&mut r, image, parts, ahead, &mut left, input, out, steps) {
             Ok(other) => match other {
                 None => {}
                 Some(turn) => {
@@ -163,16 +138,7 @@ fn call_then<S: Source, K: Sink>(
 {
     match call_pending(image, parts, r, turns) {
         LinkTurn::Done(turn) => Ok(turn),
-        LinkTurn::Host(host) => call_host(
-            host,
-            image,
-            parts,
-            r,
-            ahead,
-            turns,
-            input,
-            out,
-        ),
+        LinkTurn::Host(host) => call_host(host, image, parts, r, ahead, turns, input, out),
     }
 }
 
@@ -198,16 +164,7 @@ pub(crate) fn advance<S: Source, K: Sink, L: Ledger>(
     ensures faults { CountsFaults result (S.faults input.old) (S.faults input.new) (K.faults out.old) (K.faults out.new) }
 {
     match turn {
-        Turn::Goes(r) => run_frames(
-            r,
-            image,
-            parts,
-            ahead,
-            turns,
-            input,
-            out,
-            steps,
-        ),
+        Turn::Goes(r) => run_frames(r, image, parts, ahead, turns, input, out, steps),
         Turn::Pending(r) => call_then(r, image, parts, ahead, turns, input, out),
         Turn::Empty => Ok(Turn::Empty),
         Turn::Ends(end) => Ok(Turn::Ends(end)),

@@ -49,16 +49,7 @@ fn run_on<S: Source, K: Sink, L: Ledger>(
             Turn::Ends(end) => return Ok(Some(end)),
             _ => {}
         }
-        turn = advance(
-            turn,
-            image,
-            parts,
-            ahead,
-            turns,
-            input,
-            out,
-            steps,
-        )?;
+        turn = advance(turn, image, parts, ahead, turns, input, out, steps)?;
     }
 }
 
@@ -111,16 +102,7 @@ fn run_instance<S: Source, K: Sink, L: Ledger>(
         return Ok(None);
     }
     let first = start(image, parts, instance, turns);
-    run_on(
-        first,
-        image,
-        parts,
-        ahead,
-        turns,
-        input,
-        out,
-        steps,
-    )
+    run_on(first, image, parts, ahead, turns, input, out, steps)
 }
 
 /// Runs the instances of CONTROL in their order, over globals that are zero, with nothing started yet.
@@ -150,14 +132,7 @@ pub(crate) fn run_control<S: Source, K: Sink, L: Ledger>(
     let mut left = turns;
     for instance in image.control.as_slice() {
         let last = run_instance(
-            *instance,
-            image,
-            parts,
-            &mut ahead,
-            &mut left,
-            input,
-            out,
-            steps,
+            *instance, image, parts, &mut ahead, &mut left, input, out, steps,
         )?;
         if let Some(end) = last {
             return Ok(Outcome { end, left });

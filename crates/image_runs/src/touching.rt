@@ -50,28 +50,12 @@ fn signal(
         → LeadsTo image.now parts.new.layout parts.new.region.items parts.new.rows.items s (record m { turns = turns.new; begun = suc m.begun }) result }
 {
     match instruction {
-        Instruction::Raise { signal } => raise_of_module(
-            image,
-            parts,
-            signal,
-            r,
-            turns,
-        ),
-        Instruction::RaiseLink { link } => {
-            raise_through_link(image, parts, link, r, turns)
-        }
-        Instruction::RaiseHost { fault } => {
-            raise_predeclared(image, parts, fault, r, turns)
-        }
+        Instruction::Raise { signal } => raise_of_module(image, parts, signal, r, turns),
+        Instruction::RaiseLink { link } => { raise_through_link(image, parts, link, r, turns) }
+        Instruction::RaiseHost { fault } => { raise_predeclared(image, parts, fault, r, turns) }
         Instruction::ArmEnd => end_arm(image, parts, r, turns),
         Instruction::Resume { words } => resume_raiser(image, parts, words, r, turns),
-        Instruction::Leave { target, .. } => leave_arms(
-            image,
-            parts,
-            target,
-            r,
-            turns,
-        ),
+        Instruction::Leave { target, .. } => leave_arms(image, parts, target, r, turns),
         Instruction::LeaveReturn { .. } => return_out(image, parts, r, turns),
         // The run of the topmost activation has done each other one.
         _ => Turn::Empty,

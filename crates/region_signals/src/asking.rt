@@ -110,12 +110,7 @@ pub(crate) fn around(image: &Image, plans: &List<Plans>, row: Row, layout: Layou
 
 /// The search of a jump that begins in the region where the activation of a row waits: with the innermost phrase, if one is
 /// enabled there.
-pub(crate) fn around_within(
-    image: &Image,
-    plans: &List<Plans>,
-    row: Row,
-    layout: Layout,
-) -> Search
+pub(crate) fn around_within(image: &Image, plans: &List<Plans>, row: Row, layout: Layout) -> Search
     requires prepared { IsPrepared image.now layout }
     requires planned { AllZip IsPlanned image.now.modules plans.now }
     requires read { IsRead image.now row }

@@ -111,15 +111,7 @@ fn jump_out(
             let under = row_of(table, top);
             let first = left_to_ask(image, plans, kind, under, layout);
             leave_on(
-                image,
-                plans,
-                target,
-                first,
-                region,
-                table,
-                top,
-                layout,
-                turns,
+                image, plans, target, first, region, table, top, layout, turns,
             )
         }
     }
@@ -154,16 +146,7 @@ pub fn leave(
         → Shown image.now layout region.old.items table.old r s m
         → LeadsTo image.now layout region.new.items table.new s (record m { turns = turns.new; begun = suc m.begun }) result }
 {
-    jump_out(
-        image,
-        plans,
-        Some(target),
-        region,
-        table,
-        r,
-        layout,
-        turns,
-    )
+    jump_out(image, plans, Some(target), region, table, r, layout, turns)
 }
 
 /// The same to the frame of the arm, which returns.
@@ -193,14 +176,5 @@ pub fn leave_return(
         → Shown image.now layout region.old.items table.old r s m
         → LeadsTo image.now layout region.new.items table.new s (record m { turns = turns.new; begun = suc m.begun }) result }
 {
-    jump_out(
-        image,
-        plans,
-        None,
-        region,
-        table,
-        r,
-        layout,
-        turns,
-    )
+    jump_out(image, plans, None, region, table, r, layout, turns)
 }

@@ -48,12 +48,7 @@ pub(crate) fn procedure_at(image: &Image, instance: u32, number: u32) -> &CodePr
 
 /// The plan of a procedure of an instance.
 #[inline(always)]
-pub fn plan_of<'a>(
-    image: &Image,
-    plans: &'a List<Plans>,
-    instance: u32,
-    number: u32,
-) -> &'a Plan
+pub fn plan_of<'a>(image: &Image, plans: &'a List<Plans>, instance: u32, number: u32) -> &'a Plan
     requires planned { AllZip IsPlanned image.now.modules plans.now }
     requires there { IsSome (procedure_of image.now instance number) }
     ensures { (p : CodeProcedure) → procedure_of image.now instance number ≡ Some p → IsPlan p result.now }

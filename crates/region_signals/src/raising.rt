@@ -110,16 +110,7 @@ pub fn raise_own(
     let signal = SignalId::Own(row_of(table, r.top).instance, number);
     let args = usize::from(code.signals.as_slice()[number as usize].args);
     raise(
-        image,
-        plans,
-        links,
-        signal,
-        args,
-        region,
-        table,
-        r,
-        layout,
-        turns,
+        image, plans, links, signal, args, region, table, r, layout, turns,
     )
 }
 
@@ -167,16 +158,7 @@ pub fn raise_linked(
     let signal = raised_by(image.links.as_slice()[instance as usize].as_slice()[link as usize]);
     let args = code.links.as_slice()[link as usize].args as usize;
     raise(
-        image,
-        plans,
-        links,
-        signal,
-        args,
-        region,
-        table,
-        r,
-        layout,
-        turns,
+        image, plans, links, signal, args, region, table, r, layout, turns,
     )
 }
 
@@ -224,15 +206,6 @@ pub fn raise_host(
 {
     let signal = host_signal(fault);
     raise(
-        image,
-        plans,
-        links,
-        signal,
-        0,
-        region,
-        table,
-        r,
-        layout,
-        turns,
+        image, plans, links, signal, 0, region, table, r, layout, turns,
     )
 }

@@ -71,31 +71,12 @@ pub(crate) fn reject(
                 } => {
                     let from = end_of(region.as_slice(), row_of(table, under), under, layout);
                     seek_arm(
-                        image,
-                        plans,
-                        links,
-                        signal,
-                        from,
-                        args,
-                        owner,
-                        beyond,
-                        region,
-                        table,
-                        under,
-                        layout,
-                        turns,
+                        image, plans, links, signal, from, args, owner, beyond, region, table,
+                        under, layout, turns,
                     )
                 }
                 Reason::Jump { target, beyond } => leave_on(
-                    image,
-                    plans,
-                    target,
-                    beyond,
-                    region,
-                    table,
-                    under,
-                    layout,
-                    turns,
+                    image, plans, target, beyond, region, table, under, layout, turns,
                 ),
             }
         }
@@ -131,14 +112,5 @@ pub fn arm_end(
         → Shown image.now layout region.old.items table.old r s m
         → LeadsTo image.now layout region.new.items table.new s (record m { turns = turns.new; begun = suc m.begun }) result }
 {
-    reject(
-        image,
-        plans,
-        links,
-        region,
-        table,
-        r,
-        layout,
-        turns,
-    )
+    reject(image, plans, links, region, table, r, layout, turns)
 }

@@ -158,14 +158,5 @@ pub fn resume(
         let count = usize::from(words);
         return give_words(code, image, count, region.as_mut_slice(), table, r, layout);
     }
-    reject(
-        image,
-        plans,
-        links,
-        region,
-        table,
-        r,
-        layout,
-        turns,
-    )
+    reject(image, plans, links, region, table, r, layout, turns)
 }

@@ -104,16 +104,7 @@ pub(crate) fn seek_arm(
         → Seeking image.now layout region.old.items table.old top signal from args place search s m
         → LeadsTo image.now layout region.new.items table.new s (record m { turns = turns.new }) result }
 {
-    match seek(
-        image,
-        plans,
-        links,
-        table,
-        layout,
-        signal,
-        place,
-        search,
-    ) {
+    match seek(image, plans, links, table, layout, signal, place, search) {
         Some(landed) => {
             let reason = Reason::Raise {
                 signal,
