@@ -30,6 +30,7 @@ pub enum Turn {
 
 /// Calls the procedure of this number of the topmost activation's instance, whose code this is: a turn is spent, and one
 /// activation more is made.
+#[inline(always)]
 pub fn call(
     code: &ModuleCode,
     number: u32,
@@ -62,6 +63,7 @@ pub fn call(
 
 /// Returns from the topmost activation, a frame, whose code this is: the activation below is given the results and goes
 /// on; after a body, which was started for a call, it does that call.
+#[inline(always)]
 pub fn give_back(
     code: &ModuleCode,
     region: &mut [u16],

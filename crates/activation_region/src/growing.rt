@@ -8,6 +8,7 @@ use crate::row::Layout;
 
 /// The region has the parts of all places up to this one: words that it had not are 0. There is memory for them, so none
 /// is taken.
+#[inline(always)]
 pub fn make_room(region: &mut Vec<u16>, layout: Layout, place: usize)
     requires reserved { IsReserved layout (vec_capacity region.old) }
     requires place { place < ACTIVATIONS }

@@ -107,7 +107,7 @@ impl<T: Drop> Index<T> {
         Ok(())
     }
 
-    /// Takes the first name out with its meaning, in the order of their bytes; None exactly where there is no name.
+    /// Takes a name out with its meaning; None exactly where there is no name.
     #[tactic(auto, unfolding(crate::specs::Counts::how_many, crate::specs::Shows::indexed, crate::specs::Shows::listed))]
     pub fn pop_first(&mut self) -> Option<(Vec<u8>, T)>
         ensures meaning { IfSome result (λ one. listed self.old one.0.items ≡ Some one.1) }

@@ -18,8 +18,8 @@ use mesa_types::syntax::{self, Block, Exit, Statement};
 use mesa_types::{Exits, Phrase, Stmts, TypedStmt};
 use std::alloc::Global;
 
-/// A statement, where so many may stand inside one another, itself counted. The grammar lets no text have more than `NESTING`, so that
-/// no text's tree wants memory here.
+/// A statement, where so many may stand inside one another, itself counted; a deeper one wants memory. The parsers refuse a text that
+/// has more than `NESTING`.
 #[cycle(nest)]
 fn at(
     one: &Statement,

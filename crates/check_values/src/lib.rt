@@ -1,5 +1,4 @@
-//! Rules of values that look at no part of the text again: operators, literals, checks of what is given to a target, names with
-//! what follows them.
+//! Rules of values that look at no part of the text again: operators, literals, and checks of what is given to a target.
 #![tactic(auto)]
 
 mod operators;

@@ -45,7 +45,7 @@ pub record RunsAlike (image : Image) (input : List ℕ) (ending : Ending) (turns
   pub count : ℕ
   pub is_run : Steps image input (is_faulty ending) turns output ends left taken count
 
--- For each lawful program and each image that stands for it and wants nothing but the host's items, each input and each bound. Since the
+-- For each lawful program and each image that stands for it and wants nothing but the host's items, each input of bytes and each bound. Since the
 -- program has exactly one result, and the machine at most one, each has the other's.
 abbrev pub ImagesRunAsTheirSource : Type 0
 ImagesRunAsTheirSource = (P : Program) (image : Image) → Lawful P → Stands P image → WantsTheHost image

@@ -2,7 +2,7 @@ ghost use Rattle.code_simulation.specs.Agreement.{ImagesRunAsTheirSource};
 ghost use Rattle.image_agreement.specs.Laws.{ImagesOfSourcesAreNeverStuck, SourcesMeanWhatTheirImagesDo};
 
 /// An image does what its source means: for each lawful program, each image that stands for it and wants nothing but the
-/// host's items, each input, whether or not a fault follows it, and each bound of turns, the machine runs the image to the
+/// host's items, each input of bytes, whether or not a fault follows it, and each bound of turns, the machine runs the image to the
 /// program's output and end, with as many turns left and as many bytes of the input taken.
 pub fn images_run_as_their_source()
     ensures { ImagesRunAsTheirSource }

@@ -8,7 +8,6 @@ pub mod NoJump
 pub mod Onwards
 pub mod Pauses
 pub mod Pausing
-pub mod Plans
 pub mod Reach
 pub mod Reading
 pub mod Starts

@@ -1,17 +1,14 @@
 -- What comes of the instruction at which the topmost activation stands where its run pauses.
-use Rattle.std.proofs.Common.{◌≡◌, ℕ, suc, ◌+◌, ◌<◌, List, ◌∷◌, length, Bool, false, Option, Some, refl, sym, ap, subst, ◌∙◌, arith}
-use Rattle.std.specs.Prelude.{slice_get, IsSome}
+use Rattle.std.proofs.Common.{◌≡◌, ℕ, suc, ◌+◌, ◌<◌, List, ◌∷◌, length, Bool, false, refl, sym, ap, subst, ◌∙◌, arith}
 use Rattle.std.proofs.lemmas.Bool.{false≢true}
 use Rattle.std.proofs.lemmas.Option.{none-some, same_Some}
 use Rattle.code_forms.specs.declared.instruction.Instruction.{Instruction}
 use Rattle.code_forms.specs.declared.instruction.Instruction.TheVariants.{Jump, JumpIf, JumpIfNot, JumpBack, Call, CallLink, Return, Raise, RaiseLink, RaiseHost, ArmEnd, Resume, Leave, LeaveReturn}
 use Rattle.code_forms.specs.declared.module_code.CodeEntry.{CodeEntry}
-use Rattle.code_forms.specs.declared.module_code.CodeProcedure.{CodeProcedure}
 use Rattle.code_forms.specs.declared.module_code.ModuleCode.{ModuleCode}
 use Rattle.object_files.specs.declared.image.Image.{Image}
 use Rattle.machine_steps.specs.State.{Active, Activations, Store, Runs, Stuck, Stepped, Stops}
-use Rattle.machine_steps.specs.LookUps.{code_of}
-use Rattle.machine_steps.specs.Steps.{Ends, stops, goes, globals_in, perform}
+use Rattle.machine_steps.specs.Steps.{Ends, stops, goes, perform}
 use Rattle.quiet_run.specs.declared.registers.Registers.{Registers}
 use Rattle.quiet_run.specs.declared.registers.Why.TheVariants.{Touches}
 use Rattle.activation_region.specs.declared.calling.Turn.{Turn}
@@ -31,15 +28,11 @@ use Rattle.region_calls.specs.Started.{ShowsStarted}
 use Rattle.region_signals.specs.Raising.{ArmsHold, HoldsOn}
 use Rattle.region_signals.proofs.ArmRows.{arms_fewer}
 use Rattle.region_signals.proofs.Framed.{arms_framed}
-use Rattle.region_signals.proofs.Raisers.{some_at}
 use Rattle.ready_images.specs.declared.prepared.Prepared.{Prepared}
-use Rattle.ready_images.specs.Ready.{IsReady}
-use Rattle.ready_images.proofs.Preparing.{ready_is_prepared}
 use Rattle.image_runs.specs.Happening.{CanPause, HoldsOnLink, is_call}
 use Rattle.image_runs.specs.SoFar.{IsNoJump, PausesAt}
 use Rattle.image_runs.proofs.Pauses.{touches_shown}
 use Rattle.image_runs.proofs.Instructions.{at_here}
-use Rattle.image_runs.proofs.Pausing.{stands_there}
 
 -- What is read of the topmost activation.
 
@@ -50,30 +43,6 @@ can_stand image p r c = record {
   store = c.store;
   shown = touches_shown image p.layout p.region.items p.rows.items r c.start c.store c.pauses;
 }
-
-module _ (image : Image) (p : Prepared) (ready : IsReady image p) (r : Registers) (stands : StandsIn image p.layout p.region.items p.rows.items r)
-    (ample : IsAmple p.layout p.region.items p.rows.items r.top) (row : Row) (same : row ≡ row_at p.rows.items r.top) (code : ModuleCode) (is : code_of image row.instance ≡ Some code)
-    (procedure : CodeProcedure) (read : slice_get code.procedures row.procedure ≡ Some procedure) where
-  entry_there : (e : CodeEntry) × (slice_get procedure.code r.entry ≡ Some e)
-  entry_there =
-      some_at procedure.code r.entry
-      (stands_there image p.layout (ready_is_prepared image p ready) p.region.items p.rows.items r row same stands code is ample procedure read (globals_in (code_of image row.instance)) refl).within
-
-  pub some_entry : IsSome (slice_get procedure.code r.entry)
-  some_entry = subst (λ (o : Option CodeEntry). IsSome o) (sym entry_there.1) refl
-
-  pub stands_at : (i : Instruction) → ((e : CodeEntry) → slice_get procedure.code r.entry ≡ Some e → e.instruction ≡ i) → StandsAt image p.rows.items r i
-  stands_at i reads = record {
-    code = code;
-    is_code = ap (λ (x : Row). code_of image x.instance) (sym same) ∙ is;
-    at = record {
-      procedure = procedure;
-      is = ap (λ (x : Row). slice_get code.procedures x.procedure) (sym same) ∙ read;
-      entry = entry_there.0;
-      fetched = entry_there.1;
-      at = reads entry_there.0 entry_there.1;
-    };
-  }
 
 pub top_there : (image : Image) (layout : Layout) → IsPrepared image layout → (region : List ℕ) (table : List Row) (r : Registers) → StandsIn image layout region table r
     → IsAmple layout region table r.top → r.top < length table

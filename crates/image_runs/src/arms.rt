@@ -12,22 +12,14 @@ ghost use Rattle.region_signals.specs.Raising.{ArmsHold, HoldsOn};
 
 use crate::standing::top_code;
 use activation_region::Turn;
-use mesa_base::Steps;
 use object_files::Image;
 use quiet_run::Registers;
 use ready_images::Prepared;
 use region_signals::{arm_end, leave, leave_return, resume};
-use std::sync::ledger::Ledger;
 
 /// The topmost activation, an arm, ends: it rejects.
-#[inline(never)]
-pub(crate) fn end_arm<L: Ledger>(
-    image: &Image,
-    parts: &mut Prepared,
-    r: Registers,
-    turns: &mut u64,
-    comparisons: &mut Steps<L>,
-) -> Turn
+#[inline(always)]
+pub(crate) fn end_arm(image: &Image, parts: &mut Prepared, r: Registers, turns: &mut u64) -> Turn
     requires ready { IsReady image.now parts.old }
     requires ample { IsAmple parts.old.layout parts.old.region.items parts.old.rows.items r.top }
     requires arms { ArmsHold image.now parts.old.rows.items r.top }
@@ -54,19 +46,17 @@ pub(crate) fn end_arm<L: Ledger>(
         r,
         parts.layout,
         turns,
-        comparisons,
     )
 }
 
 /// It resumes with so many words.
-#[inline(never)]
-pub(crate) fn resume_raiser<L: Ledger>(
+#[inline(always)]
+pub(crate) fn resume_raiser(
     image: &Image,
     parts: &mut Prepared,
     words: u16,
     r: Registers,
     turns: &mut u64,
-    comparisons: &mut Steps<L>,
 ) -> Turn
     requires ready { IsReady image.now parts.old }
     requires ample { IsAmple parts.old.layout parts.old.region.items parts.old.rows.items r.top }
@@ -95,19 +85,17 @@ pub(crate) fn resume_raiser<L: Ledger>(
         r,
         parts.layout,
         turns,
-        comparisons,
     )
 }
 
 /// A jump leaves it, and the arms that hold it, to an offset of its procedure.
-#[inline(never)]
-pub(crate) fn leave_arms<L: Ledger>(
+#[inline(always)]
+pub(crate) fn leave_arms(
     image: &Image,
     parts: &mut Prepared,
     target: u32,
     r: Registers,
     turns: &mut u64,
-    comparisons: &mut Steps<L>,
 ) -> Turn
     requires ready { IsReady image.now parts.old }
     requires ample { IsAmple parts.old.layout parts.old.region.items parts.old.rows.items r.top }
@@ -135,19 +123,12 @@ pub(crate) fn leave_arms<L: Ledger>(
         r,
         parts.layout,
         turns,
-        comparisons,
     )
 }
 
 /// The same to its frame, which returns.
-#[inline(never)]
-pub(crate) fn return_out<L: Ledger>(
-    image: &Image,
-    parts: &mut Prepared,
-    r: Registers,
-    turns: &mut u64,
-    comparisons: &mut Steps<L>,
-) -> Turn
+#[inline(always)]
+pub(crate) fn return_out(image: &Image, parts: &mut Prepared, r: Registers, turns: &mut u64) -> Turn
     requires ready { IsReady image.now parts.old }
     requires ample { IsAmple parts.old.layout parts.old.region.items parts.old.rows.items r.top }
     requires arms { ArmsHold image.now parts.old.rows.items r.top }
@@ -173,6 +154,5 @@ pub(crate) fn return_out<L: Ledger>(
         r,
         parts.layout,
         turns,
-        comparisons,
     )
 }

@@ -5,7 +5,7 @@ ghost use Rattle.machine_steps.specs.State.{Stepped, Store};
 ghost use Rattle.activation_region.specs.Reaching.{IsUnstuck};
 ghost use Rattle.activation_region.specs.Shows.{IsAmple};
 ghost use Rattle.ready_images.specs.Ready.{IsReady};
-ghost use Rattle.region_calls.specs.Linking.{IsAmpleForLink, LinkedTo};
+ghost use Rattle.region_calls.specs.Linking.{IsAmpleForLink, LinkedTo, StandsAt};
 ghost use Rattle.region_calls.specs.Started.{ShowsStarted};
 ghost use Rattle.region_signals.specs.Raising.{ArmsHold};
 ghost use Rattle.image_runs.specs.Happening.{CanPause, HoldsOnLink, linked_or};
@@ -14,30 +14,30 @@ ghost use Rattle.image_runs.specs.SoFar.{PausesAt};
 use crate::signals::raise_signal;
 use crate::touching::{settle, touch};
 use activation_region::Turn;
+use code_forms::Instruction;
 use machine_steps::End;
-use mesa_base::Steps;
 use object_files::Image;
 use quiet_run::{Registers, Why};
 use ready_images::Prepared;
 use region_calls::LinkTurn;
 use signaller::SignalId;
-use std::sync::ledger::Ledger;
 
 /// What the pause of the topmost activation leads to: the instruction that touches more is done, the run ends for want of
 /// a turn, or the fault is raised. The registers are those of the activation that goes on, unless something else is told.
 #[inline(always)]
-pub(crate) fn happen<L: Ledger>(
+pub(crate) fn happen(
     image: &Image,
     parts: &mut Prepared,
     r: &mut Registers,
     why: Why,
+    instruction: Instruction,
     turns: &mut u64,
-    comparisons: &mut Steps<L>,
 ) -> Option<LinkTurn>
     requires ready { IsReady image.now parts.old }
     requires ample { IsAmple parts.old.layout parts.old.region.items parts.old.rows.items r.old.top }
     requires arms { ArmsHold image.now parts.old.rows.items r.old.top }
     requires pauses { CanPause image.now parts.old r.old why }
+    requires at { StandsAt image.now parts.old.rows.items r.old instruction }
     ensures ready { IsReady image.now parts.new }
     ensures ample { IsAmpleForLink parts.new.layout parts.new.region.items parts.new.rows.items r.old (linked_or result r.new) }
     ensures arms { HoldsOnLink image.now parts.new.rows.items r.old (linked_or result r.new) }
@@ -49,16 +49,16 @@ pub(crate) fn happen<L: Ledger>(
         (record m { turns = turns.new; begun = suc m.begun }) (linked_or result r.new) }
 {
     match why {
-        Why::Touches => touch(image, parts, r, turns, comparisons),
+        Why::Touches => touch(image, parts, instruction, r, turns),
         Why::Spent => Some(LinkTurn::Done(Turn::Ends(End::Spent))),
         Why::BoundsFault => {
             let fault = SignalId::BoundsFault;
-            let turn = raise_signal(image, parts, fault, *r, turns, comparisons);
+            let turn = raise_signal(image, parts, fault, *r, turns);
             settle(turn, r)
         }
         Why::ZeroDivisor => {
             let fault = SignalId::ZeroDivisor;
-            let turn = raise_signal(image, parts, fault, *r, turns, comparisons);
+            let turn = raise_signal(image, parts, fault, *r, turns);
             settle(turn, r)
         }
     }

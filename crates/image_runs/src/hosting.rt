@@ -18,13 +18,12 @@ ghost use Rattle.image_runs.specs.SoFar.{AtHost, Carries, SoFar, Then};
 use crate::outcome::RunFault;
 use crate::signals::raise_signal;
 use activation_region::Turn;
-use mesa_base::{Sink, Source, Steps};
+use mesa_base::{Sink, Source};
 use object_files::Image;
 use quiet_run::Registers;
 use ready_images::Prepared;
 use region_calls::{Coming, HostProcedure, ReadTurn, Reading, Writing, read, write};
 use signaller::SignalId;
-use std::sync::ledger::Ledger;
 
 // Writes what the call of the topmost activation says.
 #[inline(always)]
@@ -52,13 +51,12 @@ fn write_out<K: Sink>(
 }
 
 // Goes on behind a call that has read, or raises NoInput.
-fn read_then<C: Ledger>(
+fn read_then(
     turn: ReadTurn,
     image: &Image,
     parts: &mut Prepared,
     r: Registers,
     turns: &mut u64,
-    comparisons: &mut Steps<C>,
 ) -> Turn
     requires ready { IsReady image.now parts.old }
     requires ample { IsAmple parts.old.layout parts.old.region.items parts.old.rows.items r.top }
@@ -75,15 +73,13 @@ fn read_then<C: Ledger>(
 {
     match turn {
         ReadTurn::Goes(after) => Turn::Goes(after),
-        ReadTurn::NoInput => {
-            raise_signal(image, parts, SignalId::NoInput, r, turns, comparisons)
-        }
+        ReadTurn::NoInput => { raise_signal(image, parts, SignalId::NoInput, r, turns) }
     }
 }
 
 // Reads what the call of the topmost activation asks for.
 #[inline(never)]
-fn read_in<S: Source, C: Ledger>(
+fn read_in<S: Source>(
     reading: Reading,
     image: &Image,
     parts: &mut Prepared,
@@ -91,7 +87,6 @@ fn read_in<S: Source, C: Ledger>(
     ahead: &mut Option<Coming>,
     turns: &mut u64,
     input: &mut S,
-    comparisons: &mut Steps<C>,
 ) -> Result<Turn, RunFault>
     requires ready { IsReady image.now parts.old }
     requires ample { IsAmple parts.old.layout parts.old.region.items parts.old.rows.items r.top }
@@ -107,7 +102,7 @@ fn read_in<S: Source, C: Ledger>(
     ensures faults { (written : ℕ) → CountsFaults result (S.faults input.old) (S.faults input.new) written written }
 {
     match read(reading, parts.region.as_mut_slice(), r, ahead, input) {
-        Ok(turn) => Ok(read_then(turn, image, parts, r, turns, comparisons)),
+        Ok(turn) => Ok(read_then(turn, image, parts, r, turns)),
         Err(_) => Err(RunFault::ReadFault),
     }
 }
@@ -115,7 +110,7 @@ fn read_in<S: Source, C: Ledger>(
 /// Does the call of the topmost activation, of a procedure of the host: the run goes on, or breaks off where the source or
 /// the sink fails.
 #[inline(always)]
-pub(crate) fn call_host<S: Source, K: Sink, C: Ledger>(
+pub(crate) fn call_host<S: Source, K: Sink>(
     host: HostProcedure,
     image: &Image,
     parts: &mut Prepared,
@@ -124,7 +119,6 @@ pub(crate) fn call_host<S: Source, K: Sink, C: Ledger>(
     turns: &mut u64,
     input: &mut S,
     out: &mut K,
-    comparisons: &mut Steps<C>,
 ) -> Result<Turn, RunFault>
     requires ready { IsReady image.now parts.old }
     requires ample { IsAmple parts.old.layout parts.old.region.items parts.old.rows.items r.top }
@@ -139,8 +133,6 @@ pub(crate) fn call_host<S: Source, K: Sink, C: Ledger>(
 {
     match host {
         HostProcedure::Write(writing) => write_out(writing, image, parts, r, out),
-        HostProcedure::Read(reading) => {
-            read_in(reading, image, parts, r, ahead, turns, input, comparisons)
-        }
+        HostProcedure::Read(reading) => { read_in(reading, image, parts, r, ahead, turns, input) }
     }
 }

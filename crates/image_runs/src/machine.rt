@@ -2,7 +2,6 @@
 
 ghost use Rattle.std.specs.Prelude.{◌≡◌, ◌-◌, ◌<◌, ◌≤◌, IfOk, IsErrOf};
 ghost use Rattle.mesa_base.specs.Outside.{Rose};
-ghost use Rattle.image_runs.specs.Onward.{CountsFaults};
 ghost use Rattle.image_runs.specs.Running.{BreaksAtInput, BreaksAtOutput, Completes, EndIsInRange};
 
 use crate::clearing::clear;
@@ -10,44 +9,7 @@ use crate::outcome::{Outcome, RunFault};
 use crate::running::run_control;
 use mesa_base::{Sink, Source, Steps};
 use ready_images::Machine;
-use std::marker::Brand;
-use std::sync::ledger::{Blank, Ledger};
-
-// Runs it, and counts comparisons apart.
-fn run_counted<S: Source, K: Sink, L: Ledger, C: Ledger>(
-    blank: Blank,
-    machine: &mut Machine,
-    turns: u64,
-    input: &mut S,
-    out: &mut K,
-    steps: &mut Steps<L>,
-) -> Result<Outcome, RunFault>
-    requires name { blank.name ≡ C.name }
-    requires parts { blank.parts ≡ C.parts }
-    requires some { 0 < blank.parts }
-    ensures completes { IfOk result (λ outcome.
-        Completes machine.old turns outcome (steps.new - steps.old) (S.left input.old) (S.left input.new) (K.written out.old) (K.written out.new)) }
-    ensures in_range { IfOk result (λ outcome. EndIsInRange machine.old outcome.end) }
-    ensures breaks_at_input { IsErrOf result RunFault.ReadFault
-        → BreaksAtInput machine.old turns (steps.new - steps.old) (S.left input.old) (S.left input.new) (K.written out.old) (K.written out.new) }
-    ensures breaks_at_output { IsErrOf result RunFault.WriteFault
-        → BreaksAtOutput machine.old turns (S.left input.old) (S.left input.new) (K.written out.old) (K.written out.new) }
-    ensures faults { CountsFaults result (S.faults input.old) (S.faults input.new) (K.faults out.old) (K.faults out.new) }
-    ensures machine_stays { machine.new ≡ machine.old }
-    ensures steps_stay { steps.old ≤ steps.new }
-{
-    let mut comparisons = Steps::<C>::new(blank);
-    clear(&mut machine.prepared);
-    run_control(
-        &machine.image,
-        &mut machine.prepared,
-        turns,
-        input,
-        out,
-        steps,
-        &mut comparisons,
-    )
-}
+use std::sync::ledger::Ledger;
 
 /// Runs the instances of CONTROL in their order with this many turns, and gives the end and the turns that are left. One
 /// step is counted for each instruction begun, that in which the run ended included. A machine can be run again, also after
@@ -74,5 +36,13 @@ pub fn run<S: Source, K: Sink, L: Ledger>(
     ensures output_faults_stay { K.faults out.old ≤ K.faults out.new }
     ensures steps_stay { steps.old ≤ steps.new }
 {
-    run_counted::<S, K, L, Brand>(Blank::new(1), machine, turns, input, out, steps)
+    clear(&mut machine.prepared);
+    run_control(
+        &machine.image,
+        &mut machine.prepared,
+        turns,
+        input,
+        out,
+        steps,
+    )
 }

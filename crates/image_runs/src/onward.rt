@@ -39,7 +39,7 @@ fn settle_told(told: Result<Turn, RunFault>, r: &mut Registers) -> Result<Option
 // The topmost activation runs up to an instruction that touches more than it or that cannot go on, and that is done. The
 // registers are those of the activation that goes on, unless something else is told.
 #[inline(always)]
-fn go_on<S: Source, K: Sink, L: Ledger, C: Ledger>(
+fn go_on<S: Source, K: Sink, L: Ledger>(
     r: &mut Registers,
     image: &Image,
     parts: &mut Prepared,
@@ -48,7 +48,6 @@ fn go_on<S: Source, K: Sink, L: Ledger, C: Ledger>(
     input: &mut S,
     out: &mut K,
     steps: &mut Steps<L>,
-    comparisons: &mut Steps<C>,
 ) -> Result<Option<Turn>, RunFault>
     requires carries { Carries image.now parts.old (Goes r.old) }
     requires run { CanGoOn image.now parts.old turns.old ahead.old (S.left input.old) (K.written out.old) (At image.now parts.old (Goes r.old)) }
@@ -65,22 +64,12 @@ fn go_on<S: Source, K: Sink, L: Ledger, C: Ledger>(
     let at = pause.registers;
     *turns = pause.turns;
     *r = at;
-    match happen(image, parts, r, pause.why, turns, comparisons) {
+    match happen(image, parts, r, pause.why, pause.instruction, turns) {
         None => Ok(None),
         Some(linked) => match linked {
             LinkTurn::Done(turn) => Ok(Some(turn)),
             LinkTurn::Host(host) => {
-                let told = call_host(
-                    host,
-                    image,
-                    parts,
-                    at,
-                    ahead,
-                    turns,
-                    input,
-                    out,
-                    comparisons,
-                );
+                let told = call_host(host, image, parts, at, ahead, turns, input, out);
                 settle_told(told, r)
             }
         },
@@ -88,7 +77,7 @@ fn go_on<S: Source, K: Sink, L: Ledger, C: Ledger>(
 }
 
 // Runs on while an activation goes on.
-fn run_frames<S: Source, K: Sink, L: Ledger, C: Ledger>(
+fn run_frames<S: Source, K: Sink, L: Ledger>(
     first: Registers,
     image: &Image,
     parts: &mut Prepared,
@@ -97,7 +86,6 @@ fn run_frames<S: Source, K: Sink, L: Ledger, C: Ledger>(
     input: &mut S,
     out: &mut K,
     steps: &mut Steps<L>,
-    comparisons: &mut Steps<C>,
 ) -> Result<Turn, RunFault>
     requires carries { Carries image.now parts.old (Goes first) }
     requires run { CanGoOn image.now parts.old turns.old ahead.old (S.left input.old) (K.written out.old) (At image.now parts.old (Goes first)) }
@@ -111,29 +99,26 @@ fn run_frames<S: Source, K: Sink, L: Ledger, C: Ledger>(
     ensures faults { CountsFaults result (S.faults input.old) (S.faults input.new) (K.faults out.old) (K.faults out.new) }
 {
     let mut r = first;
+    let mut left = *turns;
     'running: loop {
-        match go_on(
-            &mut r,
-            image,
-            parts,
-            ahead,
-            turns,
-            input,
-            out,
-            steps,
-            comparisons,
-        ) {
+        match go_on(&mut r, image, parts, ahead, &mut left, input, out, steps) {
             Ok(other) => match other {
                 None => {}
-                Some(turn) => return Ok(turn),
+                Some(turn) => {
+                    *turns = left;
+                    return Ok(turn);
+                }
             },
-            Err(fault) => return Err(fault),
+            Err(fault) => {
+                *turns = left;
+                return Err(fault);
+            }
         }
     }
 }
 
 // The topmost activation does the call for which an instance was started first.
-fn call_then<S: Source, K: Sink, C: Ledger>(
+fn call_then<S: Source, K: Sink>(
     r: Registers,
     image: &Image,
     parts: &mut Prepared,
@@ -141,7 +126,6 @@ fn call_then<S: Source, K: Sink, C: Ledger>(
     turns: &mut u64,
     input: &mut S,
     out: &mut K,
-    comparisons: &mut Steps<C>,
 ) -> Result<Turn, RunFault>
     requires carries { Carries image.now parts.old (Pending r) }
     requires run { CanGoOn image.now parts.old turns.old ahead.old (S.left input.old) (K.written out.old) (At image.now parts.old (Pending r)) }
@@ -154,22 +138,12 @@ fn call_then<S: Source, K: Sink, C: Ledger>(
 {
     match call_pending(image, parts, r, turns) {
         LinkTurn::Done(turn) => Ok(turn),
-        LinkTurn::Host(host) => call_host(
-            host,
-            image,
-            parts,
-            r,
-            ahead,
-            turns,
-            input,
-            out,
-            comparisons,
-        ),
+        LinkTurn::Host(host) => call_host(host, image, parts, r, ahead, turns, input, out),
     }
 }
 
 /// One turn of the loop. Where the run is at its end it stays there.
-pub(crate) fn advance<S: Source, K: Sink, L: Ledger, C: Ledger>(
+pub(crate) fn advance<S: Source, K: Sink, L: Ledger>(
     turn: Turn,
     image: &Image,
     parts: &mut Prepared,
@@ -178,7 +152,6 @@ pub(crate) fn advance<S: Source, K: Sink, L: Ledger, C: Ledger>(
     input: &mut S,
     out: &mut K,
     steps: &mut Steps<L>,
-    comparisons: &mut Steps<C>,
 ) -> Result<Turn, RunFault>
     requires carries { Carries image.now parts.old turn }
     requires run { CanGoOn image.now parts.old turns.old ahead.old (S.left input.old) (K.written out.old) (At image.now parts.old turn) }
@@ -191,18 +164,8 @@ pub(crate) fn advance<S: Source, K: Sink, L: Ledger, C: Ledger>(
     ensures faults { CountsFaults result (S.faults input.old) (S.faults input.new) (K.faults out.old) (K.faults out.new) }
 {
     match turn {
-        Turn::Goes(r) => run_frames(
-            r,
-            image,
-            parts,
-            ahead,
-            turns,
-            input,
-            out,
-            steps,
-            comparisons,
-        ),
-        Turn::Pending(r) => call_then(r, image, parts, ahead, turns, input, out, comparisons),
+        Turn::Goes(r) => run_frames(r, image, parts, ahead, turns, input, out, steps),
+        Turn::Pending(r) => call_then(r, image, parts, ahead, turns, input, out),
         Turn::Empty => Ok(Turn::Empty),
         Turn::Ends(end) => Ok(Turn::Ends(end)),
     }

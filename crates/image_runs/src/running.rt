@@ -24,7 +24,7 @@ use region_calls::Coming;
 use std::sync::ledger::Ledger;
 
 // Runs on until no activation is left, which is no end, or to an end.
-fn run_on<S: Source, K: Sink, L: Ledger, C: Ledger>(
+fn run_on<S: Source, K: Sink, L: Ledger>(
     first: Turn,
     image: &Image,
     parts: &mut Prepared,
@@ -33,7 +33,6 @@ fn run_on<S: Source, K: Sink, L: Ledger, C: Ledger>(
     input: &mut S,
     out: &mut K,
     steps: &mut Steps<L>,
-    comparisons: &mut Steps<C>,
 ) -> Result<Option<End>, RunFault>
     requires carries { Carries image.now parts.old first }
     requires run { CanGoOn image.now parts.old turns.old ahead.old (S.left input.old) (K.written out.old) (At image.now parts.old first) }
@@ -50,17 +49,7 @@ fn run_on<S: Source, K: Sink, L: Ledger, C: Ledger>(
             Turn::Ends(end) => return Ok(Some(end)),
             _ => {}
         }
-        turn = advance(
-            turn,
-            image,
-            parts,
-            ahead,
-            turns,
-            input,
-            out,
-            steps,
-            comparisons,
-        )?;
+        turn = advance(turn, image, parts, ahead, turns, input, out, steps)?;
     }
 }
 
@@ -87,7 +76,7 @@ fn start(image: &Image, parts: &mut Prepared, instance: u32, turns: &mut u64) ->
 }
 
 // Runs an instance of CONTROL where no activation stands, unless it was started.
-fn run_instance<S: Source, K: Sink, L: Ledger, C: Ledger>(
+fn run_instance<S: Source, K: Sink, L: Ledger>(
     instance: u32,
     image: &Image,
     parts: &mut Prepared,
@@ -96,7 +85,6 @@ fn run_instance<S: Source, K: Sink, L: Ledger, C: Ledger>(
     input: &mut S,
     out: &mut K,
     steps: &mut Steps<L>,
-    comparisons: &mut Steps<C>,
 ) -> Result<Option<End>, RunFault>
     requires ready { IsReady image.now parts.old }
     requires there { instance < length image.now.instances }
@@ -114,28 +102,17 @@ fn run_instance<S: Source, K: Sink, L: Ledger, C: Ledger>(
         return Ok(None);
     }
     let first = start(image, parts, instance, turns);
-    run_on(
-        first,
-        image,
-        parts,
-        ahead,
-        turns,
-        input,
-        out,
-        steps,
-        comparisons,
-    )
+    run_on(first, image, parts, ahead, turns, input, out, steps)
 }
 
 /// Runs the instances of CONTROL in their order, over globals that are zero, with nothing started yet.
-pub(crate) fn run_control<S: Source, K: Sink, L: Ledger, C: Ledger>(
+pub(crate) fn run_control<S: Source, K: Sink, L: Ledger>(
     image: &Image,
     parts: &mut Prepared,
     turns: u64,
     input: &mut S,
     out: &mut K,
     steps: &mut Steps<L>,
-    comparisons: &mut Steps<C>,
 ) -> Result<Outcome, RunFault>
     requires ready { IsReady image.now parts.old }
     requires zero { ShowsGlobals parts.old (λ j. zeros (globals_in (code_of image.now j))) }
@@ -155,15 +132,7 @@ pub(crate) fn run_control<S: Source, K: Sink, L: Ledger, C: Ledger>(
     let mut left = turns;
     for instance in image.control.as_slice() {
         let last = run_instance(
-            *instance,
-            image,
-            parts,
-            &mut ahead,
-            &mut left,
-            input,
-            out,
-            steps,
-            comparisons,
+            *instance, image, parts, &mut ahead, &mut left, input, out, steps,
         )?;
         if let Some(end) = last {
             return Ok(Outcome { end, left });

@@ -12,23 +12,20 @@ ghost use Rattle.region_signals.specs.Raising.{ArmsHold, CanRaise, HoldsOn, Rais
 
 use crate::standing::top_code;
 use activation_region::Turn;
-use mesa_base::Steps;
 use object_files::Image;
 use quiet_run::Registers;
 use ready_images::Prepared;
 use region_signals::{raise, raise_host, raise_linked, raise_own};
 use signaller::SignalId;
-use std::sync::ledger::Ledger;
 
 /// The topmost activation raises a signal without arguments.
-#[inline(never)]
-pub(crate) fn raise_signal<L: Ledger>(
+#[inline(always)]
+pub(crate) fn raise_signal(
     image: &Image,
     parts: &mut Prepared,
     signal: SignalId,
     r: Registers,
     turns: &mut u64,
-    comparisons: &mut Steps<L>,
 ) -> Turn
     requires ready { IsReady image.now parts.old }
     requires ample { IsAmple parts.old.layout parts.old.region.items parts.old.rows.items r.top }
@@ -55,19 +52,17 @@ pub(crate) fn raise_signal<L: Ledger>(
         r,
         parts.layout,
         turns,
-        comparisons,
     )
 }
 
 /// The topmost activation raises a signal of its own module.
-#[inline(never)]
-pub(crate) fn raise_of_module<L: Ledger>(
+#[inline(always)]
+pub(crate) fn raise_of_module(
     image: &Image,
     parts: &mut Prepared,
     number: u32,
     r: Registers,
     turns: &mut u64,
-    comparisons: &mut Steps<L>,
 ) -> Turn
     requires ready { IsReady image.now parts.old }
     requires ample { IsAmple parts.old.layout parts.old.region.items parts.old.rows.items r.top }
@@ -95,19 +90,17 @@ pub(crate) fn raise_of_module<L: Ledger>(
         r,
         parts.layout,
         turns,
-        comparisons,
     )
 }
 
 /// It raises a signal of another module, by the number of a link.
-#[inline(never)]
-pub(crate) fn raise_through_link<L: Ledger>(
+#[inline(always)]
+pub(crate) fn raise_through_link(
     image: &Image,
     parts: &mut Prepared,
     link: u32,
     r: Registers,
     turns: &mut u64,
-    comparisons: &mut Steps<L>,
 ) -> Turn
     requires ready { IsReady image.now parts.old }
     requires ample { IsAmple parts.old.layout parts.old.region.items parts.old.rows.items r.top }
@@ -135,19 +128,17 @@ pub(crate) fn raise_through_link<L: Ledger>(
         r,
         parts.layout,
         turns,
-        comparisons,
     )
 }
 
 /// It raises a predeclared signal.
-#[inline(never)]
-pub(crate) fn raise_predeclared<L: Ledger>(
+#[inline(always)]
+pub(crate) fn raise_predeclared(
     image: &Image,
     parts: &mut Prepared,
     fault: u8,
     r: Registers,
     turns: &mut u64,
-    comparisons: &mut Steps<L>,
 ) -> Turn
     requires ready { IsReady image.now parts.old }
     requires ample { IsAmple parts.old.layout parts.old.region.items parts.old.rows.items r.top }
@@ -175,6 +166,5 @@ pub(crate) fn raise_predeclared<L: Ledger>(
         r,
         parts.layout,
         turns,
-        comparisons,
     )
 }

@@ -1,20 +1,15 @@
 //! Where the topmost activation stands.
 
-ghost use Rattle.std.specs.Prelude.{◌≡◌, ◌<◌, length, IsSome, Some, slice_get};
-ghost use Rattle.code_forms.specs.declared.module_code.CodeEntry.{CodeEntry};
+ghost use Rattle.std.specs.Prelude.{◌<◌, length, IsSome};
 ghost use Rattle.machine_steps.specs.LookUps.{code_of};
-ghost use Rattle.activation_region.specs.Calling.{IsCodeOf, StandsIn};
+ghost use Rattle.activation_region.specs.Calling.{IsCodeOf};
 ghost use Rattle.activation_region.specs.Frames.{row_at};
-ghost use Rattle.activation_region.specs.Shows.{IsAmple};
-ghost use Rattle.ready_images.specs.Ready.{IsReady};
-ghost use Rattle.region_calls.specs.Linking.{StandsAt};
 
-use crate::look_ups::{code_of, procedure_in, row_of};
+use crate::look_ups::{code_of, row_of};
 use activation_region::Row;
-use code_forms::{CodeProcedure, Instruction, ModuleCode};
+use code_forms::ModuleCode;
 use object_files::Image;
 use quiet_run::Registers;
-use ready_images::Prepared;
 
 /// The code of the topmost activation's instance.
 pub(crate) fn top_code<'a>(image: &'a Image, table: &[Row], r: Registers) -> &'a ModuleCode
@@ -23,25 +18,4 @@ pub(crate) fn top_code<'a>(image: &'a Image, table: &[Row], r: Registers) -> &'a
     ensures { IsCodeOf image.now result.now table.now r }
 {
     code_of(image, row_of(table, r.top).instance)
-}
-
-// The instruction of an entry.
-fn instruction_of(procedure: &CodeProcedure, entry: usize) -> Instruction
-    requires { IsSome (slice_get procedure.now.code entry) }
-    ensures { (e : CodeEntry) → slice_get procedure.now.code entry ≡ Some e → e.instruction ≡ result }
-{
-    procedure.code.as_slice()[entry].instruction
-}
-
-/// The instruction at which the topmost activation stands.
-pub(crate) fn top_instruction(image: &Image, parts: &Prepared, r: Registers) -> Instruction
-    requires ready { IsReady image.now parts.now }
-    requires ample { IsAmple parts.now.layout parts.now.region.items parts.now.rows.items r.top }
-    requires stands { StandsIn image.now parts.now.layout parts.now.region.items parts.now.rows.items r }
-    ensures { StandsAt image.now parts.now.rows.items r result }
-{
-    let row = row_of(parts.rows.as_slice(), r.top);
-    let code = code_of(image, row.instance);
-    let procedure = procedure_in(code, row.procedure);
-    instruction_of(procedure, r.entry)
 }

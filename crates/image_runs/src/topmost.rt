@@ -11,14 +11,16 @@ ghost use Rattle.activation_region.specs.Reaching.{Shown};
 ghost use Rattle.activation_region.specs.Shows.{IsAmple, IsPrepared};
 ghost use Rattle.ready_images.specs.Order.{ImageInOrder};
 ghost use Rattle.ready_images.specs.Ready.{IsPlanned, IsReady};
+ghost use Rattle.region_calls.specs.Linking.{StandsAt};
 ghost use Rattle.image_runs.specs.SoFar.{Paused, ShowsGlobals, TopRuns};
 
-use crate::look_ups::{code_of, module_of, plan_of, procedure_in, row_of};
+use crate::look_ups::{code_of, module_of, procedure_in, row_of};
 use activation_region::{Layout, Row};
 use mesa_base::{List, Steps};
 use object_files::Image;
 use quiet_run::{Pause, Registers, quiet};
 use ready_images::{Plans, Prepared};
+use region_signals::plan_of;
 use std::sync::ledger::Ledger;
 
 // Runs the topmost activation over the globals of its instance.
@@ -42,6 +44,7 @@ fn run_procedure<L: Ledger>(
     ensures ample { IsAmple layout region.new table.now r.top }
     ensures globals { length globals.new ≡ length globals.old }
     ensures top { result.registers.top ≡ r.top }
+    ensures at { StandsAt image.now table.now result.registers result.instruction }
     ensures turns_fall { result.turns ≤ turns }
     ensures counted { steps.old < steps.new }
     ensures leads { (s : Stepped) (m : Store) → m.turns ≡ turns → m.globals (row_at table.now r.top).instance ≡ globals.old
@@ -85,6 +88,7 @@ pub(crate) fn run_top<L: Ledger>(
     ensures rows { parts.new.rows.items ≡ parts.old.rows.items }
     ensures marks { parts.new.started.items ≡ parts.old.started.items }
     ensures top { result.registers.top ≡ r.top }
+    ensures at { StandsAt image.now parts.new.rows.items result.registers result.instruction }
     ensures turns_fall { result.turns ≤ turns }
     ensures counted { steps.old < steps.new }
     ensures leads { (s : Stepped) (m : Store) → m.turns ≡ turns → ShowsGlobals parts.old m.globals

@@ -17,25 +17,21 @@ ghost use Rattle.image_runs.specs.SoFar.{PausesAt};
 use crate::arms::{end_arm, leave_arms, resume_raiser, return_out};
 use crate::calls::{call_linked, call_top, return_top};
 use crate::signals::{raise_of_module, raise_predeclared, raise_through_link};
-use crate::standing::top_instruction;
 use activation_region::Turn;
 use code_forms::Instruction;
-use mesa_base::Steps;
 use object_files::Image;
 use quiet_run::Registers;
 use ready_images::Prepared;
 use region_calls::LinkTurn;
-use std::sync::ledger::Ledger;
 
 // What the instruction leads to, at which the topmost activation stands and which neither calls nor returns.
 #[inline(always)]
-fn signal<L: Ledger>(
+fn signal(
     image: &Image,
     parts: &mut Prepared,
     instruction: Instruction,
     r: Registers,
     turns: &mut u64,
-    comparisons: &mut Steps<L>,
 ) -> Turn
     requires ready { IsReady image.now parts.old }
     requires ample { IsAmple parts.old.layout parts.old.region.items parts.old.rows.items r.top }
@@ -54,31 +50,13 @@ fn signal<L: Ledger>(
         → LeadsTo image.now parts.new.layout parts.new.region.items parts.new.rows.items s (record m { turns = turns.new; begun = suc m.begun }) result }
 {
     match instruction {
-        Instruction::Raise { signal } => raise_of_module(
-            image,
-            parts,
-            signal,
-            r,
-            turns,
-            comparisons,
-        ),
-        Instruction::RaiseLink { link } => {
-            raise_through_link(image, parts, link, r, turns, comparisons)
-        }
-        Instruction::RaiseHost { fault } => {
-            raise_predeclared(image, parts, fault, r, turns, comparisons)
-        }
-        Instruction::ArmEnd => end_arm(image, parts, r, turns, comparisons),
-        Instruction::Resume { words } => resume_raiser(image, parts, words, r, turns, comparisons),
-        Instruction::Leave { target, .. } => leave_arms(
-            image,
-            parts,
-            target,
-            r,
-            turns,
-            comparisons,
-        ),
-        Instruction::LeaveReturn { .. } => return_out(image, parts, r, turns, comparisons),
+        Instruction::Raise { signal } => raise_of_module(image, parts, signal, r, turns),
+        Instruction::RaiseLink { link } => { raise_through_link(image, parts, link, r, turns) }
+        Instruction::RaiseHost { fault } => { raise_predeclared(image, parts, fault, r, turns) }
+        Instruction::ArmEnd => end_arm(image, parts, r, turns),
+        Instruction::Resume { words } => resume_raiser(image, parts, words, r, turns),
+        Instruction::Leave { target, .. } => leave_arms(image, parts, target, r, turns),
+        Instruction::LeaveReturn { .. } => return_out(image, parts, r, turns),
         // The run of the topmost activation has done each other one.
         _ => Turn::Empty,
     }
@@ -112,17 +90,18 @@ fn settle_link(turn: LinkTurn, r: &mut Registers) -> Option<LinkTurn>
 /// What the instruction leads to, at which the topmost activation stands and which touches more than that activation: the
 /// registers are those of the activation that goes on, unless something else is told.
 #[inline(always)]
-pub(crate) fn touch<L: Ledger>(
+pub(crate) fn touch(
     image: &Image,
     parts: &mut Prepared,
+    instruction: Instruction,
     r: &mut Registers,
     turns: &mut u64,
-    comparisons: &mut Steps<L>,
 ) -> Option<LinkTurn>
     requires ready { IsReady image.now parts.old }
     requires ample { IsAmple parts.old.layout parts.old.region.items parts.old.rows.items r.old.top }
     requires arms { ArmsHold image.now parts.old.rows.items r.old.top }
     requires pauses { CanPause image.now parts.old r.old Touches }
+    requires at { StandsAt image.now parts.old.rows.items r.old instruction }
     ensures ready { IsReady image.now parts.new }
     ensures ample { IsAmpleForLink parts.new.layout parts.new.region.items parts.new.rows.items r.old (linked_or result r.new) }
     ensures arms { HoldsOnLink image.now parts.new.rows.items r.old (linked_or result r.new) }
@@ -134,7 +113,6 @@ pub(crate) fn touch<L: Ledger>(
         (record m { turns = turns.new; begun = suc m.begun }) (linked_or result r.new) }
 {
     let at = *r;
-    let instruction = top_instruction(image, parts, at);
     match instruction {
         Instruction::Call { procedure } => {
             let called = call_top(image, parts, procedure, at, turns);
@@ -149,7 +127,7 @@ pub(crate) fn touch<L: Ledger>(
             settle(returned, r)
         }
         _ => {
-            let turn = signal(image, parts, instruction, at, turns, comparisons);
+            let turn = signal(image, parts, instruction, at, turns);
             settle(turn, r)
         }
     }

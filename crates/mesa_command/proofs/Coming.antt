@@ -65,27 +65,27 @@ reads-whole : (part whole : List ℕ) (m : Module) → part ≡ take 1048577 who
 reads-whole part whole m e r =
     record { tree = r.tree; is_tree = tree-whole part whole r.tree e r.is_tree; alone = r.alone; is_checked = r.is_checked }
 
-pub file-has : (file part : List ℕ) (files : Option Files) (faults misses : ℕ) (m : Module) →
+pub file-has : (file part : List ℕ) (files : Option Files) (faults misses : List ℕ → ℕ) (m : Module) →
     IfSome files (λ all. FileReads all file 1048576 part) → Reads part m → HasModule file (shelf files faults misses) m
 file-has file part None faults misses m given r = record { text = part; holds = tt; reads = r }
 file-has file part (Some all) faults misses m given r =
     record { text = given.whole; holds = given.is_there; reads = reads-whole part given.whole m given.bytes_are r }
 
-refuses-part : (file part : List ℕ) (files : Option Files) (faults misses : ℕ) (folder' : Shelf) (why : TextFault) →
+refuses-part : (file part : List ℕ) (files : Option Files) (faults misses : List ℕ → ℕ) (folder' : Shelf) (why : TextFault) →
     IfSome files (λ all. FileReads all file 1048576 part) → HasFault part why →
     Refuses file (shelf files faults misses) folder' (Refused file why)
 refuses-part file part None faults misses folder' why given h = fault part why tt h
 refuses-part file part (Some all) faults misses folder' why given h =
     fault given.whole why given.is_there (fault-whole part given.whole why given.bytes_are h)
 
-refuses-as : (file part : List ℕ) (files : Option Files) (faults misses : ℕ) (folder' : Shelf) (why : TextFault) (case : Case) →
+refuses-as : (file part : List ℕ) (files : Option Files) (faults misses : List ℕ → ℕ) (folder' : Shelf) (why : TextFault) (case : Case) →
     IfSome files (λ all. FileReads all file 1048576 part) → (why ≢ f.Memory → HasFault part why) →
     (why ≢ f.Memory → case ≡ Refused file why) → why ≢ f.Memory → Refuses file (shelf files faults misses) folder' case
 refuses-as file part files faults misses folder' why case given has shown other =
     subst (Refuses file (shelf files faults misses) folder') (sym (shown other))
     (refuses-part file part files faults misses folder' why given (has other))
 
-pub file-refuses : (file part : List ℕ) (files : Option Files) (faults misses : ℕ) (folder' : Shelf) (why : TextFault) (case : Case) →
+pub file-refuses : (file part : List ℕ) (files : Option Files) (faults misses : List ℕ → ℕ) (folder' : Shelf) (why : TextFault) (case : Case) →
     IfSome files (λ all. FileReads all file 1048576 part) → (why ≢ f.Memory → HasFault part why) → (why ≡ f.Memory → case ≡ Memory) →
     (why ≢ f.Memory → case ≡ Refused file why) → Refuses file (shelf files faults misses) folder' case
 file-refuses file part files faults misses folder' f.Memory case given has memory shown =

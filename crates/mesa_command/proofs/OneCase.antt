@@ -69,7 +69,7 @@ data There (old new : Scene) (file text : List ℕ) (turns : ℕ) (case : Case) 
   is_refused : (why : TextFault) → HasFault text why → case ≡ Refused file why → There old new file text turns case
   is_run : (m : Module) → Reads text m → Ends m turns old new case → There old new file text turns case
 
--- the cases that come where the folder doesn't fail
+-- the cases that come where no call on the file fails
 data Clean (old new : Scene) (words : List (List ℕ)) (files : Files) (case : Case) : Type 0 where
   no_form : HasNoForm words → case ≡ Usage → Clean old new words files case
   no_file : (base : List ℕ) (turns : ℕ) → IsGo words base turns → files (file_of base) ≡ None → case ≡ Absent (file_of base) →
@@ -81,8 +81,23 @@ data Clean (old new : Scene) (words : List (List ℕ)) (files : Files) (case : C
 told : (o : Option Files) (files : Files) (P : Files → Type 0) → o ≡ Some files → IfSome o P → P files
 told o files P e h = subst (λ x. IfSome x P) e h
 
+-- no call on the file of the words failed
+NoneFailed : List (List ℕ) → Shelf → Shelf → Type 0
+NoneFailed words folder folder' = (b : List ℕ) (n : ℕ) → IsGo words b n → ¬ (Rose (folder.faults (file_of b)) (folder'.faults (file_of b)))
+
+none-failed : (words : List (List ℕ)) (folder folder' : Shelf) (b : List ℕ) (n : ℕ) → IsGo words b n →
+    ¬ (Rose (folder.faults (file_of b)) (folder'.faults (file_of b))) → NoneFailed words folder folder'
+unfolding NoneFailed
+none-failed words folder folder' b n go still b' n' go' rose =
+    still (subst (λ f. Rose (folder.faults f) (folder'.faults f)) (same-file words b' b n' n go' go) rose)
+
+all-calm : (folder folder' : Shelf) (old new : Scene) (words : List (List ℕ)) → ((file : List ℕ) → NoFault file folder folder' old new) →
+    NoneFailed words folder folder'
+unfolding NoneFailed
+all-calm folder folder' old new words calm b n go = (calm (file_of b)).no_folder_fault
+
 refused-clean : (old new : Scene) (words : List (List ℕ)) (base : List ℕ) (turns : ℕ) (folder folder' : Shelf) (files : Files)
-    (case : Case) → folder.files ≡ Some files → ¬ (Rose folder.faults folder'.faults) → IsGo words base turns →
+    (case : Case) → folder.files ≡ Some files → ¬ (Rose (folder.faults (file_of base)) (folder'.faults (file_of base))) → IsGo words base turns →
     Refuses (file_of base) folder folder' case → Clean old new words files case
 refused-clean old new words base turns folder folder' files (Refused _ _) e still go (fault text why holds it) =
     is_there text turns
@@ -101,13 +116,14 @@ refused-clean old new words base turns folder folder' files WriteFault e still g
 refused-clean old new words base turns folder folder' files Usage e still go x = elim x [ ]
 
 clean : (words : List (List ℕ)) (folder folder' : Shelf) (old new : Scene) (files : Files) (case : Case) → folder.files ≡ Some files →
-    ¬ (Rose folder.faults folder'.faults) → Comes words folder folder' old new case → Clean old new words files case
+    NoneFailed words folder folder' → Comes words folder folder' old new case → Clean old new words files case
+unfolding NoneFailed
 clean words folder folder' old new files case e still (ran base turns m _ go it ends_so) =
     is_there it.text turns
     (record { base = base; go = go; there = told folder.files files (λ all. all (file_of base) ≡ Some it.text) e it.holds })
     (is_run m it.reads ends_so)
 clean words folder folder' old new files case e still (refused base turns _ go why same) =
-    refused-clean old new words base turns folder folder' files case e still go why
+    refused-clean old new words base turns folder folder' files case e (still base turns go) go why
 clean words folder folder' old new files Usage e still (usage none same) = no_form none refl
 
 there-and-not : (words : List (List ℕ)) (files : Files) (b : List ℕ) (n : ℕ) (text : List ℕ) (turns : ℕ) → IsGo words b n →
@@ -148,7 +164,8 @@ misses : (words : List (List ℕ)) (before after : World) (case : Case) (s : Sta
 misses words before after case s comes tells asks still =
     answered case (Absent (file_of asks.base)) before.err after.err s tells
     (absent-beside before.scene after.scene words asks.files asks.base asks.turns case asks.form asks.is_gone
-    (clean words before.folder after.folder before.scene after.scene asks.files case asks.tells still comes))
+    (clean words before.folder after.folder before.scene after.scene asks.files case asks.tells
+    (none-failed words before.folder after.folder asks.base asks.turns asks.form still) comes))
 
 uses : (words : List (List ℕ)) (folder folder' : Shelf) (old new : Scene) (case : Case) → HasNoForm words →
     Comes words folder folder' old new case → case ≡ Usage
@@ -156,7 +173,7 @@ uses words folder folder' old new case none (ran base turns m _ go it ends_so) =
 uses words folder folder' old new case none (refused base turns _ go why same) = absurd (none base turns go)
 uses words folder folder' old new Usage none (usage none' same) = refl
 
-used-refusal : (file : List ℕ) (folder folder' : Shelf) (case : Case) → Refuses file folder folder' case → status_of case ≢ status.Usage
+pub used-refusal : (file : List ℕ) (folder folder' : Shelf) (case : Case) → Refuses file folder folder' case → status_of case ≢ status.Usage
 used-refusal file folder folder' (Refused _ _) (fault text why holds it) e = cc
 used-refusal file folder folder' (Absent _) (absent rose none) e = cc
 used-refusal file folder folder' (FolderFault _) (folder_fault rose) e = cc
@@ -206,11 +223,12 @@ module _ (one_module : OneModule) (one_fault : OneFault) (never_both : ReadTexts
   refuses words before after case s comes tells text turns why asks r still =
       answered case (Refused (file_of asks.base) why) before.err after.err s tells
       (refused-beside before.scene after.scene words asks.files text turns case why (has words before.folder text turns asks) r
-      (clean words before.folder after.folder before.scene after.scene asks.files case asks.tells still comes))
+      (clean words before.folder after.folder before.scene after.scene asks.files case asks.tells
+      (none-failed words before.folder after.folder asks.base turns asks.form still) comes))
 
   -- what a text that is there and has a module comes to, where no call failed
   there-does : (folder folder' : Shelf) (old new : Scene) (file text output : List ℕ) (turns : ℕ) (case c : Case) →
-      NoFault folder folder' old new → Does text turns old output c → There old new file text turns case →
+      NoFault file folder folder' old new → Does text turns old output c → There old new file text turns case →
       ((case ≡ c) × PrintsAll output old.out new.out) ⊎ (case ≡ Memory)
   there-does folder folder' old new file text output turns case c calm d (is_refused why h e) = absurd (never_both text d.tree why d.reads h)
   there-does folder folder' old new file text output turns case c calm d (is_run m reads it) =
@@ -218,7 +236,7 @@ module _ (one_module : OneModule) (one_fault : OneFault) (never_both : ReadTexts
       (subst (λ z. Ends z turns old new case) (one_module text m d.tree reads d.reads) it)
 
   clean-does : (folder folder' : Shelf) (old new : Scene) (words : List (List ℕ)) (files : Files) (text output : List ℕ) (turns : ℕ)
-      (case c : Case) (h : Has words files text turns) → NoFault folder folder' old new → Does text turns old output c →
+      (case c : Case) (h : Has words files text turns) → NoFault (file_of h.base) folder folder' old new → Does text turns old output c →
       Clean old new words files case → ((case ≡ c) × PrintsAll output old.out new.out) ⊎ (case ≡ Memory)
   clean-does folder folder' old new words files text output turns case c h calm d (no_form none e) = absurd (none h.base turns h.go)
   clean-does folder folder' old new words files text output turns case c h calm d (no_file b n go none e) =
@@ -236,15 +254,17 @@ module _ (one_module : OneModule) (one_fault : OneFault) (never_both : ReadTexts
   complete : (words : List (List ℕ)) (before after : World) (case : Case) (s : Status) →
       Comes words before.folder after.folder before.scene after.scene case → Tells case before.err after.err s →
       IsComplete words before after s
+  unfolding has
   complete words before after case s comes tells text output turns c asks d calm =
       tells-does case c output before.scene.out after.scene.out before.err after.err s tells
       (clean-does before.folder after.folder before.scene after.scene words asks.files text output turns case c
       (has words before.folder text turns asks) calm d
-      (clean words before.folder after.folder before.scene after.scene asks.files case asks.tells calm.no_folder_fault comes))
+      (clean words before.folder after.folder before.scene after.scene asks.files case asks.tells
+      (none-failed words before.folder after.folder asks.base turns asks.form calm.no_folder_fault) comes))
 
   -- one thing comes where no call failed
   one-there : (folder folder' folder'' : Shelf) (old new new' : Scene) (file text input : List ℕ) (turns : ℕ) (c c' : Case) →
-      TellsInput old input → NoFault folder folder' old new → NoFault folder folder'' old new' → c ≢ Memory → c' ≢ Memory →
+      TellsInput old input → NoFault file folder folder' old new → NoFault file folder folder'' old new' → c ≢ Memory → c' ≢ Memory →
       There old new file text turns c → There old new' file text turns c' → c ≡ c'
   one-there folder folder' folder'' old new new' file text input turns c c' e calm calm' m m' (is_refused why h is) x =
       is ∙ sym (beside-fault old new' file text turns why c' h x)
@@ -256,7 +276,8 @@ module _ (one_module : OneModule) (one_fault : OneFault) (never_both : ReadTexts
 
   -- what is not Memory and comes under the same words is the same
   agree : (folder folder' folder'' : Shelf) (old new new' : Scene) (words : List (List ℕ)) (files : Files) (input : List ℕ)
-      (c c' : Case) → TellsInput old input → NoFault folder folder' old new → NoFault folder folder'' old new' →
+      (c c' : Case) → TellsInput old input → ((file : List ℕ) → NoFault file folder folder' old new) →
+      ((file : List ℕ) → NoFault file folder folder'' old new') →
       Clean old new words files c → Clean old new' words files c' → c ≢ Memory → c' ≢ Memory → c ≡ c'
   agree folder folder' folder'' old new new' words files input c c' i calm calm' (no_memory e) b m m' = absurd (m e)
   agree folder folder' folder'' old new new' words files input c c' i calm calm' a (no_memory e) m m' = absurd (m' e)
@@ -276,14 +297,14 @@ module _ (one_module : OneModule) (one_fault : OneFault) (never_both : ReadTexts
   agree folder folder' folder'' old new new' words files input c c' i calm calm' (is_there t n' h x) (no_file b n go none e) m m' =
       absurd (there-and-not words files b n t n' go none h)
   agree folder folder' folder'' old new new' words files input c c' i calm calm' (is_there t n h x) (is_there t' n' h' y) m m' =
-      one-there folder folder' folder'' old new new' (file_of h.base) t input n c c' i calm calm' m m' x
+      one-there folder folder' folder'' old new new' (file_of h.base) t input n c c' i (calm (file_of h.base)) (calm' (file_of h.base)) m m' x
       (there-again old new' words files t t' n n' c' h h' y)
 
   pub one-case : OneCaseComes
   one-case words folder folder' folder'' old new new' files input c c' e i calm calm' comes comes' m m' =
       agree folder folder' folder'' old new new' words files input c c' i calm calm'
-      (clean words folder folder' old new files c e calm.no_folder_fault comes)
-      (clean words folder folder'' old new' files c' e calm'.no_folder_fault comes') m m'
+      (clean words folder folder' old new files c e (all-calm folder folder' old new words calm) comes)
+      (clean words folder folder'' old new' files c' e (all-calm folder folder'' old new' words calm') comes') m m'
 
   -- what a call answers, from its case and line
   pub is-answered : (words : List (List ℕ)) (before after : World) (s : Status) → (case : Case)

@@ -1,5 +1,5 @@
 -- How a run ends, from what the run of a module ensures.
-use Rattle.std.proofs.Common.{◌≡◌, ℕ, ◌<◌, List, ◌++◌, length, get_or, Result, Ok, Err, refl, sym, ap, subst, ◌∙◌, codes}
+use Rattle.std.proofs.Common.{◌≡◌, ℕ, ◌+◌, ◌-◌, ◌<◌, ◌≤◌, List, ◌++◌, length, get_or, Result, Ok, Err, refl, sym, ap, subst, ◌∙◌, codes, arith}
 use Rattle.std.proofs.lemmas.Option.{slice_get-get_or}
 use Rattle.std.specs.Prelude.{IfOk, IsErrOf}
 use Rattle.mesa_base.specs.Outside.{Rose}
@@ -14,12 +14,13 @@ use Rattle.machine_steps.specs.State as machine
 use Rattle.image_runs.specs.declared.outcome.Outcome.{Outcome}
 use Rattle.module_runs.specs.declared.fault.ModuleFault.{ModuleFault}
 use Rattle.module_runs.specs.declared.fault.ModuleFault.TheVariants as fault
+use Rattle.module_runs.specs.Coded.{BreaksInCode, CompletesInCode}
 use Rattle.mesa_command.specs.Case as c
 use Rattle.mesa_command.specs.Case.{status_of, IsBeforeRun}
 use Rattle.mesa_command.specs.Shown.{name_in, shown, IsShownAs, signal_of, case_of_end}
 use Rattle.mesa_command.specs.Outputs.{HasFaulted}
 use Rattle.mesa_command.specs.Worlds.{Scene}
-use Rattle.mesa_command.specs.Ends.{Ends, RanIn, TellsBytes, BrokenOffIn, CutOffIn, CountsIn, ended, read_fault, write_fault, no_memory}
+use Rattle.mesa_command.specs.Ends.{Ends, RanIn, TellsBytes, BrokenOffIn, CutOffIn, ended, read_fault, write_fault, no_memory}
 use Rattle.mesa_command.specs.Reply.{case_of_run}
 
 back : (s : Signal) → signal_of (id_of s) ≡ s
@@ -61,19 +62,27 @@ own-shown m j k d whose name first within w n =
     ∙ ap (λ z. m.name ++ (codes "." ++ z)) (n ∙ ap name_in (sym (slice_get-get_or m.signals k d within))))
 
 module _ (m : Module) (turns : ℕ) (old new : Scene) where
+  -- the steps that were counted since
+  risen : old.steps ≤ new.steps → new.steps ≡ old.steps + (new.steps - old.steps)
+  risen stay = omega (arith, stay)
+
   pub run-ends : (r : Result Outcome ModuleFault) →
       IfOk r (λ o. TellsBytes old → RanIn m turns o old new) →
-      IfOk r (λ o. CountsIn m turns o old new) →
+      IfOk r (λ o. CompletesInCode m turns o (new.steps - old.steps) old.input.left new.input.left old.out.holds new.out.holds) →
       (IsErrOf r fault.ReadFault → BrokenOffIn m turns old new) →
       (IsErrOf r fault.WriteFault → TellsBytes old → CutOffIn m turns old new) →
+      (IsErrOf r fault.ReadFault →
+      BreaksInCode m turns (new.steps - old.steps) old.input.left new.input.left old.out.holds new.out.holds) →
       (IsErrOf r fault.ReadFault → Rose old.input.faults new.input.faults) →
       (IsErrOf r fault.WriteFault → HasFaulted old.out new.out) →
-      (IsErrOf r fault.Memory → new ≡ old) → Ends m turns old new (case_of_run m r)
-  run-ends (Ok o) ran counts broken cut reads writes stays =
-      ended o (case_of_end m o.end) refl (λ bytes. record { ran = ran bytes; is_case = ends-as m (ran bytes).answer o.end (ran bytes).its_end }) counts
-  run-ends (Err fault.ReadFault) ran counts broken cut reads writes stays = read_fault (reads refl) (broken refl)
-  run-ends (Err fault.WriteFault) ran counts broken cut reads writes stays = write_fault (writes refl) (cut refl)
-  run-ends (Err fault.Memory) ran counts broken cut reads writes stays = no_memory (stays refl)
+      (IsErrOf r fault.Memory → new ≡ old) → old.steps ≤ new.steps → Ends m turns old new (case_of_run m r)
+  run-ends (Ok o) ran counts broken cut breaks reads writes same stay =
+      ended o (case_of_end m o.end) refl (λ bytes. record { ran = ran bytes; is_case = ends-as m (ran bytes).answer o.end (ran bytes).its_end })
+      (new.steps - old.steps, risen stay, counts)
+  run-ends (Err fault.ReadFault) ran counts broken cut breaks reads writes same stay =
+      read_fault (reads refl) (broken refl) (new.steps - old.steps, risen stay, breaks refl)
+  run-ends (Err fault.WriteFault) ran counts broken cut breaks reads writes same stay = write_fault (writes refl) (cut refl) stay
+  run-ends (Err fault.Memory) ran counts broken cut breaks reads writes same stay = no_memory (same refl)
 
 end-in-run : (m : Module) (e : End) → IsBeforeRun (status_of (case_of_end m e)) → ⊥
 end-in-run m end.Done h = h

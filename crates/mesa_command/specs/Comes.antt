@@ -13,9 +13,9 @@ use Rattle.mesa_command.specs.Case.{Case, Refused, Absent, FolderFault, Memory, 
 pub data Refuses (file : List ℕ) (folder folder' : Shelf) : Case → Type 0 where
   fault : (text : List ℕ) (why : TextFault) → Holds folder file text → HasFault text why →
       Refuses file folder folder' (Refused file why)
-  absent : Rose folder.misses folder'.misses → IfSome folder.files (λ files. files file ≡ None) →
+  absent : Rose (folder.misses file) (folder'.misses file) → IfSome folder.files (λ files. files file ≡ None) →
       Refuses file folder folder' (Absent file)
-  folder_fault : Rose folder.faults folder'.faults → Refuses file folder folder' (FolderFault file)
+  folder_fault : Rose (folder.faults file) (folder'.faults file) → Refuses file folder folder' (FolderFault file)
   memory : Refuses file folder folder' Memory
 
 -- the module of the text that a file holds

@@ -17,9 +17,9 @@ use Rattle.mesa_command.specs.Worlds.{Shelf, Scene, World}
 use Rattle.mesa_command.specs.Ends.{TellsInput}
 use Rattle.mesa_command.specs.Comes.{Comes}
 
--- no call failed
-pub record NoFault (folder folder' : Shelf) (old new : Scene) : Type 0 where
-  pub no_folder_fault : ¬ (Rose folder.faults folder'.faults)
+-- no call on the file failed, nor one on the input or `out`
+pub record NoFault (file : List ℕ) (folder folder' : Shelf) (old new : Scene) : Type 0 where
+  pub no_folder_fault : ¬ (Rose (folder.faults file) (folder'.faults file))
   pub no_input_fault : ¬ (Rose old.input.faults new.input.faults)
   pub no_out_fault : ¬ (HasFaulted old.out new.out)
 
@@ -63,19 +63,20 @@ IsAnswer case said said' s = Tells case said said' s ⊎ (s ≡ status.Memory)
 
 -- a text that is there and has a module is run: the call ends as the module does for the input, and prints what it means
 abbrev pub IsComplete : List (List ℕ) → World → World → Status → Type 0
-IsComplete words before after s = (text output : List ℕ) (turns : ℕ) (case : Case) → Asks words before.folder text turns →
-    Does text turns before.scene output case → NoFault before.folder after.folder before.scene after.scene →
+IsComplete words before after s = (text output : List ℕ) (turns : ℕ) (case : Case) (asks : Asks words before.folder text turns) →
+    Does text turns before.scene output case → NoFault (file_of asks.base) before.folder after.folder before.scene after.scene →
     (Tells case before.err after.err s × PrintsAll output before.scene.out after.scene.out) ⊎ (s ≡ status.Memory)
 
 -- a text that is there and has a fault, or holds what isn't built yet, is refused by its line
 abbrev pub IsRefused : List (List ℕ) → World → World → Status → Type 0
 IsRefused words before after s = (text : List ℕ) (turns : ℕ) (why : TextFault) (asks : Asks words before.folder text turns) →
-    HasFault text why → ¬ (Rose before.folder.faults after.folder.faults) →
+    HasFault text why → ¬ (Rose (before.folder.faults (file_of asks.base)) (after.folder.faults (file_of asks.base))) →
     IsAnswer (Refused (file_of asks.base) why) before.err after.err s
 
 -- a file that is not there is absent
 abbrev pub IsAbsent : List (List ℕ) → World → World → Status → Type 0
-IsAbsent words before after s = (asks : AsksInVain words before.folder) → ¬ (Rose before.folder.faults after.folder.faults) →
+IsAbsent words before after s = (asks : AsksInVain words before.folder) →
+    ¬ (Rose (before.folder.faults (file_of asks.base)) (after.folder.faults (file_of asks.base))) →
     IsAnswer (Absent (file_of asks.base)) before.err after.err s
 
 -- what a call answers to its words, with the world as it was and as it is
@@ -92,5 +93,6 @@ pub record Answered (words : List (List ℕ)) (before after : World) (s : Status
 -- for words, files and an input of bytes that are told, one case comes where no call failed, want of memory aside
 abbrev pub OneCaseComes : Type 0
 OneCaseComes = (words : List (List ℕ)) (folder folder' folder'' : Shelf) (old new new' : Scene) (files : Files) (input : List ℕ) (c c' : Case) →
-    folder.files ≡ Some files → TellsInput old input → NoFault folder folder' old new → NoFault folder folder'' old new' →
+    folder.files ≡ Some files → TellsInput old input → ((file : List ℕ) → NoFault file folder folder' old new) →
+    ((file : List ℕ) → NoFault file folder folder'' old new') →
     Comes words folder folder' old new c → Comes words folder folder'' old new' c' → c ≢ Memory → c' ≢ Memory → c ≡ c'

@@ -3,13 +3,13 @@ use Rattle.std.specs.Prelude.{◌≡◌, ℕ, List, Option, Some, IfSome}
 use Rattle.mesa_base.specs.Outside.{Files}
 use Rattle.mesa_command.specs.Outputs.{Stream}
 
--- a folder: its files where it tells them, and how many calls failed, or asked for what is not there
+-- a folder: its files where it tells them, and how many calls on each name failed, or found no such file
 pub record Shelf : Type 0 where
   pub files : Option Files
-  pub faults : ℕ
-  pub misses : ℕ
+  pub faults : List ℕ → ℕ
+  pub misses : List ℕ → ℕ
 
-abbrev pub shelf : Option Files → ℕ → ℕ → Shelf
+abbrev pub shelf : Option Files → (List ℕ → ℕ) → (List ℕ → ℕ) → Shelf
 shelf files faults misses = record { files = files; faults = faults; misses = misses }
 
 -- the folder holds this text in the file, where it tells its files

@@ -53,7 +53,8 @@ pub fn mesa<F: Folder, S: Source, K: Sink, E: Sink, L: Ledger>(
     ensures before_run_input { IsBeforeRun result → input.new ≡ input.old }
     ensures before_run_output { IsBeforeRun result → out.new ≡ out.old }
     ensures before_run_steps { IsBeforeRun result → steps.new ≡ steps.old }
-    // No file is changed.
+    // No file is asked for where the words have no form, and none is changed.
+    ensures usage_folder { result ≡ Status.Usage → folder.new ≡ folder.old }
     ensures files { F.files folder.new ≡ F.files folder.old }
 {
     one_module();
@@ -80,6 +81,7 @@ fn answer<F: Folder, S: Source, K: Sink, E: Sink, L: Ledger>(
     ensures before_run_input { IsBeforeRun result → input.new ≡ input.old }
     ensures before_run_output { IsBeforeRun result → out.new ≡ out.old }
     ensures before_run_steps { IsBeforeRun result → steps.new ≡ steps.old }
+    ensures usage_folder { result ≡ Status.Usage → folder.new ≡ folder.old }
     ensures files { F.files folder.new ≡ F.files folder.old }
 {
     let Some(go) = go_form(words) else {

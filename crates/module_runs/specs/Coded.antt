@@ -5,7 +5,7 @@ use Rattle.code_forms.specs.declared.module_code.ModuleCode.{ModuleCode}
 use Rattle.single_images.specs.Image.{image_of}
 use Rattle.frame_code.specs.Code.{IsCodeOf}
 use Rattle.image_runs.specs.declared.outcome.Outcome.{Outcome}
-use Rattle.image_runs.specs.Running.{Completes}
+use Rattle.image_runs.specs.Running.{BreaksAtInput, Completes}
 
 -- there is a code that is the module's, and the machine's run of the image of the module with this code comes to this end, with so many
 -- turns left and so many instructions begun
@@ -13,3 +13,10 @@ pub record CompletesInCode (m : Module) (turns : ℕ) (outcome : Outcome) (count
   pub code : ModuleCode
   pub is_its : IsCodeOf m code
   pub completes : Completes (image_of m code) turns outcome count told left held holds
+
+-- there is a code that is the module's, and the machine's run of the image of the module with this code breaks at the input, with so many
+-- instructions begun up to there
+pub record BreaksInCode (m : Module) (turns count : ℕ) (told left held holds : Option (List ℕ)) : Type 0 where
+  pub code : ModuleCode
+  pub is_its : IsCodeOf m code
+  pub breaks : BreaksAtInput (image_of m code) turns count told left held holds

@@ -6,9 +6,9 @@ ghost use Rattle.mesa_types.specs.Sound.{Sound};
 ghost use Rattle.source_meaning.specs.Program.{single};
 ghost use Rattle.single_images.specs.Image.{ImportsTheHostAlone, image_of};
 ghost use Rattle.frame_code.specs.Code.{IsCodeOf};
-ghost use Rattle.image_runs.specs.Running.{AreBytes, BreaksAtInput, BreaksAtOutput, Completes};
+ghost use Rattle.image_runs.specs.Running.{AreBytes, BreaksAtInput, Completes};
 ghost use Rattle.meant_runs.specs.Meant.{IsImageOf, Ran, BrokenOff, CutOff};
-ghost use Rattle.module_runs.specs.Coded.{CompletesInCode};
+ghost use Rattle.module_runs.specs.Coded.{BreaksInCode, CompletesInCode};
 ghost use Rattle.module_runs.specs.Ends.{IsEndOf};
 
 use crate::fault::ModuleFault;
@@ -19,7 +19,7 @@ use image_runs::{Outcome, RunFault};
 use meant_runs::run_image;
 use mesa_base::{OutOfMemory, Sink, Source, Steps};
 use mesa_types::TypedModule;
-use ready_images::{Machine, ready};
+use ready_images::{Machine, ReadyFault, none_unresolved, ready};
 use single_images::{image_of, singles_are_lawful};
 use std::alloc::Global;
 use std::sync::ledger::Ledger;
@@ -33,10 +33,12 @@ fn machine_of(alloc: Global, module: &TypedModule, code: ValidCode) -> Result<Ma
     ensures its { IfOk result (IsImageOf (single (plain «module».now))) }
 {
     singles_are_lawful();
+    none_unresolved();
     let image = image_of(alloc, module, code)?;
     match ready(alloc, image) {
         Ok(machine) => Ok(machine),
-        Err(_) => Err(OutOfMemory),
+        Err(ReadyFault::Memory) => Err(OutOfMemory),
+        Err(ReadyFault::Unresolved(_)) => unreachable!(),
     }
 }
 
@@ -66,6 +68,8 @@ pub fn run_code<S: Source, K: Sink, L: Ledger>(
         → CutOff (single (plain «module».now)) turns (S.left input.old) (S.left input.new) (K.written out.old) (K.written out.new) }
     ensures counted { IfOk result (λ outcome. Completes (image_of (plain «module».now) code) turns outcome (steps.new - steps.old)
         (S.left input.old) (S.left input.new) (K.written out.old) (K.written out.new)) }
+    ensures breaks_counted { IsErrOf result ModuleFault.ReadFault → BreaksAtInput (image_of (plain «module».now) code) turns (steps.new - steps.old)
+        (S.left input.old) (S.left input.new) (K.written out.old) (K.written out.new) }
     ensures read_fault { IsErrOf result ModuleFault.ReadFault → Rose (S.faults input.old) (S.faults input.new) }
     ensures write_fault { IsErrOf result ModuleFault.WriteFault → Rose (K.faults out.old) (K.faults out.new) }
     ensures no_memory_input { IsErrOf result ModuleFault.Memory → input.new ≡ input.old }
@@ -108,6 +112,8 @@ pub fn run_module<S: Source, K: Sink, L: Ledger>(
         → CutOff (single (plain «module».now)) turns (S.left input.old) (S.left input.new) (K.written out.old) (K.written out.new) }
     ensures counted { IfOk result (λ outcome. CompletesInCode (plain «module».now) turns outcome (steps.new - steps.old)
         (S.left input.old) (S.left input.new) (K.written out.old) (K.written out.new)) }
+    ensures breaks_counted { IsErrOf result ModuleFault.ReadFault → BreaksInCode (plain «module».now) turns (steps.new - steps.old)
+        (S.left input.old) (S.left input.new) (K.written out.old) (K.written out.new) }
     ensures read_fault { IsErrOf result ModuleFault.ReadFault → Rose (S.faults input.old) (S.faults input.new) }
     ensures write_fault { IsErrOf result ModuleFault.WriteFault → Rose (K.faults out.old) (K.faults out.new) }
     ensures no_memory_input { IsErrOf result ModuleFault.Memory → input.new ≡ input.old }

@@ -179,3 +179,8 @@ module _ (texts : ℕ → ℕ → List ℕ) (number : ℕ) (code : List CodeEntr
 -- the entry that is read
 pub fetched_at : (xs ys : List CodeEntry) (at : ℕ) (e : CodeEntry) → xs ≡ ys → at < length xs → slice_get ys at ≡ Some (get_or xs at e)
 fetched_at xs ys at e same less = subst (λ zs. slice_get zs at ≡ Some (get_or xs at e)) same (slice_get-get_or xs at e less)
+
+-- the entry at which it pauses is the one that was read
+pub paused_there : (code : List CodeEntry) (s u : Flat) (e x : CodeEntry) → slice_get code s.registers.entry ≡ Some e → u ≡ s → slice_get code u.registers.entry ≡ Some x → x.instruction ≡ e.instruction
+paused_there code s u e x fetched same there =
+    ap (λ (y : CodeEntry). y.instruction) (same_Some x e (sym there ∙ ap (λ (t : Flat). slice_get code t.registers.entry) same ∙ fetched))

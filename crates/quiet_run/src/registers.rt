@@ -1,3 +1,5 @@
+use code_forms::Instruction;
+
 /// Where the topmost activation stands: its place, the number of its next entry, where the next operand goes in the region
 /// of words, and where its variables begin there. Those that a call writes together don't lie side by side: they would be
 /// read back as one before they are written.
@@ -26,4 +28,6 @@ pub struct Pause {
     pub registers: Registers,
     pub turns: u64,
     pub why: Why,
+    /// The instruction at which it pauses.
+    pub instruction: Instruction,
 }

@@ -1,6 +1,7 @@
 //! The run of the topmost activation, up to an instruction that touches more.
 
-ghost use Rattle.std.specs.Prelude.{◌≡◌, ◌+◌, ◌-◌, ◌*◌, ◌<◌, ◌≤◌, length};
+ghost use Rattle.std.specs.Prelude.{◌≡◌, ◌+◌, ◌-◌, ◌*◌, ◌<◌, ◌≤◌, length, Some, slice_get};
+ghost use Rattle.code_forms.specs.declared.module_code.CodeEntry.{CodeEntry};
 ghost use Rattle.code_forms.specs.Valid.{Valid, HasDepths};
 ghost use Rattle.machine_steps.specs.LookUps.{text_of};
 ghost use Rattle.quiet_run.specs.Running.{FlatPauses, HasTargets, IsProcedureOf, Standing};
@@ -37,6 +38,7 @@ pub fn quiet<L: Ledger>(
     ensures pauses { FlatPauses (text_of image.now) number procedure.now.code targets.now
         (record { region = region.old; globals = globals.old; registers = registers; turns = bound }) (steps.new - steps.old) result.why
         (record { region = region.new; globals = globals.new; registers = result.registers; turns = result.turns }) }
+    ensures at { (e : CodeEntry) → slice_get procedure.now.code result.registers.entry ≡ Some e → e.instruction ≡ result.instruction }
     ensures counted { steps.old ≤ steps.new }
     ensures turns_fall { result.turns ≤ bound }
     ensures stays { (result.registers.top ≡ registers.top) × (result.registers.slots ≡ registers.slots) }
@@ -62,6 +64,7 @@ pub fn quiet<L: Ledger>(
                 registers: r,
                 turns,
                 why,
+                instruction: entry.instruction,
             };
         }
     }

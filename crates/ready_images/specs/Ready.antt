@@ -6,7 +6,6 @@ use Rattle.code_forms.specs.declared.module_code.CodeProcedure.{CodeProcedure}
 use Rattle.code_forms.specs.Valid.{Valid, HasDepths}
 use Rattle.object_files.specs.declared.image.Image.{Image}
 use Rattle.object_files.specs.declared.object.Object.{Object}
-use Rattle.signaller.specs.Index.{Indexes}
 use Rattle.signaller.specs.Tables.{IsCatchTable}
 use Rattle.machine_steps.specs.LookUps.{code_of, links_of}
 use Rattle.machine_steps.specs.Steps.{globals_in}
@@ -15,14 +14,16 @@ use Rattle.code_forms.specs.Ranges.{InOrder}
 use Rattle.ready_images.specs.declared.plan.Plan.{Plan}
 use Rattle.ready_images.specs.declared.prepared.Prepared.{Prepared}
 use Rattle.ready_images.specs.Hosts.{IsHostItem}
+use Rattle.ready_images.specs.Openings.{IsInnermostAt, IsOpening, arms_in}
 use Rattle.ready_images.specs.Order.{ImageInOrder}
 use Rattle.ready_images.specs.Sizes.{largest}
 use Rattle.ready_images.specs.Targets.{JumpsToStarts}
 
--- beside each entry stands the number of that to which it jumps, and beside the phrases their index
+-- beside each entry stand the number of that to which it jumps and the innermost phrase there, and beside each arm how it is entered
 pub record IsPlan (p : CodeProcedure) (plan : Plan) : Type 0 where
   pub targets : HasTargets p.code plan.targets
-  pub index : Indexes p.phrases plan.index
+  pub innermost : AllZip (IsInnermostAt p.phrases) p.code plan.innermost
+  pub openings : AllZip (IsOpening p.code) (arms_in p.phrases) plan.openings
 
 -- what this takes of a procedure, as each of valid code has it
 pub record CanBePlanned (p : CodeProcedure) : Type 0 where

@@ -4,9 +4,11 @@
 mod fault;
 mod globals;
 mod hosts;
+mod innermost;
 mod law;
 mod links;
 mod machine;
+mod openings;
 mod plan;
 mod prepared;
 mod sizes;
@@ -18,5 +20,6 @@ pub use law::{
     ready_has_depths, ready_is_prepared,
 };
 pub use machine::{Machine, ready};
+pub use openings::Opening;
 pub use plan::{Plan, Plans};
 pub use prepared::Prepared;

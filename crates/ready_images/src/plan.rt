@@ -3,19 +3,22 @@ ghost use Rattle.std.specs.List.{AllZip};
 ghost use Rattle.code_forms.specs.Valid.{Valid};
 ghost use Rattle.ready_images.specs.Ready.{CanBePlanned, IsPlan, IsPlanned};
 
+use crate::innermost::innermost_of;
+use crate::openings::{Opening, openings_of};
 use crate::targets::targets_of;
 use code_forms::{CodeProcedure, ModuleCode};
 use mesa_base::{List, Numbers, OutOfMemory};
 use object_files::Object;
-use signaller::{CatchIndex, index};
+use signaller::index;
 use std::alloc::Global;
 
 /// What the run of a procedure needs beside its code: for each instruction the number of the one to which it jumps, and
-/// the index of the phrases.
+/// the innermost phrase there; for each arm, as arms are numbered, how it is entered.
 #[derive(Drop)]
 pub struct Plan {
     pub targets: Numbers,
-    pub index: CatchIndex,
+    pub innermost: List<Option<u32>>,
+    pub openings: List<Opening>,
 }
 
 /// Those of the procedures of a module.
@@ -25,9 +28,12 @@ fn plan_of(alloc: Global, procedure: &CodeProcedure) -> Result<Plan, OutOfMemory
     requires { CanBePlanned procedure.now }
     ensures { IfOk result (IsPlan procedure.now) }
 {
+    let code = procedure.code.as_slice();
+    let index = index(alloc, &procedure.phrases)?;
     Ok(Plan {
-        targets: targets_of(alloc, procedure.code.as_slice())?,
-        index: index(alloc, &procedure.phrases)?,
+        targets: targets_of(alloc, code)?,
+        innermost: innermost_of(alloc, code, &index)?,
+        openings: openings_of(alloc, code, procedure.phrases.as_slice())?,
     })
 }
 

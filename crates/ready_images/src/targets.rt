@@ -25,8 +25,8 @@ fn target_of(instruction: Instruction) -> Option<u32>
     }
 }
 
-// The number of the instruction that begins at the offset, where one does.
-fn entry_at(code: &[CodeEntry], offset: u32) -> u32
+/// The number of the instruction that begins at the offset, where one does.
+pub(crate) fn entry_at(code: &[CodeEntry], offset: u32) -> u32
     requires { InOrder code.now }
     ensures { IsStart (spots code.now) offset → Begins (spots code.now) result offset }
 {

@@ -29,7 +29,7 @@ pub enum LinkTurn {
 }
 
 // Makes the frame of a procedure of an instance that is called through a link.
-#[inline(never)]
+#[inline(always)]
 fn add_called(
     called: &CodeProcedure,
     instance: u32,
@@ -53,7 +53,7 @@ fn add_called(
 }
 
 // Starts an instance for a call of the topmost activation: a turn is spent, and the frame of its body is made.
-#[inline(never)]
+#[inline(always)]
 fn start_first(
     image: &Image,
     instance: u32,

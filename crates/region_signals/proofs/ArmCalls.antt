@@ -1,12 +1,12 @@
 -- The call that runs an arm: what it finds, and where it leads, with the values of the code.
-use Rattle.std.proofs.Common.{◌≡◌, ℕ, ◌+◌, ◌-◌, ◌*◌, ◌<◌, ◌≤◌, List, length, replicate, Some, refl, sym, ap, subst, ◌∙◌, arith}
+use Rattle.std.proofs.Common.{◌≡◌, ℕ, ◌+◌, ◌-◌, ◌*◌, ◌<◌, ◌≤◌, List, length, replicate, get_or, Some, refl, sym, ap, subst, ◌∙◌, arith}
 use Rattle.std.specs.Prelude.{slice_get, slice_set, IsSome}
-use Rattle.std.proofs.lemmas.Option.{same_Some, slice_get_within}
+use Rattle.std.specs.List.{AllZip}
+use Rattle.std.proofs.lemmas.Option.{get_or_from_slice_get, slice_get_within}
+use Rattle.code_forms.specs.declared.module_code.Arm.{Arm}
 use Rattle.code_forms.specs.declared.module_code.CodeEntry.{CodeEntry}
 use Rattle.code_forms.specs.declared.module_code.CodeProcedure.{CodeProcedure}
-use Rattle.code_forms.specs.declared.module_code.Phrase.{Phrase}
-use Rattle.code_forms.specs.Ranges.{InOrder}
-use Rattle.code_forms.specs.Routine.{Begins, IsStart, spots}
+use Rattle.code_forms.specs.Routine.{Begins, spots}
 use Rattle.object_files.specs.declared.image.Image.{Image}
 use Rattle.machine_steps.specs.State.{InArm, Store, Stepped}
 use Rattle.machine_steps.specs.LookUps.{procedure_of}
@@ -22,10 +22,14 @@ use Rattle.activation_region.specs.Reaching.{Shown}
 use Rattle.activation_region.specs.Shows.{IsPrepared, IsAmple, with_places}
 use Rattle.activation_region.proofs.Grown.{grown_part, grown_more}
 use Rattle.activation_region.proofs.Keeping.{below_same}
-use Rattle.region_signals.specs.declared.arms.Span.{Span}
-use Rattle.region_signals.specs.Arms.{arms_in, span_of, span_in, taken, arm_row, with_arm, with_params, arm_registers, Awaits}
+use Rattle.ready_images.specs.declared.openings.Opening.{Opening}
+use Rattle.ready_images.specs.declared.plan.Plan.{Plan}
+use Rattle.ready_images.specs.Openings.{IsOpening, arms_in}
+use Rattle.ready_images.specs.Ready.{IsPlan}
+use Rattle.ready_images.proofs.Each.{zip_at, zip_within}
+use Rattle.region_signals.specs.Arms.{taken, arm_row, with_arm, with_params, arm_registers, Awaits}
 use Rattle.region_signals.proofs.Places.{place_at}
-use Rattle.region_signals.proofs.ArmLeads.{a, own, holder_code, holder_owner, in_order, arm_begins, arm_there, params_room, arm_shown}
+use Rattle.region_signals.proofs.ArmLeads.{a, own, holder_code, holder_owner, arm_begins, arm_there, params_room, arm_shown}
 
 module _ (image : Image) (layout : Layout) (prepared : IsPrepared image layout) (region : List ℕ) (table : List Row) (top place number : ℕ) (reason : Reason) (from count : ℕ)
     (ample : IsAmple layout region table top) where
@@ -72,28 +76,45 @@ module _ (image : Image) (layout : Layout) (prepared : IsPrepared image layout) 
       pub procedure_there : IsSome (procedure_of image holder.instance holder.procedure)
       procedure_there = subst (λ o. IsSome o) (sym code_is) refl
 
-      module _ (p : CodeProcedure) (read : procedure_of image holder.instance holder.procedure ≡ Some p) (code : List CodeEntry) (own_code : code ≡ p.code) where
-        procedure_same : g.procedure ≡ p
-        procedure_same = same_Some g.procedure p (sym code_is ∙ read)
+      abbrev its_code : List CodeEntry
+      its_code = (g.procedure).code
 
-        code_same : code ≡ (g.procedure).code
-        code_same = own_code ∙ sym (ap (λ (x : CodeProcedure). x.code) procedure_same)
+      abbrev its_arms : List Arm
+      its_arms = arms_in (g.procedure).phrases
 
-        pub code_in_order : InOrder code
-        code_in_order = subst (λ (l : List CodeEntry). InOrder l) (sym code_same) (in_order image layout prepared grown table top place number reason from count s m g)
+      abbrev its_arm : Arm
+      its_arm = a image layout prepared grown table top place number reason from count s m g
 
-        module _ (phrases : List Phrase) (own_phrases : phrases ≡ p.phrases) (span : Span) (span_is : span ≡ span_in (slice_get (arms_in phrases) number))
-            (owner_read slot words : ℕ) (owner_is : owner_read ≡ owner_place holder.kind place) (slot_is : slot ≡ span.slot) (words_is : words ≡ taken count span.words) where
-          span_same : span ≡ span_of (a image layout prepared grown table top place number reason from count s m g)
-          span_same =
-              span_is ∙ ap (λ (l : List Phrase). span_in (slice_get (arms_in l) number)) (own_phrases ∙ sym (ap (λ (x : CodeProcedure). x.phrases) procedure_same))
-              ∙ ap span_in (arm_there image layout prepared grown table top place number reason from count s m g)
+      arm_is : slice_get its_arms number ≡ Some its_arm
+      arm_is = arm_there image layout prepared grown table top place number reason from count s m g
 
-          slot_same : slot ≡ (a image layout prepared grown table top place number reason from count s m g).slot
-          slot_same = slot_is ∙ ap (λ (x : Span). x.slot) span_same
+      number_within : number < length its_arms
+      number_within = slice_get_within its_arms number its_arm arm_is
 
-          words_same : words ≡ taken count (a image layout prepared grown table top place number reason from count s m g).words
-          words_same = words_is ∙ ap (λ (x : Span). taken count x.words) span_same
+      -- how the arm is entered
+      module _ (plan : Plan) (is_plan : (p : CodeProcedure) → procedure_of image holder.instance holder.procedure ≡ Some p → IsPlan p plan)
+          (openings : List Opening) (own_openings : openings ≡ plan.openings) where
+        its_openings : AllZip (IsOpening its_code) its_arms plan.openings
+        its_openings = (is_plan g.procedure code_is).openings
+
+        pub opening_within : number < length openings
+        opening_within =
+            let l = zip_within (IsOpening its_code) its_arms plan.openings its_openings number number_within in
+            let e = ap length own_openings in omega (arith, l, e)
+
+        module _ (d : Opening) (owner_read slot words : ℕ) (owner_is : owner_read ≡ owner_place holder.kind place) (slot_is : slot ≡ (get_or openings number d).slot)
+            (words_is : words ≡ taken count (get_or openings number d).words) where
+          opened : IsOpening its_code its_arm (get_or openings number d)
+          opened =
+              subst (λ (l : List Opening). IsOpening its_code its_arm (get_or l number d)) (sym own_openings)
+              (subst (λ (b : Arm). IsOpening its_code b (get_or plan.openings number d)) (get_or_from_slice_get its_arms number its_arm its_arm arm_is)
+              (zip_at (IsOpening its_code) its_arms plan.openings its_openings number its_arm d number_within))
+
+          slot_same : slot ≡ its_arm.slot
+          slot_same = slot_is ∙ opened.slot
+
+          words_same : words ≡ taken count its_arm.words
+          words_same = words_is ∙ ap (λ k. taken count k) opened.words
 
           owner_same : owner_read ≡ own image layout prepared grown table top place number reason from count s m g
           owner_same = owner_is ∙ ap (λ (x : Row). owner_place x.kind place) holder_is ∙ holder_owner image layout prepared grown table top place number reason from count s m g
@@ -105,20 +126,17 @@ module _ (image : Image) (layout : Layout) (prepared : IsPrepared image layout) 
               let l = ap length region_is in
               let e = slot_same in let f = words_same in omega (arith, r, o, l, e, f)
 
-          module _ (entry : ℕ) (entry_is : IsStart (spots code) span.start → Begins (spots code) entry span.start) (base region' : List ℕ) (base_is : base ≡ grown)
+          module _ (entry : ℕ) (entry_is : entry ≡ (get_or openings number d).entry) (base region' : List ℕ) (base_is : base ≡ grown)
               (table' : List Row) (r' : Registers) (region_is : region' ≡ with_params base layout owner_read slot (part base from words))
               (table_is : table' ≡ slice_set table (top + 1) (arm_row holder.instance holder.procedure owner_read number reason))
               (registers_is : r' ≡ arm_registers layout (top + 1) owner_read entry) where
             abbrev x : ℕ
             x = own image layout prepared grown table top place number reason from count s m g
 
-            begins_there : Begins (spots (g.procedure).code) entry (a image layout prepared grown table top place number reason from count s m g).start
+            begins_there : Begins (spots its_code) entry its_arm.start
             begins_there =
-                let start = ap (λ (y : Span). y.start) span_same in
-                let b = arm_begins image layout prepared grown table top place number reason from count s m g in
-                subst (λ (l : List CodeEntry). Begins (spots l) entry (a image layout prepared grown table top place number reason from count s m g).start) code_same
-                (subst (λ k. Begins (spots code) entry k) start
-                (entry_is (subst (λ k. IsStart (spots code) k) (sym start) (subst (λ (l : List CodeEntry). IsStart (spots l) (a image layout prepared grown table top place number reason from count s m g).start) (sym code_same) b))))
+                subst (λ k. Begins (spots its_code) k its_arm.start) (sym entry_is)
+                (opened.entry (arm_begins image layout prepared grown table top place number reason from count s m g))
 
             pub arm_goes : (turns : ℕ) → m.turns ≡ turns → (turns ≡ 0 → ⊥) → top + 1 < 8192
                 → Shown image layout region' table' r' s (record m { turns = turns - 1 })

@@ -7,7 +7,6 @@ use Rattle.std.proofs.lemmas.Option.{same_Some}
 use Rattle.code_forms.specs.declared.module_code.Arm.{Arm}
 use Rattle.code_forms.specs.declared.module_code.CodeProcedure.{CodeProcedure}
 use Rattle.code_forms.specs.declared.module_code.Phrase.{Phrase}
-use Rattle.code_forms.specs.Ranges.{InOrder}
 use Rattle.code_forms.specs.Routine.{Begins, IsStart, spots}
 use Rattle.object_files.specs.declared.image.Image.{Image}
 use Rattle.signaller.specs.Search.{arms_of}
@@ -34,9 +33,10 @@ use Rattle.activation_region.proofs.Following.{spent_by}
 use Rattle.activation_region.proofs.Homes.{set_long}
 use Rattle.activation_region.proofs.Keeping.{next_part}
 use Rattle.activation_region.proofs.Located.{InCode, in_code, at_offset}
-use Rattle.region_signals.specs.Arms.{arms_in, taken, arm_row, with_params, with_arm, arm_registers, Awaits}
+use Rattle.ready_images.specs.Openings.{arms_in}
+use Rattle.region_signals.specs.Arms.{taken, arm_row, with_params, with_arm, arm_registers, Awaits}
 use Rattle.region_signals.proofs.Places.{At, place_at, home_for, at_instance, at_procedure, at_owner}
-use Rattle.region_signals.proofs.ArmStarts.{arm, found, begins, order, deep_none, params_fit}
+use Rattle.region_signals.proofs.ArmStarts.{arm, found, begins, deep_none, params_fit}
 use Rattle.region_signals.proofs.Arming.{arm_made, arm_shows}
 
 -- the words that an arm takes of those given
@@ -96,9 +96,6 @@ module _ (image : Image) (layout : Layout) (prepared : IsPrepared image layout) 
   -- the arm
   abbrev pub a : Arm
   a = arm inside.code inside.valid inside.depths w.holder.procedure p inside.there w.has.place w.has.is
-
-  pub in_order : InOrder p.code
-  in_order = order inside.code inside.valid inside.depths w.holder.procedure p inside.there
 
   pub arm_begins : IsStart (spots p.code) a.start
   arm_begins = begins inside.code inside.valid inside.depths w.holder.procedure p inside.there w.has.place w.has.is

@@ -17,7 +17,6 @@ use Rattle.code_forms.specs.declared.module_code.Phrase.{Phrase}
 use Rattle.signaller.specs.declared.search.Links.{Links}
 use Rattle.signaller.specs.declared.search.Search.{Search}
 use Rattle.signaller.specs.declared.signal_id.SignalId.{SignalId}
-use Rattle.signaller.specs.Index.{Indexes}
 use Rattle.signaller.specs.Search.{asked, first_place, fits_signal, innermost_of, numbered, search_at, next_arm, unwind_next}
 use Rattle.signaller.specs.Tables.{IsCatchTable}
 use Rattle.signaller.specs.Laws.{IsBegun}
@@ -30,8 +29,9 @@ use Rattle.activation_region.specs.declared.row.Row.{Row}
 use Rattle.activation_region.specs.Shows.{IsPrepared}
 use Rattle.activation_region.proofs.Located.{InCode, in_code}
 use Rattle.ready_images.specs.declared.plan.Plan.{Plan}
+use Rattle.ready_images.specs.Openings.{IsInnermostAt}
 use Rattle.ready_images.specs.Ready.{IsPlan, IsPlanned}
-use Rattle.ready_images.proofs.Each.{some_and}
+use Rattle.ready_images.proofs.Each.{some_and, zip_at, zip_within}
 use Rattle.region_signals.specs.Indexed.{AsksIn, AskedOf, BeginsThere, IsRead, ReadsLinks}
 use Rattle.region_signals.proofs.ArmStarts.{order, right}
 use Rattle.region_signals.proofs.Asked.{search_within}
@@ -76,11 +76,10 @@ module _ (image : Image) (plans : List (List Plan)) (planned : AllZip IsPlanned 
       pub plan_within : n < length mine
       plan_within = slice_get_within mine n plan.0 mine_is
 
-      pub index_there : (e : Plan) (p : CodeProcedure) → procedure_of image j n ≡ Some p → Indexes p.phrases (get_or mine n e).index
-      index_there e p is =
+      pub plan_there : (e : Plan) (p : CodeProcedure) → procedure_of image j n ≡ Some p → IsPlan p (get_or mine n e)
+      plan_there e p is =
           let same : at.procedure ≡ p = same_Some at.procedure p (sym at.is ∙ is) in
-          let found = get_or_from_slice_get mine n plan.0 e mine_is in
-          subst (λ (x : Plan). Indexes p.phrases x.index) (sym found) (subst (λ (q : CodeProcedure). Indexes q.phrases plan.0.index) same plan.2.index)
+          subst (λ (x : Plan). IsPlan p x) (sym (get_or_from_slice_get mine n plan.0 e mine_is)) (subst (λ (q : CodeProcedure). IsPlan q plan.0) same plan.2)
 
 -- The procedure of a row.
 
@@ -123,6 +122,20 @@ module _ (image : Image) (layout : Layout) (prepared : IsPrepared image layout) 
       asks_so q is_q =
           let same : p ≡ q = same_Some p q (sym is ∙ is_q) in
           subst (λ (x : CodeProcedure). AsksIn x search) same (subst (λ (x : Search). AsksIn p x) (sym about) (search_within outward p (get_or code row.entry d).at))
+
+    -- what its plan has of its entry
+    module _ (plan_read : Plan) (is_plan : (q : CodeProcedure) → procedure_of image row.instance row.procedure ≡ Some q → IsPlan q plan_read)
+        (innermost : List (Option ℕ)) (same_innermost : innermost ≡ plan_read.innermost) where
+      pub innermost_within : row.entry < length innermost
+      innermost_within =
+          let l = zip_within (IsInnermostAt p.phrases) p.code plan_read.innermost (is_plan p is).innermost row.entry entry_within in
+          let e = ap length same_innermost in omega (arith, l, e)
+
+      pub innermost_there : (k : Option ℕ) → get_or innermost row.entry k ≡ innermost_of p.phrases (get_or code row.entry d).at
+      innermost_there k =
+          ap (λ (l : List (Option ℕ)). get_or l row.entry k) same_innermost
+          ∙ zip_at (IsInnermostAt p.phrases) p.code plan_read.innermost (is_plan p is).innermost row.entry d k entry_within
+          ∙ ap (λ (l : List CodeEntry). innermost_of p.phrases (get_or l row.entry d).at) (sym same_code)
 
     -- within a region a search begins with the innermost phrase
     pub innermost_begins : (o : Option ℕ) → o ≡ innermost_of p.phrases (get_or code row.entry d).at

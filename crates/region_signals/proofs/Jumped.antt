@@ -24,7 +24,8 @@ use Rattle.activation_region.specs.Below.{Over, over, frame_at, Below}
 use Rattle.activation_region.specs.Frames.{row_at, owner_place}
 use Rattle.activation_region.specs.Reaching.{IsUnstuck}
 use Rattle.activation_region.proofs.Tables.{row_there}
-use Rattle.region_signals.specs.Arms.{arms_in, span_in}
+use Rattle.ready_images.specs.Openings.{arms_in}
+use Rattle.region_signals.specs.Arms.{span_in}
 use Rattle.region_signals.specs.Indexed.{IsAsked}
 use Rattle.region_signals.specs.Jumping.{in_span, has_offset_in, phrases_of, place_in, place_of, Aims, Jumps}
 use Rattle.region_signals.specs.Leaving.{Leaving, LeftThere}

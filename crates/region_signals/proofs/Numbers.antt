@@ -6,7 +6,8 @@ use Rattle.std.proofs.lemmas.Option.{slice_get-get_or}
 use Rattle.code_forms.specs.declared.module_code.Arm.{Arm}
 use Rattle.code_forms.specs.declared.module_code.Phrase.{Phrase}
 use Rattle.region_signals.specs.declared.arms.Span.{Span}
-use Rattle.region_signals.specs.Arms.{arms_in, span_of, span_in}
+use Rattle.ready_images.specs.Openings.{arms_in}
+use Rattle.region_signals.specs.Arms.{span_of, span_in}
 
 get_left : (xs ys : List Arm) (k : ℕ) → k < length xs → slice_get (xs ++ ys) k ≡ slice_get xs k
 get_left [] ys k less = absurd (omega (arith, less))
@@ -35,6 +36,6 @@ module _ (table : List Phrase) (i : ℕ) (p : Phrase) (less : i < length table) 
       → slice_get (arms_in (drop (i + 1) table)) (left - length arms) ≡ slice_get (arms_in table) number
   arm_later left number large same = sym (get_right arms (arms_in (drop (i + 1) table)) left large) ∙ ap (λ l. slice_get l left) (sym first) ∙ same
 
-pub arm_none : (table : List Phrase) (i left number : ℕ) (span : Span) → length table ≤ i → span ≡ record { start = 0; end = 0; slot = 0; words = 0 }
+pub arm_none : (table : List Phrase) (i left number : ℕ) (span : Span) → length table ≤ i → span ≡ record { start = 0; end = 0 }
     → slice_get (arms_in (drop i table)) left ≡ slice_get (arms_in table) number → span ≡ span_in (slice_get (arms_in table) number)
 arm_none table i left number span all none same = none ∙ ap span_in (ap (λ l. slice_get (arms_in l) left) (sym (drop_all i table all)) ∙ same)

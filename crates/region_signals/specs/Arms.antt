@@ -1,8 +1,7 @@
 -- Arms that are run over the activations in the region (rule of this project).
-use Rattle.std.specs.Prelude.{◌≡◌, ℕ, ◌+◌, ◌*◌, ◌<◌, ◌≤◌, List, length, flat_map, Option, Some, None, nat_lt, slice_set, if◌then◌else◌}
+use Rattle.std.specs.Prelude.{◌≡◌, ℕ, ◌+◌, ◌*◌, ◌<◌, ◌≤◌, List, length, Option, Some, None, nat_lt, slice_set, if◌then◌else◌}
 use Rattle.code_forms.specs.declared.module_code.Arm.{Arm}
 use Rattle.code_forms.specs.declared.module_code.CodeProcedure.{CodeProcedure}
-use Rattle.code_forms.specs.declared.module_code.Phrase.{Phrase}
 use Rattle.object_files.specs.declared.image.Image.{Image}
 use Rattle.signaller.specs.declared.place.Place.{Place}
 use Rattle.signaller.specs.Search.{arms_before}
@@ -25,18 +24,14 @@ use Rattle.activation_region.specs.Frames.{row_at, owner_place, waiting}
 use Rattle.activation_region.specs.Reaching.{Reaches}
 use Rattle.region_signals.specs.declared.arms.Span.{Span}
 
--- where an arm's region lies, and where its parameters go in the frame
+-- where an arm's region lies
 abbrev pub span_of : Arm → Span
-span_of a = record { start = a.start; end = a.end; slot = a.slot; words = a.words }
+span_of a = record { start = a.start; end = a.end }
 
 -- that of no arm has no offset
 abbrev pub span_in : Option Arm → Span
-span_in None = record { start = 0; end = 0; slot = 0; words = 0 }
+span_in None = record { start = 0; end = 0 }
 span_in (Some a) = span_of a
-
--- the arms of a table, as they are numbered
-abbrev pub arms_in : List Phrase → List Arm
-arms_in phrases = flat_map (λ (p : Phrase). p.arms) phrases
 
 -- of so many words given, an arm takes as many as it has parameters
 abbrev pub taken : (given words : ℕ) → ℕ

@@ -16,7 +16,8 @@ use Rattle.activation_region.specs.Frames.{row_at}
 use Rattle.activation_region.specs.Reaching.{Reaches, IsUnstuck}
 use Rattle.activation_region.specs.Shows.{Shows}
 use Rattle.region_signals.specs.declared.arms.Span.{Span}
-use Rattle.region_signals.specs.Arms.{arms_in, span_in}
+use Rattle.ready_images.specs.Openings.{arms_in}
+use Rattle.region_signals.specs.Arms.{span_in}
 use Rattle.region_signals.specs.Raising.{FindsNone}
 
 abbrev pub in_span : Span → ℕ → Bool

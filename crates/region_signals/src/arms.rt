@@ -1,25 +1,19 @@
 //! Arms by their numbers.
 
 ghost use Rattle.std.specs.Prelude.{◌≡◌, slice_get};
-ghost use Rattle.region_signals.specs.Arms.{arms_in, span_in, span_of, taken};
+ghost use Rattle.ready_images.specs.Openings.{arms_in};
+ghost use Rattle.region_signals.specs.Arms.{span_in, span_of, taken};
 
 use code_forms::{Arm, Phrase};
 
-/// Where the region of an arm lies, and where its parameters go in its frame.
+/// Where the region of an arm lies.
 #[derive(Clone, Copy)]
 pub struct Span {
     pub start: u32,
     pub end: u32,
-    pub slot: u16,
-    pub words: u16,
 }
 
-const NONE: Span = Span {
-    start: 0,
-    end: 0,
-    slot: 0,
-    words: 0,
-};
+const NONE: Span = Span { start: 0, end: 0 };
 
 #[inline(always)]
 fn of_arm(arm: &Arm) -> Span
@@ -28,8 +22,6 @@ fn of_arm(arm: &Arm) -> Span
     Span {
         start: arm.start,
         end: arm.end,
-        slot: arm.slot,
-        words: arm.words,
     }
 }
 

@@ -1,4 +1,4 @@
-//! Which phrase a signal asks first where an activation waits, and what the table of one says.
+//! Which phrase a signal or a jump asks first where an activation waits, and what the table of one says.
 
 ghost use Rattle.std.specs.Prelude.{◌≡◌, ◌<◌, ◌^◌, length, false, true, Some, IsSome};
 ghost use Rattle.std.specs.List.{AllZip, list_any};
@@ -7,20 +7,18 @@ ghost use Rattle.code_forms.specs.Routine.{code_end, spots};
 ghost use Rattle.code_forms.specs.declared.module_code.CodeProcedure.{CodeProcedure};
 ghost use Rattle.machine_steps.specs.LookUps.{links_of, procedure_of};
 ghost use Rattle.ready_images.specs.Ready.{IsPlanned};
-ghost use Rattle.signaller.specs.Index.{Indexes};
-ghost use Rattle.signaller.specs.Search.{around, covers, first_of, has, next_arm, search_at, unwind_next};
+ghost use Rattle.signaller.specs.Search.{around, covers, first_of, has, innermost_of, next_arm, search_at, unwind_next};
 ghost use Rattle.signaller.specs.Sought.{passed};
 ghost use Rattle.activation_region.specs.Shows.{IsPrepared};
 ghost use Rattle.region_signals.specs.Indexed.{AskedOf, BeginsThere, IsRead, ReadsLinks};
 
-use crate::lookups::procedure_at;
+use crate::lookups::{plan_of, procedure_at};
 use activation_region::{Layout, Row};
 use code_forms::{Arm, CodeProcedure, Phrase};
-use mesa_base::{List, Steps};
+use mesa_base::List;
 use object_files::Image;
 use ready_images::Plans;
-use signaller::{CatchIndex, Found, Links, Search, SignalId, innermost, next_arm, unwind_next};
-use std::sync::ledger::Ledger;
+use signaller::{Found, Links, Search, SignalId, next_arm, unwind_next};
 
 fn covers(phrase: &Phrase, offset: u32) -> bool
     ensures { result ≡ covers phrase.now offset }
@@ -74,22 +72,17 @@ fn first_around(table: &[Phrase], offset: u32) -> Option<u32>
     None
 }
 
-// The search of a signal that begins at an offset of a procedure: with the innermost phrase, or, where no phrase is enabled
-// there, outward of the arm in whose region it is.
+// The search of a signal that begins at an offset of a procedure, whose innermost phrase there this is: with that phrase, or,
+// where no phrase is enabled there, outward of the arm in whose region it is.
 #[inline(always)]
-fn search_about<L: Ledger>(
-    procedure: &CodeProcedure,
-    index: &CatchIndex,
-    offset: u32,
-    comparisons: &mut Steps<L>,
-) -> Search
+fn search_about(procedure: &CodeProcedure, innermost: Option<u32>, offset: u32) -> Search
     requires phrases { PhrasesFill (spots procedure.now.code) procedure.now.phrases }
-    requires index { Indexes procedure.now.phrases index.now }
+    requires innermost { innermost ≡ innermost_of procedure.now.phrases offset }
     requires few { length procedure.now.phrases < 2 ^ 32 }
     requires inside { offset < code_end (spots procedure.now.code) }
     ensures { result ≡ search_at true procedure.now.phrases offset }
 {
-    if let Some(number) = innermost(index, offset, comparisons) {
+    if let Some(number) = innermost {
         return Search {
             phrase: Some(number),
         };
@@ -99,26 +92,9 @@ fn search_about<L: Ledger>(
     }
 }
 
-// The index of the phrases of a procedure of an instance.
-#[inline(always)]
-fn index_of<'a>(image: &Image, plans: &'a List<Plans>, instance: u32, number: u32) -> &'a CatchIndex
-    requires planned { AllZip IsPlanned image.now.modules plans.now }
-    requires there { IsSome (procedure_of image.now instance number) }
-    ensures { (p : CodeProcedure) → procedure_of image.now instance number ≡ Some p → Indexes p.phrases result.now }
-{
-    let module = image.instances.as_slice()[instance as usize].module as usize;
-    &plans.as_slice()[module].as_slice()[number as usize].index
-}
-
 /// The search of a signal that begins where the activation of a row waits.
 #[inline(always)]
-pub(crate) fn around<L: Ledger>(
-    image: &Image,
-    plans: &List<Plans>,
-    row: Row,
-    layout: Layout,
-    comparisons: &mut Steps<L>,
-) -> Search
+pub(crate) fn around(image: &Image, plans: &List<Plans>, row: Row, layout: Layout) -> Search
     requires prepared { IsPrepared image.now layout }
     requires planned { AllZip IsPlanned image.now.modules plans.now }
     requires read { IsRead image.now row }
@@ -126,31 +102,24 @@ pub(crate) fn around<L: Ledger>(
     ensures asks { AskedOf image.now row result }
 {
     let procedure = procedure_at(image, row.instance, row.procedure);
+    let plan = plan_of(image, plans, row.instance, row.procedure);
     let offset = procedure.code.as_slice()[row.entry].at;
-    let index = index_of(image, plans, row.instance, row.procedure);
-    search_about(procedure, index, offset, comparisons)
+    let innermost = plan.innermost.as_slice()[row.entry];
+    search_about(procedure, innermost, offset)
 }
 
 /// The search of a jump that begins in the region where the activation of a row waits: with the innermost phrase, if one is
 /// enabled there.
-pub(crate) fn around_within<L: Ledger>(
-    image: &Image,
-    plans: &List<Plans>,
-    row: Row,
-    layout: Layout,
-    comparisons: &mut Steps<L>,
-) -> Search
+pub(crate) fn around_within(image: &Image, plans: &List<Plans>, row: Row, layout: Layout) -> Search
     requires prepared { IsPrepared image.now layout }
     requires planned { AllZip IsPlanned image.now.modules plans.now }
     requires read { IsRead image.now row }
     ensures begins { BeginsThere image.now false row result }
     ensures asks { AskedOf image.now row result }
 {
-    let procedure = procedure_at(image, row.instance, row.procedure);
-    let offset = procedure.code.as_slice()[row.entry].at;
-    let index = index_of(image, plans, row.instance, row.procedure);
+    let plan = plan_of(image, plans, row.instance, row.procedure);
     Search {
-        phrase: innermost(index, offset, comparisons),
+        phrase: plan.innermost.as_slice()[row.entry],
     }
 }
 

@@ -1,22 +1,24 @@
 //! Arms that are run.
 
 ghost use Rattle.std.specs.Prelude.{◌≡◌, ℕ, ◌+◌, ◌*◌, ◌<◌, ◌≤◌, length, slice_set, vec_capacity};
-ghost use Rattle.code_forms.specs.Ranges.{InOrder};
-ghost use Rattle.code_forms.specs.Routine.{Begins, IsStart, spots};
+ghost use Rattle.std.specs.List.{AllZip};
 ghost use Rattle.machine_steps.specs.State.{Stepped, Store};
 ghost use Rattle.quiet_run.specs.Flat.{part};
+ghost use Rattle.ready_images.specs.Ready.{IsPlanned};
 ghost use Rattle.activation_region.specs.Calling.{IsAmpleFor, LeadsTo};
 ghost use Rattle.activation_region.specs.Shows.{IsAmple, IsPrepared, IsReserved};
 ghost use Rattle.region_signals.specs.Arms.{arm_registers, with_params, AddsArm, Awaits, CanEnter};
 
-use crate::arms::{span_at, taken};
-use crate::lookups::{entry_at, procedure_at};
+use crate::arms::taken;
+use crate::lookups::plan_of;
 use crate::rows::{owner_of, row_of};
 use activation_region::{Kind, Layout, Reason, Row, Turn, make_room};
 use machine_steps::End;
+use mesa_base::List;
 use mesa_base::limits::ACTIVATIONS;
 use object_files::Image;
 use quiet_run::Registers;
+use ready_images::Plans;
 
 /// Makes a running arm at a place: its parameters are put into the frame of its owner.
 #[inline(always)]
@@ -56,6 +58,7 @@ fn open(
 #[inline(always)]
 pub(crate) fn enter_arm(
     image: &Image,
+    plans: &List<Plans>,
     place: usize,
     arm: u32,
     reason: Reason,
@@ -68,6 +71,7 @@ pub(crate) fn enter_arm(
     turns: &mut u64,
 ) -> Turn
     requires prepared { IsPrepared image.now layout }
+    requires planned { AllZip IsPlanned image.now.modules plans.now }
     requires ample { IsAmple layout region.old.items table.old top }
     requires reserved { IsReserved layout (vec_capacity region.old) }
     requires enters { CanEnter image.now layout region.old.items table.old top place arm reason from given }
@@ -88,9 +92,8 @@ pub(crate) fn enter_arm(
     }
     make_room(region, layout, top + 1);
     let holder = row_of(table, place);
-    let procedure = procedure_at(image, holder.instance, holder.procedure);
-    let span = span_at(procedure.phrases.as_slice(), arm);
-    let entry = entry_at(procedure.code.as_slice(), span.start);
+    let plan = plan_of(image, plans, holder.instance, holder.procedure);
+    let opening = plan.openings.as_slice()[arm as usize];
     let owner = owner_of(holder.kind, place);
     let row = Row {
         instance: holder.instance,
@@ -99,8 +102,8 @@ pub(crate) fn enter_arm(
         count: 0,
         kind: Kind::Arm { owner, arm, reason },
     };
-    let words = taken(given, usize::from(span.words));
-    let slot = usize::from(span.slot);
+    let words = taken(given, usize::from(opening.words));
+    let slot = usize::from(opening.slot);
     let region_words = region.as_mut_slice();
     Turn::Goes(open(
         region_words,
@@ -112,6 +115,6 @@ pub(crate) fn enter_arm(
         slot,
         from,
         words,
-        entry,
+        opening.entry as usize,
     ))
 }

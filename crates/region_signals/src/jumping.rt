@@ -20,11 +20,10 @@ use crate::lookups::procedure_at;
 use crate::rows::row_of;
 use activation_region::{Kind, Layout, Row, Target, Turn};
 use code_forms::ModuleCode;
-use mesa_base::{List, Steps};
+use mesa_base::List;
 use object_files::Image;
 use quiet_run::Registers;
 use ready_images::Plans;
-use std::sync::ledger::Ledger;
 
 fn in_span(span: Span, offset: u32) -> bool
     ensures { result ≡ in_span span offset }
@@ -79,7 +78,7 @@ fn target_of(image: &Image, table: &[Row], count: usize, owner: usize, goal: Opt
 }
 
 // A jump leaves the topmost activation, an arm, which is given up first.
-fn jump_out<L: Ledger>(
+fn jump_out(
     image: &Image,
     plans: &List<Plans>,
     goal: Option<u32>,
@@ -88,7 +87,6 @@ fn jump_out<L: Ledger>(
     r: Registers,
     layout: Layout,
     turns: &mut u64,
-    comparisons: &mut Steps<L>,
 ) -> Turn
     requires prepared { IsPrepared image.now layout }
     requires planned { AllZip IsPlanned image.now.modules plans.now }
@@ -111,18 +109,9 @@ fn jump_out<L: Ledger>(
             let target = target_of(image, table, r.top, owner, goal);
             let top = r.top - 1;
             let under = row_of(table, top);
-            let first = left_to_ask(image, plans, kind, under, layout, comparisons);
+            let first = left_to_ask(image, plans, kind, under, layout);
             leave_on(
-                image,
-                plans,
-                target,
-                first,
-                region,
-                table,
-                top,
-                layout,
-                turns,
-                comparisons,
+                image, plans, target, first, region, table, top, layout, turns,
             )
         }
     }
@@ -130,7 +119,7 @@ fn jump_out<L: Ledger>(
 
 /// A jump leaves an arm, whose code this is, and the arms that hold it, to an offset of its procedure: activations are
 /// given up down to the one in whose region that is, and UNWIND arms are run between.
-pub fn leave<L: Ledger>(
+pub fn leave(
     image: &Image,
     plans: &List<Plans>,
     code: &ModuleCode,
@@ -140,7 +129,6 @@ pub fn leave<L: Ledger>(
     r: Registers,
     layout: Layout,
     turns: &mut u64,
-    comparisons: &mut Steps<L>,
 ) -> Turn
     requires prepared { IsPrepared image.now layout }
     requires planned { AllZip IsPlanned image.now.modules plans.now }
@@ -158,21 +146,11 @@ pub fn leave<L: Ledger>(
         → Shown image.now layout region.old.items table.old r s m
         → LeadsTo image.now layout region.new.items table.new s (record m { turns = turns.new; begun = suc m.begun }) result }
 {
-    jump_out(
-        image,
-        plans,
-        Some(target),
-        region,
-        table,
-        r,
-        layout,
-        turns,
-        comparisons,
-    )
+    jump_out(image, plans, Some(target), region, table, r, layout, turns)
 }
 
 /// The same to the frame of the arm, which returns.
-pub fn leave_return<L: Ledger>(
+pub fn leave_return(
     image: &Image,
     plans: &List<Plans>,
     code: &ModuleCode,
@@ -181,7 +159,6 @@ pub fn leave_return<L: Ledger>(
     r: Registers,
     layout: Layout,
     turns: &mut u64,
-    comparisons: &mut Steps<L>,
 ) -> Turn
     requires prepared { IsPrepared image.now layout }
     requires planned { AllZip IsPlanned image.now.modules plans.now }
@@ -199,15 +176,5 @@ pub fn leave_return<L: Ledger>(
         → Shown image.now layout region.old.items table.old r s m
         → LeadsTo image.now layout region.new.items table.new s (record m { turns = turns.new; begun = suc m.begun }) result }
 {
-    jump_out(
-        image,
-        plans,
-        None,
-        region,
-        table,
-        r,
-        layout,
-        turns,
-        comparisons,
-    )
+    jump_out(image, plans, None, region, table, r, layout, turns)
 }

@@ -18,21 +18,19 @@ use crate::entering::enter_arm;
 use crate::rows::{owner_of, row_of};
 use crate::seeking::Landed;
 use activation_region::{Kind, Layout, Reason, Row, Target, Turn};
-use mesa_base::{List, Steps};
+use mesa_base::List;
 use object_files::Image;
 use ready_images::Plans;
 use signaller::{Found, Search};
-use std::sync::ledger::Ledger;
 
 /// The search of a jump that goes on in the activation under one of a kind, which is dropped: beyond the phrase of an
 /// UNWIND arm, or where the one under it waits.
-pub(crate) fn left_to_ask<L: Ledger>(
+pub(crate) fn left_to_ask(
     image: &Image,
     plans: &List<Plans>,
     kind: Kind,
     under: Row,
     layout: Layout,
-    comparisons: &mut Steps<L>,
 ) -> Search
     requires prepared { IsPrepared image.now layout }
     requires planned { AllZip IsPlanned image.now.modules plans.now }
@@ -48,12 +46,12 @@ pub(crate) fn left_to_ask<L: Ledger>(
     {
         return beyond;
     }
-    around_within(image, plans, under, layout, comparisons)
+    around_within(image, plans, under, layout)
 }
 
 /// A jump drops activations from the topmost one on, at `top`, and looks for UNWIND arms: the first one, or none before it
 /// has come to its target's activation.
-fn unwind<L: Ledger>(
+fn unwind(
     image: &Image,
     plans: &List<Plans>,
     target: Target,
@@ -61,7 +59,6 @@ fn unwind<L: Ledger>(
     table: &[Row],
     top: usize,
     layout: Layout,
-    comparisons: &mut Steps<L>,
 ) -> Option<Landed>
     requires prepared { IsPrepared image.now layout }
     requires planned { AllZip IsPlanned image.now.modules plans.now }
@@ -87,14 +84,14 @@ fn unwind<L: Ledger>(
         }
         place -= 1;
         let under = row_of(table, place);
-        search = left_to_ask(image, plans, row.kind, under, layout, comparisons);
+        search = left_to_ask(image, plans, row.kind, under, layout);
     }
     None
 }
 
 /// A jump goes on from the topmost activation that waits, at `top`, whose phrases are asked from a search on: it drops
 /// activations until it arrives, or runs the first UNWIND arm that it comes to.
-pub(crate) fn leave_on<L: Ledger>(
+pub(crate) fn leave_on(
     image: &Image,
     plans: &List<Plans>,
     target: Target,
@@ -104,7 +101,6 @@ pub(crate) fn leave_on<L: Ledger>(
     top: usize,
     layout: Layout,
     turns: &mut u64,
-    comparisons: &mut Steps<L>,
 ) -> Turn
     requires prepared { IsPrepared image.now layout }
     requires planned { AllZip IsPlanned image.now.modules plans.now }
@@ -122,7 +118,7 @@ pub(crate) fn leave_on<L: Ledger>(
         → Leaving image.now layout region.old.items table.old top target first s m
         → LeadsTo image.now layout region.new.items table.new s (record m { turns = turns.new }) result }
 {
-    match unwind(image, plans, target, first, table, top, layout, comparisons) {
+    match unwind(image, plans, target, first, table, top, layout) {
         Some(landed) => {
             let reason = Reason::Jump {
                 target,
@@ -130,7 +126,7 @@ pub(crate) fn leave_on<L: Ledger>(
             };
             let place = landed.place;
             enter_arm(
-                image, place, landed.arm, reason, 0, 0, region, table, place, layout, turns,
+                image, plans, place, landed.arm, reason, 0, 0, region, table, place, layout, turns,
             )
         }
         None => {

@@ -17,6 +17,7 @@ mod seeking;
 
 pub use jumping::{leave, leave_return};
 pub use laws::{faults_raise, frames_keep_arms, predeclared_raise};
+pub use lookups::plan_of;
 pub use raising::{raise, raise_host, raise_linked, raise_own};
 pub use rejecting::arm_end;
 pub use resuming::resume;

@@ -1,12 +1,17 @@
 //! What is read of an image where activations of it are shown.
 
 ghost use Rattle.std.specs.Prelude.{◌≡◌, Some, IsSome, nat_lt};
+ghost use Rattle.std.specs.List.{AllZip};
+ghost use Rattle.code_forms.specs.declared.module_code.CodeProcedure.{CodeProcedure};
 ghost use Rattle.code_forms.specs.Ranges.{InOrder};
 ghost use Rattle.code_forms.specs.Routine.{Begins, IsStart, spots};
 ghost use Rattle.machine_steps.specs.LookUps.{code_of, procedure_of};
+ghost use Rattle.ready_images.specs.Ready.{IsPlan, IsPlanned};
 
 use code_forms::{CodeEntry, CodeProcedure, ModuleCode};
+use mesa_base::List;
 use object_files::Image;
+use ready_images::{Plan, Plans};
 
 /// The number of the instruction that begins at the offset, where one does.
 #[inline(always)]
@@ -39,4 +44,15 @@ pub(crate) fn procedure_at(image: &Image, instance: u32, number: u32) -> &CodePr
 {
     let code = code_of(image, instance);
     &code.procedures.as_slice()[number as usize]
+}
+
+/// The plan of a procedure of an instance.
+#[inline(always)]
+pub fn plan_of<'a>(image: &Image, plans: &'a List<Plans>, instance: u32, number: u32) -> &'a Plan
+    requires planned { AllZip IsPlanned image.now.modules plans.now }
+    requires there { IsSome (procedure_of image.now instance number) }
+    ensures { (p : CodeProcedure) → procedure_of image.now instance number ≡ Some p → IsPlan p result.now }
+{
+    let module = image.instances.as_slice()[instance as usize].module as usize;
+    &plans.as_slice()[module].as_slice()[number as usize]
 }

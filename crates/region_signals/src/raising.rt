@@ -23,13 +23,12 @@ use object_files::{Image, Link};
 use quiet_run::Registers;
 use ready_images::Plans;
 use signaller::{Links, SignalId};
-use std::sync::ledger::Ledger;
 
 /// The topmost activation raises a signal, with so many of its operands as arguments: a turn is spent, the phrases are
 /// asked from the innermost outward, and the arm that catches it is run; or the run ends. A fault of an instruction and
 /// the host's signal at the end of the input are raised with none.
 #[inline(always)]
-pub fn raise<L: Ledger>(
+pub fn raise(
     image: &Image,
     plans: &List<Plans>,
     links: &List<Links>,
@@ -40,7 +39,6 @@ pub fn raise<L: Ledger>(
     r: Registers,
     layout: Layout,
     turns: &mut u64,
-    comparisons: &mut Steps<L>,
 ) -> Turn
     requires prepared { IsPrepared image.now layout }
     requires planned { AllZip IsPlanned image.now.modules plans.now }
@@ -62,7 +60,7 @@ pub fn raise<L: Ledger>(
     }
     *turns -= 1;
     wait(table, r, layout, args);
-    let first = around(image, plans, row_of(table, r.top), layout, comparisons);
+    let first = around(image, plans, row_of(table, r.top), layout);
     seek_arm(
         image,
         plans,
@@ -77,13 +75,12 @@ pub fn raise<L: Ledger>(
         r.top,
         layout,
         turns,
-        comparisons,
     )
 }
 
 /// The instruction that raises a signal of the topmost activation's module, whose code this is.
 #[inline(always)]
-pub fn raise_own<L: Ledger>(
+pub fn raise_own(
     image: &Image,
     plans: &List<Plans>,
     links: &List<Links>,
@@ -94,7 +91,6 @@ pub fn raise_own<L: Ledger>(
     r: Registers,
     layout: Layout,
     turns: &mut u64,
-    comparisons: &mut Steps<L>,
 ) -> Turn
     requires prepared { IsPrepared image.now layout }
     requires planned { AllZip IsPlanned image.now.modules plans.now }
@@ -114,17 +110,7 @@ pub fn raise_own<L: Ledger>(
     let signal = SignalId::Own(row_of(table, r.top).instance, number);
     let args = usize::from(code.signals.as_slice()[number as usize].args);
     raise(
-        image,
-        plans,
-        links,
-        signal,
-        args,
-        region,
-        table,
-        r,
-        layout,
-        turns,
-        comparisons,
+        image, plans, links, signal, args, region, table, r, layout, turns,
     )
 }
 
@@ -141,7 +127,7 @@ fn raised_by(bound: Link) -> SignalId
 /// The instruction that raises a signal of another module, by the number of a link of the topmost activation's module,
 /// whose code this is.
 #[inline(always)]
-pub fn raise_linked<L: Ledger>(
+pub fn raise_linked(
     image: &Image,
     plans: &List<Plans>,
     links: &List<Links>,
@@ -152,7 +138,6 @@ pub fn raise_linked<L: Ledger>(
     r: Registers,
     layout: Layout,
     turns: &mut u64,
-    comparisons: &mut Steps<L>,
 ) -> Turn
     requires prepared { IsPrepared image.now layout }
     requires planned { AllZip IsPlanned image.now.modules plans.now }
@@ -173,17 +158,7 @@ pub fn raise_linked<L: Ledger>(
     let signal = raised_by(image.links.as_slice()[instance as usize].as_slice()[link as usize]);
     let args = code.links.as_slice()[link as usize].args as usize;
     raise(
-        image,
-        plans,
-        links,
-        signal,
-        args,
-        region,
-        table,
-        r,
-        layout,
-        turns,
-        comparisons,
+        image, plans, links, signal, args, region, table, r, layout, turns,
     )
 }
 
@@ -202,7 +177,7 @@ fn host_signal(fault: u8) -> SignalId
 
 /// The instruction that raises a predeclared signal; the code is that of the topmost activation.
 #[inline(always)]
-pub fn raise_host<L: Ledger>(
+pub fn raise_host(
     image: &Image,
     plans: &List<Plans>,
     links: &List<Links>,
@@ -213,7 +188,6 @@ pub fn raise_host<L: Ledger>(
     r: Registers,
     layout: Layout,
     turns: &mut u64,
-    comparisons: &mut Steps<L>,
 ) -> Turn
     requires prepared { IsPrepared image.now layout }
     requires planned { AllZip IsPlanned image.now.modules plans.now }
@@ -232,16 +206,6 @@ pub fn raise_host<L: Ledger>(
 {
     let signal = host_signal(fault);
     raise(
-        image,
-        plans,
-        links,
-        signal,
-        0,
-        region,
-        table,
-        r,
-        layout,
-        turns,
-        comparisons,
+        image, plans, links, signal, 0, region, table, r, layout, turns,
     )
 }

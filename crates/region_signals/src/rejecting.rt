@@ -18,12 +18,11 @@ use crate::rows::row_of;
 use crate::seeking::seek_arm;
 use activation_region::{Kind, Layout, Reason, Row, Turn};
 use code_forms::ModuleCode;
-use mesa_base::{List, Steps};
+use mesa_base::List;
 use object_files::Image;
 use quiet_run::Registers;
 use ready_images::Plans;
 use signaller::Links;
-use std::sync::ledger::Ledger;
 
 // Where the operands of the activation of this row and place end.
 fn end_of(region: &[u16], row: Row, place: usize, layout: Layout) -> usize
@@ -35,7 +34,7 @@ fn end_of(region: &[u16], row: Row, place: usize, layout: Layout) -> usize
 
 /// The topmost activation, an arm, rejects: the signal for which it ran asks on beyond its phrase, or the jump that it
 /// interrupted goes on there.
-pub(crate) fn reject<L: Ledger>(
+pub(crate) fn reject(
     image: &Image,
     plans: &List<Plans>,
     links: &List<Links>,
@@ -44,7 +43,6 @@ pub(crate) fn reject<L: Ledger>(
     r: Registers,
     layout: Layout,
     turns: &mut u64,
-    comparisons: &mut Steps<L>,
 ) -> Turn
     requires prepared { IsPrepared image.now layout }
     requires planned { AllZip IsPlanned image.now.modules plans.now }
@@ -73,33 +71,12 @@ pub(crate) fn reject<L: Ledger>(
                 } => {
                     let from = end_of(region.as_slice(), row_of(table, under), under, layout);
                     seek_arm(
-                        image,
-                        plans,
-                        links,
-                        signal,
-                        from,
-                        args,
-                        owner,
-                        beyond,
-                        region,
-                        table,
-                        under,
-                        layout,
-                        turns,
-                        comparisons,
+                        image, plans, links, signal, from, args, owner, beyond, region, table,
+                        under, layout, turns,
                     )
                 }
                 Reason::Jump { target, beyond } => leave_on(
-                    image,
-                    plans,
-                    target,
-                    beyond,
-                    region,
-                    table,
-                    under,
-                    layout,
-                    turns,
-                    comparisons,
+                    image, plans, target, beyond, region, table, under, layout, turns,
                 ),
             }
         }
@@ -107,7 +84,7 @@ pub(crate) fn reject<L: Ledger>(
 }
 
 /// The end of an arm, whose code this is: it rejects.
-pub fn arm_end<L: Ledger>(
+pub fn arm_end(
     image: &Image,
     plans: &List<Plans>,
     links: &List<Links>,
@@ -117,7 +94,6 @@ pub fn arm_end<L: Ledger>(
     r: Registers,
     layout: Layout,
     turns: &mut u64,
-    comparisons: &mut Steps<L>,
 ) -> Turn
     requires prepared { IsPrepared image.now layout }
     requires planned { AllZip IsPlanned image.now.modules plans.now }
@@ -136,15 +112,5 @@ pub fn arm_end<L: Ledger>(
         → Shown image.now layout region.old.items table.old r s m
         → LeadsTo image.now layout region.new.items table.new s (record m { turns = turns.new; begun = suc m.begun }) result }
 {
-    reject(
-        image,
-        plans,
-        links,
-        region,
-        table,
-        r,
-        layout,
-        turns,
-        comparisons,
-    )
+    reject(image, plans, links, region, table, r, layout, turns)
 }

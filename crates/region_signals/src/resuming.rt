@@ -21,12 +21,11 @@ use crate::rejecting::reject;
 use crate::rows::row_of;
 use activation_region::{Kind, Layout, Reason, Row, Turn};
 use code_forms::{CodeKind, CodeSignal, ModuleCode};
-use mesa_base::{List, Steps};
+use mesa_base::List;
 use object_files::Image;
 use quiet_run::Registers;
 use ready_images::Plans;
 use signaller::{Links, SignalId};
-use std::sync::ledger::Ledger;
 
 // The signal or error of a number of an instance, where there is one.
 #[inline(always)]
@@ -126,7 +125,7 @@ fn give_words(
 /// An arm, whose code this is, resumes with so many words: its raiser goes on with them, where its signal takes so many
 /// back; else the arm rejects.
 #[inline(always)]
-pub fn resume<L: Ledger>(
+pub fn resume(
     image: &Image,
     plans: &List<Plans>,
     links: &List<Links>,
@@ -137,7 +136,6 @@ pub fn resume<L: Ledger>(
     r: Registers,
     layout: Layout,
     turns: &mut u64,
-    comparisons: &mut Steps<L>,
 ) -> Turn
     requires prepared { IsPrepared image.now layout }
     requires planned { AllZip IsPlanned image.now.modules plans.now }
@@ -160,15 +158,5 @@ pub fn resume<L: Ledger>(
         let count = usize::from(words);
         return give_words(code, image, count, region.as_mut_slice(), table, r, layout);
     }
-    reject(
-        image,
-        plans,
-        links,
-        region,
-        table,
-        r,
-        layout,
-        turns,
-        comparisons,
-    )
+    reject(image, plans, links, region, table, r, layout, turns)
 }

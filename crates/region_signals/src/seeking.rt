@@ -17,11 +17,10 @@ use crate::entering::enter_arm;
 use crate::rows::{owner_of, row_of};
 use activation_region::{Layout, Reason, Row, Turn};
 use machine_steps::End;
-use mesa_base::{List, Steps};
+use mesa_base::List;
 use object_files::Image;
 use ready_images::Plans;
 use signaller::{Found, Links, Search, SignalId};
-use std::sync::ledger::Ledger;
 
 /// The arm of an activation that catches a signal, by its number, with the search beyond its phrase.
 #[derive(Clone, Copy)]
@@ -33,7 +32,7 @@ pub struct Landed {
 
 /// Seeks the arm for a signal from the activation at a place outward, from a search on; none exactly where none catches it.
 #[inline(always)]
-pub(crate) fn seek<L: Ledger>(
+pub(crate) fn seek(
     image: &Image,
     plans: &List<Plans>,
     links: &List<Links>,
@@ -42,7 +41,6 @@ pub(crate) fn seek<L: Ledger>(
     signal: SignalId,
     from: usize,
     first: Search,
-    comparisons: &mut Steps<L>,
 ) -> Option<Landed>
     requires prepared { IsPrepared image.now layout }
     requires planned { AllZip IsPlanned image.now.modules plans.now }
@@ -68,14 +66,14 @@ pub(crate) fn seek<L: Ledger>(
             return None;
         }
         place = own - 1;
-        search = around(image, plans, row_of(table, place), layout, comparisons);
+        search = around(image, plans, row_of(table, place), layout);
     }
 }
 
 /// A signal that the topmost activation raised, with so many words of arguments, which stand in the region, seeks its arm
 /// from a search on: the arm that catches it is run, or the run ends.
 #[inline(always)]
-pub(crate) fn seek_arm<L: Ledger>(
+pub(crate) fn seek_arm(
     image: &Image,
     plans: &List<Plans>,
     links: &List<Links>,
@@ -89,7 +87,6 @@ pub(crate) fn seek_arm<L: Ledger>(
     top: usize,
     layout: Layout,
     turns: &mut u64,
-    comparisons: &mut Steps<L>,
 ) -> Turn
     requires prepared { IsPrepared image.now layout }
     requires planned { AllZip IsPlanned image.now.modules plans.now }
@@ -107,17 +104,7 @@ pub(crate) fn seek_arm<L: Ledger>(
         → Seeking image.now layout region.old.items table.old top signal from args place search s m
         → LeadsTo image.now layout region.new.items table.new s (record m { turns = turns.new }) result }
 {
-    match seek(
-        image,
-        plans,
-        links,
-        table,
-        layout,
-        signal,
-        place,
-        search,
-        comparisons,
-    ) {
+    match seek(image, plans, links, table, layout, signal, place, search) {
         Some(landed) => {
             let reason = Reason::Raise {
                 signal,
@@ -126,6 +113,7 @@ pub(crate) fn seek_arm<L: Ledger>(
             };
             enter_arm(
                 image,
+                plans,
                 landed.place,
                 landed.arm,
                 reason,

@@ -16,6 +16,7 @@ pub enum Sought<'a> {
     Jump,
 }
 
+#[inline(always)]
 fn same_signal(one: SignalId, other: SignalId) -> bool
     ensures { result ≡ same_signal one other }
 {
@@ -32,6 +33,7 @@ fn same_signal(one: SignalId, other: SignalId) -> bool
 }
 
 // The signal to which a link is bound.
+#[inline(always)]
 fn linked(links: &Links, number: u32) -> Option<SignalId>
     ensures { result ≡ linked (slice_get links.now.signals number) }
 {
@@ -42,6 +44,7 @@ fn linked(links: &Links, number: u32) -> Option<SignalId>
 }
 
 // The signal that the label means.
+#[inline(always)]
 fn meant(links: &Links, label: Label) -> Option<SignalId>
     ensures { result ≡ meant links.now label }
 {
@@ -55,6 +58,7 @@ fn meant(links: &Links, label: Label) -> Option<SignalId>
     }
 }
 
+#[inline(always)]
 fn is_meant(one: Option<SignalId>, signal: SignalId) -> bool
     ensures { result ≡ is_meant one signal }
 {
@@ -64,18 +68,21 @@ fn is_meant(one: Option<SignalId>, signal: SignalId) -> bool
     }
 }
 
+#[inline(always)]
 fn is_unwind(label: Label) -> bool
     ensures { result ≡ is_unwind label }
 {
     matches!(label, Label::Unwind)
 }
 
+#[inline(always)]
 fn is_any(label: Label) -> bool
     ensures { result ≡ is_any label }
 {
     matches!(label, Label::Any)
 }
 
+#[inline(always)]
 fn label_fits(links: &Links, signal: SignalId, label: Label) -> bool
     ensures { result ≡ label_fits links.now signal label }
 {
@@ -83,6 +90,7 @@ fn label_fits(links: &Links, signal: SignalId, label: Label) -> bool
 }
 
 #[tactic(auto, using(crate::proofs::Asking::any_more, crate::proofs::Asking::any_here, crate::proofs::Asking::any_end))]
+#[inline(always)]
 fn any_for_signal(links: &Links, signal: SignalId, labels: &[Label]) -> bool
     ensures { result ≡ list_any (label_fits links.now signal) labels.now }
 {
@@ -95,6 +103,7 @@ fn any_for_signal(links: &Links, signal: SignalId, labels: &[Label]) -> bool
 }
 
 #[tactic(auto, using(crate::proofs::Asking::any_more, crate::proofs::Asking::any_here, crate::proofs::Asking::any_end))]
+#[inline(always)]
 fn any_unwind(labels: &[Label]) -> bool
     ensures { result ≡ list_any is_unwind labels.now }
 {
@@ -106,6 +115,7 @@ fn any_unwind(labels: &[Label]) -> bool
     false
 }
 
+#[inline(always)]
 fn fits(sought: Sought, arm: &Arm) -> bool
     ensures { result ≡ fits sought.entry arm.now }
 {
@@ -115,6 +125,7 @@ fn fits(sought: Sought, arm: &Arm) -> bool
     }
 }
 
+#[inline(always)]
 fn goes_outward(sought: Sought) -> bool
     ensures { result ≡ goes_outward sought.entry }
 {
@@ -126,6 +137,7 @@ fn goes_outward(sought: Sought) -> bool
 
 // The number of the first arm that fits.
 #[tactic(auto, using(crate::proofs::Asking::first_more, crate::proofs::Asking::first_here, crate::proofs::Asking::first_end))]
+#[inline(always)]
 fn first_fitting(sought: Sought, arms: &[Arm]) -> Option<usize>
     ensures { result ≡ position (fits sought.entry) arms.now }
 {
@@ -137,12 +149,14 @@ fn first_fitting(sought: Sought, arms: &[Arm]) -> Option<usize>
     None
 }
 
+#[inline(always)]
 fn covers(phrase: &Phrase, offset: u32) -> bool
     ensures { result ≡ covers phrase.now offset }
 {
     phrase.from <= offset && offset < phrase.to
 }
 
+#[inline(always)]
 fn has(arm: &Arm, offset: u32) -> bool
     ensures { result ≡ has arm.now offset }
 {
@@ -151,6 +165,7 @@ fn has(arm: &Arm, offset: u32) -> bool
 
 // Whether the offset is in the region of one of the arms.
 #[tactic(auto, using(crate::proofs::Asking::any_more, crate::proofs::Asking::any_here, crate::proofs::Asking::any_end))]
+#[inline(always)]
 fn one_has(arms: &[Arm], offset: u32) -> bool
     ensures { result ≡ list_any (λ a. has a offset) arms.now }
 {
@@ -163,6 +178,7 @@ fn one_has(arms: &[Arm], offset: u32) -> bool
 }
 
 // The offset about which the phrases before this one are asked, where it is not enabled.
+#[inline(always)]
 fn passed(outward: bool, phrase: &Phrase, offset: u32) -> u32
     ensures { result ≡ passed outward phrase.now offset }
 {
@@ -179,6 +195,7 @@ pub enum Asked {
     Before(u32),
 }
 
+#[inline(always)]
 fn answer(sought: Sought, phrase: &Phrase, offset: u32) -> Asked
     ensures { result ≡ answer (goes_outward sought.entry) (fits sought.entry) phrase.now offset }
 {
@@ -192,6 +209,7 @@ fn answer(sought: Sought, phrase: &Phrase, offset: u32) -> Asked
 }
 
 // The first place of an arm that fits in the phrases around the offset, innermost first, among so many.
+#[inline(always)]
 fn place_around(sought: Sought, table: &[Phrase], count: usize, offset: u32) -> Option<Place>
     requires { count ≤ length table.now }
     ensures { result ≡ first_place (fits sought.entry) table.now (around (goes_outward sought.entry) table.now count offset) }
@@ -243,6 +261,7 @@ pub fn place_for(table: &CatchTable, search: Search, sought: Sought) -> Option<P
 }
 
 // The first of the phrases beyond one.
+#[inline(always)]
 fn outward_of(outward: bool, table: &[Phrase], phrase: usize) -> Option<u32>
     requires few { length table.now < 2 ^ 32 }
     requires there { phrase < length table.now }
@@ -262,6 +281,7 @@ fn outward_of(outward: bool, table: &[Phrase], phrase: usize) -> Option<u32>
 
 /// The search beyond a phrase, outward of arms or in its region. It looks at each phrase before it once at most, and
 /// takes no memory.
+#[inline(always)]
 pub fn beyond(table: &CatchTable, outward: bool, phrase: usize) -> Search
     requires few { length table.now < 2 ^ 32 }
     requires there { phrase < length table.now }

@@ -33,6 +33,7 @@ pub struct Links {
 }
 
 // How many arms the phrases before this one have.
+#[inline(always)]
 fn arms_before(table: &[Phrase], number: usize) -> u32
     requires few { arms_before table.now (length table.now) < 2 ^ 32 }
     requires there { number < length table.now }

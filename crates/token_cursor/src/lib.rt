@@ -1,4 +1,4 @@
-//! Parsers on tokens, of which those of modules and of configurations are made: a cursor that tells which token comes next,
+//! Parsers on tokens, of which those of modules are made: a cursor that tells which token comes next,
 //! and takes names, words and marks that may or must come.
 #![tactic(auto)]
 

@@ -4,14 +4,14 @@ use Rattle.image_runs.proofs.Touches.{at_given, code_given}
 use Rattle.image_runs.proofs.arms.resume_raiser.Goals as goal
 
 pub resume-requires-clause-prepared : goal.resume-requires-clause-prepared
-resume-requires-clause-prepared g c = ready_is_prepared c.args.image.now c.args.parts.now c.requires.ready
+resume-requires-clause-prepared c = ready_is_prepared c.args.image.now c.args.parts.now c.requires.ready
 
 pub resume-requires-clause-code : goal.resume-requires-clause-code
-resume-requires-clause-code g c =
+resume-requires-clause-code c =
     code_given c.args.image.now c.args.parts.now.rows.items c.as_mut_slice.result.now c.as_slice.result.now c.args.r c.top_code-code.result.now c.top_code-code.ensures
     c.as_slice.ensures.value c.as_mut_slice.ensures.value
 
 pub resume-requires-clause-at : goal.resume-requires-clause-at
-resume-requires-clause-at g c =
+resume-requires-clause-at c =
     at_given c.args.image.now c.args.parts.now.rows.items c.as_mut_slice.result.now c.as_slice.result.now c.args.r c.top_code-code.result.now c.top_code-code.ensures
     c.as_slice.ensures.value c.as_mut_slice.ensures.value (Resume c.args.words) c.requires.at

@@ -21,13 +21,13 @@ running-init g c =
 
 pub go_on-requires-clause-run : goal.go_on-requires-clause-run
 go_on-requires-clause-run g c =
-    along c.args.image.now c.args.parts.now c.running.parts c.args.turns.now c.running.turns c.args.ahead.now c.running.ahead (g.S.Source.left c.args.input.now) (g.S.Source.left c.running.input)
+    along c.args.image.now c.args.parts.now c.running.parts c.args.turns.now c.running.left c.args.ahead.now c.running.ahead (g.S.Source.left c.args.input.now) (g.S.Source.left c.running.input)
     (g.K.Sink.written c.args.out.now) (g.K.Sink.written c.running.out) (At c.args.image.now c.args.parts.now (Goes c.args.first)) (At c.args.image.now c.running.parts (Goes c.running.r))
     (c.running.steps - c.args.steps.now) c.requires.run c.running.invariant.follows
 
 pub running-smaller : goal.running-smaller
 running-smaller g c =
-    frame_falls c.args.image.now c.args.parts.now c.running.parts c.args.turns.now c.running.turns c.args.steps.now c.running.steps c.go_on.new.steps c.args.ahead.now c.running.ahead
+    frame_falls c.args.image.now c.args.parts.now c.running.parts c.args.turns.now c.running.left c.args.steps.now c.running.steps c.go_on.new.steps c.args.ahead.now c.running.ahead
     (g.S.Source.left c.args.input.now) (g.S.Source.left c.running.input) (g.K.Sink.written c.args.out.now) (g.K.Sink.written c.running.out) (Goes c.args.first) c.running.r
     c.running.invariant.counted c.requires.run c.running.invariant.follows c.go_on.ensures.counted c.go_on.ensures.few
 
@@ -37,11 +37,11 @@ running-preserved g c =
     record {
       counted = let a = c.running.invariant.counted in let b = c.go_on.ensures.counted in omega (arith, a, b);
       carries = subst (λ (q : Result Turn RunFault). IfOk q (Carries c.args.image.now c.go_on.new.parts)) is c.go_on.ensures.carries;
-      follows = after c.args.image.now c.args.parts.now c.running.parts c.args.turns.now c.running.turns c.args.ahead.now c.running.ahead (g.S.Source.left c.args.input.now) (g.S.Source.left c.running.input)
+      follows = after c.args.image.now c.args.parts.now c.running.parts c.args.turns.now c.running.left c.args.ahead.now c.running.ahead (g.S.Source.left c.args.input.now) (g.S.Source.left c.running.input)
           (g.K.Sink.written c.args.out.now) (g.K.Sink.written c.running.out) c.go_on.new.parts c.go_on.new.turns c.go_on.new.ahead (g.S.Source.left c.go_on.new.input) (g.K.Sink.written c.go_on.new.out)
           (At c.args.image.now c.args.parts.now (Goes c.args.first)) (At c.args.image.now c.running.parts (Goes c.running.r)) (Ok (Goes c.go_on.new.r))
           (c.running.steps - c.args.steps.now) (c.go_on.new.steps - c.running.steps) (c.go_on.new.steps - c.args.steps.now)
-          c.running.invariant.follows (subst (λ (q : Result Turn RunFault). Follows c.args.image.now c.running.parts c.go_on.new.parts c.running.turns c.go_on.new.turns (c.go_on.new.steps - c.running.steps) c.running.ahead c.go_on.new.ahead
+          c.running.invariant.follows (subst (λ (q : Result Turn RunFault). Follows c.args.image.now c.running.parts c.go_on.new.parts c.running.left c.go_on.new.turns (c.go_on.new.steps - c.running.steps) c.running.ahead c.go_on.new.ahead
           (g.S.Source.left c.running.input) (g.S.Source.left c.go_on.new.input) (g.K.Sink.written c.running.out) (g.K.Sink.written c.go_on.new.out) (At c.args.image.now c.running.parts (Goes c.running.r)) q) is c.go_on.ensures.follows)
           (let a = c.running.invariant.counted in let b = c.go_on.ensures.counted in omega (arith, a, b));
       source_stays = let a = c.running.invariant.source_stays in let b = c.go_on.ensures.faults.source_stays in omega (arith, a, b);
@@ -56,11 +56,11 @@ returns-in-Some-clause-carries g c =
 pub returns-in-Some-clause-follows : goal.returns-in-Some-clause-follows
 returns-in-Some-clause-follows g c =
     let is = ap (λ (o : Result (Option Turn) RunFault). onward_or o c.go_on.new.r) (c.in-Ok.is ∙ ap (λ (k : Option Turn). Ok k) c.in-Some.is) in
-    after c.args.image.now c.args.parts.now c.running.parts c.args.turns.now c.running.turns c.args.ahead.now c.running.ahead (g.S.Source.left c.args.input.now) (g.S.Source.left c.running.input)
+    after c.args.image.now c.args.parts.now c.running.parts c.args.turns.now c.running.left c.args.ahead.now c.running.ahead (g.S.Source.left c.args.input.now) (g.S.Source.left c.running.input)
     (g.K.Sink.written c.args.out.now) (g.K.Sink.written c.running.out) c.go_on.new.parts c.go_on.new.turns c.go_on.new.ahead (g.S.Source.left c.go_on.new.input) (g.K.Sink.written c.go_on.new.out)
     (At c.args.image.now c.args.parts.now (Goes c.args.first)) (At c.args.image.now c.running.parts (Goes c.running.r)) (Ok c.in-Some.turn)
     (c.running.steps - c.args.steps.now) (c.go_on.new.steps - c.running.steps) (c.go_on.new.steps - c.args.steps.now)
-    c.running.invariant.follows (subst (λ (q : Result Turn RunFault). Follows c.args.image.now c.running.parts c.go_on.new.parts c.running.turns c.go_on.new.turns (c.go_on.new.steps - c.running.steps) c.running.ahead c.go_on.new.ahead
+    c.running.invariant.follows (subst (λ (q : Result Turn RunFault). Follows c.args.image.now c.running.parts c.go_on.new.parts c.running.left c.go_on.new.turns (c.go_on.new.steps - c.running.steps) c.running.ahead c.go_on.new.ahead
     (g.S.Source.left c.running.input) (g.S.Source.left c.go_on.new.input) (g.K.Sink.written c.running.out) (g.K.Sink.written c.go_on.new.out) (At c.args.image.now c.running.parts (Goes c.running.r)) q) is c.go_on.ensures.follows)
     (let a = c.running.invariant.counted in let b = c.go_on.ensures.counted in omega (arith, a, b))
 
@@ -70,7 +70,7 @@ returns-in-Some-clause-counted g c =
 
 pub returns-in-Some-clause-few : goal.returns-in-Some-clause-few
 returns-in-Some-clause-few g c =
-    few_in_all c.args.image.now c.args.parts.now c.running.parts c.args.turns.now c.running.turns (c.running.steps - c.args.steps.now) (c.go_on.new.steps - c.running.steps) (c.go_on.new.steps - c.args.steps.now)
+    few_in_all c.args.image.now c.args.parts.now c.running.parts c.args.turns.now c.running.left (c.running.steps - c.args.steps.now) (c.go_on.new.steps - c.running.steps) (c.go_on.new.steps - c.args.steps.now)
     c.args.ahead.now c.running.ahead (g.S.Source.left c.args.input.now) (g.S.Source.left c.running.input) (g.K.Sink.written c.args.out.now) (g.K.Sink.written c.running.out) (Goes c.args.first) c.running.r
     c.running.invariant.follows c.go_on.ensures.few (let a = c.running.invariant.counted in let b = c.go_on.ensures.counted in omega (arith, a, b))
 
@@ -82,11 +82,11 @@ returns-in-Some-clause-faults g c =
 pub returns-in-Err-clause-follows : goal.returns-in-Err-clause-follows
 returns-in-Err-clause-follows g c =
     let is = ap (λ (o : Result (Option Turn) RunFault). onward_or o c.go_on.new.r) c.in-Err.is in
-    after c.args.image.now c.args.parts.now c.running.parts c.args.turns.now c.running.turns c.args.ahead.now c.running.ahead (g.S.Source.left c.args.input.now) (g.S.Source.left c.running.input)
+    after c.args.image.now c.args.parts.now c.running.parts c.args.turns.now c.running.left c.args.ahead.now c.running.ahead (g.S.Source.left c.args.input.now) (g.S.Source.left c.running.input)
     (g.K.Sink.written c.args.out.now) (g.K.Sink.written c.running.out) c.go_on.new.parts c.go_on.new.turns c.go_on.new.ahead (g.S.Source.left c.go_on.new.input) (g.K.Sink.written c.go_on.new.out)
     (At c.args.image.now c.args.parts.now (Goes c.args.first)) (At c.args.image.now c.running.parts (Goes c.running.r)) (Err c.in-Err.fault)
     (c.running.steps - c.args.steps.now) (c.go_on.new.steps - c.running.steps) (c.go_on.new.steps - c.args.steps.now)
-    c.running.invariant.follows (subst (λ (q : Result Turn RunFault). Follows c.args.image.now c.running.parts c.go_on.new.parts c.running.turns c.go_on.new.turns (c.go_on.new.steps - c.running.steps) c.running.ahead c.go_on.new.ahead
+    c.running.invariant.follows (subst (λ (q : Result Turn RunFault). Follows c.args.image.now c.running.parts c.go_on.new.parts c.running.left c.go_on.new.turns (c.go_on.new.steps - c.running.steps) c.running.ahead c.go_on.new.ahead
     (g.S.Source.left c.running.input) (g.S.Source.left c.go_on.new.input) (g.K.Sink.written c.running.out) (g.K.Sink.written c.go_on.new.out) (At c.args.image.now c.running.parts (Goes c.running.r)) q) is c.go_on.ensures.follows)
     (let a = c.running.invariant.counted in let b = c.go_on.ensures.counted in omega (arith, a, b))
 
@@ -96,7 +96,7 @@ returns-in-Err-clause-counted g c =
 
 pub returns-in-Err-clause-few : goal.returns-in-Err-clause-few
 returns-in-Err-clause-few g c =
-    few_in_all c.args.image.now c.args.parts.now c.running.parts c.args.turns.now c.running.turns (c.running.steps - c.args.steps.now) (c.go_on.new.steps - c.running.steps) (c.go_on.new.steps - c.args.steps.now)
+    few_in_all c.args.image.now c.args.parts.now c.running.parts c.args.turns.now c.running.left (c.running.steps - c.args.steps.now) (c.go_on.new.steps - c.running.steps) (c.go_on.new.steps - c.args.steps.now)
     c.args.ahead.now c.running.ahead (g.S.Source.left c.args.input.now) (g.S.Source.left c.running.input) (g.K.Sink.written c.args.out.now) (g.K.Sink.written c.running.out) (Goes c.args.first) c.running.r
     c.running.invariant.follows c.go_on.ensures.few (let a = c.running.invariant.counted in let b = c.go_on.ensures.counted in omega (arith, a, b))
 

@@ -3,6 +3,7 @@ use Rattle.machine_steps.specs.LookUps.{code_of}
 use Rattle.machine_steps.specs.Steps.{globals_in}
 use Rattle.quiet_run.specs.Running.{HasTargets}
 use Rattle.activation_region.specs.declared.row.Row.{Row}
+use Rattle.image_runs.proofs.Instructions.{stands_at}
 use Rattle.image_runs.proofs.Pausing.{module_low, some_procedure, some_code, some_module, some_in_code, valid, read_there, stands_there, top_runs}
 use Rattle.image_runs.proofs.topmost.run_procedure.Goals as goal
 
@@ -53,6 +54,12 @@ quiet-requires-clause-standing g c =
     stands_there c.args.image.now c.args.layout c.requires.prepared c.args.region.now c.args.table.now c.args.r c.row_of-row.result c.row_of-row.ensures c.requires.stands
     c.code_of-code.result.now c.code_of-code.ensures c.requires.ample c.procedure_in-procedure.result.now c.procedure_in-procedure.ensures (length c.args.globals.now)
     (c.requires.all_globals ∙ ap (λ (x : Row). globals_in (code_of c.args.image.now x.instance)) (sym c.row_of-row.ensures))
+
+pub returns-clause-at : goal.returns-clause-at
+returns-clause-at g c =
+    stands_at c.args.image.now c.args.table.now c.args.r c.quiet.result.registers c.row_of-row.result c.row_of-row.ensures c.quiet.ensures.stays.0
+    c.code_of-code.result.now c.code_of-code.ensures c.procedure_in-procedure.result.now c.procedure_in-procedure.ensures
+    c.quiet.ensures.pauses.entry c.quiet.ensures.pauses.fetched c.quiet.result.instruction (c.quiet.ensures.at c.quiet.ensures.pauses.entry c.quiet.ensures.pauses.fetched)
 
 pub returns-clause-leads : goal.returns-clause-leads
 returns-clause-leads g c s m turns_so globals_so shown =

@@ -6,6 +6,7 @@ use Rattle.machine_steps.specs.Steps.{globals_in}
 use Rattle.activation_region.specs.declared.row.Row.{Row}
 use Rattle.activation_region.specs.Frames.{row_at}
 use Rattle.activation_region.specs.Reaching.{Shown}
+use Rattle.region_calls.specs.Linking.{StandsAt}
 use Rattle.ready_images.proofs.Each.{some_and}
 use Rattle.ready_images.proofs.Preparing.{ready_is_prepared}
 use Rattle.image_runs.proofs.Pausing.{some_code, instance_low, same_length, words_then, some_set, each_set, if_some, to_paused}
@@ -54,6 +55,10 @@ returns-clause-ready g c =
       region = c.requires.ready.region;
       rows = c.requires.ready.rows;
     }
+
+pub returns-clause-at : goal.returns-clause-at
+returns-clause-at g c =
+    subst (λ (x : List Row). StandsAt c.args.image.now x c.run_procedure.result.registers c.run_procedure.result.instruction) c.as_slice-table.ensures.value c.run_procedure.ensures.at
 
 pub returns-clause-leads : goal.returns-clause-leads
 returns-clause-leads g c s m turns globals shown =

@@ -1,5 +1,7 @@
-use Rattle.std.proofs.Common.{refl}
+use Rattle.std.proofs.Common.{refl, sym, ◌∙◌}
 use Rattle.mesa_command.specs.Comes.{usage, refused, ran}
+use Rattle.mesa_command.proofs.OneCase.{used-refusal}
+use Rattle.mesa_command.proofs.OneEnd.{used-run}
 use Rattle.mesa_command.proofs.top.answer.Goals as goal
 
 pub returns-in_default-clause-comes : goal.returns-in_default-clause-comes
@@ -15,3 +17,11 @@ returns-in-Ok-clause-comes g c =
     let form = c.in-Some.ensures.form in
     let it = c.run.ensures.ends in
     (it.0, ran form.0 _ _ _ form.1 (rw form.2 at c.in-Ok.ensures.has) it.1, it.2)
+
+pub returns-in-Err-clause-usage_folder : goal.returns-in-Err-clause-usage_folder
+returns-in-Err-clause-usage_folder g c used =
+    absurd (used-refusal _ _ _ _ c.in-Err.ensures.refuses (sym c.told-in-Err.ensures.status_is ∙ used))
+
+pub returns-in-Ok-clause-usage_folder : goal.returns-in-Ok-clause-usage_folder
+returns-in-Ok-clause-usage_folder g c used =
+    let it = c.run.ensures.ends in absurd (used-run _ _ _ _ it.0 it.1 (sym it.2.status_is ∙ used))

@@ -6,3 +6,7 @@ pub returns-clause-counted : goal.returns-clause-counted
 returns-clause-counted g c =
     IfOk-weaker c.run_code.result _ _
     (λ outcome runs. record { code = c.in_ok-code.code; is_its = c.in_ok-code.ensures; completes = runs }) c.run_code.ensures.counted
+
+pub returns-clause-breaks_counted : goal.returns-clause-breaks_counted
+returns-clause-breaks_counted g c = λ failed.
+    record { code = c.in_ok-code.code; is_its = c.in_ok-code.ensures; breaks = c.run_code.ensures.breaks_counted failed }

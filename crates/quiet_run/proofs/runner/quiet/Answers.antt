@@ -3,7 +3,7 @@ use Rattle.code_forms.proofs.Ordered.{blank}
 use Rattle.machine_steps.specs.LookUps.{text_of}
 use Rattle.quiet_run.specs.Flat.{Flat}
 use Rattle.quiet_run.specs.Running.{Standing}
-use Rattle.quiet_run.proofs.Pausing.{fetched_at, fits_here, stands_then, nearer_then, turns_fall, same_top, same_slots, flows_none, flows_some, none_yet, one_more, pauses_at}
+use Rattle.quiet_run.proofs.Pausing.{fetched_at, fits_here, stands_then, nearer_then, turns_fall, same_top, same_slots, flows_none, flows_some, none_yet, one_more, pauses_at, paused_there}
 use Rattle.quiet_run.proofs.runner.quiet.Goals as goal
 
 pub running-init : goal.running-init
@@ -33,6 +33,15 @@ returns-in-Some-clause-pauses g c =
     let f = flows_some _ _ _ (record { region = c.running.region; globals = c.running.globals; registers = c.running.r; turns = c.running.turns }) (record { region = c.perform.new.region; globals = c.perform.new.globals; registers = c.perform.new.r; turns = c.perform.new.turns }) c.in-Some.is c.perform.ensures in
     pauses_at (text_of c.args.image.now) c.args.number c.args.procedure.now.code c.args.targets.now _ (record { region = c.running.region; globals = c.running.globals; registers = c.running.r; turns = c.running.turns })
     (record { region = c.perform.new.region; globals = c.perform.new.globals; registers = c.perform.new.r; turns = c.perform.new.turns }) (c.running.steps - c.args.steps.now) _ _ c.in-Some.why i.runs fetched f.0 f.1 (let t = c.tick.ensures in let k = i.counted in omega arith)
+
+pub returns-in-Some-clause-at : goal.returns-in-Some-clause-at
+returns-in-Some-clause-at g c x there =
+    let i = c.running.invariant in
+    let within : c.running.r.entry < length c.as_slice-entries.result.now = omega (arith, ap length i.same_code, i.standing.within) in
+    let fetched = fetched_at c.as_slice-entries.result.now c.args.procedure.now.code c.running.r.entry blank i.same_code within in
+    let f = flows_some _ _ _ (record { region = c.running.region; globals = c.running.globals; registers = c.running.r; turns = c.running.turns }) (record { region = c.perform.new.region; globals = c.perform.new.globals; registers = c.perform.new.r; turns = c.perform.new.turns }) c.in-Some.is c.perform.ensures in
+    paused_there c.args.procedure.now.code (record { region = c.running.region; globals = c.running.globals; registers = c.running.r; turns = c.running.turns })
+    (record { region = c.perform.new.region; globals = c.perform.new.globals; registers = c.perform.new.r; turns = c.perform.new.turns }) _ x fetched f.1 there
 
 pub returns-in-Some-clause-turns_fall : goal.returns-in-Some-clause-turns_fall
 returns-in-Some-clause-turns_fall g c =

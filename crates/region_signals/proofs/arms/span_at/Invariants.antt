@@ -1,6 +1,6 @@
 use Rattle.std.proofs.Common.{◌≡◌, drop}
 use Rattle.std.specs.Prelude.{slice_get}
-use Rattle.region_signals.specs.Arms.{arms_in}
+use Rattle.ready_images.specs.Openings.{arms_in}
 use Rattle.region_signals.proofs.arms.span_at.Given as goal
 
 abbrev pub invariant-loop-phrase : goal.invariant-loop-phrase

@@ -1,4 +1,4 @@
-use Rattle.std.proofs.Common.{◌-◌, ap, sym, subst, ◌∙◌, arith}
+use Rattle.std.proofs.Common.{◌-◌, refl, ap, sym, subst, ◌∙◌, arith}
 use Rattle.machine_steps.specs.declared.end.End.TheVariants.{Spent, FrameLimit}
 use Rattle.machine_steps.specs.State.{Ended}
 use Rattle.machine_steps.specs.Steps.{Ends}
@@ -6,7 +6,7 @@ use Rattle.activation_region.specs.Calling.{LeadsTo}
 use Rattle.activation_region.specs.Reaching.{Shown}
 use Rattle.activation_region.proofs.Grown.{written_back}
 use Rattle.region_signals.specs.Arms.{taken}
-use Rattle.region_signals.proofs.ArmCalls.{procedure_there, code_in_order, params_there, arm_goes, place_small}
+use Rattle.region_signals.proofs.ArmCalls.{procedure_there, opening_within, params_there, arm_goes, place_small}
 use Rattle.region_signals.proofs.ArmLeads.{arm_spent, arm_full}
 use Rattle.region_signals.proofs.entering.enter_arm.Goals as goal
 
@@ -29,23 +29,22 @@ returns-then-top-ge-ACTIVATIONS-clause-leads c s m turns w =
     (arm_full c.args.image.now c.args.layout c.requires.prepared c.args.region.now.items c.args.table.now c.args.top c.args.place c.args.arm c.args.reason c.args.from c.args.given s m w
     (λ none. c.if-turns-eq0.false (sym turns ∙ none)) c.if-top-ge-ACTIVATIONS.true)
 
-pub procedure_at-procedure-requires : goal.procedure_at-procedure-requires
-procedure_at-procedure-requires c =
+pub plan_of-plan-requires-clause-there : goal.plan_of-plan-requires-clause-there
+plan_of-plan-requires-clause-there c =
     procedure_there c.args.image.now c.args.layout c.requires.prepared c.args.region.now.items c.args.table.now c.args.top c.args.place c.args.arm c.args.reason c.args.from c.args.given c.requires.ample
     c.requires.enters.start c.requires.enters.store c.requires.enters.awaits c.row_of-holder.result c.row_of-holder.ensures
 
-pub entry_at-entry-requires : goal.entry_at-entry-requires
-entry_at-entry-requires c =
-    code_in_order c.args.image.now c.args.layout c.requires.prepared c.args.region.now.items c.args.table.now c.args.top c.args.place c.args.arm c.args.reason c.args.from c.args.given c.requires.ample
+pub bounds-as_slice-arm : goal.bounds-as_slice-arm
+bounds-as_slice-arm c =
+    opening_within c.args.image.now c.args.layout c.requires.prepared c.args.region.now.items c.args.table.now c.args.top c.args.place c.args.arm c.args.reason c.args.from c.args.given c.requires.ample
     c.requires.enters.start c.requires.enters.store c.requires.enters.awaits c.row_of-holder.result c.row_of-holder.ensures
-    c.procedure_at-procedure.result.now c.procedure_at-procedure.ensures c.as_slice-2.result.now c.as_slice-2.ensures
+    c.plan_of-plan.result.now c.plan_of-plan.ensures c.as_slice.result.now c.as_slice.ensures
 
 pub open-requires-clause-params : goal.open-requires-clause-params
 open-requires-clause-params c =
     params_there c.args.image.now c.args.layout c.requires.prepared c.args.region.now.items c.args.table.now c.args.top c.args.place c.args.arm c.args.reason c.args.from c.args.given c.requires.ample
     c.requires.enters.start c.requires.enters.store c.requires.enters.awaits c.row_of-holder.result c.row_of-holder.ensures
-    c.procedure_at-procedure.result.now c.procedure_at-procedure.ensures c.as_slice-2.result.now c.as_slice-2.ensures
-    c.as_slice.result.now c.as_slice.ensures c.span_at-span.result c.span_at-span.ensures
+    c.plan_of-plan.result.now c.plan_of-plan.ensures c.as_slice.result.now c.as_slice.ensures _
     c.owner_of-owner.result c.from-slot.result c.taken-words.result c.owner_of-owner.ensures c.from-slot.ensures (c.taken-words.ensures ∙ ap (λ n. taken c.args.given n) c.from.ensures)
     c.as_mut_slice-region_words.result.now (c.as_mut_slice-region_words.ensures.value ∙ c.make_room.ensures.words)
 
@@ -56,10 +55,9 @@ returns-clause-leads c s m turns w =
     (sym (written_back c.open.new.region c.make_room.new.region.items c.make_room.new.region.len (c.open.auto.region ∙ c.as_mut_slice-region_words.ensures.len)))
     (arm_goes c.args.image.now c.args.layout c.requires.prepared c.args.region.now.items c.args.table.now c.args.top c.args.place c.args.arm c.args.reason c.args.from c.args.given c.requires.ample
     s m w c.row_of-holder.result c.row_of-holder.ensures
-    c.procedure_at-procedure.result.now c.procedure_at-procedure.ensures c.as_slice-2.result.now c.as_slice-2.ensures
-    c.as_slice.result.now c.as_slice.ensures c.span_at-span.result c.span_at-span.ensures
+    c.plan_of-plan.result.now c.plan_of-plan.ensures c.as_slice.result.now c.as_slice.ensures _
     c.owner_of-owner.result c.from-slot.result c.taken-words.result c.owner_of-owner.ensures c.from-slot.ensures (c.taken-words.ensures ∙ ap (λ n. taken c.args.given n) c.from.ensures)
-    c.entry_at-entry.result c.entry_at-entry.ensures
+    _ refl
     c.as_mut_slice-region_words.result.now c.open.new.region (c.as_mut_slice-region_words.ensures.value ∙ c.make_room.ensures.words)
     c.open.new.table c.open.result c.open.ensures.region c.open.ensures.table c.open.ensures.registers
     c.args.turns.now turns c.if-turns-eq0.false c.if-top-ge-ACTIVATIONS.false)

@@ -5,21 +5,21 @@ use Rattle.region_signals.proofs.leaving.unwind.Goals.{then-owner_of-target+in-B
 use Rattle.region_signals.proofs.leaving.unwind.Goals as goal
 
 pub returns-in-Arm-clause-landing : goal.returns-in-Arm-clause-landing
-returns-in-Arm-clause-landing g c =
+returns-in-Arm-clause-landing c =
     let i = c.leaving.invariant in
     unwinding c.args.image.now c.args.table.now c.leaving.place c.row_of-row.result c.row_of-row.ensures c.args.target c.leaving.search (c.requires.rows c.leaving.place i.lower)
     c.leaving-test.true c.owner_of.result c.owner_of.ensures c.ask_unwind.result c.ask_unwind.ensures c.if-owner_of-target.true
     c.in-Arm.arm c.in-Arm.beyond c.in-Arm.is c.args.top i.lower i.above
 
 pub returns-in-Arm-clause-unwinds : goal.returns-in-Arm-clause-unwinds
-returns-in-Arm-clause-unwinds g c region s m w =
+returns-in-Arm-clause-unwinds c region s m w =
     let i = c.leaving.invariant in
     unwinds c.args.image.now c.args.table.now c.leaving.place c.row_of-row.result c.row_of-row.ensures c.args.target c.leaving.search (c.requires.rows c.leaving.place i.lower)
     c.leaving-test.true c.owner_of.result c.owner_of.ensures c.ask_unwind.result c.ask_unwind.ensures c.if-owner_of-target.true
     c.in-Arm.arm c.in-Arm.beyond c.in-Arm.is c.args.layout region s m (i.leaves region s m w)
 
 pub leaving-preserved : goal.leaving-preserved
-leaving-preserved g c =
+leaving-preserved c =
     let i = c.leaving.invariant in
     let asked = c.requires.rows c.leaving.place i.lower in
     let low = i.lower in let above = i.above in
@@ -42,5 +42,5 @@ leaving-preserved g c =
     }
 
 pub returns-clause-unwinds : goal.returns-clause-unwinds
-returns-clause-unwinds g c region s m w =
+returns-clause-unwinds c region s m w =
     leaving_arrives c.args.image.now c.args.layout region c.args.table.now s m c.args.target c.leaving.search c.leaving.place (c.leaving.invariant.leaves region s m w) c.leaving-test.false

@@ -6,7 +6,7 @@ use Rattle.region_signals.specs.Leaving.{Leaving}
 use Rattle.region_signals.proofs.leaving.unwind.Given as goal
 
 abbrev pub invariant-leaving : goal.invariant-leaving
-invariant-leaving g l = record {
+invariant-leaving l = record {
   lower : l.place ≤ l.top;
   above : l.target.place ≤ l.place;
   asks : AskedOf l.image (row_at l.table l.place) l.search;
@@ -15,4 +15,4 @@ invariant-leaving g l = record {
 }
 
 abbrev pub decreases-leaving : goal.decreases-leaving
-decreases-leaving g l = l.place
+decreases-leaving l = l.place

@@ -7,7 +7,7 @@ use Rattle.region_signals.specs.Indexed.{AskedOf}
 use Rattle.region_signals.proofs.seeking.seek.Given as goal
 
 abbrev pub invariant-seeking : goal.invariant-seeking
-invariant-seeking g l = record {
+invariant-seeking l = record {
   lower : l.place ≤ l.from;
   asks : AskedOf l.image (row_at l.table l.place) l.search;
   reaches : (region : List ℕ) (x : Over) (S : Activations) (args : List ℕ) (m : Store) → Below l.image l.layout region l.table x S → l.from < length S
@@ -15,4 +15,4 @@ invariant-seeking g l = record {
 }
 
 abbrev pub decreases-seeking : goal.decreases-seeking
-decreases-seeking g l = l.place
+decreases-seeking l = l.place

@@ -9,37 +9,37 @@ use Rattle.region_signals.proofs.SeekArms.{arm_runs, lands_awaits, can_enter, ho
 use Rattle.region_signals.proofs.seeking.seek_arm.Goals as goal
 
 pub seek-requires-clause-rows : goal.seek-requires-clause-rows
-seek-requires-clause-rows g c =
+seek-requires-clause-rows c =
     each_asked c.args.image.now c.args.layout c.args.region.now.items c.args.table.now c.args.top c.args.signal c.args.from c.args.args c.args.place c.args.search
     c.requires.seeks.start c.requires.seeks.store c.requires.seeks.seeking
 
 pub seek-requires-clause-long : goal.seek-requires-clause-long
-seek-requires-clause-long g c =
+seek-requires-clause-long c =
     place_within c.args.image.now c.args.layout c.args.region.now.items c.args.table.now c.args.top c.args.signal c.args.from c.args.args c.args.place c.args.search
     c.requires.seeks.start c.requires.seeks.store c.requires.seeks.seeking
 
 pub enter_arm-requires-clause-enters : goal.enter_arm-requires-clause-enters
-enter_arm-requires-clause-enters g c =
+enter_arm-requires-clause-enters c =
     can_enter c.args.image.now c.args.layout c.args.region.now.items c.args.table.now c.args.top c.args.signal c.args.from c.args.args c.args.place c.args.search
     c.in-Some.landed c.in-Some.ensures.landing c.in-Some.ensures.seeks c.requires.seeks
 
 pub returns-in-Some-clause-arms : goal.returns-in-Some-clause-arms
-returns-in-Some-clause-arms g c =
+returns-in-Some-clause-arms c =
     holds_then c.args.image.now c.args.layout c.args.region.now.items c.args.table.now c.args.top c.args.signal c.args.from c.args.args c.args.place c.args.search
     c.in-Some.landed c.in-Some.ensures.landing c.in-Some.ensures.seeks c.enter_arm.new.table c.enter_arm.result c.enter_arm.ensures.adds
 
 pub returns-in-Some-clause-runs : goal.returns-in-Some-clause-runs
-returns-in-Some-clause-runs g c = arm_runs c.args.table.now c.args.top c.in-Some.landed.place c.in-Some.landed.arm _ c.enter_arm.new.table c.enter_arm.result c.enter_arm.ensures.adds
+returns-in-Some-clause-runs c = arm_runs c.args.table.now c.args.top c.in-Some.landed.place c.in-Some.landed.arm _ c.enter_arm.new.table c.enter_arm.result c.enter_arm.ensures.adds
 
 pub returns-in-Some-clause-leads : goal.returns-in-Some-clause-leads
-returns-in-Some-clause-leads g c s m turns w =
+returns-in-Some-clause-leads c s m turns w =
     c.enter_arm.ensures.leads s m turns
     (lands_awaits c.args.image.now c.args.layout c.args.region.now.items c.args.table.now c.args.top c.args.signal c.args.from c.args.args c.args.place c.args.search
     c.in-Some.landed c.in-Some.ensures.landing c.in-Some.ensures.seeks s m w)
 
 pub returns-in-None-clause-leads : goal.returns-in-None-clause-leads
 unfolding LeadsTo
-returns-in-None-clause-leads g c s m turns w =
+returns-in-None-clause-leads c s m turns w =
     let h = w.high in let l = w.low in
     subst (λ t. Ends c.args.image.now s (Ended (Uncaught c.args.signal)) (record m { turns = t })) turns
     (w.reaches.by (Ended (Uncaught c.args.signal)) m

@@ -1,10 +1,9 @@
 use Rattle.std.proofs.Common.{refl, sym, subst}
 use Rattle.ready_images.specs.declared.plan.Plan.{Plan}
 use Rattle.ready_images.specs.Ready.{IsPlan}
-use Rattle.region_signals.proofs.Asks.{plans_within, plan_within}
-use Rattle.image_runs.proofs.Plans.{plan_there}
+use Rattle.region_signals.proofs.Asks.{plans_within, plan_within, plan_there}
 use Rattle.region_signals.proofs.InImage.{has_code, instance_within}
-use Rattle.image_runs.proofs.look_ups.plan_of.Goals as goal
+use Rattle.region_signals.proofs.lookups.plan_of.Goals as goal
 
 pub bounds-as_slice-instance : goal.bounds-as_slice-instance
 bounds-as_slice-instance c =
