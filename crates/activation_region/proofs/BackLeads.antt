@@ -17,7 +17,7 @@ use Rattle.activation_region.specs.Shows.{IsPrepared, IsAmple, Shows}
 use Rattle.activation_region.specs.Reaching.{Reaches, IsUnstuck, Shown}
 use Rattle.activation_region.proofs.GivingBack.{is_frame, source_fits, return_step, returned_none, back_row, HasRoom, called_room, started_room, given, given_up}
 use Rattle.activation_region.proofs.Placing.{row_procedure, procedure_is, fetched_here}
-use Rattle.activation_region.proofs.Quiet.{one_step, two_ways}
+use Rattle.activation_region.proofs.Reach.{one_step, two_ways}
 use Rattle.activation_region.proofs.Standing.{low}
 
 -- what a return asks

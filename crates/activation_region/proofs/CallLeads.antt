@@ -23,7 +23,7 @@ use Rattle.activation_region.specs.Shows.{IsPrepared, Shows}
 use Rattle.activation_region.specs.Reaching.{Reaches}
 use Rattle.activation_region.proofs.Called.{CallFits, call_fits, waits_by, spent_step, turn_step}
 use Rattle.activation_region.proofs.Placing.{code_here, fetched_here, row_instance}
-use Rattle.activation_region.proofs.Quiet.{one_step, two_ways}
+use Rattle.activation_region.proofs.Reach.{one_step, two_ways, ends_alike}
 use Rattle.activation_region.proofs.Standing.{procedure_here}
 
 module _ (image : Image) (layout : Layout) (prepared : IsPrepared image layout) (region : List ℕ) (table : List Row) (r : Registers) (p : CodeProcedure) (a : Active) (S : Activations)
@@ -66,7 +66,8 @@ module _ (image : Image) (layout : Layout) (prepared : IsPrepared image layout) 
   module _ (s : Stepped) (m : Store) (reaches : Reaches image s (Goes (Runs (a ∷ S) m))) where
     pub call_spent : m.turns ≡ 0 → Ends image s (Ended Spent) (record m { begun = suc m.begun })
     call_spent none =
-        (two_ways image s _ _ reaches (one_step image (Runs (a ∷ S) m) _ (spent_step image layout prepared region table r p a S shows m at.entry fetched number at.at fits.some fits.called called_is none))).by
+        ends_alike image _ _
+        (two_ways image s _ _ reaches (one_step image (Runs (a ∷ S) m) _ (spent_step image layout prepared region table r p a S shows m at.entry fetched number at.at fits.some fits.called called_is none)))
         (Ended Spent) _ (stops (Ended Spent) _)
 
     call_reaches : nat_eq m.turns 0 ≡ false → Reaches image s (call a.instance number fits.called a S (record m { begun = suc m.begun; turns = m.turns - 1 }))

@@ -36,6 +36,7 @@ use Rattle.activation_region.proofs.Called.{words_fit, below_here, step_here}
 use Rattle.activation_region.proofs.Homes.{frame_within}
 use Rattle.activation_region.proofs.Returning.{row_is, row_count, row_owner, row_begins, goes_on_shows, begins_next}
 use Rattle.activation_region.proofs.Standing.{part_within, top_part}
+use Rattle.activation_region.proofs.Reach.{ends_alike}
 
 module _ (image : Image) (layout : Layout) (prepared : IsPrepared image layout) (region : List ℕ) (table : List Row) (r : Registers) (p : CodeProcedure) (a : Active) (S : Activations)
     (shows : Shows image layout region table r p a S) (m : Store) (e : CodeEntry) (fetched : slice_get p.code r.entry ≡ Some e) (returns : e.instruction ≡ Return) where
@@ -53,7 +54,7 @@ module _ (image : Image) (layout : Layout) (prepared : IsPrepared image layout) 
   frame_by s unstuck reaches (InArm own arm why) is =
       let stuck : step image (Runs (a ∷ S) m) ≡ Stops Stuck (began m) = performs ∙ ap (λ role. return_of image p a role S (began m)) is in
       let ends : Ends image (Goes (Runs (a ∷ S) m)) Stuck (began m) = goes (Runs (a ∷ S) m) Stuck (began m) (subst (λ x. Ends image x Stuck (began m)) (sym stuck) (stops Stuck (began m))) in
-      absurd (unstuck Stuck (began m) (reaches.by Stuck (began m) ends) refl)
+      absurd (unstuck Stuck (began m) (ends_alike image _ _ reaches Stuck (began m) ends) refl)
 
   pub is_frame : (s : Stepped) → IsUnstuck image s → Reaches image s (Goes (Runs (a ∷ S) m)) → (variables : List ℕ) × (a.role ≡ Frame variables)
   is_frame s unstuck reaches = frame_by s unstuck reaches a.role refl

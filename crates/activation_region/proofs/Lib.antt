@@ -4,6 +4,7 @@ pub mod Keeping
 pub mod Locality
 pub mod Following
 pub mod Pausing
+pub mod Reach
 pub mod Quiet
 pub mod Tables
 pub mod Entering

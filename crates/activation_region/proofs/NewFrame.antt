@@ -21,6 +21,7 @@ use Rattle.activation_region.proofs.Entering.{made, without_args, frame_shows}
 use Rattle.activation_region.proofs.Grown.{ample_grown, grown_wide, operands_fit, shows_grown}
 use Rattle.activation_region.proofs.Located.{in_code}
 use Rattle.activation_region.proofs.Standing.{low, part_within, top_part}
+use Rattle.activation_region.proofs.Reach.{reaches_so, ends_alike}
 
 -- what making it asks
 pub record FrameFits (layout : Layout) (r : Registers) (called : CodeProcedure) : Type 0 where
@@ -68,7 +69,7 @@ module _ (image : Image) (layout : Layout) (prepared : IsPrepared image layout) 
         let t = e.shows.top in
         let is : call j n called e.top e.rest m ≡ Stops (Ended FrameLimit) m =
         ap (λ b. if b then Goes (Runs (made j n called e.top ∷ without_args called e.top ∷ e.rest) m) else Stops (Ended FrameLimit) m) (le-ltb (suc (length e.rest)) 8192 (omega (arith, t, full))) in
-        reaches.by (Ended FrameLimit) m (subst (λ x. Ends image x (Ended FrameLimit) m) (sym is) (stops (Ended FrameLimit) m))
+        ends_alike image _ _ reaches (Ended FrameLimit) m (subst (λ x. Ends image x (Ended FrameLimit) m) (sym is) (stops (Ended FrameLimit) m))
 
     module _ (more : r.top + 1 < 8192) where
       goes_so : call j n called e.top e.rest m ≡ Goes (Runs (made j n called e.top ∷ without_args called e.top ∷ e.rest) m)
@@ -88,7 +89,7 @@ module _ (image : Image) (layout : Layout) (prepared : IsPrepared image layout) 
             procedure = called;
             shows = frame_shows image layout prepared region table r e.procedure e.top e.rest e.shows (omega (arith, b, w)) j n called e.is
                 args_fit e.enough (omega (arith, more, long)) room e.waits (omega (arith, d));
-            reaches = record { by = λ end last h. reaches.by end last (subst (λ x. Ends image x end last) (sym goes_so) h) };
+            reaches = reaches_so image _ _ _ reaches goes_so;
           }
 
 pub enters_grown : (image : Image) (layout : Layout) → IsPrepared image layout → (region : List ℕ) (table : List Row) (r : Registers) (called : CodeProcedure) (j n : ℕ) → IsAmple layout region table r.top → (q : ℕ)

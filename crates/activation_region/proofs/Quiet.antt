@@ -4,9 +4,8 @@ use Rattle.code_forms.specs.declared.module_code.CodeProcedure.{CodeProcedure}
 use Rattle.code_forms.specs.declared.module_code.ModuleCode.{ModuleCode}
 use Rattle.code_forms.specs.Valid.{Valid, HasDepths}
 use Rattle.object_files.specs.declared.image.Image.{Image}
-use Rattle.machine_steps.specs.State.{Active, Activations, Store, State, Runs, Stepped, Goes}
+use Rattle.machine_steps.specs.State.{Active, Activations, Store, Runs, Goes}
 use Rattle.machine_steps.specs.LookUps.{module_number, text_of}
-use Rattle.machine_steps.specs.Steps.{step, Ends, goes}
 use Rattle.quiet_run.specs.declared.registers.Why.{Why}
 use Rattle.quiet_run.specs.Flat.{Flat}
 use Rattle.quiet_run.specs.Running.{HasTargets, IsProcedureOf, Standing, FlatRuns, here, later as one_later, FlatPauses}
@@ -18,15 +17,7 @@ use Rattle.activation_region.specs.Shows.{IsPrepared, Shows}
 use Rattle.activation_region.specs.Reaching.{Reaches, Later, Comes}
 use Rattle.activation_region.proofs.Following.{follows}
 use Rattle.activation_region.proofs.Pausing.{pauses_here}
-
-pub reaches_itself : (image : Image) (s : Stepped) → Reaches image s s
-reaches_itself image s = record { by = λ end last h. h }
-
-pub one_step : (image : Image) (s : State) (x : Stepped) → step image s ≡ x → Reaches image (Goes s) x
-one_step image s x is = record { by = λ end last h. goes s end last (subst (λ y. Ends image y end last) (sym is) h) }
-
-pub two_ways : (image : Image) (s t u : Stepped) → Reaches image s t → Reaches image t u → Reaches image s u
-two_ways image s t u a b = record { by = λ end last h. a.by end last (b.by end last h) }
+use Rattle.activation_region.proofs.Reach.{reaches_itself, one_step, two_ways}
 
 pub none_later : (instance : ℕ) (m : Store) → Later instance m 0 (m.globals instance) m.turns m
 none_later instance m = record {

@@ -35,6 +35,7 @@ use Rattle.activation_region.proofs.Following.{spent_by}
 use Rattle.activation_region.proofs.Placing.{index_is}
 use Rattle.activation_region.proofs.Standing.{procedure_here}
 use Rattle.activation_region.proofs.Tables.{get_set_same}
+use Rattle.activation_region.proofs.Reach.{reaches_so, ends_alike}
 
 some_body : (o : Option CodeProcedure) (procedures : List CodeProcedure) → slice_get procedures 0 ≡ o → IsBody o → 1 ≤ length procedures
 some_body None procedures is body = absurd body
@@ -67,7 +68,7 @@ module _ (image : Image) (j : ℕ) (p : CodeProcedure) (is : procedure_of image 
   none_left (suc n) k none = absurd (omega (arith, none))
 
   pub begin_spent : m.turns ≡ 0 → Ends image s (Ended Spent) marked
-  begin_spent none = reaches.by (Ended Spent) marked (subst (λ x. Ends image x (Ended Spent) marked) (sym (begins_so ∙ none_left m.turns _ none)) (stops (Ended Spent) marked))
+  begin_spent none = ends_alike image _ _ reaches (Ended Spent) marked (subst (λ x. Ends image x (Ended Spent) marked) (sym (begins_so ∙ none_left m.turns _ none)) (stops (Ended Spent) marked))
 
 module _ (image : Image) (layout : Layout) (prepared : IsPrepared image layout) (region : List ℕ) (table : List Row) (ample : IsAmple layout region table 0) (j : ℕ) (p : CodeProcedure)
     (is : procedure_of image j 0 ≡ Some p) where
@@ -108,10 +109,9 @@ module _ (image : Image) (layout : Layout) (prepared : IsPrepared image layout) 
     rest = [];
     procedure = p;
     shows = first_shows;
-    reaches = record {
-      by = λ end last h. reaches.by end last
-          (subst (λ x. Ends image x end last) (sym (begins_so image j p is s m reaches ∙ spent_by m.turns (record m { started = set_of m.started j true }) (λ m1. Goes (Runs (first_frame j p ∷ []) m1)) (ne_eqb m.turns 0 some))) h);
-    };
+    reaches =
+        reaches_so image _ _ _ reaches
+        (begins_so image j p is s m reaches ∙ spent_by m.turns (record m { started = set_of m.started j true }) (λ m1. Goes (Runs (first_frame j p ∷ []) m1)) (ne_eqb m.turns 0 some));
   }
 
 -- With the values of the code.

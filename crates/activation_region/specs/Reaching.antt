@@ -6,7 +6,7 @@ use Rattle.code_forms.specs.declared.module_code.CodeProcedure.{CodeProcedure}
 use Rattle.object_files.specs.declared.image.Image.{Image}
 use Rattle.signaller.specs.declared.signal_id.SignalId.TheVariants.{BoundsFault as BoundsSignal, ZeroDivisor as ZeroSignal}
 use Rattle.machine_steps.specs.declared.end.End.TheVariants.{Spent as TurnsSpent}
-use Rattle.machine_steps.specs.State.{Active, Activations, Store, Runs, Ending, Ended, Stuck, Stepped, Goes, Stops}
+use Rattle.machine_steps.specs.State.{Active, Activations, Store, State, Runs, Ending, Ended, Stuck, Stepped, Goes, Stops}
 use Rattle.machine_steps.specs.Signals.{raise}
 use Rattle.machine_steps.specs.Steps.{perform, step, Ends}
 use Rattle.quiet_run.specs.declared.registers.Registers.{Registers}
@@ -17,9 +17,10 @@ use Rattle.activation_region.specs.declared.row.Layout.{Layout}
 use Rattle.activation_region.specs.declared.row.Row.{Row}
 use Rattle.activation_region.specs.Shows.{Shows}
 
--- wherever the machine ends from t, it ends alike from s
-pub record Reaches (image : Image) (s t : Stepped) : Type 0 where
-  pub by : (end : Ending) (last : Store) → Ends image t end last → Ends image s end last
+-- the machine comes from one place to the other
+pub data Reaches (image : Image) : Stepped → Stepped → Type 0 where
+  already : (s : Stepped) → Reaches image s s
+  steps_on : (s : State) (t : Stepped) → Reaches image (step image s) t → Reaches image (Goes s) t
 
 -- it does not come to where something is not there
 abbrev pub IsUnstuck : Image → Stepped → Type 0

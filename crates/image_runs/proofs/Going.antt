@@ -17,7 +17,7 @@ use Rattle.activation_region.specs.declared.calling.Turn.TheVariants.{Goes as Go
 use Rattle.activation_region.specs.Calling.{LeadsTo}
 use Rattle.activation_region.specs.Reaching.{Reaches, IsUnstuck, Shown}
 use Rattle.activation_region.specs.Shows.{IsPrepared, IsAmple}
-use Rattle.activation_region.proofs.Quiet.{reaches_itself, one_step, two_ways}
+use Rattle.activation_region.proofs.Reach.{reaches_itself, one_step, two_ways}
 use Rattle.region_calls.specs.declared.ahead.Coming.{Coming}
 use Rattle.region_calls.specs.declared.ahead.Coming.TheVariants.{Byte, End as AtEnd}
 use Rattle.region_calls.specs.declared.host.HostProcedure.TheVariants.{Write, Read}

@@ -15,3 +15,4 @@ pub mod Told
 pub mod Touches
 pub mod Walk
 pub mod Whole
+pub mod Writes

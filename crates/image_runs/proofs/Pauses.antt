@@ -11,7 +11,7 @@ use Rattle.quiet_run.specs.declared.registers.Why.TheVariants.{Touches, Spent, B
 use Rattle.activation_region.specs.declared.row.Layout.{Layout}
 use Rattle.activation_region.specs.declared.row.Row.{Row}
 use Rattle.activation_region.specs.Reaching.{Shown, pauses_so}
-use Rattle.activation_region.proofs.Quiet.{one_step, two_ways}
+use Rattle.activation_region.proofs.Reach.{one_step, two_ways, ends_alike}
 use Rattle.region_calls.specs.Hosting.{Raises as RaisesNoInput}
 use Rattle.region_signals.specs.Raising.{Raises}
 use Rattle.region_signals.proofs.Raisers.{predeclared_raises}
@@ -29,7 +29,7 @@ module _ (image : Image) (layout : Layout) (region : List ℕ) (table : List Row
   pub spent_ends : PausesAt image layout region table r Spent s m → Ends image s (Ended TurnsSpent) began
   unfolding pauses_so
   spent_ends q =
-      q.reaches.by (Ended TurnsSpent) began
+      ends_alike image _ _ q.reaches (Ended TurnsSpent) began
       (goes (Runs (q.top ∷ q.rest) m) (Ended TurnsSpent) began (subst (λ x. Ends image x (Ended TurnsSpent) began) (sym q.pauses) (stops (Ended TurnsSpent) began)))
 
   -- a fault is raised

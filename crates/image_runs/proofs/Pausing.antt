@@ -27,7 +27,7 @@ use Rattle.activation_region.specs.Reaching.{Shown, Later}
 use Rattle.activation_region.specs.Shows.{IsPrepared, IsAmple, Shows}
 use Rattle.activation_region.proofs.Defined.{runs_as_defined}
 use Rattle.activation_region.proofs.Located.{valid_code, IsValid}
-use Rattle.activation_region.proofs.Quiet.{two_ways}
+use Rattle.activation_region.proofs.Reach.{two_ways}
 use Rattle.activation_region.proofs.Standing.{low, part_within, standing, procedure_there}
 use Rattle.activation_region.proofs.Tables.{row_there}
 use Rattle.ready_images.specs.declared.prepared.Prepared.{Prepared}

@@ -35,6 +35,7 @@ use Rattle.image_runs.specs.Longest.{reach, most}
 use Rattle.image_runs.specs.Running.{SignalIsInRange, EndIsInRange}
 use Rattle.image_runs.proofs.Walk.{itself, RightRole, AllRight, EndIsRight, IsFit, IsWide, RaisesRight, runs}
 use Rattle.image_runs.proofs.Whole.{CanRunOn, Ran, ran, begins_one}
+use Rattle.activation_region.proofs.Reach.{ends_alike}
 
 code_short : (image : Image) (j n : ℕ) (p : CodeProcedure) → procedure_of image j n ≡ Some p → length p.code < reach image
 unfolding procedure_of
@@ -157,4 +158,4 @@ begun_less image can layout prepared region table r p a S shows long n short e f
     let g = goes_on image can.code layout region table r p a S shows long n short in
     let here : instruction_under image a ≡ Some e.instruction = stands_at image layout prepared a p shows.is r.entry e fetched shows.begins in
     let one = begins_one image AnySignal (reach image) (wide image) (any_right image) (goes_forward image can.code) a S n g.runs_on.0 g.runs_on.1 e.instruction here g.end g.last g.ends in
-    let all = begun_most image can input faulty turns g.end g.last (reaches.by g.end g.last g.ends) in omega (arith, one, all)
+    let all = begun_most image can input faulty turns g.end g.last (ends_alike image _ _ reaches g.end g.last g.ends) in omega (arith, one, all)

@@ -29,7 +29,7 @@ use Rattle.ready_images.proofs.Running.{ready_can_run}
 use Rattle.image_runs.specs.declared.outcome.RunFault.{RunFault}
 use Rattle.image_runs.specs.declared.outcome.RunFault.TheVariants.{ReadFault, WriteFault}
 use Rattle.image_runs.specs.Onward.{CanGoOn, CanStart, last_turn}
-use Rattle.image_runs.specs.Running.{BreaksAtInput, BreaksAtOutput, Completes, EndIsInRange}
+use Rattle.image_runs.specs.Running.{BreaksAtInput, BreaksAtOutput, CutsOff, Completes, EndIsInRange}
 use Rattle.image_runs.specs.SoFar.{At, SoFar, Then}
 use Rattle.image_runs.proofs.FirstRow.{first_arms}
 use Rattle.image_runs.proofs.Going.{onward, starting, passed}
@@ -170,7 +170,7 @@ module _ (image : Image) (bound : ℕ) (p : Prepared) (control : List ℕ) (turn
   pub at_input : fault ≡ ReadFault → BreaksAtInput image bound begun told left held holds
   at_input e = subst (λ (f : RunFault). Then image bound p control turns begun ahead told left held holds (Err f)) e so
 
-  pub at_output : fault ≡ WriteFault → BreaksAtOutput image bound told left held holds
+  pub at_output : fault ≡ WriteFault → BreaksAtOutput image bound begun told left held holds × CutsOff image bound told left held holds
   at_output e = subst (λ (f : RunFault). Then image bound p control turns begun ahead told left held holds (Err f)) e so
 
 -- where an instance's run ends, or no activation is left

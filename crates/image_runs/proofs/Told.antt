@@ -22,11 +22,12 @@ use Rattle.region_calls.specs.declared.ahead.Coming.TheVariants.{Byte, End as At
 use Rattle.region_calls.specs.Hosting.{Comes}
 use Rattle.ready_images.specs.declared.prepared.Prepared.{Prepared}
 use Rattle.image_runs.specs.Longest.{reach}
-use Rattle.image_runs.specs.Running.{AreBytes, IsInput, HasRest, Completes, BreaksAtOutput}
+use Rattle.image_runs.specs.Running.{AreBytes, IsInput, HasRest, Completes, CutsOff}
 use Rattle.image_runs.specs.SoFar.{ComesTo, At, Known, Took, SoFar}
 use Rattle.image_runs.proofs.Reach.{goes_on}
+use Rattle.activation_region.proofs.Reach.{ends_alike}
 
-drop_past : {X : Type 0} (xs ys : List X) → drop (length xs) (xs ++ ys) ≡ ys
+pub drop_past : {X : Type 0} (xs ys : List X) → drop (length xs) (xs ++ ys) ≡ ys
 drop_past [] ys = refl
 drop_past (x ∷ xs) ys = drop_past xs ys
 
@@ -98,10 +99,10 @@ pub rest_of : (told left : Option (List ℕ)) (ahead : Option Coming) (got : Lis
 rest_of None left ahead got bytes byte t = untold left ahead got bytes byte
 rest_of (Some all) left ahead got bytes byte t = told_rest all left ahead got t
 
-input_of : (told left : Option (List ℕ)) (ahead : Option Coming) (got : List ℕ) → (r : Rest told left ahead got) → IsInput told (got ++ r.rest)
+pub input_of : (told left : Option (List ℕ)) (ahead : Option Coming) (got : List ℕ) → (r : Rest told left ahead got) → IsInput told (got ++ r.rest)
 input_of told left ahead got r = record { same = r.same; bytes = r.bytes }
 
-has_rest : (told left : Option (List ℕ)) (got : List ℕ) → IfSome told (λ all. (n : ℕ) × ((n ≡ length got) ⊎ (n ≡ length got + 1)) × (left ≡ Some (drop n all)))
+pub has_rest : (told left : Option (List ℕ)) (got : List ℕ) → IfSome told (λ all. (n : ℕ) × ((n ≡ length got) ⊎ (n ≡ length got + 1)) × (left ≡ Some (drop n all)))
     → IfSome told (λ all. HasRest (length got) all left)
 has_rest None left got h = tt
 has_rest (Some all) left got (n, inl e, is) = inl (is ∙ ap (λ k. Some (drop k all)) e)
@@ -177,7 +178,7 @@ module _ (image : Image) (bound : ℕ) (p : Prepared) (control : List ℕ) (turn
         record {
           store = c.store;
           beside = c.beside;
-          leads = c.leads.by (Ended Done) c.store (goes (Runs [] c.store) (Ended Done) c.store (subst (λ x. Ends image x (Ended Done) c.store) (sym stopped) (stops (Ended Done) c.store)));
+          leads = ends_alike image _ _ c.leads (Ended Done) c.store (goes (Runs [] c.store) (Ended Done) c.store (subst (λ x. Ends image x (Ended Done) c.store) (sym stopped) (stops (Ended Done) c.store)));
         };
   }
 
@@ -185,7 +186,7 @@ module _ (image : Image) (bound : ℕ) (p : Prepared) (control : List ℕ) (turn
   pub cut_off : HasValidCode image → length p.rows.items ≡ 8192 → length control ≤ reach image → (r : Registers) (holds' : Option (List ℕ)) (got output piece : List ℕ)
       → AreBytes got → IsByteAhead ahead → IfSome told (Took told left ahead got) → IfSome held (λ bytes. holds ≡ Some (bytes ++ output)) → IfSome holds (λ bytes. AppendsPrefix bytes piece holds')
       → ((rest : List ℕ) (faulty : Bool) → Known ahead rest faulty → ComesTo (begins image (got ++ rest) faulty bound) p control turns begun (output ++ piece) rest faulty (At image p (GoesOn r)))
-      → BreaksAtOutput image bound told left held holds'
+      → CutsOff image bound told left held holds'
   unfolding LeadsTo
   cut_off valid long short r holds' got output piece bytes byte took wrote partly comes =
       let t = rest_of told left ahead got bytes byte took in
@@ -201,7 +202,7 @@ module _ (image : Image) (bound : ℕ) (p : Prepared) (control : List ℕ) (turn
         taken = length (got ++ t.rest) - length g.last.input;
         count = g.last.begun;
         is_input = input_of told left ahead got t;
-        runs = record { last = g.last; ends = shown.reaches.by g.end g.last g.ends; its_output = refl; its_turns = refl; its_input = refl; its_count = refl };
+        runs = record { last = g.last; ends = ends_alike image _ _ shown.reaches g.end g.last g.ends; its_output = refl; its_turns = refl; its_input = refl; its_count = refl };
         rest = left_later told left got _ (let l = length-append got t.rest in let k = ap (λ (x : List ℕ). length x) split in let n = length-append g.so.taken g.last.input in omega (arith, l, k, n)) t.left_so;
         appends = received_further held holds holds' output piece g.so.written g.last.output wrote partly (g.so.output ∙ ap (λ o. o ++ g.so.written) c.beside.its_output);
       }

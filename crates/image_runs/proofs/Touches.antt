@@ -33,6 +33,7 @@ use Rattle.image_runs.specs.Happening.{CanPause, HoldsOnLink, is_call}
 use Rattle.image_runs.specs.SoFar.{IsNoJump, PausesAt}
 use Rattle.image_runs.proofs.Pauses.{touches_shown}
 use Rattle.image_runs.proofs.Instructions.{at_here}
+use Rattle.activation_region.proofs.Reach.{ends_alike}
 
 -- What is read of the topmost activation.
 
@@ -146,4 +147,4 @@ module _ (image : Image) (layout : Layout) (prepared : IsPrepared image layout) 
       let stuck : perform image q.entry.instruction q.top q.rest began ≡ Stops Stuck began =
       ap (λ k. perform image k q.top q.rest began) same_entry ∙ stuck_at image i q.top q.rest began call other (subst (λ k. IsNoJump k) same_entry (q.no_jump refl)) in
       free Stuck began
-      (q.reaches.by Stuck began (goes (Runs (q.top ∷ q.rest) m) Stuck began (subst (λ x. Ends image x Stuck began) (sym (q.pauses ∙ stuck)) (stops Stuck began)))) refl
+      (ends_alike image _ _ q.reaches Stuck began (goes (Runs (q.top ∷ q.rest) m) Stuck began (subst (λ x. Ends image x Stuck began) (sym (q.pauses ∙ stuck)) (stops Stuck began)))) refl

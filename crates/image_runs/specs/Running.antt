@@ -6,9 +6,11 @@ use Rattle.signaller.specs.declared.signal_id.SignalId.{SignalId}
 use Rattle.signaller.specs.declared.signal_id.SignalId.TheVariants.{Own, BoundsFault, ZeroDivisor, NoInput, Unnamed}
 use Rattle.machine_steps.specs.declared.end.End.{End}
 use Rattle.machine_steps.specs.declared.end.End.TheVariants.{Done, Uncaught, Spent, FrameLimit}
-use Rattle.machine_steps.specs.LookUps.{signal_of}
-use Rattle.machine_steps.specs.State.{Ending, Ended, Broken}
-use Rattle.machine_steps.specs.Steps.{Steps}
+use Rattle.machine_steps.specs.LookUps.{Host, signal_of}
+use Rattle.machine_steps.specs.State.{Active, Activations, Store, Runs, Ending, Ended, Broken, Stepped, Goes}
+use Rattle.machine_steps.specs.Calls.{host}
+use Rattle.machine_steps.specs.Steps.{Steps, begins}
+use Rattle.activation_region.specs.Reaching.{Reaches}
 use Rattle.image_runs.specs.declared.outcome.Outcome.{Outcome}
 
 abbrev pub AreBytes : List ℕ → Type 0
@@ -44,8 +46,35 @@ pub record BreaksAtInput (image : Image) (turns count : ℕ) (told left held hol
   pub rest : IfSome told (λ all. (more : List ℕ) × (all ≡ input ++ more) × (left ≡ Some more))
   pub appends : IfSome held (λ bytes. holds ≡ Some (bytes ++ output))
 
--- the machine has a run, and the sink holds a prefix of its output more; the source has some of its bytes no more
-pub record BreaksAtOutput (image : Image) (turns : ℕ) (told left held holds : Option (List ℕ)) : Type 0 where
+-- the machine comes to a call of the host that writes a piece behind this output, with so many turns left, so many instructions begun, that of the
+-- call included, and this input not taken
+pub record ComesToWrite (image : Image) (s : Stepped) (turns count : ℕ) (output piece rest : List ℕ) : Type 0 where
+  pub procedure : Host
+  pub caller : Active
+  pub under : Activations
+  pub store : Store
+  pub comes : Reaches image s (host image procedure caller under store)
+  pub its_turns : store.turns ≡ turns
+  pub its_count : store.begun ≡ count
+  pub its_output : store.output ≡ output
+  pub its_input : store.input ≡ rest
+  pub writes : (next : Activations) × (host image procedure caller under store ≡ Goes (Runs next (record store { output = store.output ++ piece })))
+
+-- the machine's run comes to a call that writes, so many instructions begun; the sink holds all of the output up to there and a prefix of the
+-- piece more. A source that tells its bytes has what the program did not take, or one byte fewer
+pub record BreaksAtOutput (image : Image) (turns count : ℕ) (told left held holds : Option (List ℕ)) : Type 0 where
+  pub input : List ℕ
+  pub output : List ℕ
+  pub piece : List ℕ
+  pub turns_left : ℕ
+  pub taken : ℕ
+  pub is_input : IsInput told input
+  pub comes : ComesToWrite image (begins image input false turns) turns_left count output piece (drop taken input)
+  pub rest : IfSome told (λ all. HasRest taken all left)
+  pub appends : IfSome held (λ bytes. AppendsPrefix (bytes ++ output) piece holds)
+
+-- the machine has a run, and the sink holds a prefix of its whole output more; the source has some of its bytes no more
+pub record CutsOff (image : Image) (turns : ℕ) (told left held holds : Option (List ℕ)) : Type 0 where
   pub input : List ℕ
   pub output : List ℕ
   pub end : Ending

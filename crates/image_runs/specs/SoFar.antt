@@ -29,7 +29,7 @@ use Rattle.ready_images.specs.declared.prepared.Prepared.{Prepared}
 use Rattle.ready_images.specs.Ready.{IsReady}
 use Rattle.image_runs.specs.declared.outcome.RunFault.{RunFault}
 use Rattle.image_runs.specs.declared.outcome.RunFault.TheVariants.{ReadFault, WriteFault}
-use Rattle.image_runs.specs.Running.{AreBytes, BreaksAtInput, BreaksAtOutput}
+use Rattle.image_runs.specs.Running.{AreBytes, BreaksAtInput, BreaksAtOutput, CutsOff}
 
 -- the globals of each instance
 abbrev pub ShowsGlobals : Prepared → (ℕ → List ℕ) → Type 0
@@ -95,7 +95,8 @@ abbrev pub Then : Image → (bound : ℕ) → Prepared → (control : List ℕ) 
     → (told left held holds : Option (List ℕ)) → Result Turn RunFault → Type 0
 Then image bound p control turns begun ahead told left held holds (Ok turn) = SoFar image bound p control turns begun ahead told left held holds (At image p turn)
 Then image bound p control turns begun ahead told left held holds (Err ReadFault) = BreaksAtInput image bound begun told left held holds
-Then image bound p control turns begun ahead told left held holds (Err WriteFault) = BreaksAtOutput image bound told left held holds
+Then image bound p control turns begun ahead told left held holds (Err WriteFault) =
+    BreaksAtOutput image bound begun told left held holds × CutsOff image bound told left held holds
 
 -- The run of the topmost activation.
 

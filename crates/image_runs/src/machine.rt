@@ -2,7 +2,7 @@
 
 ghost use Rattle.std.specs.Prelude.{◌≡◌, ◌-◌, ◌<◌, ◌≤◌, IfOk, IsErrOf};
 ghost use Rattle.mesa_base.specs.Outside.{Rose};
-ghost use Rattle.image_runs.specs.Running.{BreaksAtInput, BreaksAtOutput, Completes, EndIsInRange};
+ghost use Rattle.image_runs.specs.Running.{BreaksAtInput, BreaksAtOutput, Completes, CutsOff, EndIsInRange};
 
 use crate::clearing::clear;
 use crate::outcome::{Outcome, RunFault};
@@ -14,7 +14,8 @@ use std::sync::ledger::Ledger;
 /// Runs the instances of CONTROL in their order with this many turns, and gives the end and the turns that are left. One
 /// step is counted for each instruction begun, that in which the run ended included. A machine can be run again, also after
 /// a fault: globals are zero and nothing is started when a run begins. It takes no memory. It answers `ReadFault` where the
-/// source failed and `WriteFault` where the sink did; the sink has then received the output up to there, or a prefix of it.
+/// source failed; the sink has then received the output up to there. It answers `WriteFault` where the sink failed, in a
+/// call that writes a piece: it has received the output up to there and a prefix of the piece.
 pub fn run<S: Source, K: Sink, L: Ledger>(
     machine: &mut Machine,
     turns: u64,
@@ -28,7 +29,8 @@ pub fn run<S: Source, K: Sink, L: Ledger>(
     ensures breaks_at_input { IsErrOf result RunFault.ReadFault
         → BreaksAtInput machine.old turns (steps.new - steps.old) (S.left input.old) (S.left input.new) (K.written out.old) (K.written out.new) }
     ensures breaks_at_output { IsErrOf result RunFault.WriteFault
-        → BreaksAtOutput machine.old turns (S.left input.old) (S.left input.new) (K.written out.old) (K.written out.new) }
+        → BreaksAtOutput machine.old turns (steps.new - steps.old) (S.left input.old) (S.left input.new) (K.written out.old) (K.written out.new)
+        × CutsOff machine.old turns (S.left input.old) (S.left input.new) (K.written out.old) (K.written out.new) }
     ensures read_fault { IsErrOf result RunFault.ReadFault → Rose (S.faults input.old) (S.faults input.new) }
     ensures write_fault { IsErrOf result RunFault.WriteFault → Rose (K.faults out.old) (K.faults out.new) }
     ensures machine_stays { machine.new ≡ machine.old }

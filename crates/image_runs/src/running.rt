@@ -9,7 +9,7 @@ ghost use Rattle.region_calls.specs.declared.ahead.Coming.{Coming};
 ghost use Rattle.region_calls.specs.Started.{ShowsStarted};
 ghost use Rattle.ready_images.specs.Ready.{IsReady};
 ghost use Rattle.image_runs.specs.Onward.{CanGoOn, CanStart, CountsFaults, Follows, last_turn};
-ghost use Rattle.image_runs.specs.Running.{BreaksAtInput, BreaksAtOutput, Completes, EndIsInRange};
+ghost use Rattle.image_runs.specs.Running.{BreaksAtInput, BreaksAtOutput, Completes, CutsOff, EndIsInRange};
 ghost use Rattle.image_runs.specs.SoFar.{At, Carries, ShowsGlobals, SoFar, Then};
 
 use crate::look_ups::code_of;
@@ -124,7 +124,8 @@ pub(crate) fn run_control<S: Source, K: Sink, L: Ledger>(
     ensures breaks_at_input { IsErrOf result RunFault.ReadFault
         → BreaksAtInput image.now turns (steps.new - steps.old) (S.left input.old) (S.left input.new) (K.written out.old) (K.written out.new) }
     ensures breaks_at_output { IsErrOf result RunFault.WriteFault
-        → BreaksAtOutput image.now turns (S.left input.old) (S.left input.new) (K.written out.old) (K.written out.new) }
+        → BreaksAtOutput image.now turns (steps.new - steps.old) (S.left input.old) (S.left input.new) (K.written out.old) (K.written out.new)
+        × CutsOff image.now turns (S.left input.old) (S.left input.new) (K.written out.old) (K.written out.new) }
     ensures counted { steps.old ≤ steps.new }
     ensures faults { CountsFaults result (S.faults input.old) (S.faults input.new) (K.faults out.old) (K.faults out.new) }
 {

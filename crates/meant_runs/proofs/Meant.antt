@@ -11,7 +11,7 @@ use Rattle.code_simulation.specs.Agreement.{EndsAs, is_faulty}
 use Rattle.image_agreement.specs.Laws.{MeansAlike}
 use Rattle.image_agreement.proofs.Agreement.{sources_mean}
 use Rattle.image_runs.specs.declared.outcome.Outcome.{Outcome}
-use Rattle.image_runs.specs.Running.{AreBytes, BreaksAtInput, BreaksAtOutput, Completes}
+use Rattle.image_runs.specs.Running.{AreBytes, BreaksAtInput, BreaksAtOutput, Completes, CutsOff}
 use Rattle.meant_runs.specs.Meant.{IsImageOf, Ran, BrokenOff, CutOff}
 
 -- only a program that is broken off ends as a machine whose input failed
@@ -68,9 +68,9 @@ module _ (image : Image) (turns : ℕ) (told left held holds : Option (List ℕ)
         appends = b.appends;
       }
 
-  pub cut_off : BreaksAtOutput image turns told left held holds → (P : Program) → IsImageOf P image → IfSome told AreBytes → CutOff P turns told left held holds
+  pub cut_off : (count : ℕ) → BreaksAtOutput image turns count told left held holds × CutsOff image turns told left held holds → (P : Program) → IsImageOf P image → IfSome told AreBytes → CutOff P turns told left held holds
   unfolding is_faulty
-  cut_off b P of bytes =
+  cut_off count (_, b) P of bytes =
       let m : MeansAlike P b.input End turns b.output b.end b.turns_left b.taken =
       sources_mean P image of.lawful of.stands of.host b.input End turns (b.is_input.bytes bytes) b.output b.end b.turns_left b.taken b.count b.runs in
       record {

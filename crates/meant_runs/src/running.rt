@@ -33,7 +33,7 @@ pub fn run_image<S: Source, K: Sink, L: Ledger>(
     ensures breaks_at_input { IsErrOf result RunFault.ReadFault
         → BreaksAtInput machine.old turns (steps.new - steps.old) (S.left input.old) (S.left input.new) (K.written out.old) (K.written out.new) }
     ensures breaks_at_output { IsErrOf result RunFault.WriteFault
-        → BreaksAtOutput machine.old turns (S.left input.old) (S.left input.new) (K.written out.old) (K.written out.new) }
+        → BreaksAtOutput machine.old turns (steps.new - steps.old) (S.left input.old) (S.left input.new) (K.written out.old) (K.written out.new) }
     ensures read_fault { IsErrOf result RunFault.ReadFault → Rose (S.faults input.old) (S.faults input.new) }
     ensures write_fault { IsErrOf result RunFault.WriteFault → Rose (K.faults out.old) (K.faults out.new) }
     ensures machine_stays { machine.new ≡ machine.old }

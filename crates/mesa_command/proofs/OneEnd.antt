@@ -71,7 +71,7 @@ pub does : (text : List ℕ) (turns : ℕ) (old new : Scene) (output : List ℕ)
 does text turns old new output case x d still calm (ended o _ is meant counts) =
     let it = meant (told-bytes old d.input d.tells) in inl (run-does text turns old new output case x d o it.ran it.is_case)
 does text turns old new output c.ReadFault x d still calm (read_fault rose broken counts) = absurd (still rose)
-does text turns old new output c.WriteFault x d still calm (write_fault rose cut stay) = absurd (calm rose)
+does text turns old new output c.WriteFault x d still calm (write_fault rose cut counts) = absurd (calm rose)
 does text turns old new output c.Memory x d still calm (no_memory same) = inr refl
 
 both-ran : (m : Module) (turns : ℕ) (old new new' : Scene) (input : List ℕ) (x y : Case) (o o' : Outcome)
@@ -92,10 +92,10 @@ one-run m turns old new new' input x y e still calm still' calm' n n' (ended o _
     let it = meant (told-bytes old input e) in let it' = meant' (told-bytes old input e) in
     both-ran m turns old new new' input x y o o' it.ran it'.ran e it.is_case it'.is_case
 one-run m turns old new new' input x c.ReadFault e still calm still' calm' n n' a (read_fault rose broken counts) = absurd (still' rose)
-one-run m turns old new new' input x c.WriteFault e still calm still' calm' n n' a (write_fault rose cut stay) = absurd (calm' rose)
+one-run m turns old new new' input x c.WriteFault e still calm still' calm' n n' a (write_fault rose cut counts) = absurd (calm' rose)
 one-run m turns old new new' input x c.Memory e still calm still' calm' n n' a (no_memory same) = absurd (n' refl)
 one-run m turns old new new' input c.ReadFault y e still calm still' calm' n n' (read_fault rose broken counts) b = absurd (still rose)
-one-run m turns old new new' input c.WriteFault y e still calm still' calm' n n' (write_fault rose cut stay) b = absurd (calm rose)
+one-run m turns old new new' input c.WriteFault y e still calm still' calm' n n' (write_fault rose cut counts) b = absurd (calm rose)
 one-run m turns old new new' input c.Memory y e still calm still' calm' n n' (no_memory same) b = absurd (n refl)
 
 end-used : (m : Module) (e : machine.End) → status_of (case_of_end m e) ≢ status.Usage
@@ -108,5 +108,5 @@ end-used m end.FrameLimit h = cc
 pub used-run : (m : Module) (turns : ℕ) (old new : Scene) (case : Case) → Ends m turns old new case → status_of case ≢ status.Usage
 used-run m turns old new case (ended o _ is meant counts) e = end-used m o.end (sym (ap status_of is) ∙ e)
 used-run m turns old new c.ReadFault (read_fault rose broken counts) e = cc
-used-run m turns old new c.WriteFault (write_fault rose cut stay) e = cc
+used-run m turns old new c.WriteFault (write_fault rose cut counts) e = cc
 used-run m turns old new c.Memory (no_memory same) e = cc

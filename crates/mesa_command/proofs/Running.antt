@@ -14,7 +14,7 @@ use Rattle.machine_steps.specs.State as machine
 use Rattle.image_runs.specs.declared.outcome.Outcome.{Outcome}
 use Rattle.module_runs.specs.declared.fault.ModuleFault.{ModuleFault}
 use Rattle.module_runs.specs.declared.fault.ModuleFault.TheVariants as fault
-use Rattle.module_runs.specs.Coded.{BreaksInCode, CompletesInCode}
+use Rattle.module_runs.specs.Coded.{BreaksInCode, CompletesInCode, CutsInCode}
 use Rattle.mesa_command.specs.Case as c
 use Rattle.mesa_command.specs.Case.{status_of, IsBeforeRun}
 use Rattle.mesa_command.specs.Shown.{name_in, shown, IsShownAs, signal_of, case_of_end}
@@ -73,16 +73,19 @@ module _ (m : Module) (turns : ℕ) (old new : Scene) where
       (IsErrOf r fault.WriteFault → TellsBytes old → CutOffIn m turns old new) →
       (IsErrOf r fault.ReadFault →
       BreaksInCode m turns (new.steps - old.steps) old.input.left new.input.left old.out.holds new.out.holds) →
+      (IsErrOf r fault.WriteFault →
+      CutsInCode m turns (new.steps - old.steps) old.input.left new.input.left old.out.holds new.out.holds) →
       (IsErrOf r fault.ReadFault → Rose old.input.faults new.input.faults) →
       (IsErrOf r fault.WriteFault → HasFaulted old.out new.out) →
       (IsErrOf r fault.Memory → new ≡ old) → old.steps ≤ new.steps → Ends m turns old new (case_of_run m r)
-  run-ends (Ok o) ran counts broken cut breaks reads writes same stay =
+  run-ends (Ok o) ran counts broken cut breaks cuts reads writes same stay =
       ended o (case_of_end m o.end) refl (λ bytes. record { ran = ran bytes; is_case = ends-as m (ran bytes).answer o.end (ran bytes).its_end })
       (new.steps - old.steps, risen stay, counts)
-  run-ends (Err fault.ReadFault) ran counts broken cut breaks reads writes same stay =
+  run-ends (Err fault.ReadFault) ran counts broken cut breaks cuts reads writes same stay =
       read_fault (reads refl) (broken refl) (new.steps - old.steps, risen stay, breaks refl)
-  run-ends (Err fault.WriteFault) ran counts broken cut breaks reads writes same stay = write_fault (writes refl) (cut refl) stay
-  run-ends (Err fault.Memory) ran counts broken cut breaks reads writes same stay = no_memory (same refl)
+  run-ends (Err fault.WriteFault) ran counts broken cut breaks cuts reads writes same stay =
+      write_fault (writes refl) (cut refl) (new.steps - old.steps, risen stay, cuts refl)
+  run-ends (Err fault.Memory) ran counts broken cut breaks cuts reads writes same stay = no_memory (same refl)
 
 end-in-run : (m : Module) (e : End) → IsBeforeRun (status_of (case_of_end m e)) → ⊥
 end-in-run m end.Done h = h

@@ -1,13 +1,13 @@
 -- How the run of a module ends, what it took of the input, and what it leaves in `out`, in the words of what the module means, with the steps
 -- that it counted (rule of this project).
-use Rattle.std.specs.Prelude.{◌≡◌, ℕ, ◌+◌, ◌≤◌, List, Some, IfSome}
+use Rattle.std.specs.Prelude.{◌≡◌, ℕ, ◌+◌, List, Some, IfSome}
 use Rattle.mesa_base.specs.Outside.{Rose}
 use Rattle.mesa_types.specs.Typed.{Module}
 use Rattle.source_meaning.specs.Program.{single}
 use Rattle.image_runs.specs.declared.outcome.Outcome.{Outcome}
 use Rattle.image_runs.specs.Running.{AreBytes}
 use Rattle.meant_runs.specs.Meant.{Ran, BrokenOff, CutOff}
-use Rattle.module_runs.specs.Coded.{BreaksInCode, CompletesInCode}
+use Rattle.module_runs.specs.Coded.{BreaksInCode, CompletesInCode, CutsInCode}
 use Rattle.mesa_command.specs.Outputs.{HasFaulted}
 use Rattle.mesa_command.specs.Worlds.{Scene}
 use Rattle.mesa_command.specs.Shown.{IsShownAs, case_of_end}
@@ -35,6 +35,11 @@ abbrev pub CountsBreakIn : Module → ℕ → Scene → Scene → Type 0
 CountsBreakIn m turns old new = (count : ℕ) × (new.steps ≡ old.steps + count)
     × BreaksInCode m turns count old.input.left new.input.left old.out.holds new.out.holds
 
+-- the steps rose by the instructions that the machine begins in the run of the module's code up to the call in which the output failed
+abbrev pub CountsCutIn : Module → ℕ → Scene → Scene → Type 0
+CountsCutIn m turns old new = (count : ℕ) × (new.steps ≡ old.steps + count)
+    × CutsInCode m turns count old.input.left new.input.left old.out.holds new.out.holds
+
 -- the input tells what is left of it, or nothing; what it tells are bytes
 abbrev pub TellsBytes : Scene → Type 0
 TellsBytes old = IfSome old.input.left AreBytes
@@ -55,6 +60,6 @@ pub data Ends (m : Module) (turns : ℕ) (old new : Scene) : Case → Type 0 whe
       CountsIn m turns outcome old new → Ends m turns old new case
   read_fault : Rose old.input.faults new.input.faults → BrokenOffIn m turns old new → CountsBreakIn m turns old new →
       Ends m turns old new ReadFault
-  write_fault : HasFaulted old.out new.out → (TellsBytes old → CutOffIn m turns old new) → old.steps ≤ new.steps →
+  write_fault : HasFaulted old.out new.out → (TellsBytes old → CutOffIn m turns old new) → CountsCutIn m turns old new →
       Ends m turns old new WriteFault
   no_memory : new ≡ old → Ends m turns old new Memory

@@ -6,9 +6,9 @@ ghost use Rattle.mesa_types.specs.Sound.{Sound};
 ghost use Rattle.source_meaning.specs.Program.{single};
 ghost use Rattle.single_images.specs.Image.{ImportsTheHostAlone, image_of};
 ghost use Rattle.frame_code.specs.Code.{IsCodeOf};
-ghost use Rattle.image_runs.specs.Running.{AreBytes, BreaksAtInput, Completes};
+ghost use Rattle.image_runs.specs.Running.{AreBytes, BreaksAtInput, BreaksAtOutput, Completes};
 ghost use Rattle.meant_runs.specs.Meant.{IsImageOf, Ran, BrokenOff, CutOff};
-ghost use Rattle.module_runs.specs.Coded.{BreaksInCode, CompletesInCode};
+ghost use Rattle.module_runs.specs.Coded.{BreaksInCode, CompletesInCode, CutsInCode};
 ghost use Rattle.module_runs.specs.Ends.{IsEndOf};
 
 use crate::fault::ModuleFault;
@@ -70,6 +70,8 @@ pub fn run_code<S: Source, K: Sink, L: Ledger>(
         (S.left input.old) (S.left input.new) (K.written out.old) (K.written out.new)) }
     ensures breaks_counted { IsErrOf result ModuleFault.ReadFault → BreaksAtInput (image_of (plain «module».now) code) turns (steps.new - steps.old)
         (S.left input.old) (S.left input.new) (K.written out.old) (K.written out.new) }
+    ensures cuts_counted { IsErrOf result ModuleFault.WriteFault → BreaksAtOutput (image_of (plain «module».now) code) turns (steps.new - steps.old)
+        (S.left input.old) (S.left input.new) (K.written out.old) (K.written out.new) }
     ensures read_fault { IsErrOf result ModuleFault.ReadFault → Rose (S.faults input.old) (S.faults input.new) }
     ensures write_fault { IsErrOf result ModuleFault.WriteFault → Rose (K.faults out.old) (K.faults out.new) }
     ensures no_memory_input { IsErrOf result ModuleFault.Memory → input.new ≡ input.old }
@@ -113,6 +115,8 @@ pub fn run_module<S: Source, K: Sink, L: Ledger>(
     ensures counted { IfOk result (λ outcome. CompletesInCode (plain «module».now) turns outcome (steps.new - steps.old)
         (S.left input.old) (S.left input.new) (K.written out.old) (K.written out.new)) }
     ensures breaks_counted { IsErrOf result ModuleFault.ReadFault → BreaksInCode (plain «module».now) turns (steps.new - steps.old)
+        (S.left input.old) (S.left input.new) (K.written out.old) (K.written out.new) }
+    ensures cuts_counted { IsErrOf result ModuleFault.WriteFault → CutsInCode (plain «module».now) turns (steps.new - steps.old)
         (S.left input.old) (S.left input.new) (K.written out.old) (K.written out.new) }
     ensures read_fault { IsErrOf result ModuleFault.ReadFault → Rose (S.faults input.old) (S.faults input.new) }
     ensures write_fault { IsErrOf result ModuleFault.WriteFault → Rose (K.faults out.old) (K.faults out.new) }

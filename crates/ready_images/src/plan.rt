@@ -1,3 +1,5 @@
+//! What the run of a procedure needs beside its code.
+
 ghost use Rattle.std.specs.Prelude.{IfOk, All};
 ghost use Rattle.std.specs.List.{AllZip};
 ghost use Rattle.code_forms.specs.Valid.{Valid};

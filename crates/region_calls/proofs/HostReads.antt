@@ -29,6 +29,7 @@ use Rattle.region_calls.specs.Hosts.{host_is, CallsHost}
 use Rattle.region_calls.specs.Hosting.{CanCall, behind_call, input_after, Comes, Raises, ReadLeads, GoesBehind, ReadsOn, Breaks}
 use Rattle.region_calls.proofs.Behind.{host_fits, call_there, room, gone_on, behind_shows}
 use Rattle.region_calls.proofs.HostWrites.{given}
+use Rattle.activation_region.proofs.Reach.{reaches_so, ends_alike}
 
 -- nothing is taken, and one word is given
 takes_none : (reading : Reading) → host_takes (host_is (Read reading)) ≡ 0
@@ -70,10 +71,9 @@ module _ (image : Image) (layout : Layout) (prepared : IsPrepared image layout) 
           shows = behind_shows image layout prepared region table r ample (host_is (Read reading)) e region' (word ∷ []) (sym (gives_one reading))
               (λ k c l. ap (λ g. part g k c) region_is ∙ part_before region r.sp (word ∷ []) k c (omega (arith, w)) (omega (arith, l, t)))
               (ap (λ k. part region' k 1) end_is ∙ ap (λ g. part g r.sp 1) region_is ∙ part_there region r.sp (word ∷ []) (omega (arith, w)));
-          reaches = record {
-            by = λ end last ends. reaches.by end last (subst (λ x. Ends image x end last)
-                (sym (gives ∙ given image (host_takes (host_is (Read reading))) (word ∷ []) e.top e.rest n e.entry.instruction (call_there image layout prepared region table r ample (host_is (Read reading)) e))) ends);
-          };
+          reaches =
+              reaches_so image _ _ _ reaches
+              (gives ∙ given image (host_takes (host_is (Read reading))) (word ∷ []) e.top e.rest n e.entry.instruction (call_there image layout prepared region table r ample (host_is (Read reading)) e));
         }
 
 -- the rows
@@ -98,10 +98,9 @@ module _ (image : Image) (layout : Layout) (prepared : IsPrepared image layout) 
         rest = e.rest;
         procedure = e.procedure;
         shows = e.shows;
-        reaches = record {
-          by = λ end last ends. reaches.by end last (subst (λ x. Ends image x end last)
-              (sym (ap (λ i. read_char image i e.top e.rest m) none ∙ ap (λ b. if b then Stops Broken m else raise image NoInput [] e.top e.rest m) sound)) ends);
-        };
+        reaches =
+            reaches_so image _ _ _ reaches
+            (ap (λ i. read_char image i e.top e.rest m) none ∙ ap (λ b. if b then Stops Broken m else raise image NoInput [] e.top e.rest m) sound);
       })
 
   pub more_shown : (region' : List ℕ) → region' ≡ slice_set region r.sp 0 → (e : CallsHost image layout region table r EndOfInput) (s : Stepped) (m : Store)
@@ -149,10 +148,10 @@ tells_end region region' r r' is registers image layout table prepared ample e s
 pub breaks : (region : List ℕ) (r : Registers) (reading : Reading) → Breaks region r reading
 unfolding host read_char end_of_input
 breaks region r Next image layout table e s m reaches none faulty =
-    reaches.by Broken m (subst (λ x. Ends image x Broken m)
+    ends_alike image _ _ reaches Broken m (subst (λ x. Ends image x Broken m)
     (sym (ap (λ i. read_char image i e.top e.rest m) none ∙ ap (λ b. if b then Stops Broken m else raise image NoInput [] e.top e.rest m) faulty)) (stops Broken m))
 breaks region r AtEnd image layout table e s m reaches none faulty =
-    reaches.by Broken m (subst (λ x. Ends image x Broken m)
+    ends_alike image _ _ reaches Broken m (subst (λ x. Ends image x Broken m)
     (sym (ap (λ i. end_of_input image i e.top e.rest m) none ∙ ap (λ b. if b then Stops Broken m else give image 0 (truth true ∷ []) (e.top ∷ e.rest) m) faulty)) (stops Broken m))
 
 abbrev pub pushed_registers : Registers → Registers

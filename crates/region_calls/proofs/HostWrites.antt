@@ -1,5 +1,5 @@
 -- What the host's procedures that write do.
-use Rattle.std.proofs.Common.{◌≡◌, ℕ, ◌+◌, ◌-◌, ◌%◌, ◌≤◌, List, [], ◌∷◌, ◌++◌, length, Some, refl, sym, ap, subst, ◌∙◌, arith}
+use Rattle.std.proofs.Common.{◌≡◌, ℕ, ◌+◌, ◌-◌, ◌%◌, ◌≤◌, List, [], ◌∷◌, ◌++◌, length, Some, refl, ap, ◌∙◌, arith}
 use Rattle.std.specs.Prelude.{slice_index}
 use Rattle.code_forms.specs.declared.instruction.Instruction.{Instruction}
 use Rattle.code_forms.specs.Instructions.{bytes_of}
@@ -10,7 +10,6 @@ use Rattle.machine_steps.specs.Words.{push, under, on_top, on_two}
 use Rattle.machine_steps.specs.LookUps.{text_of, instruction_under}
 use Rattle.machine_steps.specs.Moves.{with, onward, give}
 use Rattle.machine_steps.specs.Calls.{host_write, host}
-use Rattle.machine_steps.specs.Steps.{Ends}
 use Rattle.quiet_run.specs.declared.registers.Registers.{Registers}
 use Rattle.quiet_run.proofs.Showing.{operands_to, top_shown, two_shown}
 use Rattle.activation_region.specs.declared.row.Layout.{Layout}
@@ -25,6 +24,7 @@ use Rattle.region_calls.specs.declared.host.Writing.TheVariants.{Char, Text, Dec
 use Rattle.region_calls.specs.Hosts.{host_is, CallsHost}
 use Rattle.region_calls.specs.Hosting.{behind_call, text_written, WritesOn}
 use Rattle.region_calls.proofs.Behind.{call_there, full, gone_on, operands_here, behind_shows}
+use Rattle.activation_region.proofs.Reach.{reaches_so}
 
 -- words are given in the place of others, and the topmost activation goes on behind its instruction
 pub given : (image : Image) (n : ℕ) (words : List ℕ) (a : Active) (S : Activations) (m : Store) (i : Instruction) → instruction_under image a ≡ Some i
@@ -90,7 +90,7 @@ module _ (image : Image) (layout : Layout) (prepared : IsPrepared image layout) 
     rest = e.rest;
     procedure = e.procedure;
     shows = behind_shows image layout prepared region table r ample (host_is (Write writing)) e region [] (none_given writing) (λ k n l. refl) refl;
-    reaches = record { by = λ end last ends. reaches.by end last (subst (λ x. Ends image x end last) (sym (writes writing e m)) ends) };
+    reaches = reaches_so image _ _ _ reaches (writes writing e m);
   }
 
 pub writes_on : (image : Image) (region : List ℕ) (r : Registers) (writing : Writing) → WritesOn image region r writing (text_written image region r writing) (behind_call (Write writing) r)

@@ -32,6 +32,7 @@ use Rattle.region_calls.specs.Started.{ShowsStarted}
 use Rattle.region_calls.proofs.Calling.{host_called, in_called, call_now, marked, start_now, marks_one}
 use Rattle.region_calls.proofs.Found.{procedure_at}
 use Rattle.region_calls.proofs.LinkFits.{called_is, host_there, calls_host, called_there, procedure_some, enters_called, enters_body}
+use Rattle.activation_region.proofs.Reach.{ends_alike}
 
 -- A turn is spent before the next thing, or none is left.
 
@@ -44,7 +45,7 @@ pub spends_none : (image : Image) (s : Stepped) (m : Store) (k : Store → Stepp
 unfolding spend
 spends_none image s m k turns reaches turns_are none =
     subst (λ t. Ends image s (Ended Spent) (record m { turns = t })) turns_are
-    (reaches.by (Ended Spent) m (subst (λ x. Ends image x (Ended Spent) m) (sym (none_left m.turns m k (turns_are ∙ none))) (stops (Ended Spent) m)))
+    (ends_alike image _ _ reaches (Ended Spent) m (subst (λ x. Ends image x (Ended Spent) m) (sym (none_left m.turns m k (turns_are ∙ none))) (stops (Ended Spent) m)))
 
 pub spends_one : (image : Image) (s : Stepped) (m : Store) (k : Store → Stepped) (turns : ℕ) → Reaches image s (spend m k) → m.turns ≡ turns → (turns ≡ 0 → ⊥) → Reaches image s (k (record m { turns = turns - 1 }))
 unfolding spend

@@ -28,7 +28,7 @@ use Rattle.activation_region.proofs.Called.{step_here}
 use Rattle.activation_region.proofs.Following.{began, spent_by}
 use Rattle.activation_region.proofs.Located.{in_code, stands_at}
 use Rattle.activation_region.proofs.Placing.{fetched_here}
-use Rattle.activation_region.proofs.Quiet.{one_step, two_ways}
+use Rattle.activation_region.proofs.Reach.{one_step, two_ways, ends_alike}
 use Rattle.activation_region.proofs.Tables.{row_there}
 use Rattle.region_calls.specs.Linking.{StandsAt, CallsLink}
 use Rattle.region_calls.proofs.LinkFits.{LinkIs, link_is}
@@ -79,7 +79,7 @@ module _ (image : Image) (layout : Layout) (prepared : IsPrepared image layout) 
 
     pub link_spent : (s : Stepped) → Reaches image s (Goes (Runs (a ∷ S) m)) → m.turns ≡ 0 → Ends image s (Ended Spent) (record m { begun = suc m.begun })
     link_spent s reaches none =
-        (two_ways image s _ _ reaches (one_step image (Runs (a ∷ S) m) _ (link_step ∙ none_left m.turns then_bound none))).by (Ended Spent) _ (stops (Ended Spent) _)
+        ends_alike image _ _ (two_ways image s _ _ reaches (one_step image (Runs (a ∷ S) m) _ (link_step ∙ none_left m.turns then_bound none))) (Ended Spent) _ (stops (Ended Spent) _)
 
     pub link_reaches : (s : Stepped) → Reaches image s (Goes (Runs (a ∷ S) m)) → (turns : ℕ) → m.turns ≡ turns → (turns ≡ 0 → ⊥)
         → Reaches image s (call_bound image bound a S (record m { begun = suc m.begun; turns = turns - 1 }))
@@ -96,7 +96,7 @@ module _ (image : Image) (layout : Layout) (prepared : IsPrepared image layout) 
     then_pending = subst (λ o. Reaches image s (with o m (λ i. pending image i a S m))) here_is reaches
 
     no_stop : (i : Instruction) → Reaches image s (pending image i a S m) → pending image i a S m ≡ Stops Stuck m → ⊥
-    no_stop i reaches stuck = unstuck Stuck m (reaches.by Stuck m (subst (λ x. Ends image x Stuck m) (sym stuck) (stops Stuck m))) refl
+    no_stop i reaches stuck = unstuck Stuck m (ends_alike image _ _ reaches Stuck m (subst (λ x. Ends image x Stuck m) (sym stuck) (stops Stuck m))) refl
 
     link_by : (i : Instruction) → Reaches image s (pending image i a S m) → (k : ℕ) × (i ≡ CallLink k)
     unfolding pending

@@ -38,6 +38,7 @@ use Rattle.region_signals.specs.Arms.{taken, arm_row, with_params, with_arm, arm
 use Rattle.region_signals.proofs.Places.{At, place_at, home_for, at_instance, at_procedure, at_owner}
 use Rattle.region_signals.proofs.ArmStarts.{arm, found, begins, deep_none, params_fit}
 use Rattle.region_signals.proofs.Arming.{arm_made, arm_shows}
+use Rattle.activation_region.proofs.Reach.{reaches_so, ends_alike}
 
 -- the words that an arm takes of those given
 pub taken_low : (given words : ℕ) → (taken given words ≤ words) × (taken given words ≤ given)
@@ -165,7 +166,7 @@ module _ (image : Image) (layout : Layout) (prepared : IsPrepared image layout) 
   turn some = enters ∙ spent_by m.turns m then_entered (ne_eqb m.turns 0 some)
 
   ends_so : (end : End) (n : Store) → enter_arm image number w.holder place w.why w.words S m ≡ Stops (Ended end) n → Ends image s (Ended end) n
-  ends_so end n is = w.reaches.by (Ended end) n (subst (λ x. Ends image x (Ended end) n) (sym is) (stops (Ended end) n))
+  ends_so end n is = ends_alike image _ _ w.reaches (Ended end) n (subst (λ x. Ends image x (Ended end) n) (sym is) (stops (Ended end) n))
 
   pub arm_spent : m.turns ≡ 0 → Ends image s (Ended Spent) m
   arm_spent none = ends_so Spent m (enters ∙ none_left m.turns then_entered none)
@@ -201,8 +202,5 @@ module _ (image : Image) (layout : Layout) (prepared : IsPrepared image layout) 
         shows =
             subst (λ (t : List Row). Shows image layout (with_params region layout own a.slot new) t (arm_registers layout (top + 1) own entry) p made (put_at S own a.slot new)) rows_are
             (subst (λ q. Shows image layout (with_params region layout own a.slot new) (slice_set table (length S) (arm_row w.holder.instance w.holder.procedure own number reason)) (arm_registers layout q own entry) p made (put_at S own a.slot new)) h shows);
-        reaches = record {
-          by = λ end last ends. w.reaches.by end last
-              (subst (λ x. Ends image x end last) (sym (turn some ∙ enter_if true (lt-ltb (length (put_at S own a.slot new)) 8192 (omega (arith, l, less))))) ends);
-        };
+        reaches = reaches_so image _ _ _ w.reaches (turn some ∙ enter_if true (lt-ltb (length (put_at S own a.slot new)) 8192 (omega (arith, l, less))));
       }

@@ -37,6 +37,7 @@ use Rattle.region_signals.specs.Indexed.{IsAsked}
 use Rattle.region_signals.proofs.Leaves.{Top, top_told}
 use Rattle.region_signals.proofs.Places.{place_at, at_asked}
 use Rattle.std.proofs.Math.Nat.{mul-le-mul_right}
+use Rattle.activation_region.proofs.Reach.{reaches_so, ends_alike}
 
 -- what is over an activation that a frame was called by
 waits_called : (image : Image) (j n : ℕ) (p q : CodeProcedure) (entry count : ℕ) → 0 < n → procedure_of image j n ≡ Some p → Waits image (Called j n) q entry count → GoesOn q entry (count + p.results)
@@ -135,7 +136,7 @@ module _ (image : Image) (layout : Layout) (prepared : IsPrepared image layout) 
             owned = w.below.1;
             below = t.lower;
           };
-          reaches = record { by = λ end last h. w.reaches.by end last (subst (λ x. Ends image x end last) (sym goes_so) h) };
+          reaches = reaches_so image _ _ _ w.reaches goes_so;
         }
 
   -- To return.
@@ -162,7 +163,7 @@ module _ (image : Image) (layout : Layout) (prepared : IsPrepared image layout) 
     frame_by (Frame variables) is = (variables, is)
     frame_by (InArm own n why) is =
         let stuck : arrived image None a S m ≡ Stops Stuck m = performs ∙ ap (λ role. return_of image p a role S m) is in
-        absurd (unstuck Stuck m (w.reaches.by Stuck m (subst (λ x. Ends image x Stuck m) (sym stuck) (stops Stuck m))) refl)
+        absurd (unstuck Stuck m (ends_alike image _ _ w.reaches Stuck m (subst (λ x. Ends image x Stuck m) (sym stuck) (stops Stuck m))) refl)
 
     frame : (variables : List ℕ) × (a.role ≡ Frame variables)
     frame = frame_by a.role refl
@@ -199,7 +200,7 @@ module _ (image : Image) (layout : Layout) (prepared : IsPrepared image layout) 
 
     -- under the lowest frame there is none
     pub return_empty : place ≡ 0 → Reaches image s (Goes (Runs [] m))
-    return_empty none = record { by = λ end last h. w.reaches.by end last (subst (λ x. Ends image x end last) (sym (empty_by S (w.high ∙ none) returns_so)) h) }
+    return_empty none = reaches_so image _ _ _ w.reaches (empty_by S (w.high ∙ none) returns_so)
       where
         empty_by : (S : Activations) → length S ≡ 0 → arrived image None a w.rest m ≡ returned image a.procedure results S m → arrived image None a w.rest m ≡ Goes (Runs [] m)
         empty_by [] long e = e ∙ returned_none image a.procedure results m
@@ -283,10 +284,7 @@ module _ (image : Image) (layout : Layout) (prepared : IsPrepared image layout) 
               shows =
                   subst (λ q. Shows image layout (with_part region (end_at (row_at table q) q layout) results) table (back_registers (row_at table q) q layout p.results ((row_at table q).entry + 1)) u.waiting.procedure top T) u.place_is
                   (subst (λ k. Shows image layout (with_part region (end_at row (length T) layout) results) table (back_registers row (length T) layout k (row.entry + 1)) u.waiting.procedure top T) results_many shows);
-              reaches = record {
-                by = λ end last h. w.reaches.by end last
-                    (subst (λ x. Ends image x end last) (sym (returns_under ∙ returned_some image a.procedure results b T m i.instruction called stands)) h);
-              };
+              reaches = reaches_so image _ _ _ w.reaches (returns_under ∙ returned_some image a.procedure results b T m i.instruction called stands);
             }
 
       module _ (body : a.procedure ≡ 0) where
@@ -305,5 +303,5 @@ module _ (image : Image) (layout : Layout) (prepared : IsPrepared image layout) 
               rest = T;
               procedure = u.waiting.procedure;
               shows = subst (λ q. Shows image layout (with_part region (end_at (row_at table q) q layout) []) table (back_registers (row_at table q) q layout 0 (row_at table q).entry) u.waiting.procedure b T) u.place_is shows;
-              reaches = record { by = λ end last h. w.reaches.by end last (subst (λ x. Ends image x end last) (sym (returns_under ∙ returned_body image a.procedure results b T m body)) h) };
+              reaches = reaches_so image _ _ _ w.reaches (returns_under ∙ returned_body image a.procedure results b T m body);
             }

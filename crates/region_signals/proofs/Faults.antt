@@ -9,7 +9,7 @@ use Rattle.quiet_run.specs.Flat.{Flat}
 use Rattle.activation_region.specs.declared.row.Layout.{Layout}
 use Rattle.activation_region.specs.declared.row.Row.{Row}
 use Rattle.activation_region.specs.Reaching.{Reaches, Comes, pauses_so}
-use Rattle.activation_region.proofs.Quiet.{one_step, two_ways}
+use Rattle.activation_region.proofs.Reach.{one_step, two_ways}
 use Rattle.region_signals.specs.Raising.{Raises}
 use Rattle.region_signals.proofs.Raisers.{predeclared_raises}
 

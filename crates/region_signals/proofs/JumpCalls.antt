@@ -17,7 +17,7 @@ use Rattle.activation_region.specs.Calling.{IsCodeOf, IsAt, StandsIn}
 use Rattle.activation_region.specs.Reaching.{Shown}
 use Rattle.activation_region.specs.Shows.{IsPrepared}
 use Rattle.activation_region.proofs.Following.{began}
-use Rattle.activation_region.proofs.Quiet.{one_step, two_ways}
+use Rattle.activation_region.proofs.Reach.{one_step, two_ways}
 use Rattle.region_signals.specs.Jumping.{Jumps, CanJump}
 use Rattle.region_signals.specs.Raising.{FindsNone}
 use Rattle.region_signals.proofs.Raisers.{runs, begins}

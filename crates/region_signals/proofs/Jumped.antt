@@ -34,6 +34,7 @@ use Rattle.region_signals.proofs.Leaves.{left_by, about_is}
 use Rattle.region_signals.proofs.Lefts.{below_left}
 use Rattle.region_signals.proofs.Places.{place_at, home_for, at_instance, at_procedure, at_owner, at_asked}
 use Rattle.region_signals.proofs.Rejects.{frame_role, kind_is, arm_home, arm_low, owner_alike}
+use Rattle.activation_region.proofs.Reach.{reaches_so, ends_alike}
 
 -- Whether an arm has the offset, by its row.
 
@@ -156,7 +157,7 @@ module _ (image : Image) (layout : Layout) (region : List ℕ) (table : List Row
   jump_not_frame unstuck frame =
       let f = frame_role a.role (subst (λ (k : Kind). IsKind k a.role) frame kind_here) in
       let stuck : leave image goal a.role S m ≡ Stops Stuck m = ap (λ role. leave image goal role S m) f.1 in
-      unstuck Stuck m (w.reaches.by Stuck m (subst (λ x. Ends image x Stuck m) (sym stuck) (stops Stuck m))) refl
+      unstuck Stuck m (ends_alike image _ _ w.reaches Stuck m (subst (λ x. Ends image x Stuck m) (sym stuck) (stops Stuck m))) refl
 
   -- each one below can be asked
   pub under_asked : (q : ℕ) → q < r.top → IsAsked image table q
@@ -236,7 +237,7 @@ module _ (image : Image) (layout : Layout) (region : List ℕ) (table : List Row
             below = lower;
             high = omega (arith, long);
             same = aim_by (b ∷ T) same long goal refl below;
-            reaches = record { by = λ end last h. w.reaches.by end last (subst (λ x. Ends image x end last) (sym so) h) };
+            reaches = reaches_so image _ _ _ w.reaches so;
           }
 
       pub jump_leaving : (first : Search) → LeftThere image (row_at table r.top).kind (row_at table (r.top - 1)) first → Leaving image layout region table (r.top - 1) target first s m

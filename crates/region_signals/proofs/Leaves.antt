@@ -31,7 +31,7 @@ use Rattle.activation_region.specs.Frames.{row_at, owner_place}
 use Rattle.activation_region.specs.Reaching.{Reaches}
 use Rattle.activation_region.proofs.Homes.{at_top}
 use Rattle.activation_region.proofs.Located.{at_offset}
-use Rattle.activation_region.proofs.Quiet.{one_step, two_ways}
+use Rattle.activation_region.proofs.Reach.{one_step, two_ways}
 use Rattle.activation_region.proofs.Returning.{owner_kind}
 use Rattle.activation_region.proofs.Tables.{row_there}
 use Rattle.region_signals.specs.Arms.{Awaits}

@@ -10,7 +10,7 @@ use Rattle.activation_region.specs.declared.row.Layout.{Layout}
 use Rattle.activation_region.specs.declared.row.Row.{Row}
 use Rattle.activation_region.specs.Frames.{row_at}
 use Rattle.activation_region.specs.Shows.{IsPrepared, IsAmple}
-use Rattle.activation_region.proofs.Quiet.{reaches_itself}
+use Rattle.activation_region.proofs.Reach.{reaches_itself}
 use Rattle.region_signals.specs.Arms.{with_waiting}
 use Rattle.region_signals.specs.Indexed.{BeginsThere, IsRead}
 use Rattle.region_signals.specs.Raising.{ArmsHold, Raises}

@@ -29,6 +29,7 @@ use Rattle.region_signals.specs.Seeking.{Seeking}
 use Rattle.region_signals.proofs.Places.{place_at, at_asked}
 use Rattle.region_signals.proofs.Seeks.{around_is}
 use Rattle.region_signals.proofs.Waiting.{raiser_of, operands_fit, args_there, raiser_below}
+use Rattle.activation_region.proofs.Reach.{reaches_so, ends_alike}
 
 module _ (image : Image) (layout : Layout) (prepared : IsPrepared image layout) (region : List ℕ) (table : List Row) (r : Registers) (signal : SignalId) (args : ℕ)
     (ample : IsAmple layout region table r.top) (s : Stepped) (m : Store) (w : Raises image layout region table r signal args s m) where
@@ -91,7 +92,7 @@ module _ (image : Image) (layout : Layout) (prepared : IsPrepared image layout) 
 
   pub raise_spent : m.turns ≡ 0 → Ends image s (Ended Spent) m
   raise_spent none =
-      w.reaches.by (Ended Spent) m (subst (λ x. Ends image x (Ended Spent) m) (sym (raises_so ∙ none_left m.turns then_seeks none)) (stops (Ended Spent) m))
+      ends_alike image _ _ w.reaches (Ended Spent) m (subst (λ x. Ends image x (Ended Spent) m) (sym (raises_so ∙ none_left m.turns then_seeks none)) (stops (Ended Spent) m))
 
   abbrev spent : Store
   spent = record m { turns = m.turns - 1 }
@@ -125,5 +126,5 @@ module _ (image : Image) (layout : Layout) (prepared : IsPrepared image layout) 
         low = omega arith;
         source = args_stand.0;
         inside = args_stand.1;
-        reaches = record { by = λ end last h. w.reaches.by end last (subst (λ x. Ends image x end last) (sym so) h) };
+        reaches = reaches_so image _ _ _ w.reaches so;
       }

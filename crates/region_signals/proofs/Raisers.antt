@@ -37,7 +37,7 @@ use Rattle.activation_region.specs.Reaching.{Reaches, Shown}
 use Rattle.activation_region.proofs.Called.{runs_here, step_here}
 use Rattle.activation_region.proofs.Following.{began}
 use Rattle.activation_region.proofs.Placing.{code_here, fetched_here}
-use Rattle.activation_region.proofs.Quiet.{one_step, two_ways}
+use Rattle.activation_region.proofs.Reach.{one_step, two_ways}
 use Rattle.region_signals.specs.Laws.{is_own}
 use Rattle.region_signals.specs.Raising.{Raises}
 

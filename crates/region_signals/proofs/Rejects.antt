@@ -31,6 +31,7 @@ use Rattle.region_signals.specs.Seeking.{Seeking}
 use Rattle.region_signals.proofs.Frames.{frame_is}
 use Rattle.region_signals.proofs.Lefts.{below_left}
 use Rattle.region_signals.proofs.Places.{place_at, home_for, at_instance, at_procedure}
+use Rattle.activation_region.proofs.Reach.{reaches_so, ends_alike}
 
 -- What an activation is, by its row.
 
@@ -138,7 +139,7 @@ module _ (image : Image) (layout : Layout) (prepared : IsPrepared image layout) 
     not_frame unstuck frame =
         let f = frame_role a.role (subst (λ (k : Kind). IsKind k a.role) frame (kind_is image layout region table r w.procedure a S w.shows)) in
         let stuck : reject a.role S m ≡ Stops Stuck m = ap (λ role. reject role S m) f.1 in
-        unstuck Stuck m (w.reaches.by Stuck m (subst (λ x. Ends image x Stuck m) (sym stuck) (stops Stuck m))) refl
+        unstuck Stuck m (ends_alike image _ _ w.reaches Stuck m (subst (λ x. Ends image x Stuck m) (sym stuck) (stops Stuck m))) refl
 
     module _ (own n : ℕ) (signal : SignalId) (count : ℕ) (beyond : Search) (raise : (row_at table r.top).kind ≡ ArmRow own n (RaiseRow signal count beyond)) where
       role_is : (args : List ℕ) × (a.role ≡ InArm own n (ForRaise signal args beyond)) × (count ≡ length args)
@@ -173,7 +174,7 @@ module _ (image : Image) (layout : Layout) (prepared : IsPrepared image layout) 
             low = omega (arith, low);
             source = ap (λ k. part region (end_at (row_at table (r.top - 1)) (r.top - 1) layout) k) e ∙ args.0;
             inside = (let i = args.1 in omega (arith, i, e));
-            reaches = record { by = λ end last h. w.reaches.by end last (subst (λ x. Ends image x end last) (sym (ap (λ role. reject role S m) role_is.1)) h) };
+            reaches = reaches_so image _ _ _ w.reaches (ap (λ role. reject role S m) role_is.1);
           }
 
     module _ (own n : ℕ) (target : Target) (beyond : Search) (jump : (row_at table r.top).kind ≡ ArmRow own n (JumpRow target beyond)) where
@@ -194,5 +195,5 @@ module _ (image : Image) (layout : Layout) (prepared : IsPrepared image layout) 
             below = below_left image layout region table (over a) S w.shows.below;
             high = omega (arith, t, low);
             same = jump_role_is.2;
-            reaches = record { by = λ end last h. w.reaches.by end last (subst (λ x. Ends image x end last) (sym (ap (λ role. reject role S m) jump_role_is.1)) h) };
+            reaches = reaches_so image _ _ _ w.reaches (ap (λ role. reject role S m) jump_role_is.1);
           }

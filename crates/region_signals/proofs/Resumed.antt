@@ -34,7 +34,7 @@ use Rattle.activation_region.specs.Reaching.{Shown}
 use Rattle.activation_region.specs.Shows.{IsPrepared, Shows}
 use Rattle.activation_region.proofs.Following.{began}
 use Rattle.activation_region.proofs.GivingBack.{HasRoom}
-use Rattle.activation_region.proofs.Quiet.{one_step, two_ways}
+use Rattle.activation_region.proofs.Reach.{one_step, two_ways}
 use Rattle.activation_region.proofs.Tables.{row_there}
 use Rattle.region_signals.specs.Leaving.{resumes_with, Rejects}
 use Rattle.region_signals.proofs.Given.{given_room, given_shows, stands_there, here}

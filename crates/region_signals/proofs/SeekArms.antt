@@ -14,7 +14,7 @@ use Rattle.activation_region.specs.declared.row.Reason.TheVariants.{Raise as Rai
 use Rattle.activation_region.specs.declared.row.Row.{Row}
 use Rattle.activation_region.specs.Below.{Over, Raised, Below}
 use Rattle.activation_region.specs.Frames.{row_at}
-use Rattle.activation_region.proofs.Quiet.{two_ways}
+use Rattle.activation_region.proofs.Reach.{two_ways}
 use Rattle.region_signals.specs.declared.seeking.Landed.{Landed}
 use Rattle.region_signals.specs.Arms.{AddsArm, Awaits, CanEnter}
 use Rattle.region_signals.specs.Indexed.{AsksIn}

@@ -25,7 +25,7 @@ use Rattle.activation_region.specs.Below.{Over, Below}
 use Rattle.activation_region.specs.Frames.{row_at, owner_place}
 use Rattle.activation_region.specs.Reaching.{Reaches}
 use Rattle.activation_region.proofs.Located.{at_offset}
-use Rattle.activation_region.proofs.Quiet.{one_step, two_ways}
+use Rattle.activation_region.proofs.Reach.{one_step, two_ways, ends_alike}
 use Rattle.region_signals.specs.Indexed.{BeginsThere}
 use Rattle.region_signals.specs.Seeking.{Lands}
 use Rattle.region_signals.proofs.Places.{At, place_at, at_instance, at_owner, at_entry, at_code}
@@ -95,7 +95,7 @@ module _ (image : Image) (layout : Layout) (region : List ℕ) (table : List Row
     uncaught s reaches none lowest =
         let end : Ending = Ended (Uncaught signal) in
         let so : step image (Seeks signal args q search S m) ≡ Stops end m = outwards none ∙ ap (λ o. outward image signal args o S m) (sym own_is ∙ lowest) in
-        reaches.by end m (goes (Seeks signal args q search S m) end m (subst (λ y. Ends image y end m) (sym so) (stops end m)))
+        ends_alike image _ _ reaches end m (goes (Seeks signal args q search S m) end m (subst (λ y. Ends image y end m) (sym so) (stops end m)))
 
     -- the table of the activation under its frame is asked next
     pub further : (s : Stepped) (k : ℕ) (next : Search) → Reaches image s (Goes (Seeks signal args q search S m)) → answer ≡ Beyond

@@ -18,7 +18,7 @@ returns-clause-ends g c =
           (scene (feed (g.S.Source.left c.run_module-ended.new.input) (g.S.Source.faults c.run_module-ended.new.input))
           (stream (g.K.Sink.written c.run_module-ended.new.out) (g.K.Sink.faults c.run_module-ended.new.out)) c.run_module-ended.new.steps)
           c.run_module-ended.result ensures-it.ran ensures-it.counted ensures-it.broken_off ensures-it.cut_off ensures-it.breaks_counted
-          ensures-it.read_fault ensures-it.write_fault
+          ensures-it.cuts_counted ensures-it.read_fault ensures-it.write_fault
           (λ m. rw (ensures-it.no_memory_input m) (rw (ensures-it.no_memory_output m) (rw (ensures-it.no_memory_steps m) refl)))
           ensures-it.steps_stay,
       rw shown at c.told-status.ensures,

@@ -10,3 +10,7 @@ returns-clause-counted g c =
 pub returns-clause-breaks_counted : goal.returns-clause-breaks_counted
 returns-clause-breaks_counted g c = λ failed.
     record { code = c.in_ok-code.code; is_its = c.in_ok-code.ensures; breaks = c.run_code.ensures.breaks_counted failed }
+
+pub returns-clause-cuts_counted : goal.returns-clause-cuts_counted
+returns-clause-cuts_counted g c = λ failed.
+    record { code = c.in_ok-code.code; is_its = c.in_ok-code.ensures; cuts = c.run_code.ensures.cuts_counted failed }

@@ -1,6 +1,6 @@
-use Rattle.std.proofs.Common.{List, take, subst, sym, ap, ◌∙◌}
+use Rattle.std.proofs.Common.{List, take, subst}
 use Rattle.std.specs.List.{AllZip}
-use Rattle.std.proofs.lemmas.List.{take_all, take_more}
+use Rattle.std.proofs.lemmas.List.{take_all}
 use Rattle.code_forms.specs.declared.module_code.Arm.{Arm}
 use Rattle.code_forms.specs.declared.module_code.Phrase.{Phrase}
 use Rattle.ready_images.specs.Openings.{IsOpening, arms_in}

@@ -1,5 +1,5 @@
 use Rattle.std.proofs.Common.{◌≢◌, ◌-◌, arith}
-use Rattle.activation_region.proofs.Quiet.{reaches_itself}
+use Rattle.activation_region.proofs.Reach.{reaches_itself}
 use Rattle.region_signals.proofs.SeekLoop.{read_so, asked_so, asked_there, begins_there, lands_there, lands_so, own_low, uncaught_so, further_so}
 use Rattle.region_signals.proofs.seeking.seek.Goals as goal
 

@@ -7,6 +7,7 @@ use Rattle.activation_region.specs.Calling.{LeadsTo}
 use Rattle.region_signals.proofs.Landing.{each_asked, place_within}
 use Rattle.region_signals.proofs.SeekArms.{arm_runs, lands_awaits, can_enter, holds_then}
 use Rattle.region_signals.proofs.seeking.seek_arm.Goals as goal
+use Rattle.activation_region.proofs.Reach.{ends_alike}
 
 pub seek-requires-clause-rows : goal.seek-requires-clause-rows
 seek-requires-clause-rows c =
@@ -42,5 +43,5 @@ unfolding LeadsTo
 returns-in-None-clause-leads c s m turns w =
     let h = w.high in let l = w.low in
     subst (λ t. Ends c.args.image.now s (Ended (Uncaught c.args.signal)) (record m { turns = t })) turns
-    (w.reaches.by (Ended (Uncaught c.args.signal)) m
+    (ends_alike _ _ _ w.reaches (Ended (Uncaught c.args.signal)) m
     (c.in-None.ensures.seeks c.args.region.now.items (Raised c.args.signal w.args) w.activations w.args m w.below (omega (arith, h, l))))
