@@ -12,7 +12,7 @@ ghost use Rattle.region_calls.specs.declared.host.Reading.{Reading};
 ghost use Rattle.region_calls.specs.Hosting.{GoesBehind, ReadLeads, behind_call};
 ghost use Rattle.region_calls.specs.Hosts.{CallsHost, host_is};
 ghost use Rattle.region_signals.specs.Raising.{ArmsHold};
-ghost use Rattle.image_runs.specs.Onward.{CanGoOn, CountsFaults, Follows, HasRead, waits};
+ghost use Rattle.image_runs.specs.Onward.{CanGoOn, CountsFaults, Follows, HasRead, onward_or, waits};
 ghost use Rattle.image_runs.specs.SoFar.{AtHost, Carries, SoFar, Then};
 
 use crate::outcome::RunFault;
@@ -25,27 +25,30 @@ use ready_images::Prepared;
 use region_calls::{Coming, HostProcedure, ReadTurn, Reading, Writing, read, write};
 use signaller::SignalId;
 
-// Writes what the call of the topmost activation says.
+// Writes what the call of the topmost activation says, which goes on in its registers.
 #[inline(always)]
 fn write_out<K: Sink>(
     writing: Writing,
     image: &Image,
     parts: &Prepared,
-    r: Registers,
+    r: &mut Registers,
     out: &mut K,
-) -> Result<Turn, RunFault>
+) -> Result<Option<Turn>, RunFault>
     requires ready { IsReady image.now parts.now }
-    requires ample { IsAmple parts.now.layout parts.now.region.items parts.now.rows.items r.top }
-    requires calls { CallsHost image.now parts.now.layout parts.now.region.items parts.now.rows.items r (host_is (Write writing)) }
-    ensures goes { IfOk result (λ turn. turn ≡ Goes (behind_call (Write writing) r)) }
+    requires ample { IsAmple parts.now.layout parts.now.region.items parts.now.rows.items r.old.top }
+    requires calls { CallsHost image.now parts.now.layout parts.now.region.items parts.now.rows.items r.old (host_is (Write writing)) }
+    ensures goes { IfOk (onward_or result r.new) (λ turn. turn ≡ Goes (behind_call (Write writing) r.old)) }
     ensures follows { (bound : ℕ) (control : List ℕ) (turns begun : ℕ) (ahead : Option Coming) (told left held : Option (List ℕ))
         → length control ≤ length image.now.control
-        → SoFar image.now bound parts.now control turns begun ahead told left held (K.written out.old) (AtHost image.now parts.now r (Write writing))
-        → Then image.now bound parts.now control turns begun ahead told left held (K.written out.new) result }
-    ensures faults { (read : ℕ) → CountsFaults result read read (K.faults out.old) (K.faults out.new) }
+        → SoFar image.now bound parts.now control turns begun ahead told left held (K.written out.old) (AtHost image.now parts.now r.old (Write writing))
+        → Then image.now bound parts.now control turns begun ahead told left held (K.written out.new) (onward_or result r.new) }
+    ensures faults { (read : ℕ) → CountsFaults (onward_or result r.new) read read (K.faults out.old) (K.faults out.new) }
 {
-    match write(writing, image, parts.region.as_slice(), r, out) {
-        Ok(after) => Ok(Turn::Goes(after)),
+    match write(writing, image, parts.region.as_slice(), *r, out) {
+        Ok(after) => {
+            *r = after;
+            Ok(None)
+        }
         Err(_) => Err(RunFault::WriteFault),
     }
 }
@@ -107,32 +110,79 @@ fn read_in<S: Source>(
     }
 }
 
+// Where an activation goes on, the registers are its; else what a call of the host leads to is given.
+#[inline(always)]
+fn settle_told(told: Result<Turn, RunFault>, r: &mut Registers) -> Result<Option<Turn>, RunFault>
+    ensures { onward_or result r.new ≡ told }
+{
+    match told {
+        Ok(turn) => match turn {
+            Turn::Goes(after) => {
+                *r = after;
+                Ok(None)
+            }
+            _ => Ok(Some(turn)),
+        },
+        Err(fault) => Err(fault),
+    }
+}
+
+// The same in the registers of the activation that goes on, unless something else is told.
+#[inline(always)]
+fn read_settled<S: Source>(
+    reading: Reading,
+    image: &Image,
+    parts: &mut Prepared,
+    r: &mut Registers,
+    ahead: &mut Option<Coming>,
+    turns: &mut u64,
+    input: &mut S,
+) -> Result<Option<Turn>, RunFault>
+    requires ready { IsReady image.now parts.old }
+    requires ample { IsAmple parts.old.layout parts.old.region.items parts.old.rows.items r.old.top }
+    requires arms { ArmsHold image.now parts.old.rows.items r.old.top }
+    requires run { (holds : Option (List ℕ))
+        × CanGoOn image.now parts.old turns.old ahead.old (S.left input.old) holds (AtHost image.now parts.old r.old (Read reading)) }
+    ensures ready { IsReady image.now parts.new }
+    ensures carries { IfOk (onward_or result r.new) (Carries image.now parts.new) }
+    ensures waits_not { IfOk (onward_or result r.new) (λ turn. waits turn ≡ 0) }
+    ensures follows { (holds : Option (List ℕ))
+        → Follows image.now parts.old parts.new turns.old turns.new 0 ahead.old ahead.new (S.left input.old) (S.left input.new) holds holds
+        (AtHost image.now parts.old r.old (Read reading)) (onward_or result r.new) }
+    ensures faults { (written : ℕ) → CountsFaults (onward_or result r.new) (S.faults input.old) (S.faults input.new) written written }
+{
+    let told = read_in(reading, image, parts, *r, ahead, turns, input);
+    settle_told(told, r)
+}
+
 /// Does the call of the topmost activation, of a procedure of the host: the run goes on, or breaks off where the source or
-/// the sink fails.
+/// the sink fails. The registers are those of the activation that goes on, unless something else is told.
 #[inline(always)]
 pub(crate) fn call_host<S: Source, K: Sink>(
     host: HostProcedure,
     image: &Image,
     parts: &mut Prepared,
-    r: Registers,
+    r: &mut Registers,
     ahead: &mut Option<Coming>,
     turns: &mut u64,
     input: &mut S,
     out: &mut K,
-) -> Result<Turn, RunFault>
+) -> Result<Option<Turn>, RunFault>
     requires ready { IsReady image.now parts.old }
-    requires ample { IsAmple parts.old.layout parts.old.region.items parts.old.rows.items r.top }
-    requires arms { ArmsHold image.now parts.old.rows.items r.top }
-    requires run { CanGoOn image.now parts.old turns.old ahead.old (S.left input.old) (K.written out.old) (AtHost image.now parts.old r host) }
+    requires ample { IsAmple parts.old.layout parts.old.region.items parts.old.rows.items r.old.top }
+    requires arms { ArmsHold image.now parts.old.rows.items r.old.top }
+    requires run { CanGoOn image.now parts.old turns.old ahead.old (S.left input.old) (K.written out.old) (AtHost image.now parts.old r.old host) }
     ensures ready { IsReady image.now parts.new }
-    ensures carries { IfOk result (Carries image.now parts.new) }
-    ensures waits_not { IfOk result (λ turn. waits turn ≡ 0) }
+    ensures carries { IfOk (onward_or result r.new) (Carries image.now parts.new) }
+    ensures waits_not { IfOk (onward_or result r.new) (λ turn. waits turn ≡ 0) }
     ensures follows { Follows image.now parts.old parts.new turns.old turns.new 0 ahead.old ahead.new (S.left input.old) (S.left input.new)
-        (K.written out.old) (K.written out.new) (AtHost image.now parts.old r host) result }
-    ensures faults { CountsFaults result (S.faults input.old) (S.faults input.new) (K.faults out.old) (K.faults out.new) }
+        (K.written out.old) (K.written out.new) (AtHost image.now parts.old r.old host) (onward_or result r.new) }
+    ensures faults { CountsFaults (onward_or result r.new) (S.faults input.old) (S.faults input.new) (K.faults out.old) (K.faults out.new) }
 {
     match host {
         HostProcedure::Write(writing) => write_out(writing, image, parts, r, out),
-        HostProcedure::Read(reading) => { read_in(reading, image, parts, r, ahead, turns, input) }
+        HostProcedure::Read(reading) => {
+            read_settled(reading, image, parts, r, ahead, turns, input)
+        }
     }
 }

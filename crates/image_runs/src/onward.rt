@@ -19,18 +19,14 @@ use ready_images::Prepared;
 use region_calls::{Coming, LinkTurn};
 use std::sync::ledger::Ledger;
 
-// Where an activation goes on, the registers are its; else what a call of the host leads to is given.
-#[inline(always)]
-fn settle_told(told: Result<Turn, RunFault>, r: &mut Registers) -> Result<Option<Turn>, RunFault>
-    ensures { onward_or result r.new ≡ told }
+// What an activation that may go on in its registers leads to.
+fn told_of(other: Result<Option<Turn>, RunFault>, r: Registers) -> Result<Turn, RunFault>
+    ensures { result ≡ onward_or other r }
 {
-    match told {
+    match other {
         Ok(turn) => match turn {
-            Turn::Goes(after) => {
-                *r = after;
-                Ok(None)
-            }
-            _ => Ok(Some(turn)),
+            None => Ok(Turn::Goes(r)),
+            Some(turn) => Ok(turn),
         },
         Err(fault) => Err(fault),
     }
@@ -69,8 +65,8 @@ fn go_on<S: Source, K: Sink, L: Ledger>(
         Some(linked) => match linked {
             LinkTurn::Done(turn) => Ok(Some(turn)),
             LinkTurn::Host(host) => {
-                let told = call_host(host, image, parts, at, ahead, turns, input, out);
-                settle_told(told, r)
+                *r = at;
+                call_host(host, image, parts, r, ahead, turns, input, out)
             }
         },
     }
@@ -138,7 +134,11 @@ fn call_then<S: Source, K: Sink>(
 {
     match call_pending(image, parts, r, turns) {
         LinkTurn::Done(turn) => Ok(turn),
-        LinkTurn::Host(host) => call_host(host, image, parts, r, ahead, turns, input, out),
+        LinkTurn::Host(host) => {
+            let mut at = r;
+            let other = call_host(host, image, parts, &mut at, ahead, turns, input, out);
+            told_of(other, at)
+        }
     }
 }
 

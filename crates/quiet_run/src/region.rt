@@ -6,7 +6,7 @@ ghost use Rattle.quiet_run.specs.Flat.{part, with_part, behind};
 use crate::registers::Registers;
 
 /// Copies words of the region to a part of it that has none of them.
-#[inline(always)]
+#[inline(never)]
 pub(crate) fn copy(region: &mut [u16], from: usize, to: usize, count: usize)
     requires apart { (from + count ≤ to) ⊎ (to + count ≤ from) }
     requires source { from + count ≤ length region.old }
@@ -19,7 +19,7 @@ pub(crate) fn copy(region: &mut [u16], from: usize, to: usize, count: usize)
 }
 
 /// Copies words of another list to the region, or of the region to another list.
-#[inline(always)]
+#[inline(never)]
 pub(crate) fn bring(words: &[u16], from: usize, region: &mut [u16], to: usize, count: usize)
     requires source { from + count ≤ length words.now }
     requires room { to + count ≤ length region.old }
@@ -31,7 +31,7 @@ pub(crate) fn bring(words: &[u16], from: usize, region: &mut [u16], to: usize, c
 }
 
 /// Sets words to 0.
-#[inline(always)]
+#[inline(never)]
 pub(crate) fn clear(region: &mut [u16], at: usize, count: usize)
     requires room { at + count ≤ length region.old }
     ensures { region.new ≡ with_part region.old at (replicate count 0) }

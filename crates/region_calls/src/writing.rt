@@ -1,6 +1,7 @@
 //! The procedures of the host that write.
 
 ghost use Rattle.std.specs.Prelude.{◌≡◌, ◌≤◌, ◌++◌, Some, IfOk, IfSome, OnOk, OnErr};
+ghost use Rattle.mesa_base.specs.Decimal.{signed_word};
 ghost use Rattle.mesa_base.specs.Outside.{AppendsPrefix, Rose};
 ghost use Rattle.region_calls.specs.declared.host.HostProcedure.TheVariants.{Write};
 ghost use Rattle.region_calls.specs.Hosting.{CanCall, WritesOn, behind_call, text_written};
@@ -10,6 +11,17 @@ use crate::look_ups::text_of;
 use mesa_base::{Decimal, Failed, Sink};
 use object_files::Image;
 use quiet_run::Registers;
+
+// Puts a number. Its digits are made apart, so that a call that writes a character has no room to make for them.
+#[inline(never)]
+fn put_decimal<K: Sink>(word: u16, out: &mut K) -> Result<(), Failed>
+    ensures wrote { OnOk result (IfSome (K.written out.old) (λ bytes. K.written out.new ≡ Some (bytes ++ signed_word word))) }
+    ensures partly { OnErr result (IfSome (K.written out.old) (λ bytes. AppendsPrefix bytes (signed_word word) (K.written out.new))) }
+    ensures fault { OnErr result (Rose (K.faults out.old) (K.faults out.new)) }
+    ensures faults_stay { K.faults out.old ≤ K.faults out.new }
+{
+    out.put(Decimal::signed(word).as_bytes())
+}
 
 // Puts what the topmost operands say.
 fn put_operands<K: Sink>(
@@ -30,7 +42,7 @@ fn put_operands<K: Sink>(
     let top = region[r.sp - 1];
     match writing {
         Writing::Char => out.put(&[(top % 256) as u8]),
-        Writing::Decimal => out.put(Decimal::signed(top).as_bytes()),
+        Writing::Decimal => put_decimal(top, out),
         Writing::Text => out.put(text_of(image, region[r.sp - 2], top)),
     }
 }

@@ -14,7 +14,7 @@ use Rattle.image_runs.proofs.hosting.write_out.Goals as goal
 
 pub write-requires : goal.write-requires
 write-requires g c = record {
-  can = subst (λ (x : List ℕ). CanCall x c.args.r (Write c.args.writing)) (sym c.as_slice.ensures.value) (record {
+  can = subst (λ (x : List ℕ). CanCall x c.args.r.now (Write c.args.writing)) (sym c.as_slice.ensures.value) (record {
     image = c.args.image.now;
     layout = c.args.parts.now.layout;
     table = c.args.parts.now.rows.items;
@@ -26,28 +26,28 @@ write-requires g c = record {
 
 pub returns-in-Ok-clause-follows : goal.returns-in-Ok-clause-follows
 returns-in-Ok-clause-follows g c bound control turns begun ahead told left held short so =
-    let piece : List ℕ = text_written c.args.image.now c.as_slice.result.now c.args.r c.args.writing in
-    let leads : WritesOn c.args.image.now c.args.parts.now.region.items c.args.r c.args.writing piece c.in-Ok.after =
-    subst (λ (q : Registers). WritesOn c.args.image.now c.args.parts.now.region.items c.args.r c.args.writing piece q) (sym c.in-Ok.ensures.behind)
-    (subst (λ (x : List ℕ). WritesOn c.args.image.now x c.args.r c.args.writing piece (behind_call (Write c.args.writing) c.args.r)) c.as_slice.ensures.value c.in-Ok.ensures.leads) in
+    let piece : List ℕ = text_written c.args.image.now c.as_slice.result.now c.args.r.now c.args.writing in
+    let leads : WritesOn c.args.image.now c.args.parts.now.region.items c.args.r.now c.args.writing piece c.in-Ok.after =
+    subst (λ (q : Registers). WritesOn c.args.image.now c.args.parts.now.region.items c.args.r.now c.args.writing piece q) (sym c.in-Ok.ensures.behind)
+    (subst (λ (x : List ℕ). WritesOn c.args.image.now x c.args.r.now c.args.writing piece (behind_call (Write c.args.writing) c.args.r.now)) c.as_slice.ensures.value c.in-Ok.ensures.leads) in
     written c.args.image.now (ready_can_run c.args.image.now c.args.parts.now c.requires.ready) bound told left held (g.K.Sink.written c.args.out.now) ahead c.args.parts.now control turns begun
-    c.args.r c.in-Ok.after c.args.writing piece (g.K.Sink.written c.write.new.out) (ready_is_prepared c.args.image.now c.args.parts.now c.requires.ready) c.requires.ample leads c.in-Ok.ensures.wrote so
+    c.args.r.now c.in-Ok.after c.args.writing piece (g.K.Sink.written c.write.new.out) (ready_is_prepared c.args.image.now c.args.parts.now c.requires.ready) c.requires.ample leads c.in-Ok.ensures.wrote so
 
 pub returns-in-Err-clause-follows : goal.returns-in-Err-clause-follows
 returns-in-Err-clause-follows g c bound control turns begun ahead told left held short so =
-    let piece : List ℕ = text_written c.args.image.now c.as_slice.result.now c.args.r c.args.writing in
-    let behind : Registers = behind_call (Write c.args.writing) c.args.r in
-    let leads : WritesOn c.args.image.now c.args.parts.now.region.items c.args.r c.args.writing piece behind =
-    subst (λ (x : List ℕ). WritesOn c.args.image.now x c.args.r c.args.writing piece behind) c.as_slice.ensures.value c.in-Err.ensures.leads in
+    let piece : List ℕ = text_written c.args.image.now c.as_slice.result.now c.args.r.now c.args.writing in
+    let behind : Registers = behind_call (Write c.args.writing) c.args.r.now in
+    let leads : WritesOn c.args.image.now c.args.parts.now.region.items c.args.r.now c.args.writing piece behind =
+    subst (λ (x : List ℕ). WritesOn c.args.image.now x c.args.r.now c.args.writing piece behind) c.as_slice.ensures.value c.in-Err.ensures.leads in
     let prepared = ready_is_prepared c.args.image.now c.args.parts.now c.requires.ready in
-    let partly = subst (λ (x : List ℕ). IfSome (g.K.Sink.written c.args.out.now) (λ bytes. AppendsPrefix bytes (text_written c.args.image.now x c.args.r c.args.writing) (g.K.Sink.written c.write.new.out)))
+    let partly = subst (λ (x : List ℕ). IfSome (g.K.Sink.written c.args.out.now) (λ bytes. AppendsPrefix bytes (text_written c.args.image.now x c.args.r.now c.args.writing) (g.K.Sink.written c.write.new.out)))
     c.as_slice.ensures.value c.in-Err.ensures.partly in (
-      breaks_at_write c.args.image.now bound c.args.parts.now control turns begun ahead told left held (g.K.Sink.written c.args.out.now) (g.K.Sink.written c.write.new.out) c.args.r c.args.writing
+      breaks_at_write c.args.image.now bound c.args.parts.now control turns begun ahead told left held (g.K.Sink.written c.args.out.now) (g.K.Sink.written c.write.new.out) c.args.r.now c.args.writing
           prepared c.requires.ample partly so,
       cut_off c.args.image.now bound c.args.parts.now control turns begun ahead told left held (g.K.Sink.written c.args.out.now) prepared.valid c.requires.ample.long (omega (arith, short))
           behind (g.K.Sink.written c.write.new.out) so.got so.output piece so.bytes so.byte so.took so.wrote c.in-Err.ensures.partly
           (wrote_on c.args.image.now (ready_can_run c.args.image.now c.args.parts.now c.requires.ready) bound told left held (g.K.Sink.written c.args.out.now) ahead c.args.parts.now control turns begun
-          c.args.r behind c.args.writing piece prepared c.requires.ample leads so),
+          c.args.r.now behind c.args.writing piece prepared c.requires.ample leads so),
     )
 
 pub returns-in-Ok-clause-faults : goal.returns-in-Ok-clause-faults

@@ -1,11 +1,15 @@
-use Rattle.std.proofs.Common.{List, sym, subst, arith}
+use Rattle.std.proofs.Common.{◌≡◌, List, Result, sym, subst, arith}
+use Rattle.std.specs.Prelude.{IfOk}
+use Rattle.activation_region.specs.declared.calling.Turn.{Turn}
 use Rattle.activation_region.specs.declared.calling.Turn.TheVariants.{Pending}
 use Rattle.activation_region.specs.declared.row.Row.{Row}
 use Rattle.region_calls.specs.declared.linking.LinkTurn.TheVariants.{Done, Host}
 use Rattle.region_calls.specs.Linking.{WaitsToCall}
 use Rattle.region_signals.specs.Raising.{ArmsHold}
 use Rattle.ready_images.proofs.Running.{ready_can_run}
-use Rattle.image_runs.specs.SoFar.{At}
+use Rattle.image_runs.specs.declared.outcome.RunFault.{RunFault}
+use Rattle.image_runs.specs.Onward.{CountsFaults, Follows, onward_or, waits}
+use Rattle.image_runs.specs.SoFar.{At, Carries}
 use Rattle.image_runs.proofs.Faults.{none_failed}
 use Rattle.image_runs.proofs.Onwards.{AtLink, along, after, waits_so, pend_moves, done_there, top_low, added_waits}
 use Rattle.image_runs.proofs.Touches.{arms_added}
@@ -16,11 +20,11 @@ call_pending-requires-clause-waits g c =
     waits_so c.args.image.now (ready_can_run c.args.image.now c.args.parts.now c.requires.carries.ready) c.args.parts.now c.args.turns.now c.args.ahead.now (g.S.Source.left c.args.input.now)
     (g.K.Sink.written c.args.out.now) c.args.r c.requires.run
 
-pub call_host-requires-clause-arms : goal.call_host-requires-clause-arms
-call_host-requires-clause-arms g c = subst (λ (x : List Row). ArmsHold c.args.image.now x c.args.r.top) (sym c.in-Host.ensures.adds) c.requires.carries.arms
+pub call_host-other-requires-clause-arms : goal.call_host-other-requires-clause-arms
+call_host-other-requires-clause-arms g c = subst (λ (x : List Row). ArmsHold c.args.image.now x c.args.r.top) (sym c.in-Host.ensures.adds) c.requires.carries.arms
 
-pub call_host-requires-clause-run : goal.call_host-requires-clause-run
-call_host-requires-clause-run g c =
+pub call_host-other-requires-clause-run : goal.call_host-other-requires-clause-run
+call_host-other-requires-clause-run g c =
     along c.args.image.now c.args.parts.now c.call_pending.new.parts c.args.turns.now c.call_pending.new.turns c.args.ahead.now c.args.ahead.now (g.S.Source.left c.args.input.now) (g.S.Source.left c.args.input.now)
     (g.K.Sink.written c.args.out.now) (g.K.Sink.written c.args.out.now) (At c.args.image.now c.args.parts.now (Pending c.args.r))
     (AtLink c.args.image.now c.call_pending.new.parts c.args.r (Host c.in-Host.host)) 0 c.requires.run
@@ -54,11 +58,27 @@ returns-in-Done-clause-follows g c =
 pub returns-in-Done-clause-faults : goal.returns-in-Done-clause-faults
 returns-in-Done-clause-faults g c = none_failed c.in-Done.turn _ _ _ _ (omega arith) (omega arith)
 
+pub returns-in-Host-clause-carries : goal.returns-in-Host-clause-carries
+returns-in-Host-clause-carries g c =
+    subst (λ (q : Result Turn RunFault). IfOk q (Carries c.args.image.now c.call_host-other.new.parts)) (sym c.told_of.ensures) c.call_host-other.ensures.carries
+
+pub returns-in-Host-clause-waits_not : goal.returns-in-Host-clause-waits_not
+returns-in-Host-clause-waits_not g c =
+    subst (λ (q : Result Turn RunFault). IfOk q (λ turn. waits turn ≡ 0)) (sym c.told_of.ensures) c.call_host-other.ensures.waits_not
+
+pub returns-in-Host-clause-faults : goal.returns-in-Host-clause-faults
+returns-in-Host-clause-faults g c =
+    subst (λ (q : Result Turn RunFault). CountsFaults q (g.S.Source.faults c.args.input.now) (g.S.Source.faults c.call_host-other.new.input) (g.K.Sink.faults c.args.out.now) (g.K.Sink.faults c.call_host-other.new.out))
+    (sym c.told_of.ensures) c.call_host-other.ensures.faults
+
 pub returns-in-Host-clause-follows : goal.returns-in-Host-clause-follows
 returns-in-Host-clause-follows g c =
-    after c.args.image.now c.args.parts.now c.call_pending.new.parts c.args.turns.now c.call_pending.new.turns c.args.ahead.now c.args.ahead.now (g.S.Source.left c.args.input.now) (g.S.Source.left c.args.input.now)
-    (g.K.Sink.written c.args.out.now) (g.K.Sink.written c.args.out.now) c.call_host.new.parts c.call_host.new.turns c.call_host.new.ahead (g.S.Source.left c.call_host.new.input) (g.K.Sink.written c.call_host.new.out)
-    (At c.args.image.now c.args.parts.now (Pending c.args.r)) (AtLink c.args.image.now c.call_pending.new.parts c.args.r (Host c.in-Host.host)) c.call_host.result 0 0 0
+    subst (λ (q : Result Turn RunFault). Follows c.args.image.now c.args.parts.now c.call_host-other.new.parts c.args.turns.now c.call_host-other.new.turns 0 c.args.ahead.now c.call_host-other.new.ahead
+    (g.S.Source.left c.args.input.now) (g.S.Source.left c.call_host-other.new.input) (g.K.Sink.written c.args.out.now) (g.K.Sink.written c.call_host-other.new.out)
+    (At c.args.image.now c.args.parts.now (Pending c.args.r)) q) (sym c.told_of.ensures)
+    (after c.args.image.now c.args.parts.now c.call_pending.new.parts c.args.turns.now c.call_pending.new.turns c.args.ahead.now c.args.ahead.now (g.S.Source.left c.args.input.now) (g.S.Source.left c.args.input.now)
+    (g.K.Sink.written c.args.out.now) (g.K.Sink.written c.args.out.now) c.call_host-other.new.parts c.call_host-other.new.turns c.call_host-other.new.ahead (g.S.Source.left c.call_host-other.new.input) (g.K.Sink.written c.call_host-other.new.out)
+    (At c.args.image.now c.args.parts.now (Pending c.args.r)) (AtLink c.args.image.now c.call_pending.new.parts c.args.r (Host c.in-Host.host)) (onward_or c.call_host-other.result c.call_host-other.new.r) 0 0 0
     (pend_moves c.args.image.now (ready_can_run c.args.image.now c.args.parts.now c.requires.carries.ready) c.args.parts.now c.call_pending.new.parts c.args.turns.now c.args.ahead.now
     (g.S.Source.left c.args.input.now) (g.K.Sink.written c.args.out.now) c.args.r c.call_pending.new.turns (Host c.in-Host.host) c.call_pending.ensures.globals c.in-Host.ensures.leads)
-    c.call_host.ensures.follows (omega arith)
+    c.call_host-other.ensures.follows (omega arith))

@@ -12,7 +12,7 @@ use Rattle.ready_images.proofs.Preparing.{ready_is_prepared}
 use Rattle.ready_images.proofs.Running.{ready_can_run}
 use Rattle.image_runs.specs.declared.outcome.RunFault.{RunFault}
 use Rattle.image_runs.specs.Happening.{HoldsOnLink, linked_or}
-use Rattle.image_runs.specs.Onward.{CountsFaults, Follows}
+use Rattle.image_runs.specs.Onward.{onward_or}
 use Rattle.image_runs.specs.SoFar.{At, Carries}
 use Rattle.image_runs.proofs.Faults.{none_failed, settled_faults}
 use Rattle.image_runs.proofs.Onwards.{AtLink, Moves, along, after, stands_so, few_begun, pauses_then, links_then, done_there}
@@ -39,18 +39,18 @@ happen-requires-clause-pauses g c =
     (g.S.Source.left c.args.input.now) (g.K.Sink.written c.args.out.now) c.args.r.now c.run_top-pause.result (c.run_top-pause.new.steps - c.args.steps.now)
     c.run_top-pause.ensures.marks some c.run_top-pause.ensures.leads c.requires.run
 
-pub call_host-told-requires-clause-ample : goal.call_host-told-requires-clause-ample
-call_host-told-requires-clause-ample g c =
+pub call_host-requires-clause-ample : goal.call_host-requires-clause-ample
+call_host-requires-clause-ample g c =
     let is = ap (λ (o : Option LinkTurn). linked_or o c.happen.new.r) c.in-Some.is ∙ c.in-Host.is in
     subst (λ (l : LinkTurn). IsAmpleForLink c.happen.new.parts.layout c.happen.new.parts.region.items c.happen.new.parts.rows.items c.run_top-pause.result.registers l) is c.happen.ensures.ample
 
-pub call_host-told-requires-clause-arms : goal.call_host-told-requires-clause-arms
-call_host-told-requires-clause-arms g c =
+pub call_host-requires-clause-arms : goal.call_host-requires-clause-arms
+call_host-requires-clause-arms g c =
     let is = ap (λ (o : Option LinkTurn). linked_or o c.happen.new.r) c.in-Some.is ∙ c.in-Host.is in
     subst (λ (l : LinkTurn). HoldsOnLink c.args.image.now c.happen.new.parts.rows.items c.run_top-pause.result.registers l) is c.happen.ensures.arms
 
-pub call_host-told-requires-clause-run : goal.call_host-told-requires-clause-run
-call_host-told-requires-clause-run g c =
+pub call_host-requires-clause-run : goal.call_host-requires-clause-run
+call_host-requires-clause-run g c =
     let some : 0 < c.run_top-pause.new.steps - c.args.steps.now = let k = c.run_top-pause.ensures.counted in omega (arith, k) in
     let is = ap (λ (o : Option LinkTurn). linked_or o c.happen.new.r) c.in-Some.is ∙ c.in-Host.is in
     along c.args.image.now c.args.parts.now c.happen.new.parts c.args.turns.now c.happen.new.turns c.args.ahead.now c.args.ahead.now (g.S.Source.left c.args.input.now) (g.S.Source.left c.args.input.now)
@@ -139,18 +139,15 @@ returns-in-Done-clause-faults g c =
     none_failed (Some c.in-Done.turn) _ _ _ _ (omega arith) (omega arith)
 
 pub returns-in-Host-clause-carries : goal.returns-in-Host-clause-carries
-returns-in-Host-clause-carries g c =
-    subst (λ (q : Result Turn RunFault). IfOk q (Carries c.args.image.now c.call_host-told.new.parts)) (sym c.settle_told.ensures) c.call_host-told.ensures.carries
+returns-in-Host-clause-carries g c = c.call_host.ensures.carries
 
 pub returns-in-Host-clause-follows : goal.returns-in-Host-clause-follows
 returns-in-Host-clause-follows g c =
     let some : 0 < c.run_top-pause.new.steps - c.args.steps.now = let k = c.run_top-pause.ensures.counted in omega (arith, k) in
     let is = ap (λ (o : Option LinkTurn). linked_or o c.happen.new.r) c.in-Some.is ∙ c.in-Host.is in
-    subst (λ (q : Result Turn RunFault). Follows c.args.image.now c.args.parts.now c.call_host-told.new.parts c.args.turns.now c.call_host-told.new.turns (c.run_top-pause.new.steps - c.args.steps.now) c.args.ahead.now c.call_host-told.new.ahead
-    (g.S.Source.left c.args.input.now) (g.S.Source.left c.call_host-told.new.input) (g.K.Sink.written c.args.out.now) (g.K.Sink.written c.call_host-told.new.out) (At c.args.image.now c.args.parts.now (Goes c.args.r.now)) q) (sym c.settle_told.ensures)
-    (after c.args.image.now c.args.parts.now c.happen.new.parts c.args.turns.now c.happen.new.turns c.args.ahead.now c.args.ahead.now (g.S.Source.left c.args.input.now) (g.S.Source.left c.args.input.now)
-    (g.K.Sink.written c.args.out.now) (g.K.Sink.written c.args.out.now) c.call_host-told.new.parts c.call_host-told.new.turns c.call_host-told.new.ahead (g.S.Source.left c.call_host-told.new.input) (g.K.Sink.written c.call_host-told.new.out)
-    (At c.args.image.now c.args.parts.now (Goes c.args.r.now)) (AtLink c.args.image.now c.happen.new.parts c.run_top-pause.result.registers (Host c.in-Host.host)) c.call_host-told.result
+    after c.args.image.now c.args.parts.now c.happen.new.parts c.args.turns.now c.happen.new.turns c.args.ahead.now c.args.ahead.now (g.S.Source.left c.args.input.now) (g.S.Source.left c.args.input.now)
+    (g.K.Sink.written c.args.out.now) (g.K.Sink.written c.args.out.now) c.call_host.new.parts c.call_host.new.turns c.call_host.new.ahead (g.S.Source.left c.call_host.new.input) (g.K.Sink.written c.call_host.new.out)
+    (At c.args.image.now c.args.parts.now (Goes c.args.r.now)) (AtLink c.args.image.now c.happen.new.parts c.run_top-pause.result.registers (Host c.in-Host.host)) (onward_or c.call_host.result c.call_host.new.r)
     (c.run_top-pause.new.steps - c.args.steps.now) 0 (c.run_top-pause.new.steps - c.args.steps.now)
     (subst (λ (l : LinkTurn). Moves c.args.image.now c.args.parts.now c.happen.new.parts c.args.turns.now c.happen.new.turns (c.run_top-pause.new.steps - c.args.steps.now)
     c.args.ahead.now c.args.ahead.now (g.S.Source.left c.args.input.now) (g.S.Source.left c.args.input.now) (g.K.Sink.written c.args.out.now) (g.K.Sink.written c.args.out.now)
@@ -158,10 +155,9 @@ returns-in-Host-clause-follows g c =
     (links_then c.args.image.now (ready_can_run c.args.image.now c.args.parts.now c.requires.carries.ready) c.args.parts.now c.run_top-pause.new.parts c.happen.new.parts c.args.turns.now c.happen.new.turns
     c.args.ahead.now (g.S.Source.left c.args.input.now) (g.K.Sink.written c.args.out.now) c.args.r.now c.run_top-pause.result (c.run_top-pause.new.steps - c.args.steps.now) (linked_or c.happen.result c.happen.new.r)
     c.run_top-pause.ensures.marks some c.run_top-pause.ensures.leads c.happen.ensures.globals c.happen.ensures.leads))
-    c.call_host-told.ensures.follows (omega arith))
+    c.call_host.ensures.follows (omega arith)
 
 pub returns-in-Host-clause-faults : goal.returns-in-Host-clause-faults
 returns-in-Host-clause-faults g c =
-    settled_faults c.settle_told.result c.settle_told.new.r _ _ _ _
-    (subst (λ (q : Result Turn RunFault). CountsFaults q (g.S.Source.faults c.args.input.now) (g.S.Source.faults c.call_host-told.new.input) (g.K.Sink.faults c.args.out.now) (g.K.Sink.faults c.call_host-told.new.out))
-    (sym c.settle_told.ensures) c.call_host-told.ensures.faults)
+    settled_faults c.call_host.result c.call_host.new.r (g.S.Source.faults c.args.input.now) (g.S.Source.faults c.call_host.new.input) (g.K.Sink.faults c.args.out.now) (g.K.Sink.faults c.call_host.new.out)
+    c.call_host.ensures.faults
