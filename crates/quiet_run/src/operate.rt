@@ -1,18 +1,17 @@
 //! The instructions that operate on the topmost operands.
 
-ghost use Rattle.std.specs.Prelude.{◌≡◌, ℕ, List, ◌+◌, ◌*◌, ◌<◌, ◌≤◌, length, nat_lt, slice_index, slice_set, ◌-◌};
+ghost use Rattle.std.specs.Prelude.{◌≡◌, ℕ, List, ◌+◌, ◌*◌, ◌<◌, ◌≤◌, length, nat_eq, nat_lt, slice_index, slice_set, ◌-◌};
 ghost use Rattle.mesa_types.specs.declared.typed_parts.Range.TheVariants.{From};
 ghost use Rattle.mesa_types.specs.Operators.{wrap, quotient, remainder, related, fits, by_divisor, byte_at};
 ghost use Rattle.mesa_types.specs.Operators as spec;
 ghost use Rattle.mesa_types.specs.declared.relation.Relation.TheVariants.{Less};
 ghost use Rattle.machine_steps.specs.LookUps.{text_of};
-ghost use Rattle.quiet_run.specs.Flat.{FlowsInRegion, behind, operand, over, over_tried, in_bounds, leaves, operates};
-ghost use Rattle.quiet_run.specs.Fits.{Holds, FitsOperator};
+ghost use Rattle.quiet_run.specs.Flat.{FlowsInRegion, behind, operand, over, over_tried, in_bounds, leaves};
+ghost use Rattle.quiet_run.specs.Fits.{Holds};
 
 use crate::region::{leave, operand};
 use crate::registers::{Registers, Why};
 use crate::texts::text;
-use code_forms::Instruction;
 use mesa_types::{Base, Range, Relation, fits, opposite, quotient, related, remainder, truth};
 use object_files::Image;
 
@@ -36,7 +35,7 @@ fn second(region: &[u16], r: &Registers) -> u16
 /// An offset, plus an index times the size of an element.
 #[inline(always)]
 #[tactic(auto, unfolding(mesa_types::specs::Operators::wrap, crate::specs::Flat::Flows))]
-fn index(count: u16, size: u16, region: &mut [u16], r: &mut Registers) -> Option<Why>
+pub(crate) fn index(count: u16, size: u16, region: &mut [u16], r: &mut Registers) -> Option<Why>
     requires holds { Holds 2 (length region.old) r.old }
     requires next { r.old.entry + 1 < usize.MAX }
     ensures { FlowsInRegion
@@ -54,7 +53,7 @@ fn index(count: u16, size: u16, region: &mut [u16], r: &mut Registers) -> Option
 
 #[inline(always)]
 #[tactic(auto, using(crate::proofs::Tries::by_some, crate::proofs::Tries::by_none), unfolding(crate::specs::Flat::over_tried, crate::specs::Flat::Flows))]
-fn divide(base: Base, region: &mut [u16], r: &mut Registers) -> Option<Why>
+pub(crate) fn divide(base: Base, region: &mut [u16], r: &mut Registers) -> Option<Why>
     requires holds { Holds 2 (length region.old) r.old }
     requires next { r.old.entry + 1 < usize.MAX }
     ensures { FlowsInRegion
@@ -72,7 +71,7 @@ fn divide(base: Base, region: &mut [u16], r: &mut Registers) -> Option<Why>
 
 #[inline(always)]
 #[tactic(auto, using(crate::proofs::Tries::by_some, crate::proofs::Tries::by_none), unfolding(crate::specs::Flat::over_tried, crate::specs::Flat::Flows))]
-fn modulo(base: Base, region: &mut [u16], r: &mut Registers) -> Option<Why>
+pub(crate) fn modulo(base: Base, region: &mut [u16], r: &mut Registers) -> Option<Why>
     requires holds { Holds 2 (length region.old) r.old }
     requires next { r.old.entry + 1 < usize.MAX }
     ensures { FlowsInRegion
@@ -90,7 +89,13 @@ fn modulo(base: Base, region: &mut [u16], r: &mut Registers) -> Option<Why>
 
 #[inline(always)]
 #[tactic(auto, unfolding(crate::specs::Flat::Flows))]
-fn check(base: Base, least: u16, most: u16, region: &[u16], r: &mut Registers) -> Option<Why>
+pub(crate) fn check(
+    base: Base,
+    least: u16,
+    most: u16,
+    region: &[u16],
+    r: &mut Registers,
+) -> Option<Why>
     requires holds { Holds 1 (length region.now) r.old }
     requires next { r.old.entry + 1 < usize.MAX }
     ensures { FlowsInRegion
@@ -105,7 +110,7 @@ fn check(base: Base, least: u16, most: u16, region: &[u16], r: &mut Registers) -
 }
 
 #[inline(always)]
-fn string_length(image: &Image, region: &mut [u16], r: &mut Registers)
+pub(crate) fn string_length(image: &Image, region: &mut [u16], r: &mut Registers)
     requires holds { Holds 2 (length region.old) r.old }
     requires next { r.old.entry + 1 < usize.MAX }
     ensures region { region.new ≡ slice_set region.old (r.old.sp - 2)
@@ -118,7 +123,7 @@ fn string_length(image: &Image, region: &mut [u16], r: &mut Registers)
 
 #[inline(always)]
 #[tactic(auto, unfolding(crate::specs::Flat::over_tried, crate::specs::Flat::Flows, mesa_types::specs::Operators::byte_at, mesa_types::specs::Operators::fine_or))]
-fn string_at(image: &Image, region: &mut [u16], r: &mut Registers) -> Option<Why>
+pub(crate) fn string_at(image: &Image, region: &mut [u16], r: &mut Registers) -> Option<Why>
     requires holds { Holds 3 (length region.old) r.old }
     requires next { r.old.entry + 1 < usize.MAX }
     ensures { FlowsInRegion
@@ -135,7 +140,7 @@ fn string_at(image: &Image, region: &mut [u16], r: &mut Registers) -> Option<Why
 }
 
 #[inline(always)]
-fn less(base: Base, region: &mut [u16], r: &mut Registers)
+pub(crate) fn less(base: Base, region: &mut [u16], r: &mut Registers)
     requires holds { Holds 2 (length region.old) r.old }
     requires next { r.old.entry + 1 < usize.MAX }
     ensures region { region.new ≡ slice_set region.old (r.old.sp - 2)
@@ -146,54 +151,84 @@ fn less(base: Base, region: &mut [u16], r: &mut Registers)
     leave(truth(holds), 2, region, r);
 }
 
-/// Does the instruction on operands, or gives why it is not done; then all is as it was.
 #[inline(always)]
-#[tactic(auto, unfolding(crate::specs::Flat::operates, crate::specs::Flat::Flows, crate::specs::Fits::FitsOperator, mesa_types::specs::Operators::wrap))]
-pub(crate) fn operate(
-    instruction: Instruction,
-    image: &Image,
-    region: &mut [u16],
-    r: &mut Registers,
-) -> Option<Why>
-    requires fits { FitsOperator instruction (length region.old) r.old }
+#[tactic(auto, unfolding(mesa_types::specs::Operators::wrap))]
+pub(crate) fn add(region: &mut [u16], r: &mut Registers)
+    requires holds { Holds 2 (length region.old) r.old }
     requires next { r.old.entry + 1 < usize.MAX }
-    ensures { FlowsInRegion (operates (text_of image.now) instruction)
-        result region.old region.new r.old r.new }
+    ensures region { region.new ≡ slice_set region.old (r.old.sp - 2)
+        (wrap (slice_index region.old (r.old.sp - 2) + slice_index region.old (r.old.sp - 1))) }
+    ensures registers { r.new ≡ behind (r.old.sp - 2 + 1) r.old }
 {
-    match instruction {
-        Instruction::Index { count, size } => return index(count, size, region, r),
-        Instruction::Add => leave(
-            second(region, r).wrapping_add(first(region, r)),
-            2,
-            region,
-            r,
-        ),
-        Instruction::Sub => leave(
-            second(region, r).wrapping_sub(first(region, r)),
-            2,
-            region,
-            r,
-        ),
-        Instruction::Mul => leave(
-            second(region, r).wrapping_mul(first(region, r)),
-            2,
-            region,
-            r,
-        ),
-        Instruction::Neg => leave(opposite(first(region, r)), 1, region, r),
-        Instruction::DivI => return divide(Base::Signed, region, r),
-        Instruction::ModI => return modulo(Base::Signed, region, r),
-        Instruction::DivC => return divide(Base::Unsigned, region, r),
-        Instruction::ModC => return modulo(Base::Unsigned, region, r),
-        Instruction::Eq => leave(truth(second(region, r) == first(region, r)), 2, region, r),
-        Instruction::LessI => less(Base::Signed, region, r),
-        Instruction::LessC => less(Base::Unsigned, region, r),
-        Instruction::Not => leave(truth(first(region, r) == 0), 1, region, r),
-        Instruction::CheckI { least, most } => return check(Base::Signed, least, most, region, r),
-        Instruction::CheckC { least, most } => return check(Base::Unsigned, least, most, region, r),
-        Instruction::StrLen => string_length(image, region, r),
-        Instruction::StrAt => return string_at(image, region, r),
-        _ => return Some(Why::Touches),
-    }
-    None
+    leave(
+        second(region, r).wrapping_add(first(region, r)),
+        2,
+        region,
+        r,
+    );
+}
+
+#[inline(always)]
+#[tactic(auto, unfolding(mesa_types::specs::Operators::wrap))]
+pub(crate) fn subtract(region: &mut [u16], r: &mut Registers)
+    requires holds { Holds 2 (length region.old) r.old }
+    requires next { r.old.entry + 1 < usize.MAX }
+    ensures region { region.new ≡ slice_set region.old (r.old.sp - 2)
+        (wrap (slice_index region.old (r.old.sp - 2) + (65536 - slice_index region.old (r.old.sp - 1)))) }
+    ensures registers { r.new ≡ behind (r.old.sp - 2 + 1) r.old }
+{
+    leave(
+        second(region, r).wrapping_sub(first(region, r)),
+        2,
+        region,
+        r,
+    );
+}
+
+#[inline(always)]
+#[tactic(auto, unfolding(mesa_types::specs::Operators::wrap))]
+pub(crate) fn multiply(region: &mut [u16], r: &mut Registers)
+    requires holds { Holds 2 (length region.old) r.old }
+    requires next { r.old.entry + 1 < usize.MAX }
+    ensures region { region.new ≡ slice_set region.old (r.old.sp - 2)
+        (wrap (slice_index region.old (r.old.sp - 2) * slice_index region.old (r.old.sp - 1))) }
+    ensures registers { r.new ≡ behind (r.old.sp - 2 + 1) r.old }
+{
+    leave(
+        second(region, r).wrapping_mul(first(region, r)),
+        2,
+        region,
+        r,
+    );
+}
+
+#[inline(always)]
+pub(crate) fn negate(region: &mut [u16], r: &mut Registers)
+    requires holds { Holds 1 (length region.old) r.old }
+    requires next { r.old.entry + 1 < usize.MAX }
+    ensures region { region.new ≡ slice_set region.old (r.old.sp - 1) (spec.opposite (slice_index region.old (r.old.sp - 1))) }
+    ensures registers { r.new ≡ behind (r.old.sp - 1 + 1) r.old }
+{
+    leave(opposite(first(region, r)), 1, region, r);
+}
+
+#[inline(always)]
+pub(crate) fn equal(region: &mut [u16], r: &mut Registers)
+    requires holds { Holds 2 (length region.old) r.old }
+    requires next { r.old.entry + 1 < usize.MAX }
+    ensures region { region.new ≡ slice_set region.old (r.old.sp - 2)
+        (spec.truth (nat_eq (slice_index region.old (r.old.sp - 2)) (slice_index region.old (r.old.sp - 1)))) }
+    ensures registers { r.new ≡ behind (r.old.sp - 2 + 1) r.old }
+{
+    leave(truth(second(region, r) == first(region, r)), 2, region, r);
+}
+
+#[inline(always)]
+pub(crate) fn not(region: &mut [u16], r: &mut Registers)
+    requires holds { Holds 1 (length region.old) r.old }
+    requires next { r.old.entry + 1 < usize.MAX }
+    ensures region { region.new ≡ slice_set region.old (r.old.sp - 1) (spec.truth (nat_eq (slice_index region.old (r.old.sp - 1)) 0)) }
+    ensures registers { r.new ≡ behind (r.old.sp - 1 + 1) r.old }
+{
+    leave(truth(first(region, r) == 0), 1, region, r);
 }

@@ -7,20 +7,24 @@ ghost use Rattle.quiet_run.specs.Fits.{Fits};
 
 use crate::indexed::{load_global_indexed, load_indexed, store_global_indexed, store_indexed};
 use crate::jumps::{jump_if, jump_if_not};
-use crate::operate::operate;
+use crate::operate::{
+    add, check, divide, equal, index, less, modulo, multiply, negate, not, string_at,
+    string_length, subtract,
+};
 use crate::registers::{Registers, Why};
 use crate::variables::{
     literal, load, load_global, pop, roll, store, store_global, string, zero, zero_global,
 };
 use code_forms::Instruction;
+use mesa_types::Base;
 use object_files::Image;
 
 /// Does the instruction, in a module of this number, where it touches the topmost activation alone; or gives why it is not
 /// done, and then all is as it was. `targets` has the number of the entry to which each entry jumps.
 #[inline(always)]
-#[tactic(auto, unfolding(crate::specs::Flat::flat, crate::specs::Flat::Flows, crate::specs::Fits::Fits))]
+#[tactic(auto, unfolding(crate::specs::Flat::flat, crate::specs::Flat::operates, crate::specs::Flat::Flows, crate::specs::Fits::Fits, crate::specs::Fits::FitsOperator))]
 pub(crate) fn perform(
-    instruction: Instruction,
+    instruction: &Instruction,
     targets: &[u32],
     image: &Image,
     number: u16,
@@ -29,15 +33,15 @@ pub(crate) fn perform(
     r: &mut Registers,
     turns: &mut u64,
 ) -> Option<Why>
-    requires fits { Fits instruction (length region.old) (length globals.old) r.old }
+    requires fits { Fits instruction.now (length region.old) (length globals.old) r.old }
     requires target { r.old.entry < length targets.now }
     requires number { number < 65535 }
-    ensures { Flows (flat (text_of image.now) number instruction (slice_index targets.now r.old.entry)
+    ensures { Flows (flat (text_of image.now) number instruction.now (slice_index targets.now r.old.entry)
         (record { region = region.old; globals = globals.old; registers = r.old; turns = turns.old })) result
         (record { region = region.old; globals = globals.old; registers = r.old; turns = turns.old })
         (record { region = region.new; globals = globals.new; registers = r.new; turns = turns.new }) }
 {
-    match instruction {
+    match *instruction {
         Instruction::Lit { word } => literal(word, region, r),
         Instruction::Str { literal } => string(number, literal, region, r),
         Instruction::LoadL { slot, words } => load(slot, words, region, r),
@@ -86,7 +90,24 @@ pub(crate) fn perform(
             *turns -= 1;
             r.entry = targets[r.entry] as usize;
         }
-        _ => return operate(instruction, image, region, r),
+        Instruction::Index { count, size } => return index(count, size, region, r),
+        Instruction::Add => add(region, r),
+        Instruction::Sub => subtract(region, r),
+        Instruction::Mul => multiply(region, r),
+        Instruction::Neg => negate(region, r),
+        Instruction::DivI => return divide(Base::Signed, region, r),
+        Instruction::ModI => return modulo(Base::Signed, region, r),
+        Instruction::DivC => return divide(Base::Unsigned, region, r),
+        Instruction::ModC => return modulo(Base::Unsigned, region, r),
+        Instruction::Eq => equal(region, r),
+        Instruction::LessI => less(Base::Signed, region, r),
+        Instruction::LessC => less(Base::Unsigned, region, r),
+        Instruction::Not => not(region, r),
+        Instruction::CheckI { least, most } => return check(Base::Signed, least, most, region, r),
+        Instruction::CheckC { least, most } => return check(Base::Unsigned, least, most, region, r),
+        Instruction::StrLen => string_length(image, region, r),
+        Instruction::StrAt => return string_at(image, region, r),
+        _ => return Some(Why::Touches),
     }
     None
 }

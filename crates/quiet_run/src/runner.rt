@@ -48,10 +48,10 @@ pub fn quiet<L: Ledger>(
     let mut r = registers;
     let mut turns = bound;
     'running: loop {
-        let entry = entries[r.entry];
+        let entry = &entries[r.entry];
         steps.tick();
         if let Some(why) = perform(
-            entry.instruction,
+            &entry.instruction,
             targets,
             image,
             number,
