@@ -34,6 +34,16 @@ later_failed {A} {B} fault read low read' written least written' l k c = record 
   sink_stays = let s = c.sink_stays in omega (arith, k, s);
 }
 
+-- and whatever it comes to
+pub later_counted : {A : Type 0} (result : Result A RunFault) (read low read' written least written' : ℕ) → read ≤ low → written ≤ least → CountsFaults result low read' least written'
+    → CountsFaults result read read' written written'
+later_counted {A} result read low read' written least written' l k c = record {
+  of_source = λ e. rose_later read low read' l (c.of_source e);
+  of_sink = λ e. rose_later written least written' k (c.of_sink e);
+  source_stays = let s = c.source_stays in omega (arith, l, s);
+  sink_stays = let s = c.sink_stays in omega (arith, k, s);
+}
+
 -- where the activation goes on in its registers
 pub settled_faults : (result : Result (Option Turn) RunFault) (r : Registers) (read read' written written' : ℕ) → CountsFaults (onward_or result r) read read' written written'
     → CountsFaults result read read' written written'

@@ -1,5 +1,5 @@
 -- How a run goes on from one place to the next.
-use Rattle.std.proofs.Common.{◌≡◌, ℕ, suc, ◌+◌, ◌<◌, ◌≤◌, List, [], ◌∷◌, ◌++◌, length, Bool, true, false, Option, Some, None, refl, sym, ap, subst, ◌∙◌, arith, append_assoc, append-nil}
+use Rattle.std.proofs.Common.{◌≡◌, ℕ, suc, ◌+◌, ◌<◌, ◌≤◌, List, [], ◌∷◌, ◌++◌, length, Bool, true, false, Option, Some, None, refl, sym, ap, subst, ◌∙◌, arith, append-nil}
 use Rattle.std.specs.Prelude.{IfSome, slice_get, if◌then◌else◌}
 use Rattle.std.proofs.lemmas.List.Elements.{All-nil}
 use Rattle.std.proofs.lemmas.Option.{none-some}
@@ -15,7 +15,7 @@ use Rattle.quiet_run.specs.declared.registers.Registers.{Registers}
 use Rattle.quiet_run.specs.declared.registers.Why.{Why}
 use Rattle.activation_region.specs.declared.calling.Turn.TheVariants.{Goes as GoesOn, Empty}
 use Rattle.activation_region.specs.Calling.{LeadsTo}
-use Rattle.activation_region.specs.Reaching.{Reaches, IsUnstuck, Shown}
+use Rattle.activation_region.specs.Reaching.{Reaches, IsUnstuck}
 use Rattle.activation_region.specs.Shows.{IsPrepared, IsAmple}
 use Rattle.activation_region.proofs.Reach.{reaches_itself, one_step, two_ways}
 use Rattle.region_calls.specs.declared.ahead.Coming.{Coming}
@@ -30,18 +30,16 @@ use Rattle.ready_images.specs.declared.prepared.Prepared.{Prepared}
 use Rattle.image_runs.specs.Longest.{reach, most}
 use Rattle.image_runs.specs.Running.{BreaksAtInput}
 use Rattle.image_runs.specs.SoFar.{ShowsGlobals, Beside, ComesTo, At, AtHost, Known, Took, SoFar, PausesAt, Paused}
+use Rattle.image_runs.specs.Topmost.{GoesAt, Wrote}
 use Rattle.image_runs.proofs.Reach.{unstuck, begun_less}
 use Rattle.image_runs.proofs.Told.{untold}
+use Rattle.image_runs.proofs.Wrote.{received_nothing, received_more}
 
 -- The beginning.
 
 first_took : (told : Option (List ℕ)) → IfSome told (Took told told None [])
 first_took None = tt
 first_took (Some all) = record { rest = all; split = refl; left_so = refl; at_end = λ e. absurd (none-some AtEnd e) }
-
-first_wrote : (held : Option (List ℕ)) → IfSome held (λ bytes. held ≡ Some (bytes ++ []))
-first_wrote None = tt
-first_wrote (Some bytes) = ap Some (sym (append-nil bytes))
 
 -- all globals are zero, and nothing is started
 pub first : (image : Image) (bound : ℕ) (p : Prepared) → ShowsGlobals p (λ j. zeros (globals_in (code_of image j))) → ShowsStarted p.started.items (λ j. false) → (told held : Option (List ℕ))
@@ -53,7 +51,7 @@ first image bound p zero none told held = record {
   bytes = All-nil (λ b. b < 256);
   byte = λ b e. absurd (none-some (Byte b) e);
   took = first_took told;
-  wrote = first_wrote held;
+  wrote = received_nothing held;
   comes = λ rest faulty known. record {
     store = fresh image rest faulty bound;
     beside = record { its_control = refl; its_globals = zero; its_started = none; its_turns = refl; its_count = refl; its_output = refl; its_input = refl; its_fault = refl };
@@ -150,40 +148,39 @@ module _ (image : Image) (can : CanRun image) (bound : ℕ) (told left held hold
 
   -- The run of the topmost activation.
 
-  pub paused : (p p' : Prepared) (control : List ℕ) (turns begun count : ℕ) (r : Registers) (pause : Pause) → p'.started.items ≡ p.started.items
-      → ((s : Stepped) (m : Store) → m.turns ≡ turns → ShowsGlobals p m.globals → Shown image p.layout p.region.items p.rows.items r s m → Paused image p' pause count s m)
+  pub paused : (p p' : Prepared) (control : List ℕ) (turns begun count : ℕ) (r : Registers) (pause : Pause) (holds' : Option (List ℕ)) → p'.started.items ≡ p.started.items
+      → Wrote holds holds' (GoesAt image p r turns) (Paused image p' pause count)
       → (before : ℕ) → count ≡ before + 1
       → SoFar image bound p control turns begun ahead told left held holds (At image p (GoesOn r))
-      → SoFar image bound p' control pause.turns (begun + before) ahead told left held holds (PausesAt image p'.layout p'.region.items p'.rows.items pause.registers pause.why)
+      → SoFar image bound p' control pause.turns (begun + before) ahead told left held holds' (PausesAt image p'.layout p'.region.items p'.rows.items pause.registers pause.why)
   unfolding LeadsTo
-  paused p p' control turns begun count r pause marks leads before counted =
-      onward p p' control control turns pause.turns begun (begun + before) (At image p (GoesOn r)) (PausesAt image p'.layout p'.region.items p'.rows.items pause.registers pause.why)
-      (λ s m output input faulty free b shown.
-      let q = leads s m b.its_turns b.its_globals shown in
-      record {
-        store = q.store;
-        beside = record {
-          its_control = q.same_control ∙ b.its_control;
-          its_globals = q.its_globals;
-          its_started = λ j x is. q.same_started j ∙ b.its_started j x (ap (λ (l : List Bool). slice_get l j) (sym marks) ∙ is);
-          its_turns = q.its_turns;
-          its_count = let one = q.begun in let two = b.its_count in let three = q.counted in omega (arith, one, two, three, counted);
-          its_output = q.same_output ∙ b.its_output;
-          its_input = q.same_input ∙ b.its_input;
-          its_fault = q.same_fault ∙ b.its_fault;
+  paused p p' control turns begun count r pause holds' marks w before counted so = record {
+    got = so.got;
+    output = so.output ++ w.output;
+    bytes = so.bytes;
+    byte = so.byte;
+    took = so.took;
+    wrote = received_more held holds holds' so.output w.output so.wrote w.given;
+    comes = λ rest faulty known.
+        let c = so.comes rest faulty known in let b = c.beside in
+        let q = w.leads (begins image (so.got ++ rest) faulty bound) c.store (record { its_turns = b.its_turns; its_globals = b.its_globals; shown = c.leads }) in
+        record {
+          store = q.store;
+          beside = record {
+            its_control = q.same_control ∙ b.its_control;
+            its_globals = q.its_globals;
+            its_started = λ j x is. q.same_started j ∙ b.its_started j x (ap (λ (l : List Bool). slice_get l j) (sym marks) ∙ is);
+            its_turns = q.its_turns;
+            its_count = let one = q.begun in let two = b.its_count in let three = q.counted in omega (arith, one, two, three, counted);
+            its_output = q.same_output ∙ ap (λ (o : List ℕ). o ++ w.output) b.its_output;
+            its_input = q.same_input ∙ b.its_input;
+            its_fault = q.same_fault ∙ b.its_fault;
+          };
+          leads = q.pauses;
         };
-        leads = q.pauses;
-      })
+  }
 
   -- Output.
-
-  received_more : (old new : Option (List ℕ)) (output piece : List ℕ) → IfSome held (λ bytes. old ≡ Some (bytes ++ output)) → IfSome old (λ bytes. new ≡ Some (bytes ++ piece))
-      → IfSome held (λ bytes. new ≡ Some (bytes ++ (output ++ piece)))
-  received_more old new output piece a b = more held a
-    where
-      more : (h : Option (List ℕ)) → IfSome h (λ bytes. old ≡ Some (bytes ++ output)) → IfSome h (λ bytes. new ≡ Some (bytes ++ (output ++ piece)))
-      more None e = tt
-      more (Some bytes) e = subst (λ h. IfSome h (λ bytes. new ≡ Some (bytes ++ piece))) e b ∙ ap Some (append_assoc bytes output piece)
 
   -- the machine goes on behind a call that writes
   pub wrote_on : (p : Prepared) (control : List ℕ) (turns begun : ℕ) (r r' : Registers) (writing : Writing) (piece : List ℕ) → IsPrepared image p.layout
@@ -219,7 +216,7 @@ module _ (image : Image) (can : CanRun image) (bound : ℕ) (told left held hold
     bytes = so.bytes;
     byte = so.byte;
     took = so.took;
-    wrote = received_more holds holds' so.output piece so.wrote put;
+    wrote = received_more held holds holds' so.output piece so.wrote put;
     comes = wrote_on p control turns begun r r' writing piece prepared ample leads so;
   }
 

@@ -12,7 +12,9 @@ pub mod Reach
 pub mod Reading
 pub mod Starts
 pub mod Told
+pub mod OnTop
 pub mod Touches
 pub mod Walk
 pub mod Whole
 pub mod Writes
+pub mod Wrote

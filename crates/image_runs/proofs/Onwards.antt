@@ -1,7 +1,8 @@
 -- How a turn of the loop follows from the calls that it makes.
-use Rattle.std.proofs.Common.{◌≡◌, ℕ, suc, ◌+◌, ◌-◌, ◌*◌, ◌<◌, ◌≤◌, List, length, false, Option, refl, sym, ap, subst, ◌∙◌, arith, add-zero}
+use Rattle.std.proofs.Common.{◌≡◌, ℕ, suc, ◌+◌, ◌-◌, ◌*◌, ◌<◌, ◌≤◌, List, [], length, false, Option, refl, sym, ap, subst, ◌∙◌, arith, add-zero}
 use Rattle.std.proofs.Math.Nat.{mul-le-mul_right}
 use Rattle.std.specs.Prelude.{◌≢◌, IfSome, Result, Ok, Err, slice_get}
+use Rattle.mesa_base.specs.Outside.{AppendsPrefix}
 use Rattle.std.proofs.lemmas.Option.{slice_get_within}
 use Rattle.object_files.specs.declared.image.Image.{Image}
 use Rattle.machine_steps.specs.declared.end.End.{End}
@@ -15,15 +16,18 @@ use Rattle.activation_region.specs.declared.calling.Turn.{Turn}
 use Rattle.activation_region.specs.declared.calling.Turn.TheVariants.{Goes as GoesOn, Empty, Pending, Ends as EndsSo}
 use Rattle.activation_region.specs.declared.row.Layout.{Layout}
 use Rattle.activation_region.specs.declared.row.Row.{Row}
-use Rattle.activation_region.specs.Calling.{AddsFrame, CallsThen, LeadsTo, StandsIn}
-use Rattle.activation_region.specs.Reaching.{IsUnstuck, Shown}
-use Rattle.activation_region.specs.Shows.{IsPrepared}
+use Rattle.activation_region.specs.Calling.{AddsFrame, CallsThen, LeadsTo}
+use Rattle.activation_region.specs.Reaching.{IsUnstuck}
+use Rattle.activation_region.specs.Shows.{IsPrepared, IsAmple}
 use Rattle.region_calls.specs.declared.ahead.Coming.{Coming}
 use Rattle.region_calls.specs.declared.host.HostProcedure.{HostProcedure}
+use Rattle.region_calls.specs.declared.host.HostProcedure.TheVariants.{Write}
+use Rattle.region_calls.specs.declared.host.Writing.{Writing}
 use Rattle.region_calls.specs.declared.linking.LinkTurn.{LinkTurn}
 use Rattle.region_calls.specs.declared.linking.LinkTurn.TheVariants.{Done}
+use Rattle.region_calls.specs.Hosting.{text_written}
 use Rattle.region_calls.specs.Hosts.{host_is, CallsHost}
-use Rattle.region_calls.specs.Linking.{LinkLeads, LinkedTo, WaitsToCall}
+use Rattle.region_calls.specs.Linking.{LinkLeads, LinkedTo, WaitsToCall, CallsWriting}
 use Rattle.region_calls.specs.Started.{ShowsStarted}
 use Rattle.region_signals.specs.Raising.{RunsArm}
 use Rattle.ready_images.specs.declared.prepared.Prepared.{Prepared}
@@ -32,8 +36,11 @@ use Rattle.image_runs.specs.declared.outcome.RunFault.TheVariants.{ReadFault, Wr
 use Rattle.image_runs.specs.Longest.{reach, most}
 use Rattle.image_runs.specs.Happening.{CanPause}
 use Rattle.image_runs.specs.Onward.{CanGoOn, Follows, BeginsFew, Advances, waits}
-use Rattle.image_runs.specs.SoFar.{ShowsGlobals, At, AtHost, Paused, PausesAt, SoFar, Then}
+use Rattle.image_runs.specs.SoFar.{At, AtHost, Paused, PausesAt, SoFar, Then}
+use Rattle.image_runs.specs.Topmost.{GoesAt, Somewhere, Wrote}
 use Rattle.image_runs.proofs.Going.{onward, paused, Witness, witness, less_than_most}
+use Rattle.image_runs.proofs.Pauses.{pause_shown}
+use Rattle.image_runs.proofs.Writes.{write_breaks}
 
 -- to where a call through a link leads
 abbrev pub AtLink : Image → Prepared → Registers → LinkTurn → Stepped → Store → Type 0
@@ -89,11 +96,16 @@ module _ (image : Image) (can : CanRun image) (p : Prepared) (turns : ℕ) (ahea
     pub seen : Witness image can c.bound c.told left c.held holds ahead p c.control turns c.begun P
     seen = witness image can c.bound c.told left c.held holds ahead p c.control turns c.begun P c.so
 
-  pub stands_so : (r : Registers) → CanGoOn image p turns ahead left holds (At image p (GoesOn r)) → StandsIn image p.layout p.region.items p.rows.items r
+  pub stands_so : (r : Registers) → CanGoOn image p turns ahead left holds (At image p (GoesOn r)) → Somewhere image (GoesAt image p r turns)
   unfolding LeadsTo
   stands_so r c =
       let w = seen (At image p (GoesOn r)) c in
-      record { start = begins image w.input false c.bound; unstuck = w.unstuck_so; store = w.comes.store; shown = w.comes.leads }
+      record {
+        start = begins image w.input false c.bound;
+        unstuck = w.unstuck_so;
+        store = w.comes.store;
+        at = record { its_turns = w.comes.beside.its_turns; its_globals = w.comes.beside.its_globals; shown = w.comes.leads };
+      }
 
   pub can_pause : (r : Registers) (why : Why) → CanGoOn image p turns ahead left holds (PausesAt image p.layout p.region.items p.rows.items r why) → CanPause image p r why
   can_pause r why c =
@@ -110,22 +122,56 @@ module _ (image : Image) (can : CanRun image) (p : Prepared) (turns : ℕ) (ahea
   unfolding LinkLeads
   calls_so r h c = let w = seen (AtHost image p r h) c in w.comes.leads.0
 
-module _ (image : Image) (can : CanRun image) (p p' : Prepared) (turns : ℕ) (ahead : Option Coming) (left holds : Option (List ℕ)) where
-  -- The run of the topmost activation.
+-- The run of the topmost activation.
 
-  module _ (r : Registers) (pause : Pause) (count : ℕ) (marks : p'.started.items ≡ p.started.items) (some : 0 < count)
-      (leads : (s : Stepped) (m : Store) → m.turns ≡ turns → ShowsGlobals p m.globals → Shown image p.layout p.region.items p.rows.items r s m → Paused image p' pause count s m) where
-    pub pause_moves : Moves image p p' turns pause.turns (count - 1) ahead ahead left left holds holds (At image p (GoesOn r)) (PausesAt image p'.layout p'.region.items p'.rows.items pause.registers pause.why)
-    pause_moves bound control begun begun' told held short e so =
-        subst (λ n. SoFar image bound p' control pause.turns n ahead told left held holds (PausesAt image p'.layout p'.region.items p'.rows.items pause.registers pause.why)) (sym e)
-        (paused image can bound told left held holds ahead p p' control turns begun count r pause marks leads (count - 1) (omega arith) so)
+module _ (image : Image) (can : CanRun image) (p p' : Prepared) (turns : ℕ) (ahead : Option Coming) (left holds holds' : Option (List ℕ)) (r : Registers) (pause : Pause) (count : ℕ)
+    (marks : p'.started.items ≡ p.started.items) (some : 0 < count) (w : Wrote holds holds' (GoesAt image p r turns) (Paused image p' pause count)) where
+  pub pause_moves : Moves image p p' turns pause.turns (count - 1) ahead ahead left left holds holds' (At image p (GoesOn r)) (PausesAt image p'.layout p'.region.items p'.rows.items pause.registers pause.why)
+  pause_moves bound control begun begun' told held short e so =
+      subst (λ n. SoFar image bound p' control pause.turns n ahead told left held holds' (PausesAt image p'.layout p'.region.items p'.rows.items pause.registers pause.why)) (sym e)
+      (paused image can bound told left held holds ahead p p' control turns begun count r pause holds' marks w (count - 1) (omega arith) so)
 
-    pub few_begun : IsPrepared image p'.layout → length p'.rows.items ≡ 8192 → BeginsFew image p turns count ahead left holds (At image p (GoesOn r))
-    few_begun prepared long bound control begun told held short so =
+  pub few_begun : IsPrepared image p'.layout → length p'.rows.items ≡ 8192 → BeginsFew image p turns count ahead left holds (At image p (GoesOn r))
+  few_begun prepared long bound control begun told held short so =
+      let there = pause_moves bound control begun (begun + (count - 1)) told held short refl so in
+      let l = less_than_most image can bound told left held holds' ahead p' control pause.turns (begun + (count - 1)) pause.registers pause.why prepared long (omega (arith, short)) there in
+      omega (arith, l, some)
+
+  pub pauses_then : CanGoOn image p turns ahead left holds (At image p (GoesOn r)) → CanPause image p' pause.registers pause.why
+  pauses_then c =
+      can_pause image can p' pause.turns ahead left holds' pause.registers pause.why
+      (along image p p' turns pause.turns ahead ahead left left holds holds' (At image p (GoesOn r)) (PausesAt image p'.layout p'.region.items p'.rows.items pause.registers pause.why) (count - 1) c pause_moves)
+
+  -- where the sink fails at a call that writes
+  module _ (prepared : IsPrepared image p'.layout) (ample : IsAmple p'.layout p'.region.items p'.rows.items pause.registers.top) (writing : Writing)
+      (calls : CallsWriting image p'.layout p'.region.items p'.rows.items pause.registers pause.turns writing) (holds'' : Option (List ℕ))
+      (some_text : text_written image p'.region.items pause.registers writing ≢ []) (partly : IfSome holds' (λ bytes. AppendsPrefix bytes (text_written image p'.region.items pause.registers writing) holds'')) where
+    call_moves : Moves image p' p' pause.turns (pause.turns - 1) 1 ahead ahead left left holds' holds' (PausesAt image p'.layout p'.region.items p'.rows.items pause.registers pause.why)
+        (AtHost image p' pause.registers (Write writing))
+    call_moves bound control begun begun' told held short e =
+        onward image can bound told left held holds' ahead p' p' control control pause.turns (pause.turns - 1) begun begun' (PausesAt image p'.layout p'.region.items p'.rows.items pause.registers pause.why)
+        (AtHost image p' pause.registers (Write writing)) (λ s m output input faulty free b there. record {
+          store = record m { turns = pause.turns - 1; begun = suc m.begun };
+          beside = record {
+            its_control = b.its_control;
+            its_globals = b.its_globals;
+            its_started = b.its_started;
+            its_turns = refl;
+            its_count = let k = b.its_count in omega (arith, k, e);
+            its_output = b.its_output;
+            its_input = b.its_input;
+            its_fault = b.its_fault;
+          };
+          leads = calls s m b.its_turns (pause_shown image p'.layout p'.region.items p'.rows.items pause.registers s m pause.why there);
+        })
+
+    pub write_fails : (turns' : ℕ) → Follows image p p' turns turns' count ahead ahead left left holds holds'' (At image p (GoesOn r)) (Err WriteFault)
+    write_fails turns' bound control begun begun' told held short e so =
         let there = pause_moves bound control begun (begun + (count - 1)) told held short refl so in
-        let l = less_than_most image can bound told left held holds ahead p' control pause.turns (begun + (count - 1)) pause.registers pause.why prepared long (omega (arith, short)) there in
-        omega (arith, l, some)
+        let at = call_moves bound control (begun + (count - 1)) begun' told held short (omega (arith, e, some)) there in
+        write_breaks image can bound p' control (pause.turns - 1) begun' ahead told left held holds' holds'' pause.registers writing prepared ample short some_text partly at
 
+module _ (image : Image) (can : CanRun image) (p p' : Prepared) (turns : ℕ) (ahead : Option Coming) (left holds : Option (List ℕ)) where
   -- What its pause leads to.
 
   module _ (r : Registers) (turns' : ℕ) (linked : LinkTurn) (same_globals : p'.globals.items ≡ p.globals.items) where
@@ -176,28 +222,18 @@ module _ (image : Image) (can : CanRun image) (p p' : Prepared) (turns : ℕ) (a
           leads = l.leads;
         })
 
-pub pauses_then : (image : Image) (can : CanRun image) (p p1 : Prepared) (turns : ℕ) (ahead : Option Coming) (left holds : Option (List ℕ)) (r : Registers) (pause : Pause) (count : ℕ)
-    → p1.started.items ≡ p.started.items → 0 < count
-    → ((s : Stepped) (m : Store) → m.turns ≡ turns → ShowsGlobals p m.globals → Shown image p.layout p.region.items p.rows.items r s m → Paused image p1 pause count s m)
-    → CanGoOn image p turns ahead left holds (At image p (GoesOn r)) → CanPause image p1 pause.registers pause.why
-pauses_then image can p p1 turns ahead left holds r pause count marks some leads c =
-    can_pause image can p1 pause.turns ahead left holds pause.registers pause.why
-    (along image p p1 turns pause.turns ahead ahead left left holds holds (At image p (GoesOn r)) (PausesAt image p1.layout p1.region.items p1.rows.items pause.registers pause.why) (count - 1) c
-    (pause_moves image can p p1 turns ahead left holds r pause count marks some leads))
-
 -- both
-module _ (image : Image) (can : CanRun image) (p p1 p2 : Prepared) (turns turns2 : ℕ) (ahead : Option Coming) (left holds : Option (List ℕ)) (r : Registers) (pause : Pause) (count : ℕ) (linked : LinkTurn)
-    (marks : p1.started.items ≡ p.started.items) (some : 0 < count)
-    (leads : (s : Stepped) (m : Store) → m.turns ≡ turns → ShowsGlobals p m.globals → Shown image p.layout p.region.items p.rows.items r s m → Paused image p1 pause count s m)
+module _ (image : Image) (can : CanRun image) (p p1 p2 : Prepared) (turns turns2 : ℕ) (ahead : Option Coming) (left holds holds' : Option (List ℕ)) (r : Registers) (pause : Pause) (count : ℕ) (linked : LinkTurn)
+    (marks : p1.started.items ≡ p.started.items) (some : 0 < count) (w : Wrote holds holds' (GoesAt image p r turns) (Paused image p1 pause count))
     (same_globals : p2.globals.items ≡ p1.globals.items)
     (leads2 : (s : Stepped) (m : Store) → m.turns ≡ pause.turns → ShowsStarted p1.started.items m.started → IsUnstuck image s
     → PausesAt image p1.layout p1.region.items p1.rows.items pause.registers pause.why s m
     → LinkedTo image p2.layout p2.region.items p2.rows.items pause.registers p2.started.items s (record m { turns = turns2; begun = suc m.begun }) linked) where
-  pub links_then : Moves image p p2 turns turns2 count ahead ahead left left holds holds (At image p (GoesOn r)) (AtLink image p2 pause.registers linked)
+  pub links_then : Moves image p p2 turns turns2 count ahead ahead left left holds holds' (At image p (GoesOn r)) (AtLink image p2 pause.registers linked)
   links_then bound control begun begun' told held short e so =
-      happen_moves image can p1 p2 pause.turns ahead left holds pause.registers turns2 linked same_globals pause.why leads2
+      happen_moves image can p1 p2 pause.turns ahead left holds' pause.registers turns2 linked same_globals pause.why leads2
       bound control (begun + (count - 1)) begun' told held short (omega (arith, e, some))
-      (pause_moves image can p p1 turns ahead left holds r pause count marks some leads bound control begun (begun + (count - 1)) told held short refl so)
+      (pause_moves image can p p1 turns ahead left holds holds' r pause count marks some w bound control begun (begun + (count - 1)) told held short refl so)
 
 -- where a turn leads
 pub done_there : (image : Image) (p p' : Prepared) (turns turns' count : ℕ) (ahead ahead' : Option Coming) (left left' holds holds' : Option (List ℕ)) (P : Stepped → Store → Type 0) (r : Registers) (turn : Turn)

@@ -7,6 +7,7 @@ use Rattle.machine_steps.specs.State.{Store, Runs, Ended, Stepped, Goes}
 use Rattle.machine_steps.specs.Signals.{raise}
 use Rattle.machine_steps.specs.Steps.{Ends, stops, goes}
 use Rattle.quiet_run.specs.declared.registers.Registers.{Registers}
+use Rattle.quiet_run.specs.declared.registers.Why.{Why}
 use Rattle.quiet_run.specs.declared.registers.Why.TheVariants.{Touches, Spent, BoundsFault, ZeroDivisor}
 use Rattle.activation_region.specs.declared.row.Layout.{Layout}
 use Rattle.activation_region.specs.declared.row.Row.{Row}
@@ -22,8 +23,11 @@ module _ (image : Image) (layout : Layout) (region : List ℕ) (table : List Row
   began = record m { begun = suc m.begun }
 
   -- some activations are shown
+  pub pause_shown : (why : Why) → PausesAt image layout region table r why s m → Shown image layout region table r s m
+  pause_shown why q = record { top = q.top; rest = q.rest; procedure = q.procedure; shows = q.shows; reaches = q.reaches }
+
   pub touches_shown : PausesAt image layout region table r Touches s m → Shown image layout region table r s m
-  touches_shown q = record { top = q.top; rest = q.rest; procedure = q.procedure; shows = q.shows; reaches = q.reaches }
+  touches_shown q = pause_shown Touches q
 
   -- no turn is left
   pub spent_ends : PausesAt image layout region table r Spent s m → Ends image s (Ended TurnsSpent) began

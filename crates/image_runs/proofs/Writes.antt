@@ -1,21 +1,24 @@
 -- Where the sink fails, the machine stands at a call that writes.
-use Rattle.std.proofs.Common.{◌≡◌, ℕ, List, ◌++◌, length, false, Option, Some, None, sym, subst, ◌∙◌}
-use Rattle.std.specs.Prelude.{IfSome}
+use Rattle.std.proofs.Common.{◌≡◌, ℕ, ◌≤◌, List, [], ◌++◌, length, false, Option, Some, None, sym, subst, ◌∙◌, arith}
+use Rattle.std.specs.Prelude.{◌≢◌, IfSome, Err}
 use Rattle.mesa_base.specs.Outside.{AppendsPrefix}
 use Rattle.object_files.specs.declared.image.Image.{Image}
+use Rattle.machine_steps.specs.Laws.{CanRun}
 use Rattle.quiet_run.specs.declared.registers.Registers.{Registers}
 use Rattle.activation_region.specs.Shows.{IsPrepared, IsAmple}
 use Rattle.region_calls.specs.declared.ahead.Coming.{Coming}
 use Rattle.region_calls.specs.declared.host.HostProcedure.TheVariants.{Write}
 use Rattle.region_calls.specs.declared.host.Writing.{Writing}
-use Rattle.region_calls.specs.Hosting.{text_written}
+use Rattle.region_calls.specs.Hosting.{behind_call, text_written}
 use Rattle.region_calls.specs.Hosts.{host_is}
 use Rattle.region_calls.specs.Linking.{LinkLeads}
-use Rattle.region_calls.proofs.HostWrites.{writes}
+use Rattle.region_calls.proofs.HostWrites.{writes, writes_on}
 use Rattle.ready_images.specs.declared.prepared.Prepared.{Prepared}
+use Rattle.image_runs.specs.declared.outcome.RunFault.TheVariants.{WriteFault}
 use Rattle.image_runs.specs.Running.{BreaksAtOutput}
-use Rattle.image_runs.specs.SoFar.{AtHost, SoFar}
-use Rattle.image_runs.proofs.Told.{drop_past, rest_of, input_of, has_rest}
+use Rattle.image_runs.specs.SoFar.{AtHost, SoFar, Then}
+use Rattle.image_runs.proofs.Going.{wrote_on}
+use Rattle.image_runs.proofs.Told.{cut_off, drop_past, rest_of, input_of, has_rest}
 
 received_prefix : (held holds holds' : Option (List ℕ)) (output piece : List ℕ) → IfSome held (λ bytes. holds ≡ Some (bytes ++ output))
     → IfSome holds (λ bytes. AppendsPrefix bytes piece holds') → IfSome held (λ bytes. AppendsPrefix (bytes ++ output) piece holds')
@@ -23,10 +26,11 @@ received_prefix None holds holds' output piece a b = tt
 received_prefix (Some bytes) holds holds' output piece a b = subst (λ h. IfSome h (λ bytes. AppendsPrefix bytes piece holds')) a b
 
 pub breaks_at_write : (image : Image) (bound : ℕ) (p : Prepared) (control : List ℕ) (turns begun : ℕ) (ahead : Option Coming) (told left held holds holds' : Option (List ℕ)) (r : Registers) (writing : Writing)
-    → IsPrepared image p.layout → IsAmple p.layout p.region.items p.rows.items r.top → IfSome holds (λ bytes. AppendsPrefix bytes (text_written image p.region.items r writing) holds')
+    → IsPrepared image p.layout → IsAmple p.layout p.region.items p.rows.items r.top → text_written image p.region.items r writing ≢ []
+    → IfSome holds (λ bytes. AppendsPrefix bytes (text_written image p.region.items r writing) holds')
     → SoFar image bound p control turns begun ahead told left held holds (AtHost image p r (Write writing)) → BreaksAtOutput image bound begun told left held holds'
 unfolding LinkLeads
-breaks_at_write image bound p control turns begun ahead told left held holds holds' r writing prepared ample partly so =
+breaks_at_write image bound p control turns begun ahead told left held holds holds' r writing prepared ample some partly so =
     let t = rest_of told left ahead so.got so.bytes so.byte so.took in
     let c = so.comes t.rest false t.known in
     record {
@@ -46,8 +50,21 @@ breaks_at_write image bound p control turns begun ahead told left held holds hol
         its_count = c.beside.its_count;
         its_output = c.beside.its_output;
         its_input = c.beside.its_input ∙ sym (drop_past so.got t.rest);
+        some = some;
         writes = (_, writes image p.layout prepared p.region.items p.rows.items r ample writing c.leads.0 c.store);
       };
       rest = has_rest told left so.got t.left_so;
       appends = received_prefix held holds holds' so.output (text_written image p.region.items r writing) so.wrote partly;
     }
+
+pub write_breaks : (image : Image) (can : CanRun image) (bound : ℕ) (p : Prepared) (control : List ℕ) (turns begun : ℕ) (ahead : Option Coming) (told left held holds holds' : Option (List ℕ)) (r : Registers)
+    (writing : Writing) → IsPrepared image p.layout → IsAmple p.layout p.region.items p.rows.items r.top → length control ≤ length image.control → text_written image p.region.items r writing ≢ []
+    → IfSome holds (λ bytes. AppendsPrefix bytes (text_written image p.region.items r writing) holds')
+    → SoFar image bound p control turns begun ahead told left held holds (AtHost image p r (Write writing)) → Then image bound p control turns begun ahead told left held holds' (Err WriteFault)
+write_breaks image can bound p control turns begun ahead told left held holds holds' r writing prepared ample short some partly so =
+    let behind : Registers = behind_call (Write writing) r in
+    let piece : List ℕ = text_written image p.region.items r writing in (
+      breaks_at_write image bound p control turns begun ahead told left held holds holds' r writing prepared ample some partly so,
+      cut_off image bound p control turns begun ahead told left held holds prepared.valid ample.long (omega (arith, short)) behind holds' so.got so.output piece so.bytes so.byte so.took so.wrote partly
+          (wrote_on image can bound told left held holds ahead p control turns begun r behind writing piece prepared ample (writes_on image p.region.items r writing) so),
+    )

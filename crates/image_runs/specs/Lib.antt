@@ -4,3 +4,4 @@ pub mod Happening
 pub mod Longest
 pub mod Onward
 pub mod Clearing
+pub mod Topmost

@@ -1,5 +1,5 @@
 -- What a run over a source and a sink tells its caller (rule of this project).
-use Rattle.std.specs.Prelude.{◌≡◌, ◌⊎◌, ℕ, ◌+◌, ◌<◌, ◌≤◌, List, ◌++◌, length, drop, All, Option, Some, IsSome, IfSome, true, false}
+use Rattle.std.specs.Prelude.{◌≡◌, ◌≢◌, ◌⊎◌, ℕ, ◌+◌, ◌<◌, ◌≤◌, List, [], ◌++◌, length, drop, All, Option, Some, IsSome, IfSome, true, false}
 use Rattle.mesa_base.specs.Outside.{AppendsPrefix}
 use Rattle.object_files.specs.declared.image.Image.{Image}
 use Rattle.signaller.specs.declared.signal_id.SignalId.{SignalId}
@@ -46,8 +46,8 @@ pub record BreaksAtInput (image : Image) (turns count : ℕ) (told left held hol
   pub rest : IfSome told (λ all. (more : List ℕ) × (all ≡ input ++ more) × (left ≡ Some more))
   pub appends : IfSome held (λ bytes. holds ≡ Some (bytes ++ output))
 
--- the machine comes to a call of the host that writes a piece behind this output, with so many turns left, so many instructions begun, that of the
--- call included, and this input not taken
+-- the machine comes to a call of the host that writes a piece, of a byte or more, behind this output, with so many turns left, so many instructions
+-- begun, that of the call included, and this input not taken
 pub record ComesToWrite (image : Image) (s : Stepped) (turns count : ℕ) (output piece rest : List ℕ) : Type 0 where
   pub procedure : Host
   pub caller : Active
@@ -58,6 +58,7 @@ pub record ComesToWrite (image : Image) (s : Stepped) (turns count : ℕ) (outpu
   pub its_count : store.begun ≡ count
   pub its_output : store.output ≡ output
   pub its_input : store.input ≡ rest
+  pub some : piece ≢ []
   pub writes : (next : Activations) × (host image procedure caller under store ≡ Goes (Runs next (record store { output = store.output ++ piece })))
 
 -- the machine's run comes to a call that writes, so many instructions begun; the sink holds all of the output up to there and a prefix of the

@@ -127,7 +127,7 @@ fn settle_told(told: Result<Turn, RunFault>, r: &mut Registers) -> Result<Option
     }
 }
 
-// The same in the registers of the activation that goes on, unless something else is told.
+// Reads so in the registers of the activation that goes on, unless something else is told.
 #[inline(always)]
 fn read_settled<S: Source>(
     reading: Reading,

@@ -56,7 +56,10 @@ fn go_on<S: Source, K: Sink, L: Ledger>(
         (At image.now parts.old (Goes r.old)) }
     ensures faults { CountsFaults result (S.faults input.old) (S.faults input.new) (K.faults out.old) (K.faults out.new) }
 {
-    let pause = run_top(image, parts, *r, *turns, steps);
+    let pause = match run_top(image, parts, *r, *turns, out, steps) {
+        Ok(pause) => pause,
+        Err(_) => return Err(RunFault::WriteFault),
+    };
     let at = pause.registers;
     *turns = pause.turns;
     *r = at;

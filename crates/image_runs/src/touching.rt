@@ -37,6 +37,7 @@ fn signal(
     requires ample { IsAmple parts.old.layout parts.old.region.items parts.old.rows.items r.top }
     requires arms { ArmsHold image.now parts.old.rows.items r.top }
     requires stands { StandsIn image.now parts.old.layout parts.old.region.items parts.old.rows.items r }
+    requires pauses { CanPause image.now parts.old r Touches }
     requires at { StandsAt image.now parts.old.rows.items r instruction }
     requires no_call { is_call instruction ≡ false }
     ensures ready { IsReady image.now parts.new }
@@ -58,7 +59,7 @@ fn signal(
         Instruction::Leave { target, .. } => leave_arms(image, parts, target, r, turns),
         Instruction::LeaveReturn { .. } => return_out(image, parts, r, turns),
         // The run of the topmost activation has done each other one.
-        _ => Turn::Empty,
+        _ => unreachable!(),
     }
 }
 

@@ -7,3 +7,4 @@ pub mod LinkFits
 pub mod Calling
 pub mod LinkLeads
 pub mod LinkGoes
+pub mod Writings

@@ -96,19 +96,19 @@ module _ (image : Image) (layout : Layout) (prepared : IsPrepared image layout) 
         pub host_some : IsSome (host_of image wanted)
         host_some = host_there image layout prepared region table r k e wanted (bound_is ∙ is)
 
+        pub host_leads : (h : HostProcedure) → host_of image wanted ≡ Some (host_is h) → (s : Stepped) (m : Store) → Reaches image s (call_bound image e.bound e.top e.rest m)
+            → LinkLeads image layout region table r s m (Host h)
+        unfolding LinkLeads calls_host
+        host_leads h there s m reaches = (
+          calls_host image layout prepared region table r k e wanted (bound_is ∙ is) (host_is h) there,
+          subst (λ x. Reaches image s x) (host_called image e.top e.rest m e.bound wanted (host_is h) (bound_is ∙ is) there) reaches,
+        )
+
         pub host_linked : (h : HostProcedure) → host_of image wanted ≡ Some (host_is h) → (marks : List Bool) (s : Stepped) (m : Store) (turns : ℕ) → m.turns ≡ turns → ShowsStarted marks m.started
             → Reaches image s (call_bound image e.bound e.top e.rest m) → LinkedTo image layout region table r marks s (record m { turns = turns }) (Host h)
-        unfolding LinkLeads calls_host
         host_linked h there marks s m turns turns_are shown reaches =
             subst (λ t. LinkedTo image layout region table r marks s (record m { turns = t }) (Host h)) turns_are
-            (record {
-              started = m.started;
-              shown = shown;
-              leads = (
-                calls_host image layout prepared region table r k e wanted (bound_is ∙ is) (host_is h) there,
-                subst (λ x. Reaches image s x) (host_called image e.top e.rest m e.bound wanted (host_is h) (bound_is ∙ is) there) reaches,
-              );
-            })
+            (record { started = m.started; shown = shown; leads = host_leads h there s m reaches })
 
       -- a procedure of an instance
 

@@ -1,10 +1,14 @@
 -- What the procedures of the host write and read (rule of this project), and where they lead.
-use Rattle.std.specs.Prelude.{◌≡◌, ℕ, ◌+◌, ◌-◌, ◌%◌, ◌<◌, List, [], ◌∷◌, ◌++◌, Bool, true, false, Option, Some, None, IfSome, option_map, slice_index}
+use Rattle.std.specs.Prelude.{◌≡◌, ℕ, zero, suc, ◌+◌, ◌-◌, ◌%◌, ◌<◌, List, [], ◌∷◌, ◌++◌, Bool, true, false, Option, Some, None, IfSome, option_and_then, option_map, slice_index}
 use Rattle.mesa_base.specs.Decimal.{signed_word}
+use Rattle.code_forms.specs.declared.instruction.Instruction.{Instruction}
+use Rattle.code_forms.specs.declared.instruction.Instruction.TheVariants.{CallLink}
 use Rattle.object_files.specs.declared.image.Image.{Image}
+use Rattle.object_files.specs.declared.image.Link.{Link}
+use Rattle.object_files.specs.declared.image.Link.TheVariants.{Wanted, To}
 use Rattle.signaller.specs.declared.signal_id.SignalId.TheVariants.{NoInput}
 use Rattle.machine_steps.specs.State.{Active, Activations, Store, Broken, Stepped}
-use Rattle.machine_steps.specs.LookUps.{text_of}
+use Rattle.machine_steps.specs.LookUps.{bound_to, text_of, Host, WriteChar, WriteString, WriteDecimal, ReadChar, EndOfInput, host_of}
 use Rattle.machine_steps.specs.Calls.{host}
 use Rattle.machine_steps.specs.Signals.{raise}
 use Rattle.machine_steps.specs.Steps.{Ends}
@@ -132,3 +136,26 @@ pub record Reads (reading : Reading) (ahead ahead' : Option Coming) (left left' 
   pub after : ahead' ≡ known_after reading coming
   pub behind : GoesBehind r reading turn
   pub leads : ReadsOn region region' r reading coming turn
+
+-- Which call writes.
+
+abbrev pub writes_as : Host → Option Writing
+writes_as WriteChar = Some Char
+writes_as WriteString = Some Text
+writes_as WriteDecimal = Some Decimal
+writes_as ReadChar = None
+writes_as EndOfInput = None
+
+abbrev pub writing_bound : Image → Link → Option Writing
+writing_bound image (Wanted n) = option_and_then writes_as (host_of image n)
+writing_bound image (To j number) = None
+
+-- where a turn is left for it
+abbrev pub in_turn : (turns : ℕ) → Option Writing → Option Writing
+in_turn zero writing = None
+in_turn (suc turns) writing = writing
+
+-- the host's procedure that writes, which an instance calls by an instruction with so many turns left, if it calls one
+unfoldable pub writing_in : Image → (instance turns : ℕ) → Instruction → Option Writing
+writing_in image j turns (CallLink k) = in_turn turns (option_and_then (writing_bound image) (bound_to image j k))
+writing_in image j turns i = None

@@ -1,5 +1,5 @@
 -- What a call through a link stands on, and where it leads (rule of this project).
-use Rattle.std.specs.Prelude.{◌≡◌, ℕ, List, Bool, Some, slice_get}
+use Rattle.std.specs.Prelude.{◌≡◌, ℕ, suc, ◌-◌, List, Bool, Some, slice_get}
 use Rattle.code_forms.specs.declared.instruction.Instruction.{Instruction}
 use Rattle.code_forms.specs.declared.instruction.Instruction.TheVariants.{CallLink}
 use Rattle.code_forms.specs.declared.module_code.CodeEntry.{CodeEntry}
@@ -14,8 +14,10 @@ use Rattle.quiet_run.specs.declared.registers.Registers.{Registers}
 use Rattle.activation_region.specs.declared.row.Layout.{Layout}
 use Rattle.activation_region.specs.declared.row.Row.{Row}
 use Rattle.activation_region.specs.Calling.{IsCodeOf, IsAt, IsAmpleFor, AddsFrame, Enters, CallsThen, LeadsTo}
-use Rattle.activation_region.specs.Reaching.{Reaches, IsUnstuck}
+use Rattle.activation_region.specs.Reaching.{Reaches, IsUnstuck, Shown}
 use Rattle.activation_region.specs.Shows.{IsAmple, Shows}
+use Rattle.region_calls.specs.declared.host.HostProcedure.TheVariants.{Write}
+use Rattle.region_calls.specs.declared.host.Writing.{Writing}
 use Rattle.region_calls.specs.declared.linking.LinkTurn.{LinkTurn}
 use Rattle.region_calls.specs.declared.linking.LinkTurn.TheVariants.{Done, Host}
 use Rattle.region_calls.specs.Hosts.{host_is, CallsHost}
@@ -74,3 +76,9 @@ pub record LinkedTo (image : Image) (layout : Layout) (region : List ℕ) (table
   pub started : ℕ → Bool
   pub shown : ShowsStarted marks started
   pub leads : LinkLeads image layout region table r s (record m { started = started }) turn
+
+-- A procedure that writes is called at once: it is found, and a turn is left for it.
+abbrev pub CallsWriting : Image → Layout → List ℕ → List Row → Registers → (turns : ℕ) → Writing → Type 0
+CallsWriting image layout region table r turns writing =
+    (s : Stepped) (m : Store) → m.turns ≡ turns → Shown image layout region table r s m
+    → LinkLeads image layout region table r s (record m { turns = turns - 1; begun = suc m.begun }) (Host (Write writing))

@@ -1,20 +1,22 @@
 //! Calls through links.
 
-ghost use Rattle.std.specs.Prelude.{◌≡◌, ℕ, suc, ◌≤◌, length, vec_capacity};
+ghost use Rattle.std.specs.Prelude.{◌≡◌, ℕ, suc, ◌<◌, ◌≤◌, length, IfSome, vec_capacity};
 ghost use Rattle.code_forms.specs.declared.instruction.Instruction.TheVariants.{CallLink};
 ghost use Rattle.machine_steps.specs.Calls.{call as called_with, call_bound as bound_call};
 ghost use Rattle.machine_steps.specs.Moves.{spend};
 ghost use Rattle.machine_steps.specs.State.{Stepped, Store};
 ghost use Rattle.activation_region.specs.Calling.{AddsFrame, CallsThen, Enters, EntersSome, IsAmpleFor, LeadsTo, StandsIn};
+ghost use Rattle.activation_region.specs.Frames.{row_at};
 ghost use Rattle.activation_region.specs.Reaching.{IsUnstuck, Reaches, Shown};
 ghost use Rattle.activation_region.specs.Shows.{IsAmple, IsPrepared, IsReserved};
-ghost use Rattle.region_calls.specs.Linking.{AddsFrameForLink, CallsLink, EntersBody, IsAmpleForLink, LinkedTo, StandsAt, WaitsToCall};
+ghost use Rattle.region_calls.specs.Hosting.{writing_in};
+ghost use Rattle.region_calls.specs.Linking.{AddsFrameForLink, CallsLink, CallsWriting, EntersBody, IsAmpleForLink, LinkedTo, StandsAt, WaitsToCall};
 ghost use Rattle.region_calls.specs.Started.{ShowsStarted};
 
-use crate::host::{HostProcedure, host_of};
+use crate::host::{HostProcedure, Writing, host_of};
 use crate::look_ups::{bound_to, is_started, link_called, procedure_of, row_of};
 use activation_region::{Layout, Row, Turn, add_frame};
-use code_forms::CodeProcedure;
+use code_forms::{CodeProcedure, Instruction};
 use machine_steps::End;
 use object_files::{Image, Link};
 use quiet_run::Registers;
@@ -189,4 +191,40 @@ pub fn call_again(
     let procedure = procedure_of(image, row.instance, row.procedure);
     let number = link_called(procedure, r.entry);
     call_bound(image, number, started, region, table, r, layout, turns)
+}
+
+/// The procedure of the host that writes, which the topmost activation, of this instance, calls through a link, where it
+/// stands at such a call and a turn is left for that.
+#[inline(always)]
+pub fn writing_called(
+    image: &Image,
+    instance: u32,
+    instruction: Instruction,
+    region: &[u16],
+    table: &[Row],
+    r: Registers,
+    layout: Layout,
+    turns: u64,
+) -> Option<Writing>
+    requires prepared { IsPrepared image.now layout }
+    requires stands { StandsIn image.now layout region.now table.now r }
+    requires at { StandsAt image.now table.now r instruction }
+    requires instance { instance ≡ (row_at table.now r.top).instance }
+    ensures is { result ≡ writing_in image.now instance turns instruction }
+    ensures calls { IfSome result (CallsWriting image.now layout region.now table.now r turns) }
+    ensures some { IfSome result (λ writing. 0 < turns) }
+{
+    let Instruction::CallLink { link } = instruction else {
+        return None;
+    };
+    let Link::Wanted(wanted) = bound_to(image, instance, link) else {
+        return None;
+    };
+    if turns == 0 {
+        return None;
+    }
+    match host_of(image, wanted) {
+        HostProcedure::Write(writing) => Some(writing),
+        HostProcedure::Read(_) => None,
+    }
 }

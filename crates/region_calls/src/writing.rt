@@ -1,6 +1,6 @@
 //! The procedures of the host that write.
 
-ghost use Rattle.std.specs.Prelude.{◌≡◌, ◌≤◌, ◌++◌, Some, IfOk, IfSome, OnOk, OnErr};
+ghost use Rattle.std.specs.Prelude.{◌≡◌, ◌≢◌, ◌≤◌, [], ◌++◌, Some, IfOk, IfSome, OnOk, OnErr};
 ghost use Rattle.mesa_base.specs.Decimal.{signed_word};
 ghost use Rattle.mesa_base.specs.Outside.{AppendsPrefix, Rose};
 ghost use Rattle.region_calls.specs.declared.host.HostProcedure.TheVariants.{Write};
@@ -17,6 +17,7 @@ use quiet_run::Registers;
 fn put_decimal<K: Sink>(word: u16, out: &mut K) -> Result<(), Failed>
     ensures wrote { OnOk result (IfSome (K.written out.old) (λ bytes. K.written out.new ≡ Some (bytes ++ signed_word word))) }
     ensures partly { OnErr result (IfSome (K.written out.old) (λ bytes. AppendsPrefix bytes (signed_word word) (K.written out.new))) }
+    ensures some { OnErr result (signed_word word ≢ []) }
     ensures fault { OnErr result (Rose (K.faults out.old) (K.faults out.new)) }
     ensures faults_stay { K.faults out.old ≤ K.faults out.new }
 {
@@ -24,6 +25,7 @@ fn put_decimal<K: Sink>(word: u16, out: &mut K) -> Result<(), Failed>
 }
 
 // Puts what the topmost operands say.
+#[inline(always)]
 fn put_operands<K: Sink>(
     writing: Writing,
     image: &Image,
@@ -36,6 +38,7 @@ fn put_operands<K: Sink>(
         K.written out.new ≡ Some (bytes ++ text_written image.now region.now r writing))) }
     ensures partly { OnErr result (IfSome (K.written out.old) (λ bytes.
         AppendsPrefix bytes (text_written image.now region.now r writing) (K.written out.new))) }
+    ensures some { OnErr result (text_written image.now region.now r writing ≢ []) }
     ensures fault { OnErr result (Rose (K.faults out.old) (K.faults out.new)) }
     ensures faults_stay { K.faults out.old ≤ K.faults out.new }
 {
@@ -47,8 +50,9 @@ fn put_operands<K: Sink>(
     }
 }
 
-/// Writes what the topmost operands say, and gives the registers behind the call. Where it fails a prefix was written of
-/// what the machine has written then.
+/// Writes what the topmost operands say, and gives the registers behind the call. Where it fails, which it does for a byte
+/// or more, a prefix was written of what the machine has written then.
+#[inline(always)]
 pub fn write<K: Sink>(
     writing: Writing,
     image: &Image,
@@ -61,6 +65,7 @@ pub fn write<K: Sink>(
         K.written out.new ≡ Some (bytes ++ text_written image.now region.now r writing))) }
     ensures partly { OnErr result (IfSome (K.written out.old) (λ bytes.
         AppendsPrefix bytes (text_written image.now region.now r writing) (K.written out.new))) }
+    ensures some { OnErr result (text_written image.now region.now r writing ≢ []) }
     ensures behind { IfOk result (λ after. after ≡ behind_call (Write writing) r) }
     ensures leads { WritesOn image.now region.now r writing (text_written image.now region.now r writing) (behind_call (Write writing) r) }
     ensures fault { OnErr result (Rose (K.faults out.old) (K.faults out.new)) }

@@ -1,5 +1,5 @@
-use Rattle.std.proofs.Common.{ℕ, List, sym, subst, arith}
-use Rattle.std.specs.Prelude.{IfSome}
+use Rattle.std.proofs.Common.{ℕ, List, [], sym, subst, arith}
+use Rattle.std.specs.Prelude.{◌≢◌, IfSome}
 use Rattle.mesa_base.specs.Outside.{AppendsPrefix}
 use Rattle.quiet_run.specs.declared.registers.Registers.{Registers}
 use Rattle.region_calls.specs.declared.host.HostProcedure.TheVariants.{Write}
@@ -7,9 +7,8 @@ use Rattle.region_calls.specs.Hosting.{CanCall, WritesOn, behind_call, text_writ
 use Rattle.ready_images.proofs.Preparing.{ready_is_prepared}
 use Rattle.ready_images.proofs.Running.{ready_can_run}
 use Rattle.image_runs.proofs.Faults.{none_failed, sink_failed}
-use Rattle.image_runs.proofs.Going.{wrote_on, written}
-use Rattle.image_runs.proofs.Told.{cut_off}
-use Rattle.image_runs.proofs.Writes.{breaks_at_write}
+use Rattle.image_runs.proofs.Going.{written}
+use Rattle.image_runs.proofs.Writes.{write_breaks}
 use Rattle.image_runs.proofs.hosting.write_out.Goals as goal
 
 pub write-requires : goal.write-requires
@@ -35,20 +34,11 @@ returns-in-Ok-clause-follows g c bound control turns begun ahead told left held 
 
 pub returns-in-Err-clause-follows : goal.returns-in-Err-clause-follows
 returns-in-Err-clause-follows g c bound control turns begun ahead told left held short so =
-    let piece : List ℕ = text_written c.args.image.now c.as_slice.result.now c.args.r.now c.args.writing in
-    let behind : Registers = behind_call (Write c.args.writing) c.args.r.now in
-    let leads : WritesOn c.args.image.now c.args.parts.now.region.items c.args.r.now c.args.writing piece behind =
-    subst (λ (x : List ℕ). WritesOn c.args.image.now x c.args.r.now c.args.writing piece behind) c.as_slice.ensures.value c.in-Err.ensures.leads in
-    let prepared = ready_is_prepared c.args.image.now c.args.parts.now c.requires.ready in
-    let partly = subst (λ (x : List ℕ). IfSome (g.K.Sink.written c.args.out.now) (λ bytes. AppendsPrefix bytes (text_written c.args.image.now x c.args.r.now c.args.writing) (g.K.Sink.written c.write.new.out)))
-    c.as_slice.ensures.value c.in-Err.ensures.partly in (
-      breaks_at_write c.args.image.now bound c.args.parts.now control turns begun ahead told left held (g.K.Sink.written c.args.out.now) (g.K.Sink.written c.write.new.out) c.args.r.now c.args.writing
-          prepared c.requires.ample partly so,
-      cut_off c.args.image.now bound c.args.parts.now control turns begun ahead told left held (g.K.Sink.written c.args.out.now) prepared.valid c.requires.ample.long (omega (arith, short))
-          behind (g.K.Sink.written c.write.new.out) so.got so.output piece so.bytes so.byte so.took so.wrote c.in-Err.ensures.partly
-          (wrote_on c.args.image.now (ready_can_run c.args.image.now c.args.parts.now c.requires.ready) bound told left held (g.K.Sink.written c.args.out.now) ahead c.args.parts.now control turns begun
-          c.args.r.now behind c.args.writing piece prepared c.requires.ample leads so),
-    )
+    write_breaks c.args.image.now (ready_can_run c.args.image.now c.args.parts.now c.requires.ready) bound c.args.parts.now control turns begun ahead told left held (g.K.Sink.written c.args.out.now)
+    (g.K.Sink.written c.write.new.out) c.args.r.now c.args.writing (ready_is_prepared c.args.image.now c.args.parts.now c.requires.ready) c.requires.ample short
+    (subst (λ (x : List ℕ). text_written c.args.image.now x c.args.r.now c.args.writing ≢ []) c.as_slice.ensures.value c.in-Err.ensures.some)
+    (subst (λ (x : List ℕ). IfSome (g.K.Sink.written c.args.out.now) (λ bytes. AppendsPrefix bytes (text_written c.args.image.now x c.args.r.now c.args.writing) (g.K.Sink.written c.write.new.out)))
+    c.as_slice.ensures.value c.in-Err.ensures.partly) so
 
 pub returns-in-Ok-clause-faults : goal.returns-in-Ok-clause-faults
 returns-in-Ok-clause-faults g c read = none_failed _ read read _ _ (omega arith) c.in-Ok.ensures.faults_stay

@@ -54,10 +54,10 @@ pub returns-in-LeaveReturn-clause-leads : goal.returns-in-LeaveReturn-clause-lea
 returns-in-LeaveReturn-clause-leads c s m turns free q =
     c.return_out.ensures.leads s m free turns (touches_shown c.args.image.now c.args.parts.now.layout c.args.parts.now.region.items c.args.parts.now.rows.items c.args.r s m q)
 
-pub returns-in_default-clause-leads : goal.returns-in_default-clause-leads
-returns-in_default-clause-leads c s m turns free q =
-    absurd (not_there c.args.image.now c.args.parts.now.layout (ready_is_prepared c.args.image.now c.args.parts.now c.requires.ready) c.args.parts.now.region.items c.args.parts.now.rows.items c.args.r
-    c.args.instruction c.requires.at s m q free c.requires.no_call (record {
+pub unreachable-requires : goal.unreachable-requires
+unreachable-requires c =
+    not_there c.args.image.now c.args.parts.now.layout (ready_is_prepared c.args.image.now c.args.parts.now c.requires.ready) c.args.parts.now.region.items c.args.parts.now.rows.items c.args.r
+    c.args.instruction c.requires.at c.requires.pauses.start c.requires.pauses.store c.requires.pauses.pauses c.requires.pauses.unstuck c.requires.no_call (record {
       own = c.in_default.not-Raise;
       linked = c.in_default.not-RaiseLink;
       predeclared = c.in_default.not-RaiseHost;
@@ -65,4 +65,4 @@ returns-in_default-clause-leads c s m turns free q =
       resume = c.in_default.not-Resume;
       leave = c.in_default.not-Leave;
       leave_return = c.in_default.not-LeaveReturn;
-    }))
+    })
