@@ -33,17 +33,17 @@ use Rattle.source_meaning.specs.Means.{Means}
 use Rattle.source_meaning.specs.State.{Ending, Answer, Normal, Spent}
 use Rattle.source_meaning.proofs.Made as source_run
 use Rattle.source_meaning.proofs.Made.{stmts, global, assign, plus, block, one_arm}
-use Rattle.machine_steps.specs.declared.end.End.TheVariants as end
-use Rattle.machine_steps.specs.Laws.{HasValidCode}
-use Rattle.machine_steps.specs.State.{Ended}
-use Rattle.machine_steps.proofs.Written as machine_run
-use Rattle.code_relation.specs.CodeFor as row
-use Rattle.code_relation.specs.Modules.{CodeFor}
-use Rattle.code_relation.specs.Reading.{Offset, no_more}
-use Rattle.code_relation.proofs.Made.{at, ◌&◌}
-use Rattle.code_simulation.specs.Agreement.{RunsAlike}
-use Rattle.code_simulation.specs.Stands.{InstanceStands, TextFits, Stands, WantsTheHost}
-use Rattle.image_agreement.proofs.Agreement.{images_run}
+use Rattle.machine_rules.specs.declared.end.End.TheVariants as end
+use Rattle.machine_rules.specs.Laws.{HasValidCode}
+use Rattle.machine_rules.specs.State.{Ended}
+use Rattle.machine_rules.proofs.Written as machine_run
+use Rattle.code_rules.specs.CodeFor as row
+use Rattle.code_rules.specs.Modules.{CodeFor}
+use Rattle.code_rules.specs.Reading.{Offset, no_more}
+use Rattle.code_rules.proofs.Made.{at, ◌&◌}
+use Rattle.agreement_rules.specs.Agreement.{RunsAlike}
+use Rattle.agreement_rules.specs.Stands.{InstanceStands, TextFits, Stands, WantsTheHost}
+use Rattle.agreement_laws.proofs.Agreement.{images_run}
 use Rattle.code_examples.proofs.InRange.{Keeps, kept_where_true}
 use Rattle.code_examples.proofs.Judging.{Parts, valid_where_none}
 

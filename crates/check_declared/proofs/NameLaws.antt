@@ -6,9 +6,9 @@ use Rattle.mesa_base.specs.declared.identifier.Identifier.{Identifier}
 use Rattle.check_scopes.specs.Scopes.{has, with_name}
 use Rattle.check_scopes.specs.Shows.{means}
 use Rattle.check_scopes.specs.declared.names.Names.{Names}
-use Rattle.checking_rules.specs.Parts.{distinct, names_of}
-use Rattle.checking_rules.specs.Steps.{and_then, only}
-use Rattle.checking_rules.specs.declared.fault.Cause.TheVariants.{TwiceDeclared}
+use Rattle.check_rules.specs.Parts.{distinct, names_of}
+use Rattle.check_rules.specs.Steps.{and_then, only}
+use Rattle.check_rules.specs.declared.fault.Cause.TheVariants.{TwiceDeclared}
 use Rattle.check_jumps.proofs.Tests.{at_drop}
 use Rattle.check_declared.specs.Naming.{HasNames}
 

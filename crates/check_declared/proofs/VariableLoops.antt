@@ -3,13 +3,13 @@ use Rattle.std.proofs.Common.{◌≡◌, ◌<◌, ◌≤◌, ◌+◌, ℕ, List,
 use Rattle.std.specs.Prelude.{Bool, true, false, min, nat_le}
 use Rattle.std.proofs.lemmas.List.{drop_all, drop_more}
 use Rattle.mesa_base.specs.declared.identifier.Identifier.{Identifier}
-use Rattle.checking_rules.specs.Around.{Around}
-use Rattle.checking_rules.specs.Meanings.{Meaning}
-use Rattle.checking_rules.specs.Names.{each_means, settle, shown, coming}
-use Rattle.checking_rules.specs.PlainTypes.{PlainType}
-use Rattle.checking_rules.specs.Statements.{variable, variables, numbers_from}
-use Rattle.checking_rules.specs.Steps.{State, Check, and_then}
-use Rattle.checking_rules.specs.Typed.{Home}
+use Rattle.check_rules.specs.Around.{Around}
+use Rattle.check_rules.specs.Meanings.{Meaning}
+use Rattle.check_rules.specs.Names.{each_means, settle, shown, coming}
+use Rattle.check_rules.specs.PlainTypes.{PlainType}
+use Rattle.check_rules.specs.Statements.{variable, variables, numbers_from}
+use Rattle.check_rules.specs.Steps.{State, Check, and_then}
+use Rattle.check_rules.specs.Typed.{Home}
 use Rattle.check_jumps.proofs.Gathering.{gathered, behind, nothing_behind}
 use Rattle.check_jumps.proofs.Tests.{at_drop}
 

@@ -4,13 +4,13 @@ use Rattle.mesa_base.specs.declared.identifier.Identifier.{Identifier}
 use Rattle.check_scopes.specs.Scopes.{has}
 use Rattle.check_scopes.specs.Shows.{means}
 use Rattle.check_scopes.specs.declared.names.Names.{Names}
-use Rattle.checking_rules.specs.Around.{Around}
-use Rattle.checking_rules.specs.Names.{settle}
-use Rattle.checking_rules.specs.Parts.{first_name}
-use Rattle.checking_rules.specs.PlainTypes.{PlainType}
-use Rattle.checking_rules.specs.Statements.{variables, few_globals, meaning_of}
-use Rattle.checking_rules.specs.Steps.{Check, ◌>>=◌, pure}
-use Rattle.checking_rules.specs.Typed.{Home}
+use Rattle.check_rules.specs.Around.{Around}
+use Rattle.check_rules.specs.Names.{settle}
+use Rattle.check_rules.specs.Parts.{first_name}
+use Rattle.check_rules.specs.PlainTypes.{PlainType}
+use Rattle.check_rules.specs.Statements.{variables, few_globals, meaning_of}
+use Rattle.check_rules.specs.Steps.{Check, ◌>>=◌, pure}
+use Rattle.check_rules.specs.Typed.{Home}
 
 -- variables of a type, visible from here on
 abbrev pub declared : Around → List Identifier → PlainType → Check (List Home)

@@ -1,9 +1,9 @@
 -- What the code's values stand for.
 use Rattle.std.specs.Prelude.{Bool, true, false, List, [], Option, Some, None}
 use Rattle.mesa_types.specs.Plain.{expr, interval}
-use Rattle.checking_rules.specs.PlainTypes.{PlainField, PlainType, fields, plain}
-use Rattle.checking_rules.specs.Statements as rule
-use Rattle.check_words.specs.Views.{gave}
+use Rattle.check_rules.specs.PlainTypes.{PlainField, PlainType, fields, plain}
+use Rattle.check_rules.specs.Statements as rule
+use Rattle.check_state.specs.Views.{gave}
 use Rattle.check_declared.specs.declared.counting.Counter.{Counter}
 use Rattle.check_declared.specs.declared.counting.Rounds.{Rounds}
 use Rattle.check_declared.specs.declared.sources.Source.{Source}

@@ -3,23 +3,23 @@ ghost use Rattle.std.specs.Prelude.{◌≡◌, Ok};
 ghost use Rattle.mesa_types.specs.Constants as constants;
 ghost use Rattle.mesa_types.specs.Plain.{expr};
 ghost use Rattle.mesa_types.specs.PlainSyntax as plain_syntax;
-ghost use Rattle.checking_rules.specs.PlainTypes.{plain};
-ghost use Rattle.checking_rules.specs.Meanings as meanings;
-ghost use Rattle.checking_rules.specs.Statements as spec;
-ghost use Rattle.checking_rules.specs.Steps.{and_then, or_refuse};
-ghost use Rattle.checking_rules.specs.declared.fault.Cause.TheVariants.{NotConstant};
-ghost use Rattle.check_words.specs.Gives.{GivesOnly};
-ghost use Rattle.check_words.specs.Views as view;
+ghost use Rattle.check_rules.specs.PlainTypes.{plain};
+ghost use Rattle.check_rules.specs.Meanings as meanings;
+ghost use Rattle.check_rules.specs.Statements as spec;
+ghost use Rattle.check_rules.specs.Steps.{and_then, or_refuse};
+ghost use Rattle.check_rules.specs.declared.fault.Cause.TheVariants.{NotConstant};
+ghost use Rattle.check_state.specs.Gives.{GivesOnly};
+ghost use Rattle.check_state.specs.Views as view;
 
-use check_words::{Around, Meaning, base_of, is_text};
-use checking_rules::{Cause, CheckFault};
+use check_rules::{Cause, CheckFault};
+use check_state::{Around, Meaning, base_of, is_text};
 use mesa_base::Place;
 use mesa_types::syntax::Expr;
 use mesa_types::{TypeTree, TypedExpr, constant};
 use std::alloc::Global;
 
 /// Whether the text of a value is a string literal, perhaps in parentheses.
-#[tactic(auto, using(mesa_types::proofs::PlainForms::expr_forms), unfolding(checking_rules::specs::Statements::is_text_literal))]
+#[tactic(auto, using(mesa_types::proofs::PlainForms::expr_forms), unfolding(check_rules::specs::Statements::is_text_literal))]
 fn is_text_literal(text: &Expr) -> bool
     ensures { result ≡ spec.is_text_literal (plain_syntax.expr text.now) }
 {
@@ -64,7 +64,7 @@ fn word_constant(
 }
 
 /// What a constant of this type means, by its text and its value, which begins at this place.
-#[tactic(auto, unfolding(checking_rules::specs::Statements::constant_meaning, check_words::specs::Views::around, check_words::specs::Views::known))]
+#[tactic(auto, unfolding(check_rules::specs::Statements::constant_meaning, check_state::specs::Views::around, check_state::specs::Views::known))]
 pub fn constant_meaning(
     text: &Expr,
     alloc: Global,

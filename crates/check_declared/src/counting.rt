@@ -2,18 +2,18 @@
 ghost use Rattle.std.specs.Prelude.{◌≡◌, IfOk};
 ghost use Rattle.mesa_types.specs.Plain.{expr, interval};
 ghost use Rattle.mesa_types.specs.Typed as t;
-ghost use Rattle.checking_rules.specs.Operators as operators;
-ghost use Rattle.checking_rules.specs.PlainTypes.{plain};
-ghost use Rattle.checking_rules.specs.Ranges as ranges;
-ghost use Rattle.checking_rules.specs.Statements as spec;
-ghost use Rattle.check_words.specs.Gives.{GivesOnly};
-ghost use Rattle.check_words.specs.Views.{meaning};
+ghost use Rattle.check_rules.specs.Operators as operators;
+ghost use Rattle.check_rules.specs.PlainTypes.{plain};
+ghost use Rattle.check_rules.specs.Ranges as ranges;
+ghost use Rattle.check_rules.specs.Statements as spec;
+ghost use Rattle.check_state.specs.Gives.{GivesOnly};
+ghost use Rattle.check_state.specs.Views.{meaning};
 ghost use Rattle.check_values.specs.Views as value;
 ghost use Rattle.check_declared.specs.Views as view;
 
+use check_rules::{Cause, CheckFault};
+use check_state::{Meaning, Typed, base_of, conforms};
 use check_values::{Ends, Meeting, Sort, checked, range_for, related, sort_of};
-use check_words::{Meaning, Typed, base_of, conforms};
-use checking_rules::{Cause, CheckFault};
 use held_trees::{LetGo, both};
 use mesa_base::{OutOfMemory, Place};
 use mesa_types::{Base, Given, Home, Interval, TypeTree, TypedExpr};
@@ -38,7 +38,7 @@ impl LetGo for Rounds {
     }
 }
 
-#[tactic(auto, using(check_words::proofs::TypeForms::type_forms))]
+#[tactic(auto, using(check_state::proofs::TypeForms::type_forms))]
 fn number_type(base: Base) -> TypeTree
     ensures { plain result ≡ operators.number_type base }
 {
@@ -109,7 +109,7 @@ fn rounds_by(alloc: Global, ends: Ends, meeting: Meeting) -> Result<Rounds, OutO
 }
 
 /// The bounds of a loop that counts between these ends.
-#[tactic(auto, unfolding(checking_rules::specs::Statements::rounds))]
+#[tactic(auto, unfolding(check_rules::specs::Statements::rounds))]
 pub fn rounds_of(place: Place, alloc: Global, ends: Ends) -> Result<Rounds, CheckFault>
     ensures { GivesOnly view.rounds (spec.rounds place (value.ends ends)) result }
 {
@@ -151,7 +151,7 @@ pub fn counter_of(place: Place, named: Meaning) -> Result<Counter, CheckFault>
 }
 
 /// The variable takes the numbers of the loop, with a check.
-#[tactic(auto, unfolding(checking_rules::specs::Statements::given))]
+#[tactic(auto, unfolding(check_rules::specs::Statements::given))]
 pub fn given(place: Place, counter: &Counter, rounds: &Rounds) -> Result<Given, CheckFault>
     ensures { GivesOnly (λ g. g) (spec.given place (view.counter counter.now) (view.rounds rounds.now)) result }
 {

@@ -1,13 +1,13 @@
 //! Names that must differ from each other and from those before them.
 ghost use Rattle.std.specs.Prelude.{◌≡◌, ◌++◌, ℕ, List, IfOk, OnOk};
-ghost use Rattle.checking_rules.specs.Parts as parts;
-ghost use Rattle.checking_rules.specs.Statements as spec;
-ghost use Rattle.check_words.specs.Gives.{GivesOnly};
+ghost use Rattle.check_rules.specs.Parts as parts;
+ghost use Rattle.check_rules.specs.Statements as spec;
+ghost use Rattle.check_state.specs.Gives.{GivesOnly};
 ghost use Rattle.check_declared.specs.Naming.{HasNames};
 
+use check_rules::{Cause, CheckFault};
 use check_scopes::Names;
-use check_words::next;
-use checking_rules::{Cause, CheckFault};
+use check_state::next;
 use mesa_base::{Identifier, List, Numbers, OutOfMemory};
 use mesa_types::syntax::RepeatLabels;
 use std::alloc::Global;

@@ -2,16 +2,16 @@
 ghost use Rattle.std.specs.Prelude.{◌≡◌, IfOk};
 ghost use Rattle.mesa_types.specs.Plain.{expr, interval, test};
 ghost use Rattle.mesa_types.specs.Typed as t;
-ghost use Rattle.checking_rules.specs.PlainTypes.{plain};
-ghost use Rattle.checking_rules.specs.Ranges as ranges;
-ghost use Rattle.checking_rules.specs.Statements as spec;
-ghost use Rattle.check_words.specs.Gives.{GivesOnly};
-ghost use Rattle.check_words.specs.Views.{typed};
+ghost use Rattle.check_rules.specs.PlainTypes.{plain};
+ghost use Rattle.check_rules.specs.Ranges as ranges;
+ghost use Rattle.check_rules.specs.Statements as spec;
+ghost use Rattle.check_state.specs.Gives.{GivesOnly};
+ghost use Rattle.check_state.specs.Views.{typed};
 ghost use Rattle.check_values.specs.Views as view;
 
+use check_rules::{Cause, CheckFault};
+use check_state::{Typed, sign_of};
 use check_values::{Ends, Meeting, checked, related, turned};
-use check_words::{Typed, sign_of};
-use checking_rules::{Cause, CheckFault};
 use held_trees::LetGo;
 use mesa_base::{OutOfMemory, Place};
 use mesa_types::{Base, Bases, Interval, Relation, Test, TypeTree, TypedExpr};
@@ -36,7 +36,7 @@ fn test_by(
 }
 
 /// A test of the selector against a value.
-#[tactic(auto, unfolding(checking_rules::specs::Statements::tested))]
+#[tactic(auto, unfolding(check_rules::specs::Statements::tested))]
 pub fn tested(
     is_negated: bool,
     relation: Relation,
@@ -90,7 +90,7 @@ fn inside_test(is_negated: bool, bases: Bases, between: Interval) -> Test
 }
 
 /// A test whether the selector lies in an interval.
-#[tactic(auto, unfolding(checking_rules::specs::Statements::tested_inside))]
+#[tactic(auto, unfolding(check_rules::specs::Statements::tested_inside))]
 pub fn tested_inside(
     is_negated: bool,
     place: Place,

@@ -1,12 +1,12 @@
 //! What an extractor takes its fields from.
 ghost use Rattle.std.specs.Prelude.{◌≡◌, is_some};
-ghost use Rattle.checking_rules.specs.Statements as spec;
-ghost use Rattle.check_words.specs.Gives.{GivesOnly};
-ghost use Rattle.check_words.specs.Views as word;
+ghost use Rattle.check_rules.specs.Statements as spec;
+ghost use Rattle.check_state.specs.Gives.{GivesOnly};
+ghost use Rattle.check_state.specs.Views as word;
 ghost use Rattle.check_declared.specs.Views as view;
 
-use check_words::{Gave, Typed, fields};
-use checking_rules::{Cause, CheckFault};
+use check_rules::{Cause, CheckFault};
+use check_state::{Gave, Typed, fields};
 use held_trees::LetGo;
 use mesa_base::Place;
 use mesa_types::{FieldType, TypeTree, TypedExpr};
@@ -80,7 +80,7 @@ fn is_called(gave: &Gave) -> bool
 }
 
 /// What an extractor takes from: for one result that is a record its fields, else the results.
-#[tactic(auto, unfolding(checking_rules::specs::Statements::source))]
+#[tactic(auto, unfolding(check_rules::specs::Statements::source))]
 pub fn source_of(place: Place, from: Typed) -> Result<Source, CheckFault>
     ensures { GivesOnly view.source (spec.source place (word.typed from)) result }
 {

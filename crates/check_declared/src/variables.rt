@@ -1,25 +1,25 @@
 //! Variables, with numbers in the order in which they are declared.
 ghost use Rattle.std.specs.Prelude.{◌≡◌, ◌+◌, map, nat_le};
 ghost use Rattle.mesa_base.specs.declared.limits.TheConstants.{OPERAND_WORDS};
-ghost use Rattle.checking_rules.specs.Names.{settle};
-ghost use Rattle.checking_rules.specs.Parts as parts;
-ghost use Rattle.checking_rules.specs.PlainTypes.{plain};
-ghost use Rattle.checking_rules.specs.Statements as spec;
-ghost use Rattle.checking_rules.specs.Steps.{only};
-ghost use Rattle.checking_rules.specs.declared.fault.Cause.TheVariants.{FrameTooLarge};
-ghost use Rattle.check_words.specs.Gives.{Gives, GivesOnly};
-ghost use Rattle.check_words.specs.Views as view;
+ghost use Rattle.check_rules.specs.Names.{settle};
+ghost use Rattle.check_rules.specs.Parts as parts;
+ghost use Rattle.check_rules.specs.PlainTypes.{plain};
+ghost use Rattle.check_rules.specs.Statements as spec;
+ghost use Rattle.check_rules.specs.Steps.{only};
+ghost use Rattle.check_rules.specs.declared.fault.Cause.TheVariants.{FrameTooLarge};
+ghost use Rattle.check_state.specs.Gives.{Gives, GivesOnly};
+ghost use Rattle.check_state.specs.Views as view;
 ghost use Rattle.check_declared.specs.Naming.{declared};
 
 use check_jumps::next_local;
-use check_words::{Around, Meaning, State, narrower};
-use checking_rules::{Cause, CheckFault};
+use check_rules::{Cause, CheckFault};
+use check_state::{Around, Meaning, State, narrower};
 use mesa_base::limits::{GLOBAL_WORDS, OPERAND_WORDS};
 use mesa_base::{Identifier, List, Place};
 use mesa_types::{Home, Homes, TypeTree};
 use std::alloc::Global;
 
-#[tactic(auto, unfolding(check_words::specs::Views::state, check_words::specs::Views::around))]
+#[tactic(auto, unfolding(check_state::specs::Views::state, check_state::specs::Views::around))]
 fn local(
     kind: &TypeTree,
     alloc: Global,
@@ -33,7 +33,7 @@ fn local(
     Ok(Home::Local(number))
 }
 
-#[tactic(auto, unfolding(check_words::specs::Views::state))]
+#[tactic(auto, unfolding(check_state::specs::Views::state))]
 fn global(kind: &TypeTree, alloc: Global, state: &mut State) -> Result<Home, CheckFault>
     ensures { Gives (λ h. h) (spec.global (plain kind.now) (view.state state.old)) result (view.state state.new) }
 {
@@ -43,7 +43,7 @@ fn global(kind: &TypeTree, alloc: Global, state: &mut State) -> Result<Home, Che
 }
 
 /// A variable more of the module or the procedure.
-#[tactic(auto, unfolding(check_words::specs::Views::around))]
+#[tactic(auto, unfolding(check_state::specs::Views::around))]
 fn variable(
     kind: &TypeTree,
     alloc: Global,
@@ -76,7 +76,7 @@ fn variables(
 }
 
 /// The words of the globals are limited.
-#[tactic(auto, unfolding(check_words::specs::Views::state))]
+#[tactic(auto, unfolding(check_state::specs::Views::state))]
 pub fn few_globals(state: &State, place: Place) -> Result<(), CheckFault>
     ensures { Gives (λ _. tt) (spec.few_globals place (view.state state.now)) result (view.state state.now) }
 {

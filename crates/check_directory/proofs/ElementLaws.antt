@@ -5,11 +5,11 @@ use Rattle.mesa_types.specs.declared.types.TypeTree.{TypeTree}
 use Rattle.mesa_types.specs.declared.types.TypeTree.TheVariants as tree
 use Rattle.mesa_types.specs.declared.types.Origin.{Origin}
 use Rattle.check_scopes.specs.Scopes.{Scope, over}
-use Rattle.checking_rules.specs.Directory.{elements_from, elements_in, first_entry, is_own}
-use Rattle.checking_rules.specs.Meanings as m
-use Rattle.checking_rules.specs.PlainTypes as v
-use Rattle.checking_rules.specs.PlainTypes.{PlainInterface, PlainType, plain}
-use Rattle.check_words.proofs.TypeForms.{of_array, of_boolean, of_cardinal, of_character, of_enumeration, of_integer, of_string}
+use Rattle.check_rules.specs.Directory.{elements_from, elements_in, first_entry, is_own}
+use Rattle.check_rules.specs.Meanings as m
+use Rattle.check_rules.specs.PlainTypes as v
+use Rattle.check_rules.specs.PlainTypes.{PlainInterface, PlainType, plain}
+use Rattle.check_state.proofs.TypeForms.{of_array, of_boolean, of_cardinal, of_character, of_enumeration, of_integer, of_string}
 use Rattle.check_directory.proofs.EntryLaws.{over_entries, over_none}
 
 pub then_ok : {A E P Q : Type 0} (r : Result A E) → OnOk r P → (P → Q) → OnOk r Q

@@ -6,8 +6,8 @@ use denote.Ref.{Bor}
 use Rattle.mesa_base.specs.declared.identifier.Identifier.{Identifier}
 use Rattle.mesa_types.specs.declared.syntax.DirectoryItem.{DirectoryItem}
 use Rattle.interface_records.specs.declared.interface.Interface.{Interface}
-use Rattle.checking_rules.specs.Directory.{interface_at, names_in, place_in, put_some, those_of}
-use Rattle.checking_rules.specs.PlainTypes.{PlainInterface, plain_interface}
+use Rattle.check_rules.specs.Directory.{interface_at, names_in, place_in, put_some, those_of}
+use Rattle.check_rules.specs.PlainTypes.{PlainInterface, plain_interface}
 use Rattle.check_directory.specs.Interfaces.{found}
 use Rattle.check_directory.proofs.PlaceLaws.{at_drop}
 

@@ -8,14 +8,14 @@ use Rattle.interface_records.specs.declared.interface.Interface.{Interface}
 use Rattle.check_scopes.specs.Scopes.{Scope, has}
 use Rattle.check_scopes.specs.Shows.{means}
 use Rattle.check_scopes.specs.declared.names.Names.{Names}
-use Rattle.checking_rules.specs.Directory.{Entry, directory, directory_scope, entries, entry, first_entry, used_names, using}
-use Rattle.checking_rules.specs.Meanings as m
-use Rattle.checking_rules.specs.PlainTypes.{PlainInterface, plain_interface}
-use Rattle.checking_rules.specs.Steps.{Checked, and_then, only, refuse}
-use Rattle.checking_rules.specs.declared.fault.Cause.TheVariants.{UnknownName, TwiceDeclared}
-use Rattle.check_words.specs.Views.{meaning, names}
-use Rattle.check_words.specs.declared.meaning.Meaning.{Meaning}
-use Rattle.check_words.proofs.ScopeLaws.{is_some_map}
+use Rattle.check_rules.specs.Directory.{Entry, directory, directory_scope, entries, entry, first_entry, used_names, using}
+use Rattle.check_rules.specs.Meanings as m
+use Rattle.check_rules.specs.PlainTypes.{PlainInterface, plain_interface}
+use Rattle.check_rules.specs.Steps.{Checked, and_then, only, refuse}
+use Rattle.check_rules.specs.declared.fault.Cause.TheVariants.{UnknownName, TwiceDeclared}
+use Rattle.check_state.specs.Views.{meaning, names}
+use Rattle.check_state.specs.declared.meaning.Meaning.{Meaning}
+use Rattle.check_state.proofs.ScopeLaws.{is_some_map}
 use Rattle.check_directory.specs.Items.{fits}
 use Rattle.check_directory.proofs.EntryLaws.{flat_from}
 use Rattle.check_directory.proofs.PlaceLaws.{at_drop}

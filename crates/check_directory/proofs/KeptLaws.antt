@@ -6,12 +6,12 @@ use Rattle.mesa_base.specs.declared.identifier.Identifier.{Identifier}
 use Rattle.check_scopes.specs.Scopes.{Scope, has, over}
 use Rattle.check_scopes.specs.Shows.{means}
 use Rattle.check_scopes.specs.declared.names.Names.{Names}
-use Rattle.checking_rules.specs.Directory.{Entry, first_entry, restricted}
-use Rattle.checking_rules.specs.Meanings as m
-use Rattle.checking_rules.specs.Parts.{names_of}
+use Rattle.check_rules.specs.Directory.{Entry, first_entry, restricted}
+use Rattle.check_rules.specs.Meanings as m
+use Rattle.check_rules.specs.Parts.{names_of}
 use Rattle.check_directory.specs.Kept.{entry_if, kept}
-use Rattle.check_words.specs.Views.{meaning, names}
-use Rattle.check_words.specs.declared.meaning.Meaning.{Meaning}
+use Rattle.check_state.specs.Views.{meaning, names}
+use Rattle.check_state.specs.declared.meaning.Meaning.{Meaning}
 use Rattle.check_directory.proofs.EntryLaws.{flat_from, over_none}
 
 one_left : (scope : Scope m.Meaning) (x y : List ℕ) (o : Option m.Meaning) → scope x ≡ o → (b : Bool) → bytes_eq y x ≡ b → (c : Bool) (rest : List Entry)

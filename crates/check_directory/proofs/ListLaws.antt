@@ -7,9 +7,9 @@ use Rattle.check_scopes.specs.Shows.{means}
 use Rattle.check_scopes.specs.declared.names.Names.{Names}
 use Rattle.check_scopes.proofs.Laws.{has_one_more}
 use Rattle.mesa_base.specs.declared.identifier.Identifier.{Identifier}
-use Rattle.checking_rules.specs.Directory.{listed}
-use Rattle.checking_rules.specs.Steps.{Checked, and_then, only, refuse}
-use Rattle.checking_rules.specs.declared.fault.Cause.TheVariants.{UnknownName, TwiceDeclared}
+use Rattle.check_rules.specs.Directory.{listed}
+use Rattle.check_rules.specs.Steps.{Checked, and_then, only, refuse}
+use Rattle.check_rules.specs.declared.fault.Cause.TheVariants.{UnknownName, TwiceDeclared}
 use Rattle.check_directory.specs.Lists.{HasNames}
 use Rattle.check_directory.proofs.PlaceLaws.{at_drop}
 

@@ -7,12 +7,12 @@ use Rattle.interface_records.specs.declared.interface.Interface.{Interface}
 use Rattle.check_scopes.specs.Scopes.{Scope, over, nothing}
 use Rattle.check_scopes.specs.Shows.{means}
 use Rattle.check_scopes.specs.declared.names.Names.{Names}
-use Rattle.checking_rules.specs.Directory.{entries, first_entry, names_in, offered, opened, place_in, restricted, scope_at}
-use Rattle.checking_rules.specs.Meanings as m
-use Rattle.checking_rules.specs.PlainTypes.{PlainInterface, plain_interface}
-use Rattle.check_words.specs.Views.{meaning, names, seen_as}
-use Rattle.check_words.specs.declared.meaning.Meaning.{Meaning}
-use Rattle.check_words.proofs.ScopeLaws.{over_as, slice_get_map}
+use Rattle.check_rules.specs.Directory.{entries, first_entry, names_in, offered, opened, place_in, restricted, scope_at}
+use Rattle.check_rules.specs.Meanings as m
+use Rattle.check_rules.specs.PlainTypes.{PlainInterface, plain_interface}
+use Rattle.check_state.specs.Views.{meaning, names, seen_as}
+use Rattle.check_state.specs.declared.meaning.Meaning.{Meaning}
+use Rattle.check_state.proofs.ScopeLaws.{over_as, slice_get_map}
 
 abbrev pub offer : Option ℕ → DirectoryItem → PlainInterface → Scope m.Meaning
 offer import d i = restricted d.used (first_entry (entries import i))

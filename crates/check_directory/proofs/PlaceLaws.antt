@@ -10,8 +10,8 @@ use Rattle.check_scopes.specs.Shows.{means}
 use Rattle.check_scopes.specs.declared.names.Names.{Names}
 use Rattle.mesa_base.specs.declared.identifier.Identifier.{Identifier}
 use Rattle.mesa_types.specs.declared.syntax.DirectoryItem.{DirectoryItem}
-use Rattle.checking_rules.specs.Directory.{place_in, names_in}
-use Rattle.checking_rules.specs.Parts.{names_of}
+use Rattle.check_rules.specs.Directory.{place_in, names_in}
+use Rattle.check_rules.specs.Parts.{names_of}
 use Rattle.check_directory.specs.Lists.{HasNames}
 
 pub at_drop : {A : Type 0} (all : List A) (i : ℕ) (x : A) → i < length all → x ≡ get_or all i x → drop i all ≡ x ∷ drop (i + 1) all

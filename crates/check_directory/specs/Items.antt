@@ -2,10 +2,10 @@
 use Rattle.std.specs.Prelude.{ℕ, List, None, bytes_eq, not}
 use Rattle.mesa_types.specs.declared.syntax.DirectoryItem.{DirectoryItem}
 use Rattle.check_scopes.specs.Scopes.{has}
-use Rattle.checking_rules.specs.Directory.{entries, first_entry, using}
-use Rattle.checking_rules.specs.PlainTypes.{PlainInterface}
-use Rattle.checking_rules.specs.Steps.{Checked, and_then, only}
-use Rattle.checking_rules.specs.declared.fault.Cause.TheVariants.{UnknownName, TwiceDeclared}
+use Rattle.check_rules.specs.Directory.{entries, first_entry, using}
+use Rattle.check_rules.specs.PlainTypes.{PlainInterface}
+use Rattle.check_rules.specs.Steps.{Checked, and_then, only}
+use Rattle.check_rules.specs.declared.fault.Cause.TheVariants.{UnknownName, TwiceDeclared}
 
 -- it has its interface's name, which none before it has, and names what is in it
 abbrev pub fits : List (List ℕ) → DirectoryItem → PlainInterface → Checked (Unit {0})

@@ -1,8 +1,8 @@
 -- What a list of names leaves of what an interface offers.
 use Rattle.std.specs.Prelude.{ℕ, List, [], ◌∷◌, Option, Some, None}
 use Rattle.check_scopes.specs.Scopes.{Scope}
-use Rattle.checking_rules.specs.Directory.{Entry, entry}
-use Rattle.checking_rules.specs.Meanings.{Meaning}
+use Rattle.check_rules.specs.Directory.{Entry, entry}
+use Rattle.check_rules.specs.Meanings.{Meaning}
 
 abbrev pub entry_if : List ℕ → Option Meaning → List Entry
 entry_if x None = []

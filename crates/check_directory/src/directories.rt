@@ -2,16 +2,16 @@
 ghost use Rattle.std.specs.Prelude.{◌≡◌, [], ℕ, List, map, IfOk};
 ghost use Rattle.check_directory.specs.Lists.{HasNames};
 ghost use Rattle.check_directory.specs.Items as step;
-ghost use Rattle.check_words.specs.Gives.{GivesOnly};
-ghost use Rattle.check_words.specs.Views as view;
-ghost use Rattle.checking_rules.specs.Directory as spec;
-ghost use Rattle.checking_rules.specs.PlainTypes.{plain_interface};
+ghost use Rattle.check_state.specs.Gives.{GivesOnly};
+ghost use Rattle.check_state.specs.Views as view;
+ghost use Rattle.check_rules.specs.Directory as spec;
+ghost use Rattle.check_rules.specs.PlainTypes.{plain_interface};
 
 use crate::entries::entries;
 use crate::offers::offer;
+use check_rules::{Cause, CheckFault};
 use check_scopes::Names;
-use check_words::{Meaning, next};
-use checking_rules::{Cause, CheckFault};
+use check_state::{Meaning, next};
 use interface_records::Interface;
 use mesa_base::{Identifier, OutOfMemory};
 use mesa_types::syntax::DirectoryItem;

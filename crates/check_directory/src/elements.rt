@@ -1,13 +1,13 @@
 //! The elements of the enumerations that an interface itself declares.
 ghost use Rattle.std.specs.Prelude.{◌≡◌, map, OnOk};
 ghost use Rattle.check_scopes.specs.Scopes.{over};
-ghost use Rattle.check_words.specs.Views as view;
-ghost use Rattle.checking_rules.specs.Directory as spec;
-ghost use Rattle.checking_rules.specs.PlainTypes.{plain, plain_field, plain_item, plain_constant, plain_name, plain_interface};
+ghost use Rattle.check_state.specs.Views as view;
+ghost use Rattle.check_rules.specs.Directory as spec;
+ghost use Rattle.check_rules.specs.PlainTypes.{plain, plain_field, plain_item, plain_constant, plain_name, plain_interface};
 
 use crate::offers::offer;
 use check_scopes::Names;
-use check_words::{Meaning, narrower, next};
+use check_state::{Meaning, narrower, next};
 use interface_records::{Constant, Interface, NamedType};
 use mesa_base::{Name, OutOfMemory};
 use mesa_types::{FieldType, Item, Origin, TypeTree};
@@ -45,7 +45,7 @@ fn is_own(origin: &Origin, interface: &Interface) -> bool
 }
 
 #[cycle(elements)]
-#[tactic(auto, using(check_words::proofs::TypeForms::type_forms, crate::proofs::EntryLaws::over_none, crate::proofs::EntryLaws::over_entries, crate::proofs::EntryLaws::parts_fields), unfolding(checking_rules::specs::Directory::elements_in))]
+#[tactic(auto, using(check_state::proofs::TypeForms::type_forms, crate::proofs::EntryLaws::over_none, crate::proofs::EntryLaws::over_entries, crate::proofs::EntryLaws::parts_fields), unfolding(check_rules::specs::Directory::elements_in))]
 fn in_type(
     kind: &TypeTree,
     alloc: Global,

@@ -1,13 +1,13 @@
 //! All that an interface offers.
 ghost use Rattle.std.specs.Prelude.{◌≡◌, IfOk};
-ghost use Rattle.check_words.specs.Views as view;
-ghost use Rattle.checking_rules.specs.Directory as spec;
-ghost use Rattle.checking_rules.specs.PlainTypes.{plain_interface};
+ghost use Rattle.check_state.specs.Views as view;
+ghost use Rattle.check_rules.specs.Directory as spec;
+ghost use Rattle.check_rules.specs.PlainTypes.{plain_interface};
 
 use crate::elements::{in_constants, in_items, in_types};
 use crate::interface_names::{constants, items, types};
 use check_scopes::Names;
-use check_words::Meaning;
+use check_state::Meaning;
 use interface_records::Interface;
 use mesa_base::OutOfMemory;
 use std::alloc::Global;

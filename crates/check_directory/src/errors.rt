@@ -1,13 +1,13 @@
 //! The errors that are declared before each module.
 ghost use Rattle.std.specs.Prelude.{◌≡◌, [], ◌∷◌, IfOk, OnOk};
 ghost use Rattle.check_scopes.specs.Scopes.{over};
-ghost use Rattle.check_words.specs.Views as view;
-ghost use Rattle.checking_rules.specs.Directory as spec;
-ghost use Rattle.checking_rules.specs.PlainTypes.{plain_item};
+ghost use Rattle.check_state.specs.Views as view;
+ghost use Rattle.check_rules.specs.Directory as spec;
+ghost use Rattle.check_rules.specs.PlainTypes.{plain_item};
 ghost use Rattle.mesa_base.specs.Name.{IsName};
 
 use check_scopes::Names;
-use check_words::Meaning;
+use check_state::Meaning;
 use mesa_base::{List, Name, OutOfMemory, Shared};
 use mesa_types::{Item, ItemKind, Raised};
 use std::alloc::Global;

@@ -1,13 +1,13 @@
 //! What an interface offers: its items, constants and types, and the elements of its own enumerations.
 ghost use Rattle.std.specs.Prelude.{◌≡◌, [], ◌∷◌, map, IfOk, OnOk};
 ghost use Rattle.check_scopes.specs.Scopes.{over};
-ghost use Rattle.check_words.specs.Views as view;
-ghost use Rattle.checking_rules.specs.Directory as spec;
-ghost use Rattle.checking_rules.specs.PlainTypes.{plain, plain_item, plain_constant, plain_name};
+ghost use Rattle.check_state.specs.Views as view;
+ghost use Rattle.check_rules.specs.Directory as spec;
+ghost use Rattle.check_rules.specs.PlainTypes.{plain, plain_item, plain_constant, plain_name};
 
 use crate::offers::offer;
 use check_scopes::Names;
-use check_words::{Meaning, next};
+use check_state::{Meaning, next};
 use interface_records::{Constant, Interface, NamedType};
 use mesa_base::{OutOfMemory, Shared};
 use mesa_types::{Callee, Item, ItemKind, Raised};

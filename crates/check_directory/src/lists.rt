@@ -1,13 +1,13 @@
 //! Lists that name items of the DIRECTORY.
 ghost use Rattle.std.specs.Prelude.{[], ℕ, List};
-ghost use Rattle.check_words.specs.Gives.{GivesOnly};
-ghost use Rattle.checking_rules.specs.Directory as spec;
-ghost use Rattle.checking_rules.specs.Parts.{names_of};
+ghost use Rattle.check_state.specs.Gives.{GivesOnly};
+ghost use Rattle.check_rules.specs.Directory as spec;
+ghost use Rattle.check_rules.specs.Parts.{names_of};
 ghost use Rattle.check_directory.specs.Lists.{HasNames};
 
 use crate::positions::directory_places;
+use check_rules::{Cause, CheckFault};
 use check_scopes::Names;
-use checking_rules::{Cause, CheckFault};
 use mesa_base::Identifier;
 use mesa_types::syntax::DirectoryItem;
 use std::alloc::Global;

@@ -1,13 +1,13 @@
 //! All that names interfaces before a module's body.
 ghost use Rattle.std.specs.Prelude.{map};
-ghost use Rattle.check_words.specs.Gives.{GivesOnly};
-ghost use Rattle.checking_rules.specs.CheckedModule as spec;
-ghost use Rattle.checking_rules.specs.PlainTypes.{plain_interface};
+ghost use Rattle.check_state.specs.Gives.{GivesOnly};
+ghost use Rattle.check_rules.specs.CheckedModule as spec;
+ghost use Rattle.check_rules.specs.PlainTypes.{plain_interface};
 ghost use Rattle.mesa_types.specs.PlainSyntax as plain;
 
 use crate::directories::directory;
 use crate::lists::listed;
-use checking_rules::CheckFault;
+use check_rules::CheckFault;
 use interface_records::Interface;
 use mesa_base::Identifier;
 use mesa_types::Module;

@@ -1,11 +1,11 @@
 //! One name more that an interface offers.
 ghost use Rattle.std.specs.Prelude.{◌≡◌, [], ◌∷◌, OnOk};
 ghost use Rattle.check_scopes.specs.Scopes.{over};
-ghost use Rattle.check_words.specs.Views as view;
-ghost use Rattle.checking_rules.specs.Directory as spec;
+ghost use Rattle.check_state.specs.Views as view;
+ghost use Rattle.check_rules.specs.Directory as spec;
 
 use check_scopes::Names;
-use check_words::Meaning;
+use check_state::Meaning;
 use mesa_base::{Name, OutOfMemory};
 use std::alloc::Global;
 

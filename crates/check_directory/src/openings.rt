@@ -1,16 +1,16 @@
 //! What the items of a DIRECTORY offer to a module.
 ghost use Rattle.std.specs.Prelude.{◌≡◌, List, map, IfOk};
 ghost use Rattle.check_scopes.specs.Shows.{means};
-ghost use Rattle.check_words.specs.Views as view;
-ghost use Rattle.checking_rules.specs.Directory as spec;
-ghost use Rattle.checking_rules.specs.PlainTypes.{plain_interface};
+ghost use Rattle.check_state.specs.Views as view;
+ghost use Rattle.check_rules.specs.Directory as spec;
+ghost use Rattle.check_rules.specs.PlainTypes.{plain_interface};
 ghost use Rattle.mesa_base.specs.declared.identifier.Identifier.{Identifier as ListedName};
 
 use crate::entries::entries;
 use crate::positions::{directory_places, places};
 use crate::restricted::restricted;
 use check_scopes::Names;
-use check_words::Meaning;
+use check_state::Meaning;
 use interface_records::Interface;
 use mesa_base::{Identifier, OutOfMemory};
 use mesa_types::syntax::DirectoryItem;

@@ -1,10 +1,10 @@
 //! Where names stand in a list.
 ghost use Rattle.std.specs.Prelude.{◌≡◌, IfOk};
 ghost use Rattle.check_scopes.specs.Shows.{means};
-ghost use Rattle.checking_rules.specs.Directory as spec;
+ghost use Rattle.check_rules.specs.Directory as spec;
 
 use check_scopes::Names;
-use check_words::next;
+use check_state::next;
 use mesa_base::{Identifier, OutOfMemory};
 use mesa_types::syntax::DirectoryItem;
 use std::alloc::Global;

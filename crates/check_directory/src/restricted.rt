@@ -2,17 +2,17 @@
 ghost use Rattle.std.specs.Prelude.{◌≡◌, IfOk, OnOk};
 ghost use Rattle.check_directory.specs.Kept as step;
 ghost use Rattle.check_scopes.specs.Scopes.{over};
-ghost use Rattle.check_words.specs.Views as view;
-ghost use Rattle.checking_rules.specs.Directory as spec;
+ghost use Rattle.check_state.specs.Views as view;
+ghost use Rattle.check_rules.specs.Directory as spec;
 
 use crate::offers::offer;
 use check_scopes::Names;
-use check_words::Meaning;
+use check_state::Meaning;
 use mesa_base::{Identifier, Identifiers, Name, OutOfMemory};
 use std::alloc::Global;
 
 /// A name that means something there means it here too, unless it has a meaning.
-#[tactic(auto, unfolding(check_words::specs::Views::names))]
+#[tactic(auto, unfolding(check_state::specs::Views::names))]
 fn keep(
     name: &Name,
     alloc: Global,

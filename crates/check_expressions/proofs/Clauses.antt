@@ -8,27 +8,27 @@ use Rattle.mesa_types.specs.declared.relation.Relation.{Relation}
 use Rattle.mesa_types.specs.declared.syntax.QualifiedName.{QualifiedName}
 use Rattle.mesa_types.specs.declared.syntax.Sign.{Sign}
 use Rattle.mesa_types.specs.declared.faces.ItemKind.TheVariants as item
-use Rattle.checking_rules.specs.Typed as t
-use Rattle.checking_rules.specs.PlainTypes.{PlainField, PlainType}
-use Rattle.checking_rules.specs.Around.{Around}
-use Rattle.checking_rules.specs.Checking as spec
-use Rattle.checking_rules.specs.Meanings.{Meaning}
-use Rattle.checking_rules.specs.Meanings as mean
-use Rattle.checking_rules.specs.Names.{qualified}
-use Rattle.checking_rules.specs.Parts.{first, last_of}
+use Rattle.check_rules.specs.Typed as t
+use Rattle.check_rules.specs.PlainTypes.{PlainField, PlainType}
+use Rattle.check_rules.specs.Around.{Around}
+use Rattle.check_rules.specs.Checking as spec
+use Rattle.check_rules.specs.Meanings.{Meaning}
+use Rattle.check_rules.specs.Meanings as mean
+use Rattle.check_rules.specs.Names.{qualified}
+use Rattle.check_rules.specs.Parts.{first, last_of}
 use Rattle.mesa_types.specs.declared.faces.ItemKind.{ItemKind}
 use Rattle.mesa_types.specs.PlainSyntax as plain
 use Rattle.mesa_types.specs.declared.syntax.Brackets.{Brackets}
 use Rattle.mesa_types.specs.declared.syntax.Expr.{Expr}
 use Rattle.mesa_types.specs.declared.syntax.Suffix.TheVariants as xv
 use Rattle.mesa_types.proofs.PlainForms.{of_field, of_applied}
-use Rattle.checking_rules.specs.declared.fault.Cause.TheVariants.{TypeMismatch, WrongCount}
-use Rattle.checking_rules.specs.Ranges.{Typed, Aim, Free, Into, Several, finish}
-use Rattle.checking_rules.specs.Reached.{Reached, Bracketed, Named, Value, Variable, Results, Shape, OfFields, OfElements, NoShape, Use, field, indexed, may_apply, settled, shape_of, text_at}
-use Rattle.checking_rules.specs.Steps.{Check, Checked, State, and_then, ◌>>=◌, pure, lift, only, refuse, spend, fail, ensure}
-use Rattle.checking_rules.specs.Values.{Raises, by_level, by_shape, compared, in_order, is_truth, letter, level_of, raises_by, summed, not_of, number, signed, string, truth, within}
-use Rattle.check_parts.specs.Lists as lists
-use Rattle.check_parts.specs.Runs as runs
+use Rattle.check_rules.specs.declared.fault.Cause.TheVariants.{TypeMismatch, WrongCount}
+use Rattle.check_rules.specs.Ranges.{Typed, Aim, Free, Into, Several, finish}
+use Rattle.check_rules.specs.Reached.{Reached, Bracketed, Named, Value, Variable, Results, Shape, OfFields, OfElements, NoShape, Use, field, indexed, may_apply, settled, shape_of, text_at}
+use Rattle.check_rules.specs.Steps.{Check, Checked, State, and_then, ◌>>=◌, pure, lift, only, refuse, spend, fail, ensure}
+use Rattle.check_rules.specs.Values.{Raises, by_level, by_shape, compared, in_order, is_truth, letter, level_of, raises_by, summed, not_of, number, signed, string, truth, within}
+use Rattle.check_operands.specs.Lists as lists
+use Rattle.check_operands.specs.Runs as runs
 use Rattle.check_expressions.specs.Lists.{at_place, none_given, nothing_in, target}
 use Rattle.check_expressions.proofs.Folding.{in_turn}
 

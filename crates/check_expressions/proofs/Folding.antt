@@ -1,8 +1,8 @@
 -- Lists that are gone through part by part.
 use Rattle.std.proofs.Common.{◌≡◌, ◌<◌, ◌≤◌, ◌+◌, ℕ, List, [], ◌∷◌, map, drop, length, get_or, Ok, Err, refl, sym, ap, ◌∙◌}
 use Rattle.std.proofs.lemmas.List.{drop_more, drop_all}
-use Rattle.checking_rules.specs.Steps.{Check, Checked, State, and_then}
-use Rattle.check_parts.specs.Folds.{folded}
+use Rattle.check_rules.specs.Steps.{Check, Checked, State, and_then}
+use Rattle.check_operands.specs.Folds.{folded}
 
 module _ {A B : Type 0} where
   pub folded_one : (step : B → A → Check B) (done : B) (x : A) (xs : List A) (σ : State) → folded step done (x ∷ xs) σ ≡ and_then (step done x σ) (λ r. folded step r.0 xs r.1)

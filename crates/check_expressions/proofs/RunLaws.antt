@@ -29,16 +29,16 @@ use Rattle.mesa_types.specs.declared.syntax.Suffix.{Suffix, roll-Suffix, out-Suf
 use Rattle.mesa_types.specs.declared.syntax.Condition.TheOpen.{Suffix-F}
 use Rattle.mesa_types.specs.declared.typed_tree.TypedExpr.{TypedExpr}
 use Rattle.mesa_types.proofs.PlainForms.{parts_of_operation, suffix_at}
-use Rattle.checking_rules.specs.Around.{Around}
-use Rattle.checking_rules.specs.Checking as spec
-use Rattle.checking_rules.specs.PlainTypes.{PlainType}
-use Rattle.checking_rules.specs.Ranges.{Typed, Free}
-use Rattle.checking_rules.specs.Reached.{Reached, Use, field, may_apply, settled}
-use Rattle.checking_rules.specs.declared.fault.Cause.TheVariants.{TypeMismatch}
-use Rattle.checking_rules.specs.Steps.{Checked, State, and_then, ◌>>=◌, pure, ensure}
-use Rattle.checking_rules.specs.Values.{Done, Bare, Sums, Alls, Somes, level_of, is_truth, step, truth, truth_operand}
-use Rattle.check_parts.specs.Folds.{folded}
-use Rattle.check_parts.specs.Runs.{Sum, begun, with_done, behind, ended, sum_turn, sums, operand, truth_turn, truths, run, suffix}
+use Rattle.check_rules.specs.Around.{Around}
+use Rattle.check_rules.specs.Checking as spec
+use Rattle.check_rules.specs.PlainTypes.{PlainType}
+use Rattle.check_rules.specs.Ranges.{Typed, Free}
+use Rattle.check_rules.specs.Reached.{Reached, Use, field, may_apply, settled}
+use Rattle.check_rules.specs.declared.fault.Cause.TheVariants.{TypeMismatch}
+use Rattle.check_rules.specs.Steps.{Checked, State, and_then, ◌>>=◌, pure, ensure}
+use Rattle.check_rules.specs.Values.{Done, Bare, Sums, Alls, Somes, level_of, is_truth, step, truth, truth_operand}
+use Rattle.check_operands.specs.Folds.{folded}
+use Rattle.check_operands.specs.Runs.{Sum, begun, with_done, behind, ended, sum_turn, sums, operand, truth_turn, truths, run, suffix}
 use Rattle.check_expressions.proofs.Folding.{folded_at, in_turn}
 
 -- ---- sums and products

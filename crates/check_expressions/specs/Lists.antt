@@ -1,13 +1,13 @@
 -- What is asked of lists before their values, and literals, as the code takes them one by one.
 use Rattle.std.specs.Prelude.{ℕ, List, Ok, length, nat_eq}
 use Rattle.mesa_base.specs.declared.place.Place.{Place}
-use Rattle.checking_rules.specs.Typed as t
-use Rattle.checking_rules.specs.PlainTypes.{PlainField, PlainType}
-use Rattle.checking_rules.specs.Ranges.{Typed, Aim, Arguments, finish}
-use Rattle.checking_rules.specs.Reached.{Reached, shape_of}
-use Rattle.checking_rules.specs.Steps.{Check, Checked, and_then, ◌>>=◌, pure, lift, only, refuse, spend}
-use Rattle.checking_rules.specs.Values.{by_aim, by_shape, in_order, string}
-use Rattle.checking_rules.specs.declared.fault.Cause.TheVariants.{TypeMismatch, WrongCount}
+use Rattle.check_rules.specs.Typed as t
+use Rattle.check_rules.specs.PlainTypes.{PlainField, PlainType}
+use Rattle.check_rules.specs.Ranges.{Typed, Aim, Arguments, finish}
+use Rattle.check_rules.specs.Reached.{Reached, shape_of}
+use Rattle.check_rules.specs.Steps.{Check, Checked, and_then, ◌>>=◌, pure, lift, only, refuse, spend}
+use Rattle.check_rules.specs.Values.{by_aim, by_shape, in_order, string}
+use Rattle.check_rules.specs.declared.fault.Cause.TheVariants.{TypeMismatch, WrongCount}
 
 -- the type that a constructor at p has from its target, and where the expression begins that goes there
 abbrev pub target : Aim → Place → Checked (PlainType × Place)

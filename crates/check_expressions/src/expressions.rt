@@ -4,34 +4,34 @@ ghost use Rattle.std.specs.Option.{option_copied};
 ghost use Rattle.mesa_types.specs.Plain.{expr};
 ghost use Rattle.mesa_types.specs.PlainSyntax as plain;
 ghost use Rattle.mesa_types.specs.Syntax as s;
-ghost use Rattle.checking_rules.specs.Checking as spec;
-ghost use Rattle.checking_rules.specs.PlainTypes as v;
-ghost use Rattle.check_words.specs.Gives.{Gives};
-ghost use Rattle.check_words.specs.Views as words;
-ghost use Rattle.check_reached.specs.Views as reaching;
+ghost use Rattle.check_rules.specs.Checking as spec;
+ghost use Rattle.check_rules.specs.PlainTypes as v;
+ghost use Rattle.check_state.specs.Gives.{Gives};
+ghost use Rattle.check_state.specs.Views as words;
+ghost use Rattle.check_selectors.specs.Views as reaching;
 ghost use Rattle.check_values.specs.Views as values;
 ghost use Rattle.mesa_types.specs.declared.syntax.Brackets.{out-Brackets};
 ghost use Rattle.check_expressions.specs.Lists as forms;
-ghost use Rattle.check_parts.specs.Lists as lists;
-ghost use Rattle.check_parts.specs.Runs as runs;
-ghost use Rattle.check_parts.specs.Views as view;
+ghost use Rattle.check_operands.specs.Lists as lists;
+ghost use Rattle.check_operands.specs.Runs as runs;
+ghost use Rattle.check_operands.specs.Views as view;
 
 use crate::lists::{bare, none_given, nothing_in, target_of};
 use crate::literals::{one_word, text};
 use crate::phrases::Phrases;
-use check_parts::{
+use check_operands::{
     Applied, Arguments, At, Level, Raises, Sum, Wanted, aim_for, all_of, applied_to, begun, behind,
     called, counted, ended, first, has_parts, in_order, keyed_fields, level_of, made, only,
     ordered, raised, some_of, truth_literal, unnamed, what_is_raised, words_given,
 };
-use check_reached::{
+use check_rules::{Cause, CheckFault};
+use check_selectors::{
     Bracketed, Reached, Use, at_index, field, led_to, may_apply, places, settled, value,
 };
+use check_state::{Aim, Around, State, Typed, named, size};
 use check_values::{
     Ends, compared, finish, is_truth, letter, not_of, number, signed, truth, truth_operand, within,
 };
-use check_words::{Aim, Around, State, Typed, named, size};
-use checking_rules::{Cause, CheckFault};
 use held_trees::{LetGo, both, boxed, pushed};
 use mesa_base::{List, Place, Shared};
 use mesa_types::syntax::{
@@ -170,7 +170,7 @@ impl<P: Phrases> Checker<P> {
 
     /// A run with one operator more.
     #[cycle(expressions)]
-    #[tactic(auto, unfolding(check_parts::specs::Runs::sum_turn))]
+    #[tactic(auto, unfolding(check_operands::specs::Runs::sum_turn))]
     fn and_operator(
         &self,
         one: &Operation,
@@ -209,7 +209,7 @@ impl<P: Phrases> Checker<P> {
 
     /// An operand of AND or OR, whose left operand fits or does not.
     #[cycle(expressions)]
-    #[tactic(auto, unfolding(check_parts::specs::Runs::operand))]
+    #[tactic(auto, unfolding(check_operands::specs::Runs::operand))]
     fn operand(
         &self,
         one: &Operation,
@@ -251,7 +251,7 @@ impl<P: Phrases> Checker<P> {
 
     /// The value of a name with what follows it.
     #[cycle(expressions)]
-    #[tactic(auto, using(mesa_types::proofs::PlainForms::parts), unfolding(check_parts::specs::Runs::reference))]
+    #[tactic(auto, using(mesa_types::proofs::PlainForms::parts), unfolding(check_operands::specs::Runs::reference))]
     fn reference(
         &self,
         left: &Left,
@@ -355,7 +355,7 @@ impl<P: Phrases> Checker<P> {
 
     /// The element or byte with an index.
     #[cycle(expressions)]
-    #[tactic(auto, using(mesa_types::proofs::PlainForms::parts), unfolding(check_parts::specs::Runs::index))]
+    #[tactic(auto, using(mesa_types::proofs::PlainForms::parts), unfolding(check_operands::specs::Runs::index))]
     fn index(
         &self,
         brackets: &Brackets,
@@ -403,7 +403,7 @@ impl<P: Phrases> Checker<P> {
 
     /// A call with its values and its phrase.
     #[cycle(expressions)]
-    #[tactic(auto, using(mesa_types::proofs::PlainForms::parts), unfolding(check_parts::specs::Runs::call))]
+    #[tactic(auto, using(mesa_types::proofs::PlainForms::parts), unfolding(check_operands::specs::Runs::call))]
     fn call(
         &self,
         brackets: &Brackets,
@@ -427,7 +427,7 @@ impl<P: Phrases> Checker<P> {
 
     /// A constructor behind the name of its type.
     #[cycle(expressions)]
-    #[tactic(auto, using(mesa_types::proofs::PlainForms::parts), unfolding(check_parts::specs::Runs::construct_named))]
+    #[tactic(auto, using(mesa_types::proofs::PlainForms::parts), unfolding(check_operands::specs::Runs::construct_named))]
     fn construct_named(
         &self,
         brackets: &Brackets,
@@ -672,7 +672,7 @@ impl<P: Phrases> Checker<P> {
 
     /// A value that is given to a target of this type.
     #[cycle(expressions)]
-    #[tactic(auto, unfolding(check_parts::specs::Lists::value_for))]
+    #[tactic(auto, unfolding(check_operands::specs::Lists::value_for))]
     fn value_for(
         &self,
         e: &Expr,
@@ -690,7 +690,7 @@ impl<P: Phrases> Checker<P> {
 
     /// The value of a raise.
     #[cycle(expressions)]
-    #[tactic(auto, unfolding(check_parts::specs::Runs::raised))]
+    #[tactic(auto, unfolding(check_operands::specs::Runs::raised))]
     fn raised(
         &self,
         of: &Raise,
@@ -746,7 +746,7 @@ impl<P: Phrases> Checker<P> {
 
     /// A raise with the values and the phrase of its brackets.
     #[cycle(expressions)]
-    #[tactic(auto, using(mesa_types::proofs::PlainForms::parts), unfolding(check_parts::specs::Lists::full_raise))]
+    #[tactic(auto, using(mesa_types::proofs::PlainForms::parts), unfolding(check_operands::specs::Lists::full_raise))]
     fn full_raise(
         &self,
         brackets: &Brackets,

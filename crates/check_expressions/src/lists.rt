@@ -1,15 +1,15 @@
 //! What is asked of lists before their values, and lists without values.
-ghost use Rattle.checking_rules.specs.PlainTypes as v;
-ghost use Rattle.check_words.specs.Gives.{Gives, GivesOnly};
-ghost use Rattle.check_words.specs.Views as words;
-ghost use Rattle.check_parts.specs.Lists as parts;
-ghost use Rattle.check_parts.specs.Views as view;
+ghost use Rattle.check_rules.specs.PlainTypes as v;
+ghost use Rattle.check_state.specs.Gives.{Gives, GivesOnly};
+ghost use Rattle.check_state.specs.Views as words;
+ghost use Rattle.check_operands.specs.Lists as parts;
+ghost use Rattle.check_operands.specs.Views as view;
 ghost use Rattle.check_expressions.specs.Lists as lists;
 
-use check_parts::{Arguments, At, Raises, bare_raise, nothing_given};
-use check_reached::{Shape, shape_of};
-use check_words::{Aim, State, Typed};
-use checking_rules::{Cause, CheckFault};
+use check_operands::{Arguments, At, Raises, bare_raise, nothing_given};
+use check_rules::{Cause, CheckFault};
+use check_selectors::{Shape, shape_of};
+use check_state::{Aim, State, Typed};
 use mesa_base::Place;
 use mesa_types::{FieldType, TypeTree};
 use std::alloc::Global;

@@ -1,11 +1,11 @@
 //! Literals, which count their words.
-ghost use Rattle.check_words.specs.Gives.{Gives};
-ghost use Rattle.check_words.specs.Views as words;
+ghost use Rattle.check_state.specs.Gives.{Gives};
+ghost use Rattle.check_state.specs.Views as words;
 ghost use Rattle.check_expressions.specs.Lists as lists;
 
+use check_rules::CheckFault;
+use check_state::{Aim, Around, State, Typed};
 use check_values::{finish, string};
-use check_words::{Aim, Around, State, Typed};
-use checking_rules::CheckFault;
 use held_trees::both;
 use mesa_base::Place;
 use std::alloc::Global;
@@ -24,7 +24,7 @@ pub(crate) fn one_word(
 }
 
 /// A string literal, of two words.
-#[tactic(auto, unfolding(check_words::specs::Views::around, check_words::specs::Views::known))]
+#[tactic(auto, unfolding(check_state::specs::Views::around, check_state::specs::Views::known))]
 pub(crate) fn text(
     alloc: Global,
     around: &Around<'_>,

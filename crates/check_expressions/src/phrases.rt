@@ -1,12 +1,12 @@
 //! Catch phrases, whose arms are statements: what checks those stands in a crate above.
 ghost use Rattle.mesa_types.specs.Plain as tree;
 ghost use Rattle.mesa_types.specs.PlainSyntax as plain;
-ghost use Rattle.checking_rules.specs.Checking as spec;
-ghost use Rattle.check_words.specs.Gives.{Gives};
-ghost use Rattle.check_words.specs.Views as view;
+ghost use Rattle.check_rules.specs.Checking as spec;
+ghost use Rattle.check_state.specs.Gives.{Gives};
+ghost use Rattle.check_state.specs.Views as view;
 
-use check_words::{Around, State};
-use checking_rules::CheckFault;
+use check_rules::CheckFault;
+use check_state::{Around, State};
 use mesa_types::{Phrase, syntax};
 
 /// What checks catch phrases.

@@ -14,13 +14,13 @@ use Rattle.mesa_types.specs.declared.syntax.TypeExp.{TypeExp}
 use Rattle.check_scopes.specs.Scopes.{Scope, over, nothing, has, with_name}
 use Rattle.check_scopes.specs.Shows.{means}
 use Rattle.check_scopes.specs.declared.names.Names.{Names}
-use Rattle.checking_rules.specs.Definitions as interface
-use Rattle.checking_rules.specs.Meanings as m
-use Rattle.checking_rules.specs.Parts.{names_of}
-use Rattle.checking_rules.specs.Programs.{ahead, also, elements_in_named, elements_in_types, elements_of, one_ahead, type_of}
-use Rattle.check_words.specs.Views.{meaning, names, seen_as}
-use Rattle.check_words.specs.declared.meaning.Meaning.{Meaning}
-use Rattle.check_words.proofs.ScopeLaws.{over_as, with_name_as}
+use Rattle.check_rules.specs.Definitions as interface
+use Rattle.check_rules.specs.Meanings as m
+use Rattle.check_rules.specs.Parts.{names_of}
+use Rattle.check_rules.specs.Programs.{ahead, also, elements_in_named, elements_in_types, elements_of, one_ahead, type_of}
+use Rattle.check_state.specs.Views.{meaning, names, seen_as}
+use Rattle.check_state.specs.declared.meaning.Meaning.{Meaning}
+use Rattle.check_state.proofs.ScopeLaws.{over_as, with_name_as}
 use Rattle.check_directory.proofs.PlaceLaws.{at_drop, over_nothing}
 use Rattle.check_faces.specs.Ahead.{all, declared, defined, later}
 

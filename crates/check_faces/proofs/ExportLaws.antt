@@ -10,11 +10,11 @@ use Rattle.mesa_types.specs.declared.faces.Pair.{Pair}
 use Rattle.check_scopes.specs.Scopes.{Scope, over, nothing, with_name}
 use Rattle.check_scopes.specs.Shows.{means}
 use Rattle.check_scopes.specs.declared.names.Names.{Names}
-use Rattle.checking_rules.specs.Directory.{place_in}
-use Rattle.checking_rules.specs.PlainTypes.{PlainInterface, PlainItem, plain_interface, plain_item}
-use Rattle.checking_rules.specs.Programs as program
-use Rattle.checking_rules.specs.Programs.{exported, fits_item, offer_named, pair_for, pairs}
-use Rattle.checking_rules.specs.Steps.{Checked, and_then}
+use Rattle.check_rules.specs.Directory.{place_in}
+use Rattle.check_rules.specs.PlainTypes.{PlainInterface, PlainItem, plain_interface, plain_item}
+use Rattle.check_rules.specs.Programs as program
+use Rattle.check_rules.specs.Programs.{exported, fits_item, offer_named, pair_for, pairs}
+use Rattle.check_rules.specs.Steps.{Checked, and_then}
 use Rattle.check_directory.specs.Interfaces.{found}
 use Rattle.check_directory.proofs.PlaceLaws.{at_drop, place_more, place_none}
 use Rattle.check_faces.specs.Giving.{export, export_with, given, pair}

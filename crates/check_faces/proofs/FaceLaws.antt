@@ -3,9 +3,9 @@ use Rattle.std.proofs.Common.{◌≡◌, List, [], ◌∷◌, map, refl, ap, ◌
 use Rattle.interface_records.specs.declared.interface.Interface.{Interface}
 use Rattle.mesa_types.specs.declared.faces.Item.{Item}
 use Rattle.mesa_types.specs.declared.types.FieldType.{FieldType, roll-FieldType, out-FieldType, roll-out-FieldType}
-use Rattle.checking_rules.specs.PlainTypes.{face_of, field_of, item_of, plain_field, plain_interface, plain_item}
-use Rattle.check_words.proofs.TypeBack.{back}
-use Rattle.check_words.proofs.TypeForms.{parts_of_field}
+use Rattle.check_rules.specs.PlainTypes.{face_of, field_of, item_of, plain_field, plain_interface, plain_item}
+use Rattle.check_state.proofs.TypeBack.{back}
+use Rattle.check_state.proofs.TypeForms.{parts_of_field}
 
 part_back : (f : FieldType) → field_of (plain_field f) ≡ f
 part_back f =

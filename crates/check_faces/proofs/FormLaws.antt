@@ -14,8 +14,8 @@ use Rattle.mesa_types.specs.declared.syntax.TypeExp.{TypeExp}
 use Rattle.mesa_types.specs.declared.syntax.TypeExp.TheVariants as yv
 use Rattle.mesa_types.proofs.PlainForms.{of_array, of_boolean, of_called, of_cardinal, of_character, of_integer, of_string, of_subrange, of_with_names}
 use Rattle.check_scopes.specs.Scopes.{Scope, over}
-use Rattle.checking_rules.specs.Meanings as m
-use Rattle.checking_rules.specs.Programs.{elements_in, elements_in_named, elements_of}
+use Rattle.check_rules.specs.Meanings as m
+use Rattle.check_rules.specs.Programs.{elements_in, elements_in_named, elements_of}
 use Rattle.check_faces.specs.Ahead.{later}
 use Rattle.check_faces.proofs.AheadLaws.{none_more, two_more}
 

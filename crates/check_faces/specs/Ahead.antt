@@ -3,9 +3,9 @@ use Rattle.std.specs.Prelude.{List}
 use Rattle.mesa_base.specs.declared.identifier.Identifier.{Identifier}
 use Rattle.mesa_types.specs.Syntax as s
 use Rattle.check_scopes.specs.Scopes.{Scope, nothing}
-use Rattle.checking_rules.specs.Definitions as interface
-use Rattle.checking_rules.specs.Meanings.{Meaning, Later}
-use Rattle.checking_rules.specs.Programs as program
+use Rattle.check_rules.specs.Definitions as interface
+use Rattle.check_rules.specs.Meanings.{Meaning, Later}
+use Rattle.check_rules.specs.Programs as program
 
 -- each of these names means this
 abbrev pub all : Meaning → List Identifier → Scope Meaning

@@ -3,9 +3,9 @@ use Rattle.std.specs.Prelude.{ℕ, Bool, true, false, List, [], ◌∷◌, ◌++
 use Rattle.mesa_types.specs.declared.faces.Export.{Export}
 use Rattle.mesa_types.specs.declared.faces.Import.{Import}
 use Rattle.mesa_types.specs.declared.faces.Pair.{Pair}
-use Rattle.checking_rules.specs.PlainTypes.{PlainInterface, PlainItem, face_of}
-use Rattle.checking_rules.specs.Programs.{Offer, fits_item, marked_from, pairs}
-use Rattle.checking_rules.specs.Steps.{Checked, and_then}
+use Rattle.check_rules.specs.PlainTypes.{PlainInterface, PlainItem, face_of}
+use Rattle.check_rules.specs.Programs.{Offer, fits_item, marked_from, pairs}
+use Rattle.check_rules.specs.Steps.{Checked, and_then}
 
 -- the pair of this item, if something is offered for it
 abbrev pub pair : ℕ → Option Offer → List Pair

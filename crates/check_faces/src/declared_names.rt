@@ -2,13 +2,13 @@
 ghost use Rattle.std.specs.Prelude.{◌≡◌, ◌++◌, map, IfOk, OnOk};
 ghost use Rattle.check_faces.specs.Ahead as step;
 ghost use Rattle.check_scopes.specs.Scopes.{over};
-ghost use Rattle.check_words.specs.Views as view;
-ghost use Rattle.checking_rules.specs.Definitions as interface;
-ghost use Rattle.checking_rules.specs.Programs as spec;
+ghost use Rattle.check_state.specs.Views as view;
+ghost use Rattle.check_rules.specs.Definitions as interface;
+ghost use Rattle.check_rules.specs.Programs as spec;
 ghost use Rattle.mesa_types.specs.PlainSyntax as plain;
 
 use check_scopes::Names;
-use check_words::Meaning;
+use check_state::Meaning;
 use mesa_base::{Identifier, Identifiers, OutOfMemory};
 use mesa_types::syntax::{Declaration, Declared, Defined, FieldList, Labeled, PlainItem, TypeExp};
 use std::alloc::Global;
@@ -30,7 +30,7 @@ fn also(
 
 /// The elements of the enumerations in a type are declared further on.
 #[cycle(elements)]
-#[tactic(auto, using(mesa_types::proofs::PlainForms::type_exp_forms, crate::proofs::AheadLaws::none_more, crate::proofs::AheadLaws::two_more), unfolding(checking_rules::specs::Programs::elements_of))]
+#[tactic(auto, using(mesa_types::proofs::PlainForms::type_exp_forms, crate::proofs::AheadLaws::none_more, crate::proofs::AheadLaws::two_more), unfolding(check_rules::specs::Programs::elements_of))]
 fn also_elements(e: &TypeExp, alloc: Global, scope: &mut Names<Meaning>) -> Result<(), OutOfMemory>
     ensures { OnOk result (view.names scope.new ≡ over (view.names scope.old) (step.later (spec.elements_of (plain.type_exp e.now)))) }
 {
@@ -54,7 +54,7 @@ fn also_elements(e: &TypeExp, alloc: Global, scope: &mut Names<Meaning>) -> Resu
 }
 
 #[cycle(elements)]
-#[tactic(auto, using(mesa_types::proofs::PlainForms::field_list_forms), unfolding(checking_rules::specs::Programs::elements_in))]
+#[tactic(auto, using(mesa_types::proofs::PlainForms::field_list_forms), unfolding(check_rules::specs::Programs::elements_in))]
 fn also_in_fields(
     fields: &FieldList,
     alloc: Global,

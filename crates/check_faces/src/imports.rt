@@ -2,11 +2,11 @@
 ghost use Rattle.std.specs.Prelude.{◌≡◌, ◌++◌, map, IfOk, OnOk};
 ghost use Rattle.check_directory.specs.Interfaces.{found};
 ghost use Rattle.check_faces.specs.Giving as step;
-ghost use Rattle.checking_rules.specs.PlainTypes.{plain_interface, plain_item};
-ghost use Rattle.checking_rules.specs.Programs as spec;
+ghost use Rattle.check_rules.specs.PlainTypes.{plain_interface, plain_item};
+ghost use Rattle.check_rules.specs.Programs as spec;
 
 use check_scopes::Marks;
-use check_words::next;
+use check_state::next;
 use held_trees::{both, pushed};
 use interface_records::Interface;
 use mesa_base::{List, Numbers, OutOfMemory};

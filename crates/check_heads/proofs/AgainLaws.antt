@@ -4,15 +4,15 @@ use Rattle.std.specs.Prelude.{◌≢◌, Result}
 use Rattle.std.proofs.lemmas.List.{take_all, take_more, map-append}
 use Rattle.mesa_base.specs.declared.identifier.Identifier.{Identifier}
 use Rattle.mesa_base.specs.declared.place.Place.{Place}
-use Rattle.checking_rules.specs.Around.{Around}
-use Rattle.checking_rules.specs.Meanings.{Meaning}
-use Rattle.checking_rules.specs.Programs.{before_others, behind, head_alone, heads_further, next_or, passed_over, told}
-use Rattle.checking_rules.specs.Scopes.{Scope, innermost}
-use Rattle.checking_rules.specs.Steps.{Fault, State, Check, Checked, and_then}
-use Rattle.checking_rules.specs.declared.fault.CheckFault.{CheckFault}
-use Rattle.checking_rules.specs.declared.fault.Cause.{Cause}
-use Rattle.checking_rules.specs.declared.fault.CheckFault.TheVariants.{At, Memory}
-use Rattle.check_words.specs.Gives.{Gives, GivesOnly, fault}
+use Rattle.check_rules.specs.Around.{Around}
+use Rattle.check_rules.specs.Meanings.{Meaning}
+use Rattle.check_rules.specs.Programs.{before_others, behind, head_alone, heads_further, next_or, passed_over, told}
+use Rattle.check_rules.specs.Scopes.{Scope, innermost}
+use Rattle.check_rules.specs.Steps.{Fault, State, Check, Checked, and_then}
+use Rattle.check_rules.specs.declared.fault.CheckFault.{CheckFault}
+use Rattle.check_rules.specs.declared.fault.Cause.{Cause}
+use Rattle.check_rules.specs.declared.fault.CheckFault.TheVariants.{At, Memory}
+use Rattle.check_state.specs.Gives.{Gives, GivesOnly, fault}
 use Rattle.check_heads.specs.Again.{after, dropped, heads_in, is_fault, next, outcome_alone, retried}
 
 -- ---- one more

@@ -10,17 +10,17 @@ use Rattle.mesa_types.specs.Syntax as s
 use Rattle.mesa_types.specs.declared.faces.ItemKind.TheVariants as item
 use Rattle.mesa_types.specs.declared.syntax.Defined.{Defined as Written}
 use Rattle.mesa_types.specs.declared.syntax.Labeled.{Labeled}
-use Rattle.checking_rules.specs.Around.{Around, in_constant}
-use Rattle.checking_rules.specs.Checking.{check, type_exp}
-use Rattle.checking_rules.specs.Definitions.{Defined, all_defined, and_defined, constants_by, defined, definition, nothing_defined}
-use Rattle.checking_rules.specs.Meanings.{Meaning}
-use Rattle.checking_rules.specs.Names.{announce, settle}
-use Rattle.checking_rules.specs.Parts.{first, first_name}
-use Rattle.checking_rules.specs.Programs.{told}
-use Rattle.checking_rules.specs.Ranges.{Into}
-use Rattle.checking_rules.specs.Statements.{constant_meaning}
-use Rattle.checking_rules.specs.Steps.{Fault, State, Check, Checked, and_then, ensure, only}
-use Rattle.checking_rules.specs.declared.fault.Cause.TheVariants.{FrameTooLarge}
+use Rattle.check_rules.specs.Around.{Around, in_constant}
+use Rattle.check_rules.specs.Checking.{check, type_exp}
+use Rattle.check_rules.specs.Definitions.{Defined, all_defined, and_defined, constants_by, defined, definition, nothing_defined}
+use Rattle.check_rules.specs.Meanings.{Meaning}
+use Rattle.check_rules.specs.Names.{announce, settle}
+use Rattle.check_rules.specs.Parts.{first, first_name}
+use Rattle.check_rules.specs.Programs.{told}
+use Rattle.check_rules.specs.Ranges.{Into}
+use Rattle.check_rules.specs.Statements.{constant_meaning}
+use Rattle.check_rules.specs.Steps.{Fault, State, Check, Checked, and_then, ensure, only}
+use Rattle.check_rules.specs.declared.fault.Cause.TheVariants.{FrameTooLarge}
 use Rattle.check_expressions.proofs.Folding.{in_turn}
 use Rattle.check_jumps.proofs.Tests.{at_drop}
 use Rattle.check_heads.specs.Again.{after}

@@ -8,17 +8,17 @@ use Rattle.mesa_types.specs.PlainSyntax as plain
 use Rattle.mesa_types.specs.Syntax as s
 use Rattle.mesa_types.specs.declared.syntax.Labeled.{Labeled}
 use Rattle.mesa_types.specs.declared.syntax.TypeExp.{TypeExp}
-use Rattle.checking_rules.specs.Around.{Around, inside}
-use Rattle.checking_rules.specs.Checking.{type_exp}
-use Rattle.checking_rules.specs.Meanings.{Meaning, Variable}
-use Rattle.checking_rules.specs.Names.{announce}
-use Rattle.checking_rules.specs.Parts.{each_of}
-use Rattle.checking_rules.specs.PlainTypes.{PlainField, PlainType}
-use Rattle.checking_rules.specs.Programs.{Heading, heading, named_parameters, own_scope, parameters}
-use Rattle.checking_rules.specs.Scopes.{Scope, nothing, outer, over}
-use Rattle.checking_rules.specs.Statements.{fields_from, named_field}
-use Rattle.checking_rules.specs.Steps.{State, Check, Checked, and_then, back}
-use Rattle.checking_rules.specs.Typed.{Local}
+use Rattle.check_rules.specs.Around.{Around, inside}
+use Rattle.check_rules.specs.Checking.{type_exp}
+use Rattle.check_rules.specs.Meanings.{Meaning, Variable}
+use Rattle.check_rules.specs.Names.{announce}
+use Rattle.check_rules.specs.Parts.{each_of}
+use Rattle.check_rules.specs.PlainTypes.{PlainField, PlainType}
+use Rattle.check_rules.specs.Programs.{Heading, heading, named_parameters, own_scope, parameters}
+use Rattle.check_rules.specs.Scopes.{Scope, nothing, outer, over}
+use Rattle.check_rules.specs.Statements.{fields_from, named_field}
+use Rattle.check_rules.specs.Steps.{State, Check, Checked, and_then, back}
+use Rattle.check_rules.specs.Typed.{Local}
 use Rattle.check_jumps.proofs.Gathering.{behind}
 use Rattle.check_jumps.proofs.Tests.{at_drop}
 

@@ -4,12 +4,12 @@ use Rattle.std.proofs.lemmas.List.{drop_all, take_more, take_all, map-append}
 use Rattle.mesa_base.specs.declared.identifier.Identifier.{Identifier}
 use Rattle.mesa_types.specs.declared.faces.Item.{Item}
 use Rattle.mesa_types.specs.declared.faces.ItemKind.{ItemKind}
-use Rattle.checking_rules.specs.Definitions.{item_meaning}
-use Rattle.checking_rules.specs.Meanings.{Meaning}
-use Rattle.checking_rules.specs.Names.{coming, each_means, settle, shown}
-use Rattle.checking_rules.specs.PlainTypes.{plain_item}
-use Rattle.checking_rules.specs.Programs.{Heading, named_item}
-use Rattle.checking_rules.specs.Steps.{State, and_then}
+use Rattle.check_rules.specs.Definitions.{item_meaning}
+use Rattle.check_rules.specs.Meanings.{Meaning}
+use Rattle.check_rules.specs.Names.{coming, each_means, settle, shown}
+use Rattle.check_rules.specs.PlainTypes.{plain_item}
+use Rattle.check_rules.specs.Programs.{Heading, named_item}
+use Rattle.check_rules.specs.Steps.{State, and_then}
 use Rattle.check_heads.specs.Forms.{item_names, items}
 use Rattle.check_jumps.proofs.Tests.{at_drop}
 

@@ -11,10 +11,10 @@ use Rattle.check_scopes.specs.Scopes.{Scope, nothing, over}
 use Rattle.check_scopes.specs.Shows.{listed, means, valued}
 use Rattle.check_scopes.specs.declared.index.Index.{Index}
 use Rattle.check_scopes.specs.declared.names.Names.{Names}
-use Rattle.checking_rules.specs.Meanings as m
-use Rattle.checking_rules.specs.Programs.{head_alone}
-use Rattle.check_words.specs.Views.{meaning, names, seen_as}
-use Rattle.check_words.specs.declared.meaning.Meaning.{Meaning}
+use Rattle.check_rules.specs.Meanings as m
+use Rattle.check_rules.specs.Programs.{head_alone}
+use Rattle.check_state.specs.Views.{meaning, names, seen_as}
+use Rattle.check_state.specs.declared.meaning.Meaning.{Meaning}
 use Rattle.check_heads.specs.Again.{and_head, heads_among}
 use mathlib.Core.Logic.{⊎_elim}
 

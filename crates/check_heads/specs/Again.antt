@@ -1,11 +1,11 @@
 -- Declarations that are tried again, and those that stand behind them.
 use Rattle.std.specs.Prelude.{ℕ, Bool, true, false, List, [], ◌∷◌, Ok, Err}
 use Rattle.mesa_base.specs.declared.identifier.Identifier.{Identifier}
-use Rattle.checking_rules.specs.Around.{Around}
-use Rattle.checking_rules.specs.Meanings.{Meaning, Procedure, Signal}
-use Rattle.checking_rules.specs.Programs.{head_alone, heads_further, next_or, passed_over}
-use Rattle.checking_rules.specs.Scopes.{Scope, innermost, with_name}
-use Rattle.checking_rules.specs.Steps.{State, Check, Checked, ◌>>=◌, and_then, pure}
+use Rattle.check_rules.specs.Around.{Around}
+use Rattle.check_rules.specs.Meanings.{Meaning, Procedure, Signal}
+use Rattle.check_rules.specs.Programs.{head_alone, heads_further, next_or, passed_over}
+use Rattle.check_rules.specs.Scopes.{Scope, innermost, with_name}
+use Rattle.check_rules.specs.Steps.{State, Check, Checked, ◌>>=◌, and_then, pure}
 
 -- the step without its value
 abbrev pub dropped : {A : Type 0} → Check A → Check (Unit {0})

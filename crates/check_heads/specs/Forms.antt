@@ -3,17 +3,17 @@ use Rattle.std.specs.Prelude.{ℕ, List, Option, map}
 use Rattle.mesa_base.specs.declared.identifier.Identifier.{Identifier}
 use Rattle.mesa_types.specs.Syntax as s
 use Rattle.mesa_types.specs.declared.faces.ItemKind.{ItemKind}
-use Rattle.checking_rules.specs.Around.{Around, in_constant}
-use Rattle.checking_rules.specs.Checking.{check, type_exp}
-use Rattle.checking_rules.specs.Definitions.{Defined, constants_by, defined, definition, item_meaning, named_type, nothing_defined}
-use Rattle.checking_rules.specs.Meanings.{Meaning, TypeName}
-use Rattle.checking_rules.specs.Names.{announce, settle}
-use Rattle.checking_rules.specs.Parts.{first}
-use Rattle.checking_rules.specs.PlainTypes.{PlainConstant, PlainItem, PlainType}
-use Rattle.checking_rules.specs.Programs.{Heading, before_others, coming_scope, heading, named_item, own_scope, parameters}
-use Rattle.checking_rules.specs.Ranges.{Into}
-use Rattle.checking_rules.specs.Statements.{constant_meaning}
-use Rattle.checking_rules.specs.Steps.{Check, ◌>>=◌, pure, lift}
+use Rattle.check_rules.specs.Around.{Around, in_constant}
+use Rattle.check_rules.specs.Checking.{check, type_exp}
+use Rattle.check_rules.specs.Definitions.{Defined, constants_by, defined, definition, item_meaning, named_type, nothing_defined}
+use Rattle.check_rules.specs.Meanings.{Meaning, TypeName}
+use Rattle.check_rules.specs.Names.{announce, settle}
+use Rattle.check_rules.specs.Parts.{first}
+use Rattle.check_rules.specs.PlainTypes.{PlainConstant, PlainItem, PlainType}
+use Rattle.check_rules.specs.Programs.{Heading, before_others, coming_scope, heading, named_item, own_scope, parameters}
+use Rattle.check_rules.specs.Ranges.{Into}
+use Rattle.check_rules.specs.Statements.{constant_meaning}
+use Rattle.check_rules.specs.Steps.{Check, ◌>>=◌, pure, lift}
 use Rattle.check_heads.specs.Again.{retried}
 
 -- parameters and results, in their scope

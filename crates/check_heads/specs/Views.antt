@@ -1,9 +1,9 @@
 -- What the code's values stand for.
 use Rattle.std.specs.Prelude.{map}
-use Rattle.checking_rules.specs.Definitions as definition
-use Rattle.checking_rules.specs.PlainTypes.{plain_constant, plain_item, plain_name}
-use Rattle.checking_rules.specs.Programs as program
-use Rattle.check_words.specs.Views.{fields, names}
+use Rattle.check_rules.specs.Definitions as definition
+use Rattle.check_rules.specs.PlainTypes.{plain_constant, plain_item, plain_name}
+use Rattle.check_rules.specs.Programs as program
+use Rattle.check_state.specs.Views.{fields, names}
 use Rattle.check_heads.specs.declared.definitions.AllDefined.{AllDefined}
 use Rattle.check_heads.specs.declared.heads.Heading.{Heading}
 

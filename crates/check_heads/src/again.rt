@@ -1,18 +1,18 @@
 //! A declaration with a fault is tried again, with the heads that stand further on. Nothing is done for it before a fault.
 ghost use Rattle.std.specs.Prelude.{◌≡◌, ◌≢◌, List, Err, IfOk};
 ghost use Rattle.mesa_base.specs.declared.identifier.Identifier.{Identifier as Name};
-ghost use Rattle.checking_rules.specs.Around as place;
-ghost use Rattle.checking_rules.specs.Programs as spec;
-ghost use Rattle.checking_rules.specs.Steps as step;
-ghost use Rattle.checking_rules.specs.declared.fault.CheckFault.TheVariants.{Memory};
-ghost use Rattle.check_words.specs.Gives.{Gives, GivesOnly, fault};
-ghost use Rattle.check_words.specs.Views as words;
+ghost use Rattle.check_rules.specs.Around as place;
+ghost use Rattle.check_rules.specs.Programs as spec;
+ghost use Rattle.check_rules.specs.Steps as step;
+ghost use Rattle.check_rules.specs.declared.fault.CheckFault.TheVariants.{Memory};
+ghost use Rattle.check_state.specs.Gives.{Gives, GivesOnly, fault};
+ghost use Rattle.check_state.specs.Views as words;
 ghost use Rattle.check_heads.specs.Again as again;
 
 use crate::scopes::{head_names, pass_over};
+use check_rules::CheckFault;
 use check_scopes::Names;
-use check_words::{Around, Meaning, State};
-use checking_rules::CheckFault;
+use check_state::{Around, Meaning, State};
 use mesa_base::{Identifier, OutOfMemory};
 use std::alloc::Global;
 
@@ -105,7 +105,7 @@ fn behind_all<D, T: Tries<D>>(
     Ok(state)
 }
 
-#[tactic(auto, unfolding(check_words::specs::Views::around))]
+#[tactic(auto, unfolding(check_state::specs::Views::around))]
 fn with_heads<'a>(heads: &'a Names<Meaning>, around: &Around<'a>) -> Around<'a>
     ensures { words.around result ≡ record (words.around around.now) { further = words.names heads.now } }
 {

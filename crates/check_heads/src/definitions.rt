@@ -1,10 +1,10 @@
 //! What one declaration of an interface declares.
 ghost use Rattle.std.specs.Prelude.{◌≡◌, [], map, IfOk};
 ghost use Rattle.mesa_types.specs.PlainSyntax as syntax;
-ghost use Rattle.checking_rules.specs.Definitions as spec;
-ghost use Rattle.checking_rules.specs.PlainTypes.{plain, plain_constant, plain_name};
-ghost use Rattle.check_words.specs.Gives.{Gives};
-ghost use Rattle.check_words.specs.Views as words;
+ghost use Rattle.check_rules.specs.Definitions as spec;
+ghost use Rattle.check_rules.specs.PlainTypes.{plain, plain_constant, plain_name};
+ghost use Rattle.check_state.specs.Gives.{Gives};
+ghost use Rattle.check_state.specs.Views as words;
 ghost use Rattle.check_heads.specs.Forms as form;
 ghost use Rattle.check_heads.specs.Views as view;
 
@@ -12,10 +12,10 @@ use crate::headings::heading;
 use crate::items::item_names;
 use check_declared::{constant_meaning, few_operands, first_name};
 use check_expressions::{Checker, Phrases};
-use check_parts::first;
-use check_words::{Aim, Around, Meaning, State};
+use check_operands::first;
+use check_rules::CheckFault;
+use check_state::{Aim, Around, Meaning, State};
 use check_written_types::type_exp;
-use checking_rules::CheckFault;
 use held_trees::{LetGo, both};
 use interface_records::{Constant, Constants, NamedType, NamedTypes};
 use mesa_base::{Identifier, Identifiers, List, OutOfMemory};

@@ -1,20 +1,20 @@
 //! Heads of procedures, signals and errors: parameters and results, in a scope of their own.
 ghost use Rattle.std.specs.Prelude.{◌≡◌, IfOk};
 ghost use Rattle.mesa_types.specs.PlainSyntax as syntax;
-ghost use Rattle.checking_rules.specs.Programs as spec;
-ghost use Rattle.checking_rules.specs.Scopes.{outer};
-ghost use Rattle.check_words.specs.Gives.{Gives};
-ghost use Rattle.check_words.specs.Views as words;
+ghost use Rattle.check_rules.specs.Programs as spec;
+ghost use Rattle.check_rules.specs.Scopes.{outer};
+ghost use Rattle.check_state.specs.Gives.{Gives};
+ghost use Rattle.check_state.specs.Views as words;
 ghost use Rattle.check_heads.specs.Forms as form;
 ghost use Rattle.check_heads.specs.Views as view;
 
 use crate::heads::Heading;
 use crate::naming::name_parameters;
 use check_expressions::{Checker, Phrases};
+use check_rules::CheckFault;
 use check_scopes::Names;
-use check_words::{Around, Meaning, State};
+use check_state::{Around, Meaning, State};
 use check_written_types::{and_fields, type_exp, unnamed_fields};
-use checking_rules::CheckFault;
 use held_trees::both;
 use mesa_base::{Identifiers, List, OutOfMemory};
 use mesa_types::Fields;
@@ -59,7 +59,7 @@ fn parameters<P: Phrases>(
 }
 
 /// Closes the scope, hands over what was coming in it, and this is coming from here on.
-#[tactic(auto, unfolding(check_words::specs::Views::state))]
+#[tactic(auto, unfolding(check_state::specs::Views::state))]
 fn leave(alloc: Global, state: &mut State, outside: Names<Meaning>) -> Names<Meaning>
     ensures names { words.names result ≡ (words.state state.old).coming }
     ensures state { words.state state.new ≡ record (words.state state.old) { scopes = outer (words.state state.old).scopes; coming = words.names outside } }
@@ -88,7 +88,7 @@ fn made(
 
 /// The head of a procedure, signal or error. No name of its parameters and results stands twice; the types in it do not see
 /// them.
-#[tactic(auto, unfolding(checking_rules::specs::Programs::heading))]
+#[tactic(auto, unfolding(check_rules::specs::Programs::heading))]
 pub fn heading<P: Phrases>(
     takes: &Option<FieldList>,
     gives: &Option<FieldList>,

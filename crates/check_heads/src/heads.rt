@@ -1,7 +1,7 @@
 //! What a head is.
 
 use check_scopes::Names;
-use check_words::Meaning;
+use check_state::Meaning;
 use mesa_types::Fields;
 
 /// Parameters and results, and the scope of their names and of the elements in their types.

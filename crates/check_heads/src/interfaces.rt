@@ -1,11 +1,11 @@
 //! All that an interface declares.
 ghost use Rattle.std.specs.Prelude.{◌≡◌, ◌≢◌, Err, map, IfOk, OnOk};
 ghost use Rattle.mesa_types.specs.PlainSyntax as syntax;
-ghost use Rattle.checking_rules.specs.Definitions as spec;
-ghost use Rattle.checking_rules.specs.Steps as step;
-ghost use Rattle.checking_rules.specs.declared.fault.CheckFault.TheVariants.{Memory};
-ghost use Rattle.check_words.specs.Gives.{Gives, GivesOnly, fault};
-ghost use Rattle.check_words.specs.Views as words;
+ghost use Rattle.check_rules.specs.Definitions as spec;
+ghost use Rattle.check_rules.specs.Steps as step;
+ghost use Rattle.check_rules.specs.declared.fault.CheckFault.TheVariants.{Memory};
+ghost use Rattle.check_state.specs.Gives.{Gives, GivesOnly, fault};
+ghost use Rattle.check_state.specs.Views as words;
 ghost use Rattle.check_heads.specs.Again as again;
 ghost use Rattle.check_heads.specs.Forms as form;
 ghost use Rattle.check_heads.specs.Views as view;
@@ -13,8 +13,8 @@ ghost use Rattle.check_heads.specs.Views as view;
 use crate::again::{Tries, second_fault};
 use crate::definitions::{AllDefined, definition};
 use check_expressions::{Checker, Phrases};
-use check_words::{Around, State};
-use checking_rules::CheckFault;
+use check_rules::CheckFault;
+use check_state::{Around, State};
 use mesa_base::{Identifier, Identifiers, List, OutOfMemory};
 use mesa_types::syntax::{Defined, Labeled};
 use std::alloc::Global;

@@ -1,17 +1,17 @@
 //! Items of the names that have one head.
 ghost use Rattle.std.specs.Prelude.{◌≡◌, map, IfOk, OnOk};
-ghost use Rattle.checking_rules.specs.Definitions as spec;
-ghost use Rattle.checking_rules.specs.Names.{coming};
-ghost use Rattle.checking_rules.specs.PlainTypes.{plain_item};
-ghost use Rattle.checking_rules.specs.Programs.{named_item as item_named};
-ghost use Rattle.check_words.specs.Gives.{Gives};
-ghost use Rattle.check_words.specs.Views as words;
+ghost use Rattle.check_rules.specs.Definitions as spec;
+ghost use Rattle.check_rules.specs.Names.{coming};
+ghost use Rattle.check_rules.specs.PlainTypes.{plain_item};
+ghost use Rattle.check_rules.specs.Programs.{named_item as item_named};
+ghost use Rattle.check_state.specs.Gives.{Gives};
+ghost use Rattle.check_state.specs.Views as words;
 ghost use Rattle.check_heads.specs.Forms as form;
 ghost use Rattle.check_heads.specs.Views as view;
 
 use crate::heads::Heading;
-use check_words::{Meaning, State, copied_fields};
-use checking_rules::CheckFault;
+use check_rules::CheckFault;
+use check_state::{Meaning, State, copied_fields};
 use held_trees::{both, pushed, shared};
 use mesa_base::{Identifier, List, OutOfMemory};
 use mesa_types::{Callee, Item, ItemKind, Items, Raised};

@@ -1,19 +1,19 @@
 //! Parameters and results as variables of their body.
 ghost use Rattle.std.specs.Prelude.{◌≡◌, ◌+◌, length, IfOk, OnOk};
-ghost use Rattle.checking_rules.specs.Meanings as meaning;
-ghost use Rattle.checking_rules.specs.PlainTypes.{plain_field};
-ghost use Rattle.checking_rules.specs.Programs as program;
-ghost use Rattle.checking_rules.specs.Statements as spec;
-ghost use Rattle.checking_rules.specs.Typed.{Local};
-ghost use Rattle.check_words.specs.Views as view;
+ghost use Rattle.check_rules.specs.Meanings as meaning;
+ghost use Rattle.check_rules.specs.PlainTypes.{plain_field};
+ghost use Rattle.check_rules.specs.Programs as program;
+ghost use Rattle.check_rules.specs.Statements as spec;
+ghost use Rattle.check_rules.specs.Typed.{Local};
+ghost use Rattle.check_state.specs.Views as view;
 
 use check_scopes::Names;
-use check_words::{Meaning, narrower, next};
+use check_state::{Meaning, narrower, next};
 use mesa_base::OutOfMemory;
 use mesa_types::{FieldType, Home};
 use std::alloc::Global;
 
-#[tactic(auto, using(check_words::proofs::ScopeLaws::with_name_as, check_jumps::proofs::FieldLaws::name_is, check_jumps::proofs::FieldLaws::kind_is), unfolding(check_words::specs::Views::names))]
+#[tactic(auto, using(check_state::proofs::ScopeLaws::with_name_as, check_jumps::proofs::FieldLaws::name_is, check_jumps::proofs::FieldLaws::kind_is), unfolding(check_state::specs::Views::names))]
 fn name_field(
     field: &FieldType,
     alloc: Global,

@@ -2,12 +2,12 @@
 ghost use Rattle.std.specs.Prelude.{◌≡◌, IfOk, OnOk};
 ghost use Rattle.check_faces.specs.Ahead.{later};
 ghost use Rattle.check_scopes.specs.Scopes.{over};
-ghost use Rattle.checking_rules.specs.Programs as spec;
-ghost use Rattle.check_words.specs.Views as words;
+ghost use Rattle.check_rules.specs.Programs as spec;
+ghost use Rattle.check_state.specs.Views as words;
 ghost use Rattle.check_heads.specs.Again as again;
 
 use check_scopes::Names;
-use check_words::{Meaning, State};
+use check_state::{Meaning, State};
 use mesa_base::{Identifier, OutOfMemory};
 use std::alloc::Global;
 
@@ -35,7 +35,7 @@ pub(crate) fn pass_over(
 }
 
 /// The names, and this one if it is a head's.
-#[tactic(auto, unfolding(check_words::specs::Views::names))]
+#[tactic(auto, unfolding(check_state::specs::Views::names))]
 fn and_head(
     name: &[u8],
     alloc: Global,

@@ -4,15 +4,15 @@ use Rattle.std.proofs.lemmas.List.{drop_all}
 use Rattle.mesa_types.specs.Shapes.{join, one}
 use Rattle.mesa_types.specs.Typed.{Kind, Kinds, NoKinds, AndKind}
 use Rattle.mesa_types.specs.declared.types.FieldType.{FieldType}
-use Rattle.checking_rules.specs.Meanings.{Meaning, Variable}
-use Rattle.checking_rules.specs.PlainTypes.{plain, plain_field, kind_of, kinds_of}
-use Rattle.checking_rules.specs.Scopes.{Scope, nothing}
-use Rattle.checking_rules.specs.Statements.{fields_from, named_field}
-use Rattle.checking_rules.specs.Typed.{Local}
+use Rattle.check_rules.specs.Meanings.{Meaning, Variable}
+use Rattle.check_rules.specs.PlainTypes.{plain, plain_field, kind_of, kinds_of}
+use Rattle.check_rules.specs.Scopes.{Scope, nothing}
+use Rattle.check_rules.specs.Statements.{fields_from, named_field}
+use Rattle.check_rules.specs.Typed.{Local}
 use Rattle.check_scopes.specs.Shows.{means}
 use Rattle.check_scopes.specs.declared.names.Names.{Names}
-use Rattle.check_words.specs.declared.meaning.Meaning.{Meaning as Words}
-use Rattle.check_words.specs.Views.{fields, names}
+use Rattle.check_state.specs.declared.meaning.Meaning.{Meaning as Words}
+use Rattle.check_state.specs.Views.{fields, names}
 use Rattle.check_jumps.proofs.FieldLaws.{kind_is}
 use Rattle.check_jumps.proofs.Tests.{at_drop}
 

@@ -4,13 +4,13 @@ use Rattle.std.specs.Prelude.{ℕ, Bool, true, false, ◌&&◌, Option, Some, No
 use Rattle.mesa_types.specs.Types.{types_in}
 use Rattle.mesa_types.specs.declared.types.TypeTree.{TypeTree}
 use Rattle.mesa_types.specs.declared.types.FieldType.{FieldType, roll-FieldType, roll-out-FieldType}
-use Rattle.checking_rules.specs.PlainTypes.{PlainField, plain, plain_field, same, same_name, tree_of}
-use Rattle.checking_rules.specs.Parts.{same_types, same_fields}
-use Rattle.checking_rules.proofs.SoundTypes.{no_truth, both_left, both_right}
-use Rattle.checking_rules.proofs.SoundSame.{types_same, bytes_same}
-use Rattle.check_words.proofs.TypeBack.{back}
-use Rattle.check_words.proofs.TypeForms.{parts_of_field}
-use Rattle.check_words.proofs.TypeLaws.{same_by}
+use Rattle.check_rules.specs.PlainTypes.{PlainField, plain, plain_field, same, same_name, tree_of}
+use Rattle.check_rules.specs.Parts.{same_types, same_fields}
+use Rattle.check_rules.proofs.SoundTypes.{no_truth, both_left, both_right}
+use Rattle.check_rules.proofs.SoundSame.{types_same, bytes_same}
+use Rattle.check_state.proofs.TypeBack.{back}
+use Rattle.check_state.proofs.TypeForms.{parts_of_field}
+use Rattle.check_state.proofs.TypeLaws.{same_by}
 
 bools : (b c : Bool) → (b ≡ true → c ≡ true) → (c ≡ true → b ≡ true) → b ≡ c
 bools true c g h = sym (g refl)

@@ -1,7 +1,7 @@
 -- A rule for each of a list, one after the other, with all that they give.
 use Rattle.std.proofs.Common.{◌≡◌, ◌<◌, ◌≤◌, ◌+◌, ℕ, List, [], ◌∷◌, ◌++◌, map, drop, length, get_or, Ok, Err, refl, sym, ap, ◌∙◌, append_assoc}
 use Rattle.std.proofs.lemmas.List.{drop_all, map-append}
-use Rattle.checking_rules.specs.Steps.{State, Check, Checked, and_then}
+use Rattle.check_rules.specs.Steps.{State, Check, Checked, and_then}
 use Rattle.check_jumps.proofs.Tests.{at_drop}
 
 unfoldable pub gathered : {A B : Type 0} → (A → Check B) → List A → Check (List B)

@@ -9,15 +9,15 @@ use Rattle.mesa_types.specs.declared.syntax.Labeled.{Labeled}
 use Rattle.mesa_types.specs.declared.syntax.RepeatLabels.{RepeatLabels}
 use Rattle.mesa_types.specs.declared.syntax.Statement.{Statement}
 use Rattle.check_scopes.specs.Scopes.{Scope, nothing, over, with_name}
-use Rattle.checking_rules.specs.Around.{Seen, label_scope}
-use Rattle.checking_rules.specs.Statements.{labels_of_exits, labels_of_repeats, labels_of}
+use Rattle.check_rules.specs.Around.{Seen, label_scope}
+use Rattle.check_rules.specs.Statements.{labels_of_exits, labels_of_repeats, labels_of}
 use denote.Ref.{Bor}
 use Rattle.check_scopes.specs.Shows.{means}
 use Rattle.check_scopes.specs.declared.names.Names.{Names}
-use Rattle.check_words.specs.declared.around.Labels.{Labels, roll-Labels}
-use Rattle.check_words.specs.declared.around.Labels.TheFolds.{fold-roll-Labels}
-use Rattle.check_words.specs.declared.around.Seen.{Seen as Here}
-use Rattle.check_words.specs.Views.{seen, seen_as, labels, labels_in, labels_step}
+use Rattle.check_state.specs.declared.around.Labels.{Labels, roll-Labels}
+use Rattle.check_state.specs.declared.around.Labels.TheFolds.{fold-roll-Labels}
+use Rattle.check_state.specs.declared.around.Seen.{Seen as Here}
+use Rattle.check_state.specs.Views.{seen, seen_as, labels, labels_in, labels_step}
 use Rattle.check_jumps.proofs.Tests.{at_drop}
 
 -- a label more

@@ -1,10 +1,10 @@
 -- The signals of an arm are gathered one after the other.
 use Rattle.std.proofs.Common.{◌≡◌, List, [], ◌∷◌, Ok, Err, refl, ap, ◌∙◌}
 use Rattle.mesa_types.specs.declared.syntax.QualifiedName.{QualifiedName}
-use Rattle.checking_rules.specs.Around.{Around, ArmLabel}
-use Rattle.checking_rules.specs.Names.{signals, qualified, signal_by}
-use Rattle.checking_rules.specs.Parts.{last_of}
-use Rattle.checking_rules.specs.Steps.{State, Check, Checked, and_then, lift}
+use Rattle.check_rules.specs.Around.{Around, ArmLabel}
+use Rattle.check_rules.specs.Names.{signals, qualified, signal_by}
+use Rattle.check_rules.specs.Parts.{last_of}
+use Rattle.check_rules.specs.Steps.{State, Check, Checked, and_then, lift}
 use Rattle.check_jumps.specs.Arms.{signal}
 use Rattle.check_jumps.proofs.Gathering.{gathered, behind, nothing_behind}
 

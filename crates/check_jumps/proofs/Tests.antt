@@ -2,11 +2,11 @@
 use Rattle.std.proofs.Common.{◌≡◌, ◌<◌, ◌≤◌, ◌+◌, ℕ, Bool, true, false, List, ◌∷◌, map, drop, length, get_or, refl, sym, ap, ◌∙◌}
 use Rattle.std.specs.Prelude.{◌&&◌}
 use Rattle.std.proofs.lemmas.List.{drop_more, drop_all}
-use Rattle.checking_rules.specs.Around.{ArmLabel, ForAny, ForUnwind, ForSignal, all_resumable, all_give, all_like}
-use Rattle.checking_rules.specs.Parts.{same_fields}
-use Rattle.checking_rules.specs.PlainTypes.{PlainField, PlainItem}
-use Rattle.check_words.specs.declared.around.ArmLabel.{ArmLabel as Label}
-use Rattle.check_words.specs.Views.{arm_label}
+use Rattle.check_rules.specs.Around.{ArmLabel, ForAny, ForUnwind, ForSignal, all_resumable, all_give, all_like}
+use Rattle.check_rules.specs.Parts.{same_fields}
+use Rattle.check_rules.specs.PlainTypes.{PlainField, PlainItem}
+use Rattle.check_state.specs.declared.around.ArmLabel.{ArmLabel as Label}
+use Rattle.check_state.specs.Views.{arm_label}
 use Rattle.check_jumps.specs.Arms.{is_resumable, gives, is_like}
 
 pub at_drop : {A : Type 0} (all : List A) (i : ℕ) (x : A) → i < length all → x ≡ get_or all i x → drop i all ≡ x ∷ drop (i + 1) all

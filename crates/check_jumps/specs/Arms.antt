@@ -1,11 +1,11 @@
 -- One label of an arm, as the definition asks each of them.
 use Rattle.std.specs.Prelude.{Bool, false, ◌&&◌, List}
 use Rattle.mesa_types.specs.declared.syntax.QualifiedName.{QualifiedName}
-use Rattle.checking_rules.specs.Around.{Around, ArmLabel, ForSignal, is_signal}
-use Rattle.checking_rules.specs.Names.{qualified, signal_by}
-use Rattle.checking_rules.specs.Parts.{last_of, same_fields, same_types}
-use Rattle.checking_rules.specs.PlainTypes.{PlainField, PlainItem}
-use Rattle.checking_rules.specs.Steps.{Check, ◌>>=◌, lift}
+use Rattle.check_rules.specs.Around.{Around, ArmLabel, ForSignal, is_signal}
+use Rattle.check_rules.specs.Names.{qualified, signal_by}
+use Rattle.check_rules.specs.Parts.{last_of, same_fields, same_types}
+use Rattle.check_rules.specs.PlainTypes.{PlainField, PlainItem}
+use Rattle.check_rules.specs.Steps.{Check, ◌>>=◌, lift}
 
 -- the signal or error that a name is of
 abbrev pub signal : Around → QualifiedName → Check ArmLabel

@@ -1,6 +1,6 @@
 -- What the code's values stand for.
-use Rattle.checking_rules.specs.Statements as rule
-use Rattle.check_words.specs.Views.{names}
+use Rattle.check_rules.specs.Statements as rule
+use Rattle.check_state.specs.Views.{names}
 use Rattle.check_jumps.specs.declared.entering.ArmPlace.{ArmPlace}
 
 abbrev pub arm_place : ArmPlace → rule.ArmPlace

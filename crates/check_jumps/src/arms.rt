@@ -1,13 +1,13 @@
 //! What stands in arms alone, and what an arm is for.
 ghost use Rattle.std.specs.Prelude.{◌≡◌, map};
 ghost use Rattle.mesa_types.specs.Plain.{stmt};
-ghost use Rattle.checking_rules.specs.Around as spec;
-ghost use Rattle.check_words.specs.Gives.{GivesOnly};
-ghost use Rattle.check_words.specs.Views as view;
+ghost use Rattle.check_rules.specs.Around as spec;
+ghost use Rattle.check_state.specs.Gives.{GivesOnly};
+ghost use Rattle.check_state.specs.Views as view;
 
 use crate::likeness::{all_give, all_like, all_resumable};
-use check_words::{ArmHere, ArmLabel, Around};
-use checking_rules::{Cause, CheckFault};
+use check_rules::{Cause, CheckFault};
+use check_state::{ArmHere, ArmLabel, Around};
 use mesa_base::Place;
 use mesa_types::{FieldType, TypedStmt};
 
@@ -37,7 +37,7 @@ fn arm_for_raises<'a>(place: Place, arm: ArmHere<'a>) -> Result<(u32, &'a [ArmLa
 }
 
 /// RETRY begins the statement of the arm's phrase again.
-#[tactic(auto, unfolding(check_words::specs::Views::around))]
+#[tactic(auto, unfolding(check_state::specs::Views::around))]
 pub fn retry(around: &Around<'_>, place: Place) -> Result<TypedStmt, CheckFault>
     ensures { GivesOnly stmt (spec.retry (view.around around.now) place) result }
 {
@@ -46,7 +46,7 @@ pub fn retry(around: &Around<'_>, place: Place) -> Result<TypedStmt, CheckFault>
 }
 
 /// CONTINUE leads past the statement of the arm's phrase.
-#[tactic(auto, unfolding(check_words::specs::Views::around))]
+#[tactic(auto, unfolding(check_state::specs::Views::around))]
 pub fn continue_arm(around: &Around<'_>, place: Place) -> Result<TypedStmt, CheckFault>
     ensures { GivesOnly stmt (spec.continue (view.around around.now) place) result }
 {
@@ -55,7 +55,7 @@ pub fn continue_arm(around: &Around<'_>, place: Place) -> Result<TypedStmt, Chec
 }
 
 /// REJECT stands in any arm.
-#[tactic(auto, unfolding(check_words::specs::Views::around))]
+#[tactic(auto, unfolding(check_state::specs::Views::around))]
 pub fn reject(around: &Around<'_>, place: Place) -> Result<TypedStmt, CheckFault>
     ensures { GivesOnly stmt (spec.reject (view.around around.now) place) result }
 {
@@ -75,7 +75,7 @@ fn results_of(labels: &[ArmLabel]) -> &[FieldType]
 }
 
 /// What RESUME gives.
-#[tactic(auto, unfolding(checking_rules::specs::Around::resumed, check_words::specs::Views::around))]
+#[tactic(auto, unfolding(check_rules::specs::Around::resumed, check_state::specs::Views::around))]
 pub fn resumed<'a>(around: &Around<'a>, place: Place) -> Result<&'a [FieldType], CheckFault>
     ensures { GivesOnly (λ fs. view.fields fs.now) (spec.resumed (view.around around.now) place) result }
 {
@@ -91,7 +91,7 @@ pub fn resumed<'a>(around: &Around<'a>, place: Place) -> Result<&'a [FieldType],
 }
 
 /// The parameters that an arm has as variables.
-#[tactic(auto, unfolding(checking_rules::specs::Around::parameters_of))]
+#[tactic(auto, unfolding(check_rules::specs::Around::parameters_of))]
 pub fn parameters_of(labels: &[ArmLabel]) -> &[FieldType]
     ensures { view.fields result.now ≡ spec.parameters_of (map view.arm_label labels.now) }
 {

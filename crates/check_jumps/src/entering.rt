@@ -2,21 +2,21 @@
 ghost use Rattle.std.specs.Prelude.{◌≡◌, ◌+◌, length, map, IfOk, OnOk};
 ghost use Rattle.mesa_types.specs.Plain.{kinds_of};
 ghost use Rattle.mesa_types.specs.Shapes.{count_in, join};
-ghost use Rattle.checking_rules.specs.Around as around_rule;
-ghost use Rattle.checking_rules.specs.Meanings as meaning;
-ghost use Rattle.checking_rules.specs.PlainTypes as types;
-ghost use Rattle.checking_rules.specs.PlainTypes.{plain_field};
-ghost use Rattle.checking_rules.specs.Scopes.{nothing};
-ghost use Rattle.checking_rules.specs.Statements as spec;
-ghost use Rattle.checking_rules.specs.Typed.{Local};
-ghost use Rattle.check_words.specs.Gives.{Gives};
-ghost use Rattle.check_words.specs.Views as view;
+ghost use Rattle.check_rules.specs.Around as around_rule;
+ghost use Rattle.check_rules.specs.Meanings as meaning;
+ghost use Rattle.check_rules.specs.PlainTypes as types;
+ghost use Rattle.check_rules.specs.PlainTypes.{plain_field};
+ghost use Rattle.check_rules.specs.Scopes.{nothing};
+ghost use Rattle.check_rules.specs.Statements as spec;
+ghost use Rattle.check_rules.specs.Typed.{Local};
+ghost use Rattle.check_state.specs.Gives.{Gives};
+ghost use Rattle.check_state.specs.Views as view;
 ghost use Rattle.check_jumps.specs.Views.{arm_place};
 
 use crate::arms::{is_unwinding, parameters_of};
+use check_rules::CheckFault;
 use check_scopes::Names;
-use check_words::{ArmHere, ArmLabel, Around, Frame, Meaning, State, narrower, next};
-use checking_rules::CheckFault;
+use check_state::{ArmHere, ArmLabel, Around, Frame, Meaning, State, narrower, next};
 use mesa_base::OutOfMemory;
 use mesa_types::{FieldType, Home};
 use std::alloc::Global;
@@ -39,7 +39,7 @@ fn total(first: usize, second: usize) -> Result<usize, OutOfMemory>
 }
 
 /// The number of the next variable of a procedure: behind its parameters, its results and its variables so far.
-#[tactic(auto, unfolding(check_words::specs::Views::state, check_words::specs::Views::around))]
+#[tactic(auto, unfolding(check_state::specs::Views::state, check_state::specs::Views::around))]
 pub fn next_local(around: &Around<'_>, state: &State) -> Result<u16, OutOfMemory>
     ensures { IfOk result (λ number. number ≡ length (view.around around.now).takes + length (view.around around.now).gives + count_in (view.state state.now).variables) }
 {
@@ -47,7 +47,7 @@ pub fn next_local(around: &Around<'_>, state: &State) -> Result<u16, OutOfMemory
     narrower(total(parameters, state.variables.count())?)
 }
 
-#[tactic(auto, using(check_words::proofs::ScopeLaws::with_name_as, crate::proofs::FieldLaws::name_is, crate::proofs::FieldLaws::kind_is), unfolding(check_words::specs::Views::names))]
+#[tactic(auto, using(check_state::proofs::ScopeLaws::with_name_as, crate::proofs::FieldLaws::name_is, crate::proofs::FieldLaws::kind_is), unfolding(check_state::specs::Views::names))]
 fn name_field(
     field: &FieldType,
     alloc: Global,
@@ -106,7 +106,7 @@ pub fn add_all(fields: &[FieldType], alloc: Global, frame: &mut Frame) -> Result
 }
 
 /// The variables of an arm, which its procedure has from here on.
-#[tactic(auto, unfolding(checking_rules::specs::Statements::enter_arm, check_words::specs::Views::state))]
+#[tactic(auto, unfolding(check_rules::specs::Statements::enter_arm, check_state::specs::Views::state))]
 pub fn enter_arm(
     labels: &[ArmLabel],
     alloc: Global,
@@ -122,7 +122,7 @@ pub fn enter_arm(
 }
 
 /// In an arm with these labels.
-#[tactic(auto, unfolding(check_words::specs::Views::around))]
+#[tactic(auto, unfolding(check_state::specs::Views::around))]
 pub fn in_arm<'a>(labels: &'a [ArmLabel], around: &Around<'a>) -> Result<Around<'a>, OutOfMemory>
     ensures { IfOk result (λ inner. view.around inner ≡ around_rule.in_arm (map view.arm_label labels.now) (view.around around.now)) }
 {

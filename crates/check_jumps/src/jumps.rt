@@ -1,17 +1,17 @@
 //! Jumps to what stands around a place.
 ghost use Rattle.std.specs.Prelude.{◌≡◌, ◌+◌, option_map};
 ghost use Rattle.mesa_types.specs.Plain.{stmt};
-ghost use Rattle.checking_rules.specs.Around as spec;
-ghost use Rattle.check_words.specs.Gives.{GivesOnly};
-ghost use Rattle.check_words.specs.Views as view;
+ghost use Rattle.check_rules.specs.Around as spec;
+ghost use Rattle.check_state.specs.Gives.{GivesOnly};
+ghost use Rattle.check_state.specs.Views as view;
 
-use check_words::{Around, Seen, next};
-use checking_rules::{Cause, CheckFault};
+use check_rules::{Cause, CheckFault};
+use check_state::{Around, Seen, next};
 use mesa_base::{Identifier, Place};
 use mesa_types::{Goal, TypedStmt};
 
 /// A jump to a goal that has so many arms around it: none leads out of an UNWIND arm.
-#[tactic(auto, unfolding(checking_rules::specs::Around::jump, check_words::specs::Views::around))]
+#[tactic(auto, unfolding(check_rules::specs::Around::jump, check_state::specs::Views::around))]
 fn jump(around: &Around<'_>, place: Place, goal: Goal, arms: u32) -> Result<TypedStmt, CheckFault>
     ensures { GivesOnly stmt (spec.jump (view.around around.now) place goal arms) result }
 {
@@ -22,7 +22,7 @@ fn jump(around: &Around<'_>, place: Place, goal: Goal, arms: u32) -> Result<Type
 }
 
 /// EXIT leads past the loop.
-#[tactic(auto, unfolding(check_words::specs::Views::around))]
+#[tactic(auto, unfolding(check_state::specs::Views::around))]
 pub fn exit_loop(around: &Around<'_>, place: Place) -> Result<TypedStmt, CheckFault>
     ensures { GivesOnly stmt (spec.exit_loop (view.around around.now) place) result }
 {
@@ -33,7 +33,7 @@ pub fn exit_loop(around: &Around<'_>, place: Place) -> Result<TypedStmt, CheckFa
 }
 
 /// LOOP leads past the loop's body, which is the statement next in number.
-#[tactic(auto, unfolding(check_words::specs::Views::around))]
+#[tactic(auto, unfolding(check_state::specs::Views::around))]
 pub fn next_round(around: &Around<'_>, place: Place) -> Result<TypedStmt, CheckFault>
     ensures { GivesOnly stmt (spec.next_round (view.around around.now) place) result }
 {
@@ -46,7 +46,7 @@ pub fn next_round(around: &Around<'_>, place: Place) -> Result<TypedStmt, CheckF
     }
 }
 
-#[tactic(auto, unfolding(check_words::specs::Views::around))]
+#[tactic(auto, unfolding(check_state::specs::Views::around))]
 fn label(around: &Around<'_>, name: &Identifier) -> Option<Seen>
     ensures { option_map view.seen result ≡ (view.around around.now).labels name.now.name }
 {

@@ -1,13 +1,13 @@
 //! The labels of a block or loop, and what stands around its statements.
 ghost use Rattle.std.specs.Prelude.{◌≡◌, ◌+◌, Some, length, IfOk, OnOk};
 ghost use Rattle.mesa_types.specs.PlainSyntax as plain;
-ghost use Rattle.checking_rules.specs.Around as spec;
-ghost use Rattle.checking_rules.specs.Statements as rule;
+ghost use Rattle.check_rules.specs.Around as spec;
+ghost use Rattle.check_rules.specs.Statements as rule;
 ghost use Rattle.check_scopes.specs.Shows.{means};
-ghost use Rattle.check_words.specs.Views as view;
+ghost use Rattle.check_state.specs.Views as view;
 
 use check_scopes::Names;
-use check_words::{Around, Labels, Seen, next};
+use check_state::{Around, Labels, Seen, next};
 use mesa_base::{Identifier, OutOfMemory};
 use mesa_types::syntax::{Exit, Repeat, RepeatLabels};
 use std::alloc::Global;
@@ -107,7 +107,7 @@ pub fn labels_of_repeats<'a>(
 }
 
 /// Where these labels are visible.
-#[tactic(auto, unfolding(check_words::specs::Views::around))]
+#[tactic(auto, unfolding(check_state::specs::Views::around))]
 pub fn with_labels<'a>(labelled: &'a Labelled<'a>, around: &Around<'a>) -> Around<'a>
     ensures { view.around result ≡ record (view.around around.now) { labels = view.labels_in labelled.now.labels; labelled = labelled.now.labelled } }
 {
@@ -119,7 +119,7 @@ pub fn with_labels<'a>(labelled: &'a Labelled<'a>, around: &Around<'a>) -> Aroun
 }
 
 /// In the body of the loop that is the statement in hand, where these labels are visible.
-#[tactic(auto, unfolding(check_words::specs::Views::around))]
+#[tactic(auto, unfolding(check_state::specs::Views::around))]
 pub fn in_round<'a>(
     labelled: &'a Labelled<'a>,
     around: &Around<'a>,

@@ -1,12 +1,12 @@
 //! Whether the heads of signals and errors are alike.
 ghost use Rattle.std.specs.Prelude.{◌≡◌, map};
-ghost use Rattle.checking_rules.specs.Around as spec;
-ghost use Rattle.checking_rules.specs.Parts as parts;
-ghost use Rattle.checking_rules.specs.PlainTypes.{plain_item};
-ghost use Rattle.check_words.specs.Views as view;
+ghost use Rattle.check_rules.specs.Around as spec;
+ghost use Rattle.check_rules.specs.Parts as parts;
+ghost use Rattle.check_rules.specs.PlainTypes.{plain_item};
+ghost use Rattle.check_state.specs.Views as view;
 ghost use Rattle.check_jumps.specs.Arms as label;
 
-use check_words::ArmLabel;
+use check_state::ArmLabel;
 use mesa_types::{FieldType, Item, ItemKind};
 
 /// Whether the fields have the same types, in order.

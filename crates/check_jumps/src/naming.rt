@@ -1,13 +1,13 @@
 //! What the labels of an arm name.
 ghost use Rattle.std.specs.Prelude.{◌≡◌, map, IfOk};
-ghost use Rattle.checking_rules.specs.Around as around_rule;
-ghost use Rattle.checking_rules.specs.Names as spec;
-ghost use Rattle.check_words.specs.Gives.{Gives, GivesOnly};
-ghost use Rattle.check_words.specs.Views as view;
+ghost use Rattle.check_rules.specs.Around as around_rule;
+ghost use Rattle.check_rules.specs.Names as spec;
+ghost use Rattle.check_state.specs.Gives.{Gives, GivesOnly};
+ghost use Rattle.check_state.specs.Views as view;
 ghost use Rattle.check_jumps.specs.Arms as label;
 
-use check_words::{ArmLabel, Around, Meaning, State, last_place, qualified};
-use checking_rules::{Cause, CheckFault};
+use check_rules::{Cause, CheckFault};
+use check_state::{ArmLabel, Around, Meaning, State, last_place, qualified};
 use mesa_base::{List, OutOfMemory, Place};
 use mesa_types::syntax::{self, QualifiedName};
 use mesa_types::{Label, Labels, Raised};
@@ -50,7 +50,7 @@ fn signals(
 }
 
 /// What an arm is for.
-#[tactic(auto, unfolding(checking_rules::specs::Names::arm_labels))]
+#[tactic(auto, unfolding(check_rules::specs::Names::arm_labels))]
 pub fn arm_labels(
     labels: &syntax::Labels,
     alloc: Global,

@@ -2,22 +2,22 @@
 use Rattle.std.proofs.Common.{◌≡◌, ℕ, List, Ok, Err, map, refl, sym, ◌∙◌}
 use Rattle.mesa_base.specs.declared.identifier.Identifier.{Identifier}
 use Rattle.mesa_types.specs.Syntax as s
-use Rattle.checking_rules.specs.Typed as t
-use Rattle.checking_rules.specs.Around.{Around, in_constant}
-use Rattle.checking_rules.specs.Checking as spec
-use Rattle.checking_rules.specs.Meanings.{Meaning}
-use Rattle.checking_rules.specs.Names.{announce, settle}
-use Rattle.checking_rules.specs.Parts.{first, first_name}
-use Rattle.checking_rules.specs.Phrases.{holds}
-use Rattle.checking_rules.specs.PlainTypes.{PlainType, kind_of}
-use Rattle.checking_rules.specs.Ranges.{Into}
-use Rattle.checking_rules.specs.Scopes.{Scope, innermost}
-use Rattle.checking_rules.specs.Statements.{Headed, Nothing, Variables, constant_meaning, declare, few_globals, meaning_of, variables}
-use Rattle.checking_rules.specs.Steps.{Check, Checked, State, and_then, ◌>>=◌, lift, pure, seeing, top, with_top, within_operands}
+use Rattle.check_rules.specs.Typed as t
+use Rattle.check_rules.specs.Around.{Around, in_constant}
+use Rattle.check_rules.specs.Checking as spec
+use Rattle.check_rules.specs.Meanings.{Meaning}
+use Rattle.check_rules.specs.Names.{announce, settle}
+use Rattle.check_rules.specs.Parts.{first, first_name}
+use Rattle.check_rules.specs.Phrases.{holds}
+use Rattle.check_rules.specs.PlainTypes.{PlainType, kind_of}
+use Rattle.check_rules.specs.Ranges.{Into}
+use Rattle.check_rules.specs.Scopes.{Scope, innermost}
+use Rattle.check_rules.specs.Statements.{Headed, Nothing, Variables, constant_meaning, declare, few_globals, meaning_of, variables}
+use Rattle.check_rules.specs.Steps.{Check, Checked, State, and_then, ◌>>=◌, lift, pure, seeing, top, with_top, within_operands}
 use Rattle.check_declared.specs.Naming.{declared}
 use Rattle.check_expressions.proofs.Folding.{in_turn}
-use Rattle.check_clauses.specs.Whole.{counting}
-use Rattle.check_clauses.proofs.WholeLaws.{numbered_is, within_is}
+use Rattle.check_simple_statements.specs.Whole.{counting}
+use Rattle.check_simple_statements.proofs.WholeLaws.{numbered_is, within_is}
 use Rattle.check_locals.specs.Rules.{constant_head, constant_value, initial_head, type_head, valued, variable_head, whole_value}
 
 -- one step behind another

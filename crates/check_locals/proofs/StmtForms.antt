@@ -1,13 +1,13 @@
 -- Declarations of the typed tree, with their types in the words of the definition.
 use Rattle.std.proofs.Common.{◌≡◌, List, sym, ap, ◌∙◌}
 use Rattle.mesa_types.specs.Plain.{expr, stmt}
-use Rattle.checking_rules.specs.Typed as t
+use Rattle.check_rules.specs.Typed as t
 use Rattle.mesa_types.specs.declared.types.TypeTree.{TypeTree}
 use Rattle.mesa_types.specs.declared.typed_tree.TypedExpr.{TypedExpr}
 use Rattle.mesa_types.specs.declared.typed_tree.TypedStmt.TheVariants as tree
 use Rattle.mesa_types.specs.declared.typed_tree.Condition.TheFolds.{fold-roll-TypedStmt}
-use Rattle.checking_rules.specs.PlainTypes.{kind_of, plain}
-use Rattle.check_words.proofs.KindLaws.{kind_plain}
+use Rattle.check_rules.specs.PlainTypes.{kind_of, plain}
+use Rattle.check_state.proofs.KindLaws.{kind_plain}
 
 pub declare_form : (hs : List t.Home) (k : TypeTree) → stmt (tree.Declare hs k) ≡ t.Declare hs (kind_of (plain k))
 declare_form hs k = ap stmt (sym (tree.rolls-Declare hs k)) ∙ rw fold-roll-TypedStmt (ap (t.Declare hs) (kind_plain k))

@@ -3,18 +3,18 @@ use Rattle.std.specs.Prelude.{ℕ, List, Ok, map}
 use Rattle.mesa_base.specs.declared.identifier.Identifier.{Identifier}
 use Rattle.mesa_base.specs.declared.place.Place.{Place}
 use Rattle.mesa_types.specs.Syntax as s
-use Rattle.checking_rules.specs.Typed as t
-use Rattle.checking_rules.specs.Around.{Around, in_constant}
-use Rattle.checking_rules.specs.Checking as spec
-use Rattle.checking_rules.specs.Meanings.{Meaning, TypeName}
-use Rattle.checking_rules.specs.Names.{announce, settle}
-use Rattle.checking_rules.specs.Parts.{first, first_name}
-use Rattle.checking_rules.specs.Phrases.{holds}
-use Rattle.checking_rules.specs.PlainTypes.{PlainType, kind_of}
-use Rattle.checking_rules.specs.Ranges.{Into}
-use Rattle.checking_rules.specs.Statements.{Headed, Nothing, constant_meaning, declare}
-use Rattle.checking_rules.specs.Steps.{Check, and_then, ◌>>=◌, lift, measured, pure}
-use Rattle.check_clauses.specs.Whole.{counted, from_start}
+use Rattle.check_rules.specs.Typed as t
+use Rattle.check_rules.specs.Around.{Around, in_constant}
+use Rattle.check_rules.specs.Checking as spec
+use Rattle.check_rules.specs.Meanings.{Meaning, TypeName}
+use Rattle.check_rules.specs.Names.{announce, settle}
+use Rattle.check_rules.specs.Parts.{first, first_name}
+use Rattle.check_rules.specs.Phrases.{holds}
+use Rattle.check_rules.specs.PlainTypes.{PlainType, kind_of}
+use Rattle.check_rules.specs.Ranges.{Into}
+use Rattle.check_rules.specs.Statements.{Headed, Nothing, constant_meaning, declare}
+use Rattle.check_rules.specs.Steps.{Check, and_then, ◌>>=◌, lift, measured, pure}
+use Rattle.check_simple_statements.specs.Whole.{counted, from_start}
 
 -- a type
 unfoldable pub type_head : Around → List Identifier → s.TypeExp → Check Headed

@@ -1,14 +1,14 @@
 //! What a declaration leaves behind when its head is read.
-ghost use Rattle.checking_rules.specs.PlainTypes.{plain};
-ghost use Rattle.checking_rules.specs.Statements as rule;
-ghost use Rattle.check_words.specs.Gives.{Gives};
-ghost use Rattle.check_words.specs.Views as words;
+ghost use Rattle.check_rules.specs.PlainTypes.{plain};
+ghost use Rattle.check_rules.specs.Statements as rule;
+ghost use Rattle.check_state.specs.Gives.{Gives};
+ghost use Rattle.check_state.specs.Views as words;
 ghost use Rattle.check_locals.specs.Views as view;
 
 use check_declared::declare_variables;
+use check_rules::CheckFault;
 use check_scopes::Names;
-use check_words::{Around, Meaning, State};
-use checking_rules::CheckFault;
+use check_state::{Around, Meaning, State};
 use held_trees::{InList, LetGo, both};
 use mesa_base::{Identifier, List};
 use mesa_types::{Homes, TypeTree};

@@ -1,20 +1,20 @@
 //! Heads of declarations.
 ghost use Rattle.mesa_types.specs.PlainSyntax as plain;
-ghost use Rattle.checking_rules.specs.Checking as spec;
-ghost use Rattle.check_words.specs.Gives.{Gives};
-ghost use Rattle.check_words.specs.Views as words;
+ghost use Rattle.check_rules.specs.Checking as spec;
+ghost use Rattle.check_state.specs.Gives.{Gives};
+ghost use Rattle.check_state.specs.Views as words;
 ghost use Rattle.check_locals.specs.Rules as rules;
 ghost use Rattle.check_locals.specs.Views as view;
 
 use crate::headed::{Headed, declare};
-use check_clauses::count_ended;
 use check_declared::{constant_meaning, first_name};
 use check_expressions::{Checker, Phrases};
-use check_parts::first;
-use check_reached::let_meaning_go;
-use check_words::{Aim, Around, Meaning, State};
+use check_operands::first;
+use check_rules::CheckFault;
+use check_selectors::let_meaning_go;
+use check_simple_statements::count_ended;
+use check_state::{Aim, Around, Meaning, State};
 use check_written_types::type_exp;
-use checking_rules::CheckFault;
 use held_trees::{LetGo, both};
 use mesa_base::{Identifier, Place};
 use mesa_types::syntax::{Expr, PlainItem, TypeExp};

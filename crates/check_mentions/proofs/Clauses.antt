@@ -31,7 +31,7 @@ use Rattle.mesa_types.specs.declared.syntax.TypeBase.{TypeBase}
 use Rattle.mesa_types.specs.declared.syntax.TypeExp.{TypeExp}
 use Rattle.mesa_types.specs.declared.syntax.Test.TheVariants as tv
 use Rattle.mesa_types.proofs.PlainForms.{of_value, of_compared, of_inside, parts_of_arm, parts_of_block, parts_of_brackets, parts_of_case, parts_of_control, parts_of_interval, parts_of_left, parts_of_operation}
-use Rattle.checking_rules.specs.Mentions.{Mention, Text, Made, of_type, of_fields, of_named, of_types, of_interval, of_expr, of_steps, of_left, of_suffixes, of_brackets, of_items, of_exprs, of_keyed, of_raise, of_maybe, of_phrase, of_arms, of_stmt, of_other, of_values, of_targets, of_lefts, of_keyed_lefts, of_stmts, of_control, of_count, of_condition, of_cases, of_tests, of_block, of_locals, of_plain, of_exits, of_repeats}
+use Rattle.check_rules.specs.Mentions.{Mention, Text, Made, of_type, of_fields, of_named, of_types, of_interval, of_expr, of_steps, of_left, of_suffixes, of_brackets, of_items, of_exprs, of_keyed, of_raise, of_maybe, of_phrase, of_arms, of_stmt, of_other, of_values, of_targets, of_lefts, of_keyed_lefts, of_stmts, of_control, of_count, of_condition, of_cases, of_tests, of_block, of_locals, of_plain, of_exits, of_repeats}
 
 module _ (rest : List Mention) where
   pub of_run_form : (e : s.Expr) (ss : s.Operations) → of_expr (s.Run e ss) ++ rest ≡ of_expr e ++ (of_steps ss ++ rest)

@@ -5,7 +5,7 @@ use Rattle.std.proofs.lemmas.List.{append-nil, reverse-append}
 use Rattle.check_scopes.proofs.Laws.{has_one_more}
 use Rattle.check_scopes.specs.Scopes.{Scope, has, with_name}
 use Rattle.check_scopes.specs.Shows.{means}
-use Rattle.checking_rules.specs.Mentions.{Mention, Text, Made, texts, origins}
+use Rattle.check_rules.specs.Mentions.{Mention, Text, Made, texts, origins}
 use Rattle.check_mentions.specs.Gathering.{Found, found, IsIndexed, Leaves}
 use Rattle.check_mentions.specs.declared.gathered.Gathered.{Gathered}
 

@@ -9,7 +9,7 @@ use Rattle.mesa_types.specs.declared.syntax.Defined.{Defined}
 use Rattle.mesa_types.specs.declared.syntax.Inner.{Inner}
 use Rattle.mesa_types.specs.declared.syntax.Labeled.{Labeled}
 use Rattle.mesa_types.specs.declared.syntax.ModuleKind.TheVariants.{Program, Interface}
-use Rattle.checking_rules.specs.Mentions.{Mention, of_phrase, of_stmts, of_exits, of_declared, of_declarations, of_defined, of_definitions, of_kind}
+use Rattle.check_rules.specs.Mentions.{Mention, of_phrase, of_stmts, of_exits, of_declared, of_declarations, of_defined, of_definitions, of_kind}
 use Rattle.check_mentions.specs.Gathering.{Leaves}
 use Rattle.check_mentions.specs.declared.gathered.Gathered.{Gathered}
 use Rattle.check_mentions.proofs.GatherLaws.{all_is, joined, left_is, then, with_behind}

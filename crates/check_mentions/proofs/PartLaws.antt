@@ -2,7 +2,7 @@
 use Rattle.std.proofs.Common.{◌≡◌, ◌<◌, ℕ, true, List, [], ◌∷◌, ◌++◌, length, Option, Some, None, is_some, refl, ap, ◌∙◌, arith}
 use Rattle.std.proofs.lemmas.Bool.{false≢true}
 use Rattle.std.specs.Option.{option_to_list}
-use Rattle.checking_rules.specs.Mentions.{Mention}
+use Rattle.check_rules.specs.Mentions.{Mention}
 use Rattle.check_mentions.specs.Parts.{before, of_next, of_part}
 use Rattle.check_mentions.specs.declared.parts.Part.{Part}
 

@@ -2,7 +2,7 @@
 use Rattle.std.specs.Prelude.{◌≡◌, ℕ, List, ◌++◌, reverse, is_some}
 use Rattle.check_scopes.specs.Scopes.{has}
 use Rattle.check_scopes.specs.Shows.{means}
-use Rattle.checking_rules.specs.Mentions.{Mention, texts, origins}
+use Rattle.check_rules.specs.Mentions.{Mention, texts, origins}
 use Rattle.check_mentions.specs.declared.gathered.Gathered.{Gathered}
 
 -- the literals, each where it stands first, and the tokens

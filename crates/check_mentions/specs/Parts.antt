@@ -1,8 +1,8 @@
 -- What the parts that are still to be read mention.
 use Rattle.std.specs.Prelude.{List, [], ◌∷◌, ◌++◌, Option, Some, None}
 use Rattle.mesa_types.specs.PlainSyntax as plain
-use Rattle.checking_rules.specs.Mentions as m
-use Rattle.checking_rules.specs.Mentions.{Mention}
+use Rattle.check_rules.specs.Mentions as m
+use Rattle.check_rules.specs.Mentions.{Mention}
 use Rattle.check_mentions.specs.declared.parts.Part.{Part}
 use Rattle.check_mentions.specs.declared.parts.Part.TheVariants.{Text, Made, Written, Types, Fields, Expression, Expressions, Values, Operations, Suffixes, Arms, Statement, Statements, Targets, KeyedTargets, Cases, Tests, Locals, Exits, Repeats}
 use Rattle.check_mentions.specs.declared.parts.Parts.{Parts}

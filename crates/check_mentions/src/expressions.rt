@@ -1,7 +1,7 @@
 //! Expressions: what each is made of, put before what stands behind it.
 ghost use Rattle.std.specs.Prelude.{◌≡◌, ◌++◌, OnOk};
 ghost use Rattle.mesa_types.specs.PlainSyntax as plain;
-ghost use Rattle.checking_rules.specs.Mentions as spec;
+ghost use Rattle.check_rules.specs.Mentions as spec;
 ghost use Rattle.check_mentions.specs.Parts.{ahead};
 
 use crate::parts::{Part, Parts};

@@ -1,7 +1,7 @@
 //! What is gathered of a text: its string literals, each where it stands first, and the tokens of its records and enumerations.
 ghost use Rattle.std.specs.Prelude.{◌≡◌, [], ◌∷◌, ◌++◌, OnOk};
 ghost use Rattle.check_mentions.specs.Gathering.{found, IsIndexed, Leaves};
-ghost use Rattle.checking_rules.specs.Mentions as spec;
+ghost use Rattle.check_rules.specs.Mentions as spec;
 ghost use Rattle.check_mentions.specs.Parts.{ahead, of_part};
 
 use crate::parts::{Part, Parts};

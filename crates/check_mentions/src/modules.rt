@@ -1,7 +1,7 @@
 //! Modules: declaration by declaration, in the order of the text.
 ghost use Rattle.std.specs.Prelude.{◌≡◌, [], ◌++◌, map, IfOk, OnOk};
 ghost use Rattle.mesa_types.specs.PlainSyntax as plain;
-ghost use Rattle.checking_rules.specs.Mentions as spec;
+ghost use Rattle.check_rules.specs.Mentions as spec;
 ghost use Rattle.check_mentions.specs.Gathering.{IsIndexed, Leaves};
 ghost use Rattle.check_mentions.specs.Parts.{ahead};
 

@@ -12,7 +12,7 @@ use Rattle.mesa_types.specs.declared.syntax.Keyed.{Keyed}
 use Rattle.mesa_types.specs.declared.syntax.Operation.{Operation}
 use Rattle.mesa_types.specs.declared.syntax.Suffix.{Suffix}
 use Rattle.mesa_types.proofs.PlainForms.{of_within, parts_of_interval, parts_of_operation}
-use Rattle.checking_rules.specs.Phrases.{holds, in_interval, in_steps, in_suffixes, in_exprs, in_keyed}
+use Rattle.check_rules.specs.Phrases.{holds, in_interval, in_steps, in_suffixes, in_exprs, in_keyed}
 
 at_drop : {A : Type 0} (all : List A) (i : ℕ) (x : A) → i < length all → x ≡ get_or all i x → drop i all ≡ x ∷ drop (i + 1) all
 at_drop all i x inside here = drop_more all i x inside ∙ ap (λ y. y ∷ drop (i + 1) all) (sym here)

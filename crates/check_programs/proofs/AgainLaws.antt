@@ -2,11 +2,11 @@
 use Rattle.std.proofs.Common.{◌≡◌, List, [], ◌∷◌, ◌++◌, map, Ok, Err, refl, ap, ◌∙◌, subst}
 use Rattle.mesa_base.specs.declared.identifier.Identifier.{Identifier}
 use Rattle.mesa_types.specs.Syntax as s
-use Rattle.checking_rules.specs.Around.{Around}
-use Rattle.checking_rules.specs.Meanings.{Meaning}
-use Rattle.checking_rules.specs.Programs.{Declared, before_others, behind, fault_or, head_alone, heads_further, next_or, passed_over, told}
-use Rattle.checking_rules.specs.Scopes.{Scope, innermost}
-use Rattle.checking_rules.specs.Steps.{State, Check, Checked, Fault, and_then}
+use Rattle.check_rules.specs.Around.{Around}
+use Rattle.check_rules.specs.Meanings.{Meaning}
+use Rattle.check_rules.specs.Programs.{Declared, before_others, behind, fault_or, head_alone, heads_further, next_or, passed_over, told}
+use Rattle.check_rules.specs.Scopes.{Scope, innermost}
+use Rattle.check_rules.specs.Steps.{State, Check, Checked, Fault, and_then}
 use Rattle.check_programs.specs.Again.{dropped, next_rule, or_before, so_far}
 use Rattle.check_programs.specs.Found.{Found, with_one}
 

@@ -3,9 +3,9 @@ use Rattle.std.proofs.Common.{◌≡◌, ◌<◌, ◌≤◌, ◌+◌, ℕ, List,
 use Rattle.std.proofs.lemmas.List.{drop_all, map-append, take_more}
 use Rattle.mesa_types.specs.PlainSyntax as plain
 use Rattle.mesa_types.specs.declared.syntax.Declaration.{Declaration}
-use Rattle.checking_rules.specs.Around.{Around}
-use Rattle.checking_rules.specs.Programs.{before_others, declaration}
-use Rattle.checking_rules.specs.Steps.{State, Fault}
+use Rattle.check_rules.specs.Around.{Around}
+use Rattle.check_rules.specs.Programs.{before_others, declaration}
+use Rattle.check_rules.specs.Steps.{State, Fault}
 use Rattle.check_jumps.proofs.Tests.{at_drop}
 use Rattle.check_programs.specs.Again.{dropped, next_rule, or_before, so_far}
 use Rattle.check_programs.specs.Found.{Found}

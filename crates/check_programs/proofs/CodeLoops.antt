@@ -3,9 +3,9 @@ use Rattle.std.proofs.Common.{◌≡◌, ◌<◌, ◌≤◌, ◌+◌, ℕ, List,
 use Rattle.std.proofs.lemmas.List.{drop_all}
 use Rattle.mesa_types.specs.PlainSyntax as plain
 use Rattle.mesa_types.specs.declared.syntax.Declaration.{Declaration}
-use Rattle.checking_rules.specs.Around.{Around}
-use Rattle.checking_rules.specs.Programs.{Values, before_others, declaration, value_of}
-use Rattle.checking_rules.specs.Steps.{State, Fault}
+use Rattle.check_rules.specs.Around.{Around}
+use Rattle.check_rules.specs.Programs.{Values, before_others, declaration, value_of}
+use Rattle.check_rules.specs.Steps.{State, Fault}
 use Rattle.check_jumps.proofs.Tests.{at_drop}
 use Rattle.check_programs.specs.Again.{next_rule}
 use Rattle.check_programs.specs.Found.{Found}

@@ -5,14 +5,14 @@ use Rattle.mesa_base.specs.declared.identifier.Identifier.{Identifier}
 use Rattle.mesa_types.specs.declared.faces.ItemKind.{ItemKind}
 use Rattle.mesa_types.specs.declared.faces.ItemKind.TheVariants as item
 use Rattle.mesa_types.specs.declared.syntax.Access.{Access}
-use Rattle.checking_rules.specs.Meanings.{Procedure}
-use Rattle.checking_rules.specs.Names.{settle}
-use Rattle.checking_rules.specs.Parts.{first_name}
-use Rattle.checking_rules.specs.PlainTypes.{PlainItem}
-use Rattle.checking_rules.specs.Programs as spec
-use Rattle.checking_rules.specs.Programs.{Declared, Heading, Offer, ProcedureHead, SignalHead, if_public, named_item, procedure_offer, signal_meanings, signal_offers}
-use Rattle.checking_rules.specs.Steps.{State, Checked, and_then}
-use Rattle.checking_rules.specs.Typed.{OwnProcedure}
+use Rattle.check_rules.specs.Meanings.{Procedure}
+use Rattle.check_rules.specs.Names.{settle}
+use Rattle.check_rules.specs.Parts.{first_name}
+use Rattle.check_rules.specs.PlainTypes.{PlainItem}
+use Rattle.check_rules.specs.Programs as spec
+use Rattle.check_rules.specs.Programs.{Declared, Heading, Offer, ProcedureHead, SignalHead, if_public, named_item, procedure_offer, signal_meanings, signal_offers}
+use Rattle.check_rules.specs.Steps.{State, Checked, and_then}
+use Rattle.check_rules.specs.Typed.{OwnProcedure}
 use Rattle.check_programs.specs.Found.{Found, also, with_one}
 use Rattle.check_programs.specs.Heads.{first_item}
 use Rattle.check_programs.specs.Steps.{few_signal_words}

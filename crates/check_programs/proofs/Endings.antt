@@ -1,13 +1,13 @@
 -- EXITS behind statements that are checked.
 use Rattle.std.proofs.Common.{◌≡◌, Result, Ok, ap, subst, sym}
 use Rattle.mesa_types.specs.Syntax as s
-use Rattle.checking_rules.specs.Typed as t
-use Rattle.checking_rules.specs.Around.{Around}
-use Rattle.checking_rules.specs.Checking.{statements}
-use Rattle.checking_rules.specs.Parts.{join_stmts}
-use Rattle.checking_rules.specs.Steps.{State, Checked, and_then}
-use Rattle.checking_rules.specs.declared.fault.CheckFault.{CheckFault}
-use Rattle.check_words.specs.Gives.{Gives}
+use Rattle.check_rules.specs.Typed as t
+use Rattle.check_rules.specs.Around.{Around}
+use Rattle.check_rules.specs.Checking.{statements}
+use Rattle.check_rules.specs.Parts.{join_stmts}
+use Rattle.check_rules.specs.Steps.{State, Checked, and_then}
+use Rattle.check_rules.specs.declared.fault.CheckFault.{CheckFault}
+use Rattle.check_state.specs.Gives.{Gives}
 use Rattle.check_programs.specs.Shown.{ends, with_exits}
 
 module _ (a b : Around) (inner : s.Inner) (before : t.Stmts) where

@@ -2,9 +2,9 @@
 use Rattle.std.proofs.Common.{◌≡◌, ◌<◌, ◌+◌, ℕ, List, map, drop, take, length, get_or, Err, sym, ap, ◌∙◌}
 use Rattle.mesa_types.specs.PlainSyntax as plain
 use Rattle.mesa_types.specs.declared.syntax.Declaration.{Declaration}
-use Rattle.checking_rules.specs.Around.{Around}
-use Rattle.checking_rules.specs.Programs.{before_others, declaration}
-use Rattle.checking_rules.specs.Steps.{State, Checked, Fault}
+use Rattle.check_rules.specs.Around.{Around}
+use Rattle.check_rules.specs.Programs.{before_others, declaration}
+use Rattle.check_rules.specs.Steps.{State, Checked, Fault}
 use Rattle.check_programs.specs.Again.{dropped, next_rule, so_far}
 use Rattle.check_programs.specs.Found.{Found, nothing_found}
 use Rattle.check_programs.proofs.AgainLaws.{fault_alone}

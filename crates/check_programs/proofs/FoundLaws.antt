@@ -1,7 +1,7 @@
 -- What is found with one declaration more.
 use Rattle.std.proofs.Common.{◌≡◌, ◌+◌, ℕ, List, [], ◌∷◌, ◌++◌, refl, ap, arith}
-use Rattle.checking_rules.specs.PlainTypes.{PlainItem}
-use Rattle.checking_rules.specs.Programs.{Stated, Offer}
+use Rattle.check_rules.specs.PlainTypes.{PlainItem}
+use Rattle.check_rules.specs.Programs.{Stated, Offer}
 use Rattle.check_programs.specs.Found.{Found, with_one}
 
 pub append_nil : {A : Type 0} (xs : List A) → xs ++ [] ≡ xs

@@ -1,9 +1,9 @@
 -- Declarations one after the other.
 use Rattle.std.proofs.Common.{◌≡◌, ◌+◌, ℕ, List, [], ◌∷◌, map, length, Ok, Err, refl, sym, ap, ◌∙◌, subst, append_assoc, length-append, arith}
 use Rattle.mesa_types.specs.Syntax as s
-use Rattle.checking_rules.specs.Around.{Around}
-use Rattle.checking_rules.specs.Programs.{Declared, all_declared, before_others, declaration, signals_of, offers_of, told}
-use Rattle.checking_rules.specs.Steps.{State, Checked, Fault, and_then}
+use Rattle.check_rules.specs.Around.{Around}
+use Rattle.check_rules.specs.Programs.{Declared, all_declared, before_others, declaration, signals_of, offers_of, told}
+use Rattle.check_rules.specs.Steps.{State, Checked, Fault, and_then}
 use Rattle.check_programs.specs.Again.{next_rule}
 use Rattle.check_programs.specs.Found.{Found, all_found, behind, found_in, nothing_found, procedures_of, with_one}
 use Rattle.check_programs.proofs.FoundLaws.{append_nil, found_like}

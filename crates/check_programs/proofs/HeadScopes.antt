@@ -10,11 +10,11 @@ use Rattle.check_scopes.specs.Counts.{without}
 use Rattle.check_scopes.specs.Scopes.{Scope, nothing, over, with_name}
 use Rattle.check_scopes.specs.Shows.{listed, valued}
 use Rattle.check_scopes.specs.declared.index.Index.{Index}
-use Rattle.checking_rules.specs.Meanings as m
-use Rattle.checking_rules.specs.Programs.{behind_top, heads_alone, hidden_unless_head}
-use Rattle.check_words.proofs.ScopeLaws.{with_name_as}
-use Rattle.check_words.specs.Views.{meaning, seen_as}
-use Rattle.check_words.specs.declared.meaning.Meaning.{Meaning}
+use Rattle.check_rules.specs.Meanings as m
+use Rattle.check_rules.specs.Programs.{behind_top, heads_alone, hidden_unless_head}
+use Rattle.check_state.proofs.ScopeLaws.{with_name_as}
+use Rattle.check_state.specs.Views.{meaning, seen_as}
+use Rattle.check_state.specs.declared.meaning.Meaning.{Meaning}
 
 over-none : {T : Type 0} (s : Scope T) → over s nothing ≡ s
 over-none s = λ i x. or_none (s x) i

@@ -5,11 +5,11 @@ use Rattle.mesa_types.specs.declared.faces.Item.{Item}
 use Rattle.mesa_types.specs.declared.faces.ItemKind.{ItemKind}
 use Rattle.mesa_types.specs.declared.faces.ItemKind.TheVariants as item
 use Rattle.mesa_types.specs.declared.types.FieldType.{FieldType, roll-FieldType, out-FieldType, roll-out-FieldType}
-use Rattle.checking_rules.specs.PlainTypes.{field_of, item_of, plain_field, plain_item}
-use Rattle.checking_rules.specs.Programs as spec
-use Rattle.checking_rules.specs.Programs.{Heading, named_item}
-use Rattle.check_words.proofs.TypeBack.{back}
-use Rattle.check_words.proofs.TypeForms.{parts_of_field}
+use Rattle.check_rules.specs.PlainTypes.{field_of, item_of, plain_field, plain_item}
+use Rattle.check_rules.specs.Programs as spec
+use Rattle.check_rules.specs.Programs.{Heading, named_item}
+use Rattle.check_state.proofs.TypeBack.{back}
+use Rattle.check_state.proofs.TypeForms.{parts_of_field}
 use Rattle.check_programs.specs.Heads.{first_item, renamed}
 
 part_back : (f : FieldType) → field_of (plain_field f) ≡ f

@@ -4,12 +4,12 @@ use Rattle.std.specs.Prelude.{Bool, true, false, min, nat_le}
 use Rattle.std.proofs.lemmas.List.{drop_all, drop_more}
 use Rattle.mesa_base.specs.declared.identifier.Identifier.{Identifier}
 use Rattle.mesa_types.specs.declared.faces.Item.{Item}
-use Rattle.checking_rules.specs.Meanings.{Signal}
-use Rattle.checking_rules.specs.Names.{each_means, coming}
-use Rattle.checking_rules.specs.PlainTypes.{PlainItem, plain_item}
-use Rattle.checking_rules.specs.Programs.{Offer, procedure_offer, signal_meanings, signal_offers}
-use Rattle.checking_rules.specs.Steps.{State}
-use Rattle.checking_rules.specs.Typed.{OwnSignal}
+use Rattle.check_rules.specs.Meanings.{Signal}
+use Rattle.check_rules.specs.Names.{each_means, coming}
+use Rattle.check_rules.specs.PlainTypes.{PlainItem, plain_item}
+use Rattle.check_rules.specs.Programs.{Offer, procedure_offer, signal_meanings, signal_offers}
+use Rattle.check_rules.specs.Steps.{State}
+use Rattle.check_rules.specs.Typed.{OwnSignal}
 use Rattle.check_jumps.proofs.Tests.{at_drop}
 use Rattle.check_programs.proofs.FoundLaws.{append_nil}
 

@@ -4,13 +4,13 @@ use Rattle.mesa_base.specs.declared.identifier.Identifier.{Identifier}
 use Rattle.mesa_types.specs.Plain as tree
 use Rattle.mesa_types.specs.Syntax as s
 use Rattle.mesa_types.specs.declared.typed_tree.TypedProcedure.{TypedProcedure}
-use Rattle.checking_rules.specs.Around.{Around}
-use Rattle.checking_rules.specs.Meanings.{Meaning}
-use Rattle.checking_rules.specs.PlainTypes.{PlainItem}
-use Rattle.checking_rules.specs.Programs.{DataHead, ProcedureHead, SignalHead, and_procedure, procedure, value_of}
-use Rattle.checking_rules.specs.Scopes.{Scope}
-use Rattle.checking_rules.specs.Statements.{Headed}
-use Rattle.checking_rules.specs.Steps.{State, Fault, and_then}
+use Rattle.check_rules.specs.Around.{Around}
+use Rattle.check_rules.specs.Meanings.{Meaning}
+use Rattle.check_rules.specs.PlainTypes.{PlainItem}
+use Rattle.check_rules.specs.Programs.{DataHead, ProcedureHead, SignalHead, and_procedure, procedure, value_of}
+use Rattle.check_rules.specs.Scopes.{Scope}
+use Rattle.check_rules.specs.Statements.{Headed}
+use Rattle.check_rules.specs.Steps.{State, Fault, and_then}
 use Rattle.check_programs.specs.Views.{value}
 use Rattle.check_programs.specs.declared.values.Value.TheVariants.{Nothing, OfProcedure}
 

@@ -5,17 +5,17 @@ use Rattle.mesa_types.specs.Plain as tree
 use Rattle.mesa_types.specs.Syntax as s
 use Rattle.mesa_types.specs.declared.typed_tree.TypedProcedure.{TypedProcedure}
 use Rattle.mesa_types.specs.declared.typed_tree.TypedStmt.{TypedStmt}
-use Rattle.checking_rules.specs.Typed as t
-use Rattle.checking_rules.specs.Around.{Around}
-use Rattle.checking_rules.specs.Parts.{join_stmts}
-use Rattle.checking_rules.specs.Programs.{Declared, Stated, Values, value_of, values_of}
-use Rattle.checking_rules.specs.Steps.{State, Checked, Fault, and_then}
+use Rattle.check_rules.specs.Typed as t
+use Rattle.check_rules.specs.Around.{Around}
+use Rattle.check_rules.specs.Parts.{join_stmts}
+use Rattle.check_rules.specs.Programs.{Declared, Stated, Values, value_of, values_of}
+use Rattle.check_rules.specs.Steps.{State, Checked, Fault, and_then}
 use Rattle.check_programs.specs.Turns.{behind, no_values, values_by}
 use Rattle.check_programs.specs.Views.{value}
 use Rattle.check_programs.specs.declared.values.Value.{Value}
 use Rattle.check_programs.specs.declared.values.Value.TheVariants.{Nothing, OfStatement, OfProcedure}
 use Rattle.check_programs.proofs.FoundLaws.{append_nil}
-use Rattle.check_nested.specs.Views.{stmts}
+use Rattle.check_statement_lists.specs.Views.{stmts}
 
 values_like : (ps qs : List t.Procedure) (xs ys : t.Stmts) → ps ≡ qs → xs ≡ ys
     → (let v : Values = record { procedures = ps; statements = xs } in v) ≡ record { procedures = qs; statements = ys }

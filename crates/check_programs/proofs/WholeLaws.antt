@@ -2,14 +2,14 @@
 use Rattle.std.proofs.Common.{◌≡◌, List, [], map, Ok, Err, refl, sym, ap, ◌∙◌}
 use Rattle.mesa_base.specs.declared.place.Place.{Place}
 use Rattle.mesa_types.specs.Syntax as s
-use Rattle.checking_rules.specs.Typed as t
-use Rattle.checking_rules.specs.Around.{Around, with_labels}
-use Rattle.checking_rules.specs.Checking.{phrase, statements, exits}
-use Rattle.checking_rules.specs.Parts.{join_stmts}
-use Rattle.checking_rules.specs.Phrases.{is_catch}
-use Rattle.checking_rules.specs.Programs.{Declared, Values, Whole, all_declared, body_block, frame, heads_are_done, marked_if, outermost, values_of, whole_in}
-use Rattle.checking_rules.specs.Statements.{labels_of_exits}
-use Rattle.checking_rules.specs.Steps.{State, Checked, and_then}
+use Rattle.check_rules.specs.Typed as t
+use Rattle.check_rules.specs.Around.{Around, with_labels}
+use Rattle.check_rules.specs.Checking.{phrase, statements, exits}
+use Rattle.check_rules.specs.Parts.{join_stmts}
+use Rattle.check_rules.specs.Phrases.{is_catch}
+use Rattle.check_rules.specs.Programs.{Declared, Values, Whole, all_declared, body_block, frame, heads_are_done, marked_if, outermost, values_of, whole_in}
+use Rattle.check_rules.specs.Statements.{labels_of_exits}
+use Rattle.check_rules.specs.Steps.{State, Checked, and_then}
 use Rattle.check_programs.specs.Found.{Found, all_found, found_in}
 use Rattle.check_programs.specs.Frames.{few_locals}
 use Rattle.check_programs.specs.Shown.{Parts, Shown, after_heads, parts, shown, shown_of}

@@ -1,9 +1,9 @@
 -- Declarations that are checked again, up to one that has a fault.
 use Rattle.std.specs.Prelude.{◌+◌, List, [], ◌∷◌, length, Ok, Err}
 use Rattle.mesa_types.specs.Syntax as s
-use Rattle.checking_rules.specs.Around.{Around}
-use Rattle.checking_rules.specs.Programs.{declaration}
-use Rattle.checking_rules.specs.Steps.{State, Check, Checked, and_then}
+use Rattle.check_rules.specs.Around.{Around}
+use Rattle.check_rules.specs.Programs.{declaration}
+use Rattle.check_rules.specs.Steps.{State, Check, Checked, and_then}
 use Rattle.check_programs.specs.Found.{Found, also}
 
 -- the faults and the states of a rule

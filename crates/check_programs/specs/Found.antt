@@ -1,10 +1,10 @@
 -- What a list of declarations leaves: their heads, how many of them are procedures, their signals and what is public, each in the order of the text.
 use Rattle.std.specs.Prelude.{ℕ, ◌+◌, List, [], ◌∷◌, ◌++◌, map}
 use Rattle.mesa_types.specs.Syntax as s
-use Rattle.checking_rules.specs.Around.{Around}
-use Rattle.checking_rules.specs.PlainTypes.{PlainItem}
-use Rattle.checking_rules.specs.Programs.{Declared, Stated, Offer, all_declared, signals_of, offers_of}
-use Rattle.checking_rules.specs.Steps.{Check, ◌>>=◌, pure}
+use Rattle.check_rules.specs.Around.{Around}
+use Rattle.check_rules.specs.PlainTypes.{PlainItem}
+use Rattle.check_rules.specs.Programs.{Declared, Stated, Offer, all_declared, signals_of, offers_of}
+use Rattle.check_rules.specs.Steps.{Check, ◌>>=◌, pure}
 
 pub record Found : Type 0 where
   pub heads : List Stated

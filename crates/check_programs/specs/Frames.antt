@@ -3,9 +3,9 @@ use Rattle.std.specs.Prelude.{◌+◌, List, nat_le}
 use Rattle.mesa_base.specs.declared.limits.TheConstants.{LOCAL_WORDS}
 use Rattle.mesa_base.specs.declared.place.Place.{Place}
 use Rattle.mesa_types.specs.Shapes.{words_in_all}
-use Rattle.checking_rules.specs.PlainTypes.{PlainField, words_of_fields}
-use Rattle.checking_rules.specs.Steps.{State, Checked, only}
-use Rattle.checking_rules.specs.declared.fault.Cause.TheVariants.{FrameTooLarge}
+use Rattle.check_rules.specs.PlainTypes.{PlainField, words_of_fields}
+use Rattle.check_rules.specs.Steps.{State, Checked, only}
+use Rattle.check_rules.specs.declared.fault.Cause.TheVariants.{FrameTooLarge}
 
 -- the words of parameters, results, variables and hidden words together are limited
 abbrev pub few_locals : List PlainField → List PlainField → Place → State → Checked (Unit {0})

@@ -2,14 +2,14 @@
 use Rattle.std.specs.Prelude.{Bool, List, [], Ok}
 use Rattle.mesa_base.specs.declared.place.Place.{Place}
 use Rattle.mesa_types.specs.Syntax as s
-use Rattle.checking_rules.specs.Typed as t
-use Rattle.checking_rules.specs.Around.{Around}
-use Rattle.checking_rules.specs.Checking.{phrase, statements, exits}
-use Rattle.checking_rules.specs.PlainTypes.{PlainItem}
-use Rattle.checking_rules.specs.Parts.{join_stmts}
-use Rattle.checking_rules.specs.Phrases.{is_catch}
-use Rattle.checking_rules.specs.Programs.{Offer, Stated, Whole, heads_are_done, marked_if, offers_of, signals_of}
-use Rattle.checking_rules.specs.Steps.{State, Check, Checked, and_then, ◌>>=◌, pure}
+use Rattle.check_rules.specs.Typed as t
+use Rattle.check_rules.specs.Around.{Around}
+use Rattle.check_rules.specs.Checking.{phrase, statements, exits}
+use Rattle.check_rules.specs.PlainTypes.{PlainItem}
+use Rattle.check_rules.specs.Parts.{join_stmts}
+use Rattle.check_rules.specs.Phrases.{is_catch}
+use Rattle.check_rules.specs.Programs.{Offer, Stated, Whole, heads_are_done, marked_if, offers_of, signals_of}
+use Rattle.check_rules.specs.Steps.{State, Check, Checked, and_then, ◌>>=◌, pure}
 use Rattle.check_programs.specs.Found.{Found}
 use Rattle.check_programs.specs.Frames.{few_locals}
 use Rattle.check_programs.specs.Turns.{values_by}

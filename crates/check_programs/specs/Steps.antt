@@ -6,14 +6,14 @@ use Rattle.mesa_base.specs.declared.place.Place.{Place}
 use Rattle.mesa_types.specs.Syntax as s
 use Rattle.mesa_types.specs.declared.faces.ItemKind.{ItemKind}
 use Rattle.mesa_types.specs.declared.syntax.Access.{Access}
-use Rattle.checking_rules.specs.Around.{Around}
-use Rattle.checking_rules.specs.Names.{announce}
-use Rattle.checking_rules.specs.Parts.{first_name}
-use Rattle.checking_rules.specs.PlainTypes.{words_of_fields}
-use Rattle.checking_rules.specs.Programs.{Declared, DataHead, Heading, heading, declared_procedure, declared_signals}
-use Rattle.checking_rules.specs.Checking.{head}
-use Rattle.checking_rules.specs.Steps.{Check, Checked, ◌>>=◌, pure, only, measured, within_operands}
-use Rattle.checking_rules.specs.declared.fault.Cause.TheVariants.{FrameTooLarge}
+use Rattle.check_rules.specs.Around.{Around}
+use Rattle.check_rules.specs.Names.{announce}
+use Rattle.check_rules.specs.Parts.{first_name}
+use Rattle.check_rules.specs.PlainTypes.{words_of_fields}
+use Rattle.check_rules.specs.Programs.{Declared, DataHead, Heading, heading, declared_procedure, declared_signals}
+use Rattle.check_rules.specs.Checking.{head}
+use Rattle.check_rules.specs.Steps.{Check, Checked, ◌>>=◌, pure, only, measured, within_operands}
+use Rattle.check_rules.specs.declared.fault.Cause.TheVariants.{FrameTooLarge}
 
 -- a type, variables or a constant
 abbrev pub data_declared : Around → List Identifier → s.PlainItem → Check Declared

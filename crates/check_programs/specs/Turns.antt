@@ -1,11 +1,11 @@
 -- Initial values and procedures, one declaration after the other, by the heads that are read.
 use Rattle.std.specs.Prelude.{List, [], ◌∷◌, ◌++◌}
 use Rattle.mesa_types.specs.Syntax as s
-use Rattle.checking_rules.specs.Typed as t
-use Rattle.checking_rules.specs.Around.{Around}
-use Rattle.checking_rules.specs.Parts.{join_stmts}
-use Rattle.checking_rules.specs.Programs.{Stated, Values, value_of}
-use Rattle.checking_rules.specs.Steps.{Check, ◌>>=◌, pure}
+use Rattle.check_rules.specs.Typed as t
+use Rattle.check_rules.specs.Around.{Around}
+use Rattle.check_rules.specs.Parts.{join_stmts}
+use Rattle.check_rules.specs.Programs.{Stated, Values, value_of}
+use Rattle.check_rules.specs.Steps.{Check, ◌>>=◌, pure}
 
 abbrev pub no_values : Values
 no_values = record { procedures = []; statements = t.NoStmts }

@@ -2,10 +2,10 @@
 use Rattle.std.specs.Prelude.{map}
 use Rattle.mesa_types.specs.Plain.{kinds_of, plain_body, plain_procedure, stmt}
 use Rattle.mesa_types.specs.Typed as t
-use Rattle.checking_rules.specs.PlainTypes.{plain_item}
-use Rattle.checking_rules.specs.Programs as program
+use Rattle.check_rules.specs.PlainTypes.{plain_item}
+use Rattle.check_rules.specs.Programs as program
 use Rattle.check_faces.specs.Offers.{offer}
-use Rattle.check_words.specs.Views.{names}
+use Rattle.check_state.specs.Views.{names}
 use Rattle.check_programs.specs.Found as found_rule
 use Rattle.check_programs.specs.Shown as shown_rule
 use Rattle.check_programs.specs.declared.found.Found.{Found}
@@ -17,7 +17,7 @@ use Rattle.check_programs.specs.declared.values.Values.{Values}
 use Rattle.check_programs.specs.declared.whole.Parts.{Parts}
 use Rattle.check_programs.specs.declared.whole.Whole.{Whole}
 use Rattle.check_locals.specs.Views.{headed}
-use Rattle.check_nested.specs.Views.{stmts}
+use Rattle.check_statement_lists.specs.Views.{stmts}
 
 abbrev pub stated : Stated → program.Stated
 stated (Data h) = program.DataHead (headed h)

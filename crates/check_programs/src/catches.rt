@@ -1,9 +1,9 @@
 //! What checks the catch phrases of heads and initial values.
 
 use check_expressions::Phrases;
+use check_rules::CheckFault;
+use check_state::{Around, State};
 use check_statements::phrase;
-use check_words::{Around, State};
-use checking_rules::CheckFault;
 use mesa_types::{Phrase, syntax};
 use std::alloc::Global;
 

@@ -4,13 +4,13 @@ ghost use Rattle.check_programs.specs.Found.{also};
 ghost use Rattle.check_programs.specs.Heads.{first_item as first_rule};
 ghost use Rattle.check_programs.specs.Steps as step;
 ghost use Rattle.check_programs.specs.Views as view;
-ghost use Rattle.check_words.specs.Gives.{Gives, GivesOnly};
-ghost use Rattle.check_words.specs.Views as words;
-ghost use Rattle.checking_rules.specs.Meanings as meaning;
-ghost use Rattle.checking_rules.specs.Names.{settle};
-ghost use Rattle.checking_rules.specs.PlainTypes.{plain_item};
-ghost use Rattle.checking_rules.specs.Programs as spec;
-ghost use Rattle.checking_rules.specs.Typed as t;
+ghost use Rattle.check_state.specs.Gives.{Gives, GivesOnly};
+ghost use Rattle.check_state.specs.Views as words;
+ghost use Rattle.check_rules.specs.Meanings as meaning;
+ghost use Rattle.check_rules.specs.Names.{settle};
+ghost use Rattle.check_rules.specs.PlainTypes.{plain_item};
+ghost use Rattle.check_rules.specs.Programs as spec;
+ghost use Rattle.check_rules.specs.Typed as t;
 ghost use Rattle.mesa_types.specs.declared.faces.ItemKind.TheVariants as kinds;
 ghost use Rattle.mesa_types.specs.PlainSyntax as plain;
 ghost use Rattle.check_heads.specs.Views.{heading as plain_heading};
@@ -23,8 +23,8 @@ use check_declared::{few_operands, first_name};
 use check_expressions::Checker;
 use check_heads::{Heading, heading};
 use check_locals::head;
-use check_words::{Around, Meaning, State, fields_size, next};
-use checking_rules::{Cause, CheckFault};
+use check_rules::{Cause, CheckFault};
+use check_state::{Around, Meaning, State, fields_size, next};
 use mesa_base::limits::SIGNAL_WORDS;
 use mesa_base::{Identifier, List, OutOfMemory, Place, Shared};
 use mesa_types::syntax::{Access, Declaration, Declared, FieldList, Head, PlainItem};
@@ -217,7 +217,7 @@ fn signals(
 }
 
 /// One declaration, whose procedure or first signal has the number that is next.
-#[tactic(auto, unfolding(checking_rules::specs::Programs::declared))]
+#[tactic(auto, unfolding(check_rules::specs::Programs::declared))]
 pub fn declaration(
     one: &Declaration,
     checker: &Checker<Catches>,

@@ -6,7 +6,7 @@ ghost use Rattle.check_programs.specs.Views as view;
 use check_faces::Offer;
 use check_locals::Headed;
 use check_scopes::Names;
-use check_words::{Meaning, narrow, next};
+use check_state::{Meaning, narrow, next};
 use mesa_base::{List, OutOfMemory, Shared};
 use mesa_types::Item;
 use std::alloc::Global;

@@ -1,13 +1,13 @@
 //! The frame of a procedure: its parameters, results, variables and hidden words.
 ghost use Rattle.std.specs.Prelude.{◌≡◌};
 ghost use Rattle.check_programs.specs.Frames as step;
-ghost use Rattle.check_words.specs.Gives.{GivesOnly};
-ghost use Rattle.check_words.specs.Views as words;
-ghost use Rattle.checking_rules.specs.Programs as spec;
+ghost use Rattle.check_state.specs.Gives.{GivesOnly};
+ghost use Rattle.check_state.specs.Views as words;
+ghost use Rattle.check_rules.specs.Programs as spec;
 ghost use Rattle.mesa_types.specs.Plain.{kinds_of};
 
-use check_words::{Frame, State, fields_size};
-use checking_rules::{Cause, CheckFault};
+use check_rules::{Cause, CheckFault};
+use check_state::{Frame, State, fields_size};
 use mesa_base::Place;
 use mesa_base::limits::LOCAL_WORDS;
 use mesa_types::FieldType;
@@ -22,7 +22,7 @@ pub struct Outside {
 }
 
 /// A frame begins, with no variable.
-#[tactic(auto, unfolding(check_words::specs::Views::state))]
+#[tactic(auto, unfolding(check_state::specs::Views::state))]
 pub fn open_frame(alloc: Global, state: &mut State) -> Outside
     ensures variables { kinds_of result.variables.fields ≡ (words.state state.old).variables }
     ensures hidden { result.hidden ≡ (words.state state.old).hidden }
@@ -34,7 +34,7 @@ pub fn open_frame(alloc: Global, state: &mut State) -> Outside
 }
 
 /// A frame ends, and its variables are handed over.
-#[tactic(auto, unfolding(check_words::specs::Views::state))]
+#[tactic(auto, unfolding(check_state::specs::Views::state))]
 pub fn close_frame(state: &mut State, outside: Outside) -> Frame
     ensures variables { kinds_of result.fields ≡ (words.state state.old).variables }
     ensures state { words.state state.new ≡ record (words.state state.old) { variables = kinds_of outside.variables.fields; hidden = outside.hidden } }
@@ -45,7 +45,7 @@ pub fn close_frame(state: &mut State, outside: Outside) -> Frame
 }
 
 /// The words of parameters, results, variables and hidden words together are limited.
-#[tactic(auto, unfolding(check_words::specs::Views::state))]
+#[tactic(auto, unfolding(check_state::specs::Views::state))]
 pub fn few_locals(
     state: &State,
     takes: &[FieldType],

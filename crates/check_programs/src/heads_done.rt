@@ -1,13 +1,13 @@
 //! The scopes of a program once its heads are read: to an initial value, what is not declared before it is hidden, procedures, signals
 //! and errors excepted.
 ghost use Rattle.std.specs.Prelude.{◌≡◌, Some, IfOk, OnOk};
-ghost use Rattle.check_words.specs.Gives.{Gives};
-ghost use Rattle.check_words.specs.Views as words;
-ghost use Rattle.checking_rules.specs.Programs as spec;
+ghost use Rattle.check_state.specs.Gives.{Gives};
+ghost use Rattle.check_state.specs.Views as words;
+ghost use Rattle.check_rules.specs.Programs as spec;
 
+use check_rules::CheckFault;
 use check_scopes::{Names, Scopes};
-use check_words::{Meaning, State};
-use checking_rules::CheckFault;
+use check_state::{Meaning, State};
 use mesa_base::OutOfMemory;
 use std::alloc::Global;
 
@@ -21,7 +21,7 @@ fn hidden_unless_head(meaning: &Meaning, alloc: Global) -> Result<Meaning, OutOf
 }
 
 /// The same names, of which only procedures, signals and errors have a meaning.
-#[tactic(auto, unfolding(check_words::specs::Views::names))]
+#[tactic(auto, unfolding(check_state::specs::Views::names))]
 fn heads_alone(names: Names<Meaning>, alloc: Global) -> Result<Names<Meaning>, OutOfMemory>
     ensures { IfOk result (λ alone. words.names alone ≡ spec.heads_alone (words.names names)) }
 {
@@ -35,7 +35,7 @@ fn heads_alone(names: Names<Meaning>, alloc: Global) -> Result<Names<Meaning>, O
 }
 
 /// The heads of the innermost scope stand in the place of the scope outside it, if there is one.
-#[tactic(auto, unfolding(check_words::specs::Views::scopes, check_words::specs::Views::names))]
+#[tactic(auto, unfolding(check_state::specs::Views::scopes, check_state::specs::Views::names))]
 fn show_heads(alloc: Global, scopes: &mut Scopes<Meaning>) -> Result<(), OutOfMemory>
     ensures { OnOk result (words.scopes scopes.new ≡ spec.behind_top (words.scopes scopes.old)) }
 {
@@ -57,7 +57,7 @@ fn show_heads(alloc: Global, scopes: &mut Scopes<Meaning>) -> Result<(), OutOfMe
 }
 
 /// Names that are not declared yet are hidden, procedures, signals and errors excepted.
-#[tactic(auto, unfolding(check_words::specs::Views::state))]
+#[tactic(auto, unfolding(check_state::specs::Views::state))]
 pub fn heads_are_done(alloc: Global, state: &mut State) -> Result<(), CheckFault>
     ensures { Gives (λ _. tt) (spec.heads_are_done (words.state state.old)) result (words.state state.new) }
 {

@@ -1,11 +1,11 @@
 //! What is public.
 ghost use Rattle.std.specs.Prelude.{◌≡◌, [], ◌∷◌, ◌++◌, map, OnOk, IfOk};
 ghost use Rattle.check_faces.specs.Offers.{offer};
-ghost use Rattle.checking_rules.specs.PlainTypes.{plain_item};
-ghost use Rattle.checking_rules.specs.Programs as spec;
+ghost use Rattle.check_rules.specs.PlainTypes.{plain_item};
+ghost use Rattle.check_rules.specs.Programs as spec;
 
 use check_faces::Offer;
-use check_words::next;
+use check_state::next;
 use mesa_base::{Identifier, OutOfMemory, Shared};
 use mesa_types::Item;
 use mesa_types::syntax::Access;

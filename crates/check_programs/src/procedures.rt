@@ -1,22 +1,22 @@
 //! The body of a procedure.
 ghost use Rattle.std.specs.Prelude.{◌≡◌, IfOk};
-ghost use Rattle.check_words.specs.Gives.{Gives};
-ghost use Rattle.check_words.specs.Views as words;
-ghost use Rattle.checking_rules.specs.Around.{body_of};
-ghost use Rattle.checking_rules.specs.Checking.{block as block_rule};
-ghost use Rattle.checking_rules.specs.PlainTypes.{plain_item};
-ghost use Rattle.checking_rules.specs.Programs as spec;
-ghost use Rattle.checking_rules.specs.Steps.{in_scope};
+ghost use Rattle.check_state.specs.Gives.{Gives};
+ghost use Rattle.check_state.specs.Views as words;
+ghost use Rattle.check_rules.specs.Around.{body_of};
+ghost use Rattle.check_rules.specs.Checking.{block as block_rule};
+ghost use Rattle.check_rules.specs.PlainTypes.{plain_item};
+ghost use Rattle.check_rules.specs.Programs as spec;
+ghost use Rattle.check_rules.specs.Steps.{in_scope};
 ghost use Rattle.mesa_types.specs.Plain.{kinds_of, plain_procedure, stmt};
 ghost use Rattle.mesa_types.specs.PlainSyntax as plain;
 
 use crate::found::ProcedureHead;
 use crate::frames::{close_frame, few_locals, open_frame};
 use check_declared::{few_operands, first_name};
+use check_rules::CheckFault;
 use check_scopes::Names;
+use check_state::{ArmHere, Around, Known, Meaning, State};
 use check_statements::block;
-use check_words::{ArmHere, Around, Known, Meaning, State};
-use checking_rules::CheckFault;
 use held_trees::{both, shared};
 use mesa_base::{Identifier, OutOfMemory};
 use mesa_types::syntax::Block;
@@ -24,7 +24,7 @@ use mesa_types::{FieldType, Fields, Item, TypedBody, TypedProcedure, TypedStmt};
 use std::alloc::Global;
 
 /// What stands around a body.
-#[tactic(auto, unfolding(check_words::specs::Views::around))]
+#[tactic(auto, unfolding(check_state::specs::Views::around))]
 pub fn around_body<'a>(
     known: &'a Known,
     takes: &'a [FieldType],
@@ -83,7 +83,7 @@ fn made(
 }
 
 /// A procedure with this head. The operands of its head count as those of a statement, and are looked at behind its body.
-#[tactic(auto, using(crate::proofs::ItemLaws::item_back), unfolding(checking_rules::specs::Programs::procedure))]
+#[tactic(auto, using(crate::proofs::ItemLaws::item_back), unfolding(check_rules::specs::Programs::procedure))]
 pub fn procedure(
     names: &[Identifier],
     head: ProcedureHead,

@@ -1,14 +1,14 @@
 //! Heads under their names: a procedure has one head, each signal or error has its own.
 ghost use Rattle.std.specs.Prelude.{◌≡◌, map, IfOk};
 ghost use Rattle.check_programs.specs.Heads as step;
-ghost use Rattle.check_words.specs.Gives.{Gives};
-ghost use Rattle.check_words.specs.Views as view;
-ghost use Rattle.checking_rules.specs.Names.{settle};
-ghost use Rattle.checking_rules.specs.PlainTypes.{plain_item};
-ghost use Rattle.checking_rules.specs.Programs as spec;
+ghost use Rattle.check_state.specs.Gives.{Gives};
+ghost use Rattle.check_state.specs.Views as view;
+ghost use Rattle.check_rules.specs.Names.{settle};
+ghost use Rattle.check_rules.specs.PlainTypes.{plain_item};
+ghost use Rattle.check_rules.specs.Programs as spec;
 
-use check_words::{Meaning, State, next};
-use checking_rules::CheckFault;
+use check_rules::CheckFault;
+use check_state::{Meaning, State, next};
 use mesa_base::{Identifier, List, OutOfMemory, Shared};
 use mesa_types::{Fields, Item, ItemKind, Raised};
 use std::alloc::Global;

@@ -5,9 +5,9 @@ ghost use Rattle.mesa_base.specs.declared.identifier.Identifier.{Identifier as N
 ghost use Rattle.check_programs.specs.Again as again;
 ghost use Rattle.check_programs.specs.Found.{all_found, nothing_found};
 ghost use Rattle.check_programs.specs.Views as view;
-ghost use Rattle.check_words.specs.Gives.{GivesOnly};
-ghost use Rattle.check_words.specs.Views as words;
-ghost use Rattle.checking_rules.specs.Programs as spec;
+ghost use Rattle.check_state.specs.Gives.{GivesOnly};
+ghost use Rattle.check_state.specs.Views as words;
+ghost use Rattle.check_rules.specs.Programs as spec;
 ghost use Rattle.mesa_types.specs.PlainSyntax as plain;
 ghost use Rattle.mesa_types.specs.declared.syntax.Declaration.{Declaration as Declares};
 
@@ -16,8 +16,8 @@ use crate::declaring::declaration;
 use crate::found::{Found, Numbers};
 use check_expressions::Checker;
 use check_heads::{Starts, Tries, second_fault};
-use check_words::{Around, State};
-use checking_rules::CheckFault;
+use check_rules::CheckFault;
+use check_state::{Around, State};
 use mesa_base::Identifier;
 use mesa_types::syntax::Declaration;
 

@@ -2,9 +2,9 @@
 ghost use Rattle.std.specs.Prelude.{◌≡◌, map, IfOk};
 ghost use Rattle.check_programs.specs.Turns as step;
 ghost use Rattle.check_programs.specs.Views as view;
-ghost use Rattle.check_words.specs.Gives.{Gives};
-ghost use Rattle.check_words.specs.Views as words;
-ghost use Rattle.checking_rules.specs.Programs as spec;
+ghost use Rattle.check_state.specs.Gives.{Gives};
+ghost use Rattle.check_state.specs.Views as words;
+ghost use Rattle.check_rules.specs.Programs as spec;
 ghost use Rattle.mesa_types.specs.PlainSyntax as plain;
 
 use crate::catches::Catches;
@@ -12,8 +12,8 @@ use crate::found::Stated;
 use crate::procedures::procedure;
 use check_expressions::Checker;
 use check_locals::initial;
-use check_words::{Around, State};
-use checking_rules::CheckFault;
+use check_rules::CheckFault;
+use check_state::{Around, State};
 use held_trees::{LetGo, both, pushed};
 use mesa_base::{List, OutOfMemory};
 use mesa_types::syntax::{Declaration, Declared};
@@ -55,7 +55,7 @@ impl LetGo for Values {
     }
 }
 
-#[tactic(auto, unfolding(check_nested::specs::Views::stmts))]
+#[tactic(auto, unfolding(check_statement_lists::specs::Views::stmts))]
 fn no_values(alloc: Global) -> Values
     ensures { view.values result ≡ step.no_values }
 {
@@ -65,7 +65,7 @@ fn no_values(alloc: Global) -> Values
     }
 }
 
-#[tactic(auto, unfolding(checking_rules::specs::Programs::value_of, check_words::specs::Views::around))]
+#[tactic(auto, unfolding(check_rules::specs::Programs::value_of, check_state::specs::Views::around))]
 fn value_of(
     one: &Declaration,
     head: Stated,

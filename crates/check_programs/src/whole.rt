@@ -3,14 +3,14 @@ ghost use Rattle.std.specs.Prelude.{◌≡◌, [], map, IfOk};
 ghost use Rattle.check_programs.specs.Found.{all_found};
 ghost use Rattle.check_programs.specs.Shown as step;
 ghost use Rattle.check_programs.specs.Views as view;
-ghost use Rattle.check_words.specs.Gives.{Gives, GivesOnly};
-ghost use Rattle.check_words.specs.Views as words;
-ghost use Rattle.checking_rules.specs.Phrases.{is_catch};
-ghost use Rattle.checking_rules.specs.Programs as spec;
+ghost use Rattle.check_state.specs.Gives.{Gives, GivesOnly};
+ghost use Rattle.check_state.specs.Views as words;
+ghost use Rattle.check_rules.specs.Phrases.{is_catch};
+ghost use Rattle.check_rules.specs.Programs as spec;
 ghost use Rattle.mesa_types.specs.Plain.{kinds_of, phrase as plain_phrase, plain_body, stmt};
 ghost use Rattle.mesa_types.specs.PlainSyntax as plain;
 ghost use Rattle.mesa_types.specs.Typed as t;
-ghost use Rattle.check_nested.specs.Views as parts_view;
+ghost use Rattle.check_statement_lists.specs.Views as parts_view;
 
 use crate::catches::Catches;
 use crate::found::{Found, Stated};
@@ -23,10 +23,10 @@ use check_expressions::Checker;
 use check_faces::Offer;
 use check_heads::Starts;
 use check_jumps::{labels_of_exits, with_labels};
+use check_rules::CheckFault;
 use check_scopes::Marks;
+use check_state::{Around, GrowingFields, Known, State};
 use check_statements::{exits, phrase, statements_behind};
-use check_words::{Around, GrowingFields, Known, State};
-use checking_rules::CheckFault;
 use held_trees::{LetGo, both, boxed, shared};
 use mesa_base::{List, OutOfMemory, Place, Shared};
 use mesa_types::syntax::{self, Inner};
@@ -74,7 +74,7 @@ impl LetGo for Parts {
     }
 }
 
-#[tactic(auto, unfolding(check_nested::specs::Views::stmts, check_nested::specs::Views::exits))]
+#[tactic(auto, unfolding(check_statement_lists::specs::Views::stmts, check_statement_lists::specs::Views::exits))]
 fn block_of(
     alloc: Global,
     enable: Phrase,
@@ -182,7 +182,7 @@ fn has_phrase(enable: &Option<syntax::Phrase>) -> bool
 }
 
 /// The heads of the module's own declarations.
-#[tactic(auto, unfolding(check_words::specs::Views::around))]
+#[tactic(auto, unfolding(check_state::specs::Views::around))]
 fn heads_of<S: Starts>(
     inner: &Inner,
     checker: &Checker<Catches>,
@@ -199,7 +199,7 @@ fn heads_of<S: Starts>(
 }
 
 /// A program, with what stands around its EXITS.
-#[tactic(auto, using(crate::proofs::WholeLaws::whole_is), unfolding(check_words::specs::Views::state))]
+#[tactic(auto, using(crate::proofs::WholeLaws::whole_is), unfolding(check_state::specs::Views::state))]
 fn whole_in<S: Starts>(
     inner: &Inner,
     checker: &Checker<Catches>,

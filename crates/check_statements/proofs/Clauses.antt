@@ -3,21 +3,21 @@ use Rattle.std.proofs.Common.{◌≡◌, Bool, true, false, [], Ok, refl, ap, �
 use Rattle.std.specs.Prelude.{◌||◌}
 use Rattle.mesa_base.specs.declared.place.Place.{Place}
 use Rattle.mesa_types.specs.Syntax as s
-use Rattle.checking_rules.specs.Typed as t
-use Rattle.checking_rules.specs.Around.{Around, in_round, inside, with_labels}
-use Rattle.checking_rules.specs.Checking as spec
-use Rattle.checking_rules.specs.Parts.{first, join_stmts}
-use Rattle.checking_rules.specs.Phrases.{holds, in_cases, is_catch}
-use Rattle.checking_rules.specs.PlainTypes as v
-use Rattle.checking_rules.specs.Ranges.{Into}
-use Rattle.checking_rules.specs.Statements.{Held, held, labels_of_exits, labels_of_repeats, looped, numbered, whole}
-use Rattle.checking_rules.specs.Scopes.{nothing}
-use Rattle.checking_rules.specs.Steps.{Check, State, and_then, ◌>>=◌, pure, in_scope}
-use Rattle.check_clauses.specs.Whole.{from_start}
-use Rattle.check_nested.specs.Turns.{statements_behind}
+use Rattle.check_rules.specs.Typed as t
+use Rattle.check_rules.specs.Around.{Around, in_round, inside, with_labels}
+use Rattle.check_rules.specs.Checking as spec
+use Rattle.check_rules.specs.Parts.{first, join_stmts}
+use Rattle.check_rules.specs.Phrases.{holds, in_cases, is_catch}
+use Rattle.check_rules.specs.PlainTypes as v
+use Rattle.check_rules.specs.Ranges.{Into}
+use Rattle.check_rules.specs.Statements.{Held, held, labels_of_exits, labels_of_repeats, looped, numbered, whole}
+use Rattle.check_rules.specs.Scopes.{nothing}
+use Rattle.check_rules.specs.Steps.{Check, State, and_then, ◌>>=◌, pure, in_scope}
+use Rattle.check_simple_statements.specs.Whole.{from_start}
+use Rattle.check_statement_lists.specs.Turns.{statements_behind}
 use Rattle.check_statements.specs.Rules.{block_inside, block_numbered, block_scope, enable_of, if_inside, loop_inside, marked_if, round, round_in, select_inside, within}
-use Rattle.check_nested.proofs.Chaining.{then_two, then_three}
-use Rattle.check_clauses.proofs.WholeLaws.{whole_is}
+use Rattle.check_statement_lists.proofs.Chaining.{then_two, then_three}
+use Rattle.check_simple_statements.proofs.WholeLaws.{whole_is}
 use Rattle.check_statements.proofs.WholeLaws.{numbered_is}
 
 pub nested_is : (a : Around) (b : s.Block) → spec.statement a (s.Nested b) ≡ spec.block a b

@@ -1,10 +1,10 @@
 -- What stands around the statements of a block or loop, with its labels.
 use Rattle.std.proofs.Common.{◌≡◌, ℕ, List, Some, refl, ◌∙◌}
 use Rattle.mesa_base.specs.declared.identifier.Identifier.{Identifier}
-use Rattle.checking_rules.specs.Around.{Around, Seen, in_round, in_statement, with_labels}
-use Rattle.checking_rules.specs.Scopes.{Scope}
-use Rattle.check_words.specs.Views as view
-use Rattle.check_words.specs.declared.around.Around.{Around as AroundHere}
+use Rattle.check_rules.specs.Around.{Around, Seen, in_round, in_statement, with_labels}
+use Rattle.check_rules.specs.Scopes.{Scope}
+use Rattle.check_state.specs.Views as view
+use Rattle.check_state.specs.declared.around.Around.{Around as AroundHere}
 
 abbrev pub labelled_at : Around → Scope Seen → ℕ → Around
 labelled_at a labels n = record a { labels = labels; labelled = n }

@@ -11,18 +11,18 @@ use Rattle.mesa_types.specs.declared.syntax.PlainItem.{PlainItem}
 use Rattle.mesa_types.specs.declared.typed_tree.Case.{Case as CaseHere}
 use Rattle.mesa_types.specs.declared.typed_tree.TypedStmt.{TypedStmt}
 use Rattle.mesa_types.proofs.PlainForms.{parts_of_case}
-use Rattle.checking_rules.specs.Typed as t
-use Rattle.checking_rules.specs.Around.{Around}
-use Rattle.checking_rules.specs.Checking as spec
-use Rattle.checking_rules.specs.Parts.{join_stmts}
-use Rattle.checking_rules.specs.Ranges.{Typed}
-use Rattle.checking_rules.specs.Statements.{Headed}
-use Rattle.checking_rules.specs.Steps.{Check, State, and_then, ◌>>=◌, pure}
+use Rattle.check_rules.specs.Typed as t
+use Rattle.check_rules.specs.Around.{Around}
+use Rattle.check_rules.specs.Checking as spec
+use Rattle.check_rules.specs.Parts.{join_stmts}
+use Rattle.check_rules.specs.Ranges.{Typed}
+use Rattle.check_rules.specs.Statements.{Headed}
+use Rattle.check_rules.specs.Steps.{Check, State, and_then, ◌>>=◌, pure}
 use Rattle.check_locals.specs.Views.{headed}
 use Rattle.check_locals.specs.declared.headed.Headed.{Headed as HeadedHere}
-use Rattle.check_nested.specs.Views.{or_finish}
-use Rattle.check_nested.proofs.Chaining.{before_rest, behind, chained, made_of, then_two, then_three}
-use Rattle.check_nested.proofs.ListLaws.{always, chain_onto, stays}
+use Rattle.check_statement_lists.specs.Views.{or_finish}
+use Rattle.check_statement_lists.proofs.Chaining.{before_rest, behind, chained, made_of, then_two, then_three}
+use Rattle.check_statement_lists.proofs.ListLaws.{always, chain_onto, stays}
 use Rattle.check_statements.specs.Turns.{initial_behind, one_case}
 use Rattle.check_statements.specs.Views as views
 use Rattle.check_statements.specs.declared.locals.Heads.{Heads}

@@ -1,9 +1,9 @@
 -- A block with a number, where it has an ENABLE.
 use Rattle.std.proofs.Common.{◌≡◌, Bool, true, false, Ok, Err, refl}
-use Rattle.checking_rules.specs.Typed as t
-use Rattle.checking_rules.specs.Around.{Around}
-use Rattle.checking_rules.specs.Statements.{numbered}
-use Rattle.checking_rules.specs.Steps.{Check, Checked, State, and_then}
+use Rattle.check_rules.specs.Typed as t
+use Rattle.check_rules.specs.Around.{Around}
+use Rattle.check_rules.specs.Statements.{numbered}
+use Rattle.check_rules.specs.Steps.{Check, Checked, State, and_then}
 use Rattle.check_statements.specs.Rules.{within, marked_if}
 
 pub numbered_is : (a : Around) (has_phrase : Bool) (rule : Around → Check t.Stmt)

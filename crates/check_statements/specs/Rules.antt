@@ -1,15 +1,15 @@
 -- Parts of the rules of statements, as the code takes them one by one.
 use Rattle.std.specs.Prelude.{ℕ, Bool, true, false, []}
 use Rattle.mesa_types.specs.Syntax as s
-use Rattle.checking_rules.specs.Typed as t
-use Rattle.checking_rules.specs.Around.{Around, in_round, in_statement, inside, with_labels}
-use Rattle.checking_rules.specs.Checking as spec
-use Rattle.checking_rules.specs.Ranges.{Free}
-use Rattle.checking_rules.specs.Scopes.{nothing}
-use Rattle.checking_rules.specs.Statements.{Held, labels_of_exits, labels_of_repeats, looped}
-use Rattle.checking_rules.specs.Steps.{Check, ◌>>=◌, pure, hide, in_scope}
-use Rattle.check_clauses.specs.Rules.{truth_of}
-use Rattle.check_nested.specs.Turns.{statements_behind}
+use Rattle.check_rules.specs.Typed as t
+use Rattle.check_rules.specs.Around.{Around, in_round, in_statement, inside, with_labels}
+use Rattle.check_rules.specs.Checking as spec
+use Rattle.check_rules.specs.Ranges.{Free}
+use Rattle.check_rules.specs.Scopes.{nothing}
+use Rattle.check_rules.specs.Statements.{Held, labels_of_exits, labels_of_repeats, looped}
+use Rattle.check_rules.specs.Steps.{Check, ◌>>=◌, pure, hide, in_scope}
+use Rattle.check_simple_statements.specs.Rules.{truth_of}
+use Rattle.check_statement_lists.specs.Turns.{statements_behind}
 
 -- what stands around the parts of a statement, and the statement, where it has a number or none
 abbrev pub within : Bool → Around → Around

@@ -5,13 +5,13 @@ use Rattle.mesa_types.specs.PlainSyntax as plain
 use Rattle.mesa_types.specs.declared.syntax.Case.{Case, out-Case}
 use Rattle.mesa_types.specs.declared.syntax.Labeled.{Labeled}
 use Rattle.mesa_types.specs.declared.syntax.PlainItem.{PlainItem}
-use Rattle.checking_rules.specs.Typed as t
-use Rattle.checking_rules.specs.Around.{Around}
-use Rattle.checking_rules.specs.Checking as spec
-use Rattle.checking_rules.specs.Parts.{join_stmts}
-use Rattle.checking_rules.specs.Ranges.{Typed}
-use Rattle.checking_rules.specs.Statements.{Headed}
-use Rattle.checking_rules.specs.Steps.{Check, ◌>>=◌, pure}
+use Rattle.check_rules.specs.Typed as t
+use Rattle.check_rules.specs.Around.{Around}
+use Rattle.check_rules.specs.Checking as spec
+use Rattle.check_rules.specs.Parts.{join_stmts}
+use Rattle.check_rules.specs.Ranges.{Typed}
+use Rattle.check_rules.specs.Statements.{Headed}
+use Rattle.check_rules.specs.Steps.{Check, ◌>>=◌, pure}
 
 unfoldable pub one_case : Around → Typed → Case → Check (t.Cases → t.Cases)
 one_case a sel x = do

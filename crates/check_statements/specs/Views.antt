@@ -3,9 +3,9 @@ use Rattle.std.specs.Prelude.{List, map}
 use Rattle.mesa_types.specs.Plain as tree
 use Rattle.mesa_types.specs.Typed as t
 use Rattle.mesa_types.specs.declared.typed_tree.Case.{Case}
-use Rattle.checking_rules.specs.Statements as rule
+use Rattle.check_rules.specs.Statements as rule
 use Rattle.check_locals.specs.Views.{headed}
-use Rattle.check_nested.specs.Views.{stmts}
+use Rattle.check_statement_lists.specs.Views.{stmts}
 use Rattle.check_statements.specs.declared.blocks.Held.{Held}
 use Rattle.check_statements.specs.declared.locals.Heads.{Heads}
 

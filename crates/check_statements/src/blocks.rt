@@ -2,12 +2,12 @@
 ghost use Rattle.std.specs.Prelude.{◌≡◌};
 ghost use Rattle.mesa_types.specs.Plain as tree;
 ghost use Rattle.mesa_types.specs.PlainSyntax as plain;
-ghost use Rattle.checking_rules.specs.Checking as spec;
-ghost use Rattle.checking_rules.specs.Phrases as phrases;
-ghost use Rattle.checking_rules.specs.Scopes.{nothing};
-ghost use Rattle.checking_rules.specs.Steps.{in_scope};
-ghost use Rattle.check_words.specs.Gives.{Gives};
-ghost use Rattle.check_words.specs.Views as view;
+ghost use Rattle.check_rules.specs.Checking as spec;
+ghost use Rattle.check_rules.specs.Phrases as phrases;
+ghost use Rattle.check_rules.specs.Scopes.{nothing};
+ghost use Rattle.check_rules.specs.Steps.{in_scope};
+ghost use Rattle.check_state.specs.Gives.{Gives};
+ghost use Rattle.check_state.specs.Views as view;
 ghost use Rattle.check_statements.specs.Rules as rules;
 ghost use Rattle.check_statements.specs.Views as views;
 
@@ -15,10 +15,10 @@ use crate::checker::StatementChecker;
 use crate::making::block_of;
 use crate::numbered::{marked_if, within};
 use check_jumps::{labels_of_exits, with_labels};
-use check_nested::Nested;
+use check_rules::CheckFault;
 use check_scopes::Names;
-use check_words::{Around, Meaning, State};
-use checking_rules::CheckFault;
+use check_state::{Around, Meaning, State};
+use check_statement_lists::Nested;
 use held_trees::{LetGo, both, boxed};
 use mesa_types::syntax::Block;
 use mesa_types::{Phrase, Stmts, TypedStmt};
@@ -38,7 +38,7 @@ impl LetGo for Held {
     }
 }
 
-#[tactic(auto, unfolding(check_words::specs::Views::names))]
+#[tactic(auto, unfolding(check_state::specs::Views::names))]
 fn no_names(alloc: Global) -> Names<Meaning>
     ensures { view.names result ≡ nothing }
 {

@@ -2,14 +2,14 @@
 ghost use Rattle.std.specs.Prelude.{◌≡◌};
 ghost use Rattle.mesa_types.specs.Plain.{phrase as plain_phrase, stmt};
 ghost use Rattle.mesa_types.specs.PlainSyntax as plain;
-ghost use Rattle.checking_rules.specs.Checking as spec;
-ghost use Rattle.check_words.specs.Gives.{Gives};
-ghost use Rattle.check_words.specs.Views as view;
+ghost use Rattle.check_rules.specs.Checking as spec;
+ghost use Rattle.check_state.specs.Gives.{Gives};
+ghost use Rattle.check_state.specs.Views as view;
 
 use check_expressions::{Checker, Phrases};
-use check_nested::{Nested, NestedChecker};
-use check_words::{Around, State};
-use checking_rules::CheckFault;
+use check_rules::CheckFault;
+use check_state::{Around, State};
+use check_statement_lists::{Nested, NestedChecker};
 use mesa_types::syntax::{self, Statement};
 use mesa_types::{Phrase, TypedStmt};
 use std::alloc::Global;

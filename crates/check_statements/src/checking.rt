@@ -2,17 +2,17 @@
 ghost use Rattle.std.specs.Prelude.{[], Ok};
 ghost use Rattle.mesa_types.specs.Plain as tree;
 ghost use Rattle.mesa_types.specs.PlainSyntax as plain;
-ghost use Rattle.checking_rules.specs.Checking as spec;
-ghost use Rattle.checking_rules.specs.Parts.{join_stmts};
-ghost use Rattle.checking_rules.specs.Steps.{and_then};
-ghost use Rattle.check_nested.specs.Views as nested;
-ghost use Rattle.check_words.specs.Gives.{Gives};
-ghost use Rattle.check_words.specs.Views as view;
+ghost use Rattle.check_rules.specs.Checking as spec;
+ghost use Rattle.check_rules.specs.Parts.{join_stmts};
+ghost use Rattle.check_rules.specs.Steps.{and_then};
+ghost use Rattle.check_statement_lists.specs.Views as nested;
+ghost use Rattle.check_state.specs.Gives.{Gives};
+ghost use Rattle.check_state.specs.Views as view;
 
 use crate::checker::over;
-use check_nested::StatementFunction;
-use check_words::{Around, State};
-use checking_rules::CheckFault;
+use check_rules::CheckFault;
+use check_state::{Around, State};
+use check_statement_lists::StatementFunction;
 use mesa_base::limits::NESTING;
 use mesa_types::syntax::{self, Block, Exit, Statement};
 use mesa_types::{Exits, Phrase, Stmts, TypedStmt};
@@ -105,7 +105,7 @@ pub fn exits(
 }
 
 /// Statements, one after the other, behind those that are there.
-#[tactic(auto, unfolding(check_nested::specs::Turns::statements_behind))]
+#[tactic(auto, unfolding(check_statement_lists::specs::Turns::statements_behind))]
 pub fn statements_behind(
     before: Stmts,
     all: &[Statement],

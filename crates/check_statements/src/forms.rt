@@ -1,23 +1,25 @@
 //! Statements, by their form.
 ghost use Rattle.mesa_types.specs.Plain.{stmt};
 ghost use Rattle.mesa_types.specs.PlainSyntax as plain;
-ghost use Rattle.checking_rules.specs.Checking as spec;
-ghost use Rattle.check_words.specs.Gives.{Gives};
-ghost use Rattle.check_words.specs.Views as view;
+ghost use Rattle.check_rules.specs.Checking as spec;
+ghost use Rattle.check_state.specs.Gives.{Gives};
+ghost use Rattle.check_state.specs.Views as view;
 
 use crate::checker::StatementChecker;
 use crate::making::nothing;
-use check_clauses::{assign, call, extract, raise_statement, resume_statement, return_statement};
 use check_jumps::{continue_arm, exit_loop, go_to, next_round, reject, retry};
-use check_nested::Nested;
-use check_words::{Around, State};
-use checking_rules::CheckFault;
+use check_rules::CheckFault;
+use check_simple_statements::{
+    assign, call, extract, raise_statement, resume_statement, return_statement,
+};
+use check_state::{Around, State};
+use check_statement_lists::Nested;
 use mesa_types::TypedStmt;
 use mesa_types::syntax::Statement;
 
 impl<N: Nested> StatementChecker<N> {
     /// A statement.
-    #[tactic(auto, using(mesa_types::proofs::PlainForms::statement_forms, check_clauses::proofs::JumpClauses::jump_clauses, crate::proofs::Clauses::nested_is))]
+    #[tactic(auto, using(mesa_types::proofs::PlainForms::statement_forms, check_simple_statements::proofs::JumpClauses::jump_clauses, crate::proofs::Clauses::nested_is))]
     pub fn statement(
         &self,
         one: &Statement,

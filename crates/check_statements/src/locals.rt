@@ -1,20 +1,20 @@
 //! The declarations of a block: their heads before all else in it, and then what they do when they are reached.
 ghost use Rattle.std.specs.Prelude.{◌≡◌, [], ◌∷◌, ◌++◌, MatchOption, Option, IfOk};
 ghost use Rattle.mesa_types.specs.PlainSyntax as plain;
-ghost use Rattle.checking_rules.specs.Checking as spec;
-ghost use Rattle.checking_rules.specs.Parts.{join_stmts};
+ghost use Rattle.check_rules.specs.Checking as spec;
+ghost use Rattle.check_rules.specs.Parts.{join_stmts};
 ghost use Rattle.check_locals.specs.Views as local;
-ghost use Rattle.check_nested.specs.Views as nested;
-ghost use Rattle.check_words.specs.Gives.{Gives};
-ghost use Rattle.check_words.specs.Views as view;
+ghost use Rattle.check_statement_lists.specs.Views as nested;
+ghost use Rattle.check_state.specs.Gives.{Gives};
+ghost use Rattle.check_state.specs.Views as view;
 ghost use Rattle.check_statements.specs.Turns as turns;
 ghost use Rattle.check_statements.specs.Views as views;
 
 use crate::checker::StatementChecker;
 use check_locals::{Headed, head, initial};
-use check_nested::Nested;
-use check_words::{Around, State};
-use checking_rules::CheckFault;
+use check_rules::CheckFault;
+use check_state::{Around, State};
+use check_statement_lists::Nested;
 use held_trees::{LetGo, both, pushed};
 use mesa_base::{List, OutOfMemory};
 use mesa_types::syntax::Local;
@@ -71,7 +71,7 @@ fn first_head(heads: &mut Heads) -> Option<Headed>
 }
 
 /// The statements with this one behind, if there is one.
-#[tactic(auto, using(check_nested::proofs::ListLaws::stmts_onto))]
+#[tactic(auto, using(check_statement_lists::proofs::ListLaws::stmts_onto))]
 fn and_put(done: Stmts, made: Option<TypedStmt>) -> Result<Stmts, OutOfMemory>
     ensures { IfOk result (λ more. join_stmts (nested.stmts more) ≡ (λ rest. join_stmts (nested.stmts done) (local.put made rest))) }
 {

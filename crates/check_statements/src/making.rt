@@ -2,11 +2,11 @@
 ghost use Rattle.std.specs.Prelude.{◌≡◌};
 ghost use Rattle.mesa_types.specs.Plain.{case, condition, expr, loop, phrase, stmt};
 ghost use Rattle.mesa_types.specs.Typed as t;
-ghost use Rattle.check_clauses.specs.Views as clauses;
-ghost use Rattle.check_nested.specs.Views as nested;
+ghost use Rattle.check_simple_statements.specs.Views as clauses;
+ghost use Rattle.check_statement_lists.specs.Views as nested;
 ghost use Rattle.check_statements.specs.Views as views;
 
-use check_nested::Left;
+use check_statement_lists::Left;
 use mesa_base::{Boxed, List};
 use mesa_types::{Case, Cases, Condition, Exits, Loop, Phrase, Stmts, Tests, TypedExpr, TypedStmt};
 use std::alloc::Global;
@@ -29,7 +29,7 @@ pub fn choice(test: TypedExpr, body: Boxed<TypedStmt>, other: Boxed<TypedStmt>) 
     TypedStmt::If(test, body, other)
 }
 
-#[tactic(auto, unfolding(check_clauses::specs::Views::tests))]
+#[tactic(auto, unfolding(check_simple_statements::specs::Views::tests))]
 pub fn case_of(tests: Tests, body: TypedStmt) -> Case
     ensures { case result ≡ t.AndCase (clauses.tests tests) (stmt body) }
 {
@@ -43,21 +43,21 @@ pub fn selection(selector: TypedExpr, cases: Cases, other: Boxed<TypedStmt>) -> 
     TypedStmt::Select(selector, cases, other)
 }
 
-#[tactic(auto, unfolding(check_nested::specs::Views::stmts, check_nested::specs::Views::exits))]
+#[tactic(auto, unfolding(check_statement_lists::specs::Views::stmts, check_statement_lists::specs::Views::exits))]
 pub fn block_of(catch: Boxed<Phrase>, statements: Stmts, exits: Exits) -> TypedStmt
     ensures { stmt result ≡ t.Block (phrase catch) (nested.stmts statements) (nested.exits exits) }
 {
     TypedStmt::Block(catch, statements, exits)
 }
 
-#[tactic(auto, unfolding(check_nested::specs::Views::exits))]
+#[tactic(auto, unfolding(check_statement_lists::specs::Views::exits))]
 pub fn no_exits(alloc: Global) -> Exits
     ensures { nested.exits result ≡ t.NoExits }
 {
     List::new(alloc)
 }
 
-#[tactic(auto, using(crate::proofs::ListLaws::finish_is), unfolding(check_nested::specs::Views::onto))]
+#[tactic(auto, using(crate::proofs::ListLaws::finish_is), unfolding(check_statement_lists::specs::Views::onto))]
 pub fn loop_of(test: Condition, body: TypedStmt, left: Left) -> Loop
     ensures { loop result ≡ t.LoopOf (condition test) (stmt body) (nested.left left).exits (nested.left left).finished }
 {

@@ -1,11 +1,11 @@
 //! A statement with a number, where a phrase belongs to it.
 ghost use Rattle.std.specs.Prelude.{◌≡◌, IfOk};
 ghost use Rattle.mesa_types.specs.Plain.{stmt};
-ghost use Rattle.check_words.specs.Views as view;
+ghost use Rattle.check_state.specs.Views as view;
 ghost use Rattle.check_statements.specs.Rules as rules;
 
 use crate::making::marked;
-use check_words::Around;
+use check_state::Around;
 use held_trees::boxed;
 use mesa_base::OutOfMemory;
 use mesa_types::TypedStmt;
@@ -23,7 +23,7 @@ pub fn within<'a>(is_numbered: bool, around: &Around<'a>) -> Result<Around<'a>, 
 }
 
 /// The statement with its number, where it has one.
-#[tactic(auto, unfolding(check_words::specs::Views::around))]
+#[tactic(auto, unfolding(check_state::specs::Views::around))]
 pub fn marked_if(
     made: TypedStmt,
     alloc: Global,

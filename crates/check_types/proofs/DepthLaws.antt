@@ -10,10 +10,10 @@ use Rattle.mesa_types.specs.declared.types.TypeTree.TheVariants as tree
 use Rattle.mesa_types.specs.declared.types.TypeTree.TheOpen.{TypeTree-F}
 use Rattle.mesa_types.specs.declared.types.TypeTree.TheFolds.{fold-FieldType, fold-roll-TypeTree, fold-roll-FieldType, map-TypeTree}
 use Rattle.mesa_types.specs.declared.types.FieldType.{FieldType, roll-FieldType}
-use Rattle.checking_rules.specs.PlainTypes as v
-use Rattle.checking_rules.specs.PlainTypes.{PlainType, Parts, depth_of, depth_of_parts, plain, tree_of, trees_of, words_of}
-use Rattle.check_words.proofs.KindLaws.{words_plain}
-use Rattle.check_words.proofs.TypeBack.{back}
+use Rattle.check_rules.specs.PlainTypes as v
+use Rattle.check_rules.specs.PlainTypes.{PlainType, Parts, depth_of, depth_of_parts, plain, tree_of, trees_of, words_of}
+use Rattle.check_state.proofs.KindLaws.{words_plain}
+use Rattle.check_state.proofs.TypeBack.{back}
 
 abbrev depth_of_field : FieldType → ℕ
 depth_of_field = fold-FieldType ℕ ℕ depth_step field_depth_step

@@ -5,14 +5,14 @@ use Rattle.std.proofs.lemmas.List.{drop_more, drop_all}
 use Rattle.mesa_base.specs.declared.identifier.Identifier.{Identifier}
 use Rattle.mesa_base.specs.declared.limits.TheConstants.{ENUMERATION_ELEMENTS}
 use Rattle.mesa_base.specs.declared.place.Place.{Place}
-use Rattle.checking_rules.specs.Around.{Around}
-use Rattle.checking_rules.specs.Meanings.{Meaning, Constant, Later}
-use Rattle.checking_rules.specs.Names.{announce, is_declared, element_in, coming, at_once}
-use Rattle.checking_rules.specs.PlainTypes.{PlainType}
-use Rattle.checking_rules.specs.Scopes.{innermost}
-use Rattle.checking_rules.specs.Steps.{State, Checked, and_then, only, refuse}
-use Rattle.checking_rules.specs.TypeRules.{elements, few}
-use Rattle.checking_rules.specs.declared.fault.Cause.TheVariants.{TwiceDeclared, TypeTooLarge}
+use Rattle.check_rules.specs.Around.{Around}
+use Rattle.check_rules.specs.Meanings.{Meaning, Constant, Later}
+use Rattle.check_rules.specs.Names.{announce, is_declared, element_in, coming, at_once}
+use Rattle.check_rules.specs.PlainTypes.{PlainType}
+use Rattle.check_rules.specs.Scopes.{innermost}
+use Rattle.check_rules.specs.Steps.{State, Checked, and_then, only, refuse}
+use Rattle.check_rules.specs.TypeRules.{elements, few}
+use Rattle.check_rules.specs.declared.fault.Cause.TheVariants.{TwiceDeclared, TypeTooLarge}
 use Rattle.check_types.specs.Elements.{element, all_elements, too_many}
 
 at_drop : {A : Type 0} (all : List A) (i : ℕ) (x : A) → i < length all → x ≡ get_or all i x → drop i all ≡ x ∷ drop (i + 1) all

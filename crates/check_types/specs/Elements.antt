@@ -2,13 +2,13 @@
 use Rattle.std.specs.Prelude.{ℕ, List, Ok, not}
 use Rattle.mesa_base.specs.declared.identifier.Identifier.{Identifier}
 use Rattle.mesa_base.specs.declared.place.Place.{Place}
-use Rattle.checking_rules.specs.Around.{Around}
-use Rattle.checking_rules.specs.Meanings.{Constant}
-use Rattle.checking_rules.specs.Names.{announce, is_declared, element_in}
-use Rattle.checking_rules.specs.PlainTypes.{PlainType}
-use Rattle.checking_rules.specs.Steps.{Check, and_then, ◌>>=◌, fail, lift, only}
-use Rattle.checking_rules.specs.TypeRules.{elements, few}
-use Rattle.checking_rules.specs.declared.fault.Cause.TheVariants.{TwiceDeclared, TypeTooLarge}
+use Rattle.check_rules.specs.Around.{Around}
+use Rattle.check_rules.specs.Meanings.{Constant}
+use Rattle.check_rules.specs.Names.{announce, is_declared, element_in}
+use Rattle.check_rules.specs.PlainTypes.{PlainType}
+use Rattle.check_rules.specs.Steps.{Check, and_then, ◌>>=◌, fail, lift, only}
+use Rattle.check_rules.specs.TypeRules.{elements, few}
+use Rattle.check_rules.specs.declared.fault.Cause.TheVariants.{TwiceDeclared, TypeTooLarge}
 
 unfoldable pub element : Around → PlainType → ℕ → Identifier → Check (Unit {0})
 element a k n x = λ s. and_then (only (not (is_declared x.name s)) TwiceDeclared x.place) (λ _. Ok (tt, element_in a.is_outermost x.name (Constant k n) s))

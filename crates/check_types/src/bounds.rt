@@ -3,15 +3,15 @@ ghost use Rattle.std.specs.Prelude.{◌≡◌, ◌+◌, ◌-◌, ◌<◌, nat_le
 ghost use Rattle.std.specs.Option.{option_copied};
 ghost use Rattle.mesa_types.specs.Operators as word;
 ghost use Rattle.mesa_types.specs.Plain.{expr};
-ghost use Rattle.checking_rules.specs.PlainTypes as types;
-ghost use Rattle.checking_rules.specs.PlainTypes.{plain};
-ghost use Rattle.checking_rules.specs.TypeRules as spec;
-ghost use Rattle.check_words.specs.Gives.{GivesOnly};
-ghost use Rattle.check_words.specs.Views.{typed};
+ghost use Rattle.check_rules.specs.PlainTypes as types;
+ghost use Rattle.check_rules.specs.PlainTypes.{plain};
+ghost use Rattle.check_rules.specs.TypeRules as spec;
+ghost use Rattle.check_state.specs.Gives.{GivesOnly};
+ghost use Rattle.check_state.specs.Views.{typed};
 
+use check_rules::{Cause, CheckFault};
+use check_state::{Typed, base_of, is_text, same, sign_of};
 use check_values::{Sort, sort_of};
-use check_words::{Typed, base_of, is_text, same, sign_of};
-use checking_rules::{Cause, CheckFault};
 use held_trees::{LetGo, shared};
 use mesa_base::{OutOfMemory, Place};
 use mesa_types::{Base, TypeTree, TypedExpr, constant, truth};
@@ -27,7 +27,7 @@ fn literal_word(is_text: bool, value: &TypedExpr) -> Option<u16>
 }
 
 /// The word of a bound, which is a constant.
-#[tactic(auto, unfolding(checking_rules::specs::TypeRules::bound))]
+#[tactic(auto, unfolding(check_rules::specs::TypeRules::bound))]
 pub fn bound(place: Place, value: &Typed) -> Result<u16, CheckFault>
     ensures { GivesOnly (λ n. n) (spec.bound place (typed value.now)) result }
 {
@@ -55,7 +55,7 @@ fn fits_cardinal(base: Base, word: u16) -> bool
     }
 }
 
-#[tactic(auto, using(check_words::proofs::TypeForms::type_forms))]
+#[tactic(auto, using(check_state::proofs::TypeForms::type_forms))]
 fn number_base(is_integer: bool, is_cardinal: bool) -> Option<TypeTree>
     ensures { option_map plain result ≡ spec.number_base is_integer is_cardinal }
 {
@@ -82,7 +82,7 @@ fn same_base(
 }
 
 /// The base of an interval without a word: that of its bounds, INTEGER where both numbers are one, else CARDINAL.
-#[tactic(auto, unfolding(checking_rules::specs::TypeRules::base_of_bounds))]
+#[tactic(auto, unfolding(check_rules::specs::TypeRules::base_of_bounds))]
 fn base_of_bounds(
     alloc: Global,
     low: &TypeTree,
@@ -162,7 +162,7 @@ fn last_word(bound: u16, is_open: bool) -> u16
     ((u32::from(bound) + 65536 - u32::from(truth(is_open))) % 65536) as u16
 }
 
-#[tactic(auto, using(check_words::proofs::TypeForms::type_forms))]
+#[tactic(auto, using(check_state::proofs::TypeForms::type_forms))]
 fn subrange_of(
     alloc: Global,
     base: TypeTree,
@@ -175,7 +175,7 @@ fn subrange_of(
 }
 
 /// The subrange of this base between two bounds; an empty interval makes no type.
-#[tactic(auto, unfolding(checking_rules::specs::TypeRules::subrange))]
+#[tactic(auto, unfolding(check_rules::specs::TypeRules::subrange))]
 pub fn subrange(
     place: Place,
     alloc: Global,

@@ -1,21 +1,21 @@
 //! The elements of an enumeration.
 ghost use Rattle.std.specs.Prelude.{◌≡◌, ◌<◌, ◌≤◌, length};
 ghost use Rattle.mesa_base.specs.declared.limits.TheConstants.{ENUMERATION_ELEMENTS};
-ghost use Rattle.checking_rules.specs.PlainTypes.{plain};
-ghost use Rattle.checking_rules.specs.TypeRules as spec;
-ghost use Rattle.check_words.specs.Gives.{Gives};
-ghost use Rattle.check_words.specs.Views as view;
+ghost use Rattle.check_rules.specs.PlainTypes.{plain};
+ghost use Rattle.check_rules.specs.TypeRules as spec;
+ghost use Rattle.check_state.specs.Gives.{Gives};
+ghost use Rattle.check_state.specs.Views as view;
 ghost use Rattle.check_types.specs.Elements as step;
 
-use check_words::{Around, Meaning, State};
-use checking_rules::{Cause, CheckFault};
+use check_rules::{Cause, CheckFault};
+use check_state::{Around, Meaning, State};
 use mesa_base::limits::ENUMERATION_ELEMENTS;
 use mesa_base::{Identifier, Place};
 use mesa_types::TypeTree;
 use std::alloc::Global;
 
 /// An element is a constant of the scope in which its enumeration stands.
-#[tactic(auto, unfolding(crate::specs::Elements::element, check_words::specs::Views::around))]
+#[tactic(auto, unfolding(crate::specs::Elements::element, check_state::specs::Views::around))]
 fn element(
     name: &Identifier,
     number: u16,

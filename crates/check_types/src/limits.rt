@@ -1,14 +1,14 @@
 //! What limits types, and which types are index types.
 ghost use Rattle.std.specs.Prelude.{◌≡◌, nat_le};
 ghost use Rattle.mesa_base.specs.declared.limits.TheConstants.{TYPE_WORDS, TYPE_DEPTH};
-ghost use Rattle.checking_rules.specs.PlainTypes.{depth_of, plain, words_of};
-ghost use Rattle.checking_rules.specs.TypeRules as spec;
-ghost use Rattle.check_words.specs.Gives.{GivesOnly};
+ghost use Rattle.check_rules.specs.PlainTypes.{depth_of, plain, words_of};
+ghost use Rattle.check_rules.specs.TypeRules as spec;
+ghost use Rattle.check_state.specs.Gives.{GivesOnly};
 ghost use Rattle.check_values.specs.Views as view;
 
+use check_rules::{Cause, CheckFault};
+use check_state::{base_of, bounds};
 use check_values::{Sort, sort_of};
-use check_words::{base_of, bounds};
-use checking_rules::{Cause, CheckFault};
 use mesa_base::Place;
 use mesa_base::limits::{TYPE_DEPTH, TYPE_WORDS};
 use mesa_types::{TypeTree, depth, size_words};
@@ -28,7 +28,7 @@ fn is_flat(kind: &TypeTree) -> bool
 }
 
 /// The words and the depth of a type are limited.
-#[tactic(auto, unfolding(checking_rules::specs::TypeRules::limited))]
+#[tactic(auto, unfolding(check_rules::specs::TypeRules::limited))]
 pub fn limited(place: Place, kind: TypeTree) -> Result<TypeTree, CheckFault>
     ensures { GivesOnly plain (spec.limited place (plain kind)) result }
 {
@@ -49,7 +49,7 @@ fn is_index_by(sort: Sort, is_subrange: bool) -> bool
 }
 
 /// Whether a type is BOOLEAN, CHARACTER, an enumeration or a subrange.
-#[tactic(auto, unfolding(checking_rules::specs::TypeRules::is_index))]
+#[tactic(auto, unfolding(check_rules::specs::TypeRules::is_index))]
 pub fn is_index(kind: &TypeTree) -> bool
     ensures { result ≡ spec.is_index (plain kind.now) }
 {

@@ -1,10 +1,10 @@
 -- Literals by their size.
 use Rattle.std.proofs.Common.{◌≡◌, ◌≤◌, ◌<◌, ℕ, true, false, None, refl, ap, arith}
 use Rattle.std.specs.Prelude.{nat_le, min}
-use Rattle.checking_rules.specs.Typed as t
-use Rattle.checking_rules.specs.PlainTypes as v
-use Rattle.checking_rules.specs.Ranges.{typed}
-use Rattle.checking_rules.specs.Values.{number, letter}
+use Rattle.check_rules.specs.Typed as t
+use Rattle.check_rules.specs.PlainTypes as v
+use Rattle.check_rules.specs.Ranges.{typed}
+use Rattle.check_rules.specs.Values.{number, letter}
 
 is_small : (n : ℕ) → n ≤ 32767 → nat_le n 32767 ≡ true
 is_small n h = grind arith

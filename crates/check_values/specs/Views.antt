@@ -1,10 +1,10 @@
 -- What the code's values stand for.
 use Rattle.mesa_types.specs.Plain.{expr}
-use Rattle.checking_rules.specs.PlainTypes.{plain}
-use Rattle.checking_rules.specs.Operators as operators
-use Rattle.checking_rules.specs.Statements as statements
-use Rattle.checking_rules.specs.Values as values
-use Rattle.check_words.specs.Views.{typed}
+use Rattle.check_rules.specs.PlainTypes.{plain}
+use Rattle.check_rules.specs.Operators as operators
+use Rattle.check_rules.specs.Statements as statements
+use Rattle.check_rules.specs.Values as values
+use Rattle.check_state.specs.Views.{typed}
 use Rattle.check_values.specs.declared.operators.Sort.{Sort}
 use Rattle.check_values.specs.declared.operators.Sort.TheVariants.{Number, Letter, Truth, Other}
 use Rattle.check_values.specs.declared.operators.Meeting.{Meeting}

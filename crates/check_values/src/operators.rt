@@ -1,12 +1,12 @@
 //! Which operands an operator takes, and what it then is.
 ghost use Rattle.std.specs.Prelude.{◌≡◌, option_map};
 ghost use Rattle.std.specs.Option.{option_copied};
-ghost use Rattle.checking_rules.specs.Operators as spec;
-ghost use Rattle.checking_rules.specs.PlainTypes.{plain};
-ghost use Rattle.checking_rules.specs.Ranges.{in_common};
+ghost use Rattle.check_rules.specs.Operators as spec;
+ghost use Rattle.check_rules.specs.PlainTypes.{plain};
+ghost use Rattle.check_rules.specs.Ranges.{in_common};
 ghost use Rattle.check_values.specs.Views as view;
 
-use check_words::{base_of, same};
+use check_state::{base_of, same};
 use mesa_types::{Base, Operator, Range, Relation, TypeTree, syntax};
 
 /// What operators see of a type.
@@ -35,7 +35,7 @@ pub struct Applied {
     pub kind: TypeTree,
 }
 
-#[tactic(auto, using(check_words::proofs::TypeForms::type_forms))]
+#[tactic(auto, using(check_state::proofs::TypeForms::type_forms))]
 fn sort_of_base(base: Option<&TypeTree>) -> Sort
     ensures { view.sort result ≡ spec.sort_of_base (option_map plain (option_copied base.entry)) }
 {
@@ -55,7 +55,7 @@ fn sort_of_base(base: Option<&TypeTree>) -> Sort
     }
 }
 
-#[tactic(auto, unfolding(checking_rules::specs::Operators::sort_of))]
+#[tactic(auto, unfolding(check_rules::specs::Operators::sort_of))]
 pub fn sort_of(kind: &TypeTree) -> Sort
     ensures { view.sort result ≡ spec.sort_of (plain kind.now) }
 {
@@ -70,7 +70,7 @@ pub fn in_common(base: Base) -> Range
 }
 
 /// Two numbers in one operation: a literal takes the other's type; of a mixed operation the CARDINAL is checked.
-#[tactic(auto, unfolding(checking_rules::specs::Operators::meet))]
+#[tactic(auto, unfolding(check_rules::specs::Operators::meet))]
 pub fn meet(left: Base, left_is_literal: bool, right: Base, right_is_literal: bool) -> Meeting
     ensures { view.meeting result ≡ spec.meet left left_is_literal right right_is_literal }
 {
@@ -93,7 +93,7 @@ pub fn meet(left: Base, left_is_literal: bool, right: Base, right_is_literal: bo
     Meeting { base, left, right }
 }
 
-#[tactic(auto, using(check_words::proofs::TypeForms::type_forms))]
+#[tactic(auto, using(check_state::proofs::TypeForms::type_forms))]
 pub fn number_type(base: Base) -> TypeTree
     ensures { plain result ≡ spec.number_type base }
 {
@@ -138,7 +138,7 @@ fn unchecked(operator: Operator, kind: TypeTree) -> Option<Applied>
     })
 }
 
-#[tactic(auto, using(check_words::proofs::TypeForms::type_forms))]
+#[tactic(auto, using(check_state::proofs::TypeForms::type_forms))]
 fn on_letter(operator: syntax::Operator, right: Sort) -> Option<Applied>
     ensures { option_map view.applied result ≡ spec.on_letter operator (view.sort right) }
 {
@@ -157,7 +157,7 @@ fn on_letter(operator: syntax::Operator, right: Sort) -> Option<Applied>
 }
 
 /// What an operator is between operands of these sorts, where they fit.
-#[tactic(auto, unfolding(checking_rules::specs::Operators::operation))]
+#[tactic(auto, unfolding(check_rules::specs::Operators::operation))]
 pub fn operation(
     operator: syntax::Operator,
     left: Sort,
@@ -193,7 +193,7 @@ fn of_one_base(left: Option<&TypeTree>, right: Option<&TypeTree>) -> Option<Meet
 }
 
 /// How two operands of a relation meet, where they are ordinals of one base.
-#[tactic(auto, unfolding(checking_rules::specs::Operators::related))]
+#[tactic(auto, unfolding(check_rules::specs::Operators::related))]
 pub fn related(
     left: &TypeTree,
     left_is_literal: bool,

@@ -2,16 +2,16 @@
 ghost use Rattle.std.specs.Prelude.{◌≡◌, option_map, IfOk};
 ghost use Rattle.std.specs.Option.{option_copied};
 ghost use Rattle.mesa_types.specs.Plain.{expr};
-ghost use Rattle.checking_rules.specs.PlainTypes.{plain};
-ghost use Rattle.checking_rules.specs.Ranges as spec;
-ghost use Rattle.check_words.specs.Gives.{GivesOnly};
-ghost use Rattle.check_words.specs.Views as view;
+ghost use Rattle.check_rules.specs.PlainTypes.{plain};
+ghost use Rattle.check_rules.specs.Ranges as spec;
+ghost use Rattle.check_state.specs.Gives.{GivesOnly};
+ghost use Rattle.check_state.specs.Views as view;
 
 use crate::operators::in_common;
-use check_words::{
+use check_rules::{Cause, CheckFault};
+use check_state::{
     Aim, Typed, base_of, bounds, conforms, is_cardinal, is_integer, of_kind, sign_of,
 };
-use checking_rules::{Cause, CheckFault};
 use held_trees::{LetGo, both, boxed};
 use mesa_base::{OutOfMemory, Place};
 use mesa_types::{Base, Range, TypeTree, TypedExpr};
@@ -72,7 +72,7 @@ fn range_by(bounds: Option<(u16, u16)>, from: Base, to: Base, is_number: bool) -
 }
 
 /// The check of a value of a type that goes to a target.
-#[tactic(auto, unfolding(checking_rules::specs::Ranges::range_for))]
+#[tactic(auto, unfolding(check_rules::specs::Ranges::range_for))]
 pub fn range_for(from: &TypeTree, to: &TypeTree) -> Range
     ensures { result ≡ spec.range_for (plain from.now) (plain to.now) }
 {
@@ -94,7 +94,7 @@ fn fitted(alloc: Global, target: &TypeTree, r: Typed) -> Result<Typed, OutOfMemo
 }
 
 /// A value that must conform to its target, with its check.
-#[tactic(auto, unfolding(checking_rules::specs::Ranges::finish))]
+#[tactic(auto, unfolding(check_rules::specs::Ranges::finish))]
 pub fn finish(alloc: Global, aim: Aim<'_>, r: Typed) -> Result<Typed, CheckFault>
     ensures { GivesOnly view.typed (spec.finish (view.aim aim.entry) (view.typed r)) result }
 {

@@ -2,19 +2,19 @@
 ghost use Rattle.std.specs.Prelude.{◌≡◌, true, None, IfOk};
 ghost use Rattle.mesa_types.specs.Plain.{expr, interval};
 ghost use Rattle.mesa_types.specs.Typed as t;
-ghost use Rattle.checking_rules.specs.PlainTypes as v;
-ghost use Rattle.checking_rules.specs.PlainTypes.{plain};
-ghost use Rattle.checking_rules.specs.Ranges as ranges;
-ghost use Rattle.checking_rules.specs.Statements as rule;
-ghost use Rattle.checking_rules.specs.Values as spec;
-ghost use Rattle.check_words.specs.Gives.{GivesOnly};
-ghost use Rattle.check_words.specs.Views.{typed};
+ghost use Rattle.check_rules.specs.PlainTypes as v;
+ghost use Rattle.check_rules.specs.PlainTypes.{plain};
+ghost use Rattle.check_rules.specs.Ranges as ranges;
+ghost use Rattle.check_rules.specs.Statements as rule;
+ghost use Rattle.check_rules.specs.Values as spec;
+ghost use Rattle.check_state.specs.Gives.{GivesOnly};
+ghost use Rattle.check_state.specs.Views.{typed};
 ghost use Rattle.check_values.specs.Views as view;
 
 use crate::operators::{Applied, Meeting, Sort, number_type, operation, related, sort_of, turned};
 use crate::targets::checked;
-use check_words::{Gave, Strings, Typed, of_kind, sign_of};
-use checking_rules::{Cause, CheckFault};
+use check_rules::{Cause, CheckFault};
+use check_state::{Gave, Strings, Typed, of_kind, sign_of};
 use held_trees::{LetGo, both, boxed, boxed_pair};
 use mesa_base::{Boxed, OutOfMemory, Place};
 use mesa_types::{Base, Bases, Interval, Operator, Range, Relation, TypeTree, TypedExpr, syntax};
@@ -27,7 +27,7 @@ fn word(n: u16) -> TypedExpr
     TypedExpr::Number(n)
 }
 
-#[tactic(auto, using(check_words::proofs::TypeForms::type_forms))]
+#[tactic(auto, using(check_state::proofs::TypeForms::type_forms))]
 fn literal(value: TypedExpr) -> Typed
     ensures { typed result ≡ record { value = expr value; kind = v.Integer; literal = true; gave = None } }
 {
@@ -39,7 +39,7 @@ fn literal(value: TypedExpr) -> Typed
     }
 }
 
-#[tactic(auto, using(check_words::proofs::TypeForms::type_forms))]
+#[tactic(auto, using(check_state::proofs::TypeForms::type_forms))]
 fn cardinal(value: TypedExpr) -> Typed
     ensures { typed result ≡ ranges.typed v.Cardinal (expr value) }
 {
@@ -58,7 +58,7 @@ pub fn number(n: u32) -> Typed
     }
 }
 
-#[tactic(auto, using(check_words::proofs::TypeForms::type_forms))]
+#[tactic(auto, using(check_state::proofs::TypeForms::type_forms))]
 fn character(value: TypedExpr) -> Typed
     ensures { typed result ≡ ranges.typed v.Character (expr value) }
 {
@@ -79,7 +79,7 @@ fn text(number: u16) -> TypedExpr
     TypedExpr::Literal(number)
 }
 
-#[tactic(auto, using(check_words::proofs::TypeForms::type_forms))]
+#[tactic(auto, using(check_state::proofs::TypeForms::type_forms))]
 fn string_of(value: TypedExpr) -> Typed
     ensures { typed result ≡ ranges.typed v.String (expr value) }
 {
@@ -87,7 +87,7 @@ fn string_of(value: TypedExpr) -> Typed
 }
 
 /// A string literal, by its number among those of the module.
-#[tactic(auto, unfolding(checking_rules::specs::Values::string))]
+#[tactic(auto, unfolding(check_rules::specs::Values::string))]
 pub fn string(literals: &Strings, place: Place, bytes: &[u8]) -> Result<Typed, CheckFault>
     ensures { GivesOnly typed (spec.string literals.now place bytes.now) result }
 {
@@ -97,14 +97,14 @@ pub fn string(literals: &Strings, place: Place, bytes: &[u8]) -> Result<Typed, C
     }
 }
 
-#[tactic(auto, using(check_words::proofs::TypeForms::type_forms))]
+#[tactic(auto, using(check_state::proofs::TypeForms::type_forms))]
 pub fn truth(value: TypedExpr) -> Typed
     ensures { typed result ≡ spec.truth (expr value) }
 {
     of_kind(TypeTree::Boolean, value)
 }
 
-#[tactic(auto, unfolding(checking_rules::specs::Values::is_truth))]
+#[tactic(auto, unfolding(check_rules::specs::Values::is_truth))]
 pub fn is_truth(kind: &TypeTree) -> bool
     ensures { result ≡ spec.is_truth (plain kind.now) }
 {
@@ -114,7 +114,7 @@ pub fn is_truth(kind: &TypeTree) -> bool
     }
 }
 
-#[tactic(auto, unfolding(checking_rules::specs::Values::not_of))]
+#[tactic(auto, unfolding(check_rules::specs::Values::not_of))]
 pub fn not_of(alloc: Global, place: Place, a: Typed) -> Result<Typed, CheckFault>
     ensures { GivesOnly typed (spec.not_of place (typed a)) result }
 {
@@ -126,7 +126,7 @@ pub fn not_of(alloc: Global, place: Place, a: Typed) -> Result<Typed, CheckFault
     Ok(truth(TypedExpr::Not(inner)))
 }
 
-#[tactic(auto, unfolding(checking_rules::specs::Values::signed))]
+#[tactic(auto, unfolding(check_rules::specs::Values::signed))]
 pub fn signed(
     alloc: Global,
     sign: syntax::Sign,
@@ -188,7 +188,7 @@ fn relate(
 }
 
 /// A relation between two operands.
-#[tactic(auto, unfolding(checking_rules::specs::Values::compared))]
+#[tactic(auto, unfolding(check_rules::specs::Values::compared))]
 pub fn compared(
     alloc: Global,
     is_negated: bool,
@@ -319,7 +319,7 @@ fn inside(
 }
 
 /// IN takes ordinals of one base, and checks no mixed operation.
-#[tactic(auto, unfolding(checking_rules::specs::Values::within))]
+#[tactic(auto, unfolding(check_rules::specs::Values::within))]
 pub fn within(
     alloc: Global,
     is_negated: bool,
@@ -384,7 +384,7 @@ fn done_by(alloc: Global, right: TypedExpr, applied: Applied) -> Result<Done, Ou
 }
 
 /// An operator behind a run of this type, which is a literal or not.
-#[tactic(auto, unfolding(checking_rules::specs::Values::step))]
+#[tactic(auto, unfolding(check_rules::specs::Values::step))]
 pub fn step(
     alloc: Global,
     operator: syntax::Operator,

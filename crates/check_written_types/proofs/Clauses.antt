@@ -6,16 +6,16 @@ use Rattle.mesa_base.specs.declared.place.Place.{Place}
 use Rattle.mesa_types.specs.Syntax as s
 use Rattle.mesa_types.specs.declared.syntax.QualifiedName.{QualifiedName}
 use Rattle.mesa_types.specs.declared.syntax.TypeBase.{TypeBase}
-use Rattle.checking_rules.specs.Around.{Around, in_constant}
-use Rattle.checking_rules.specs.Checking as spec
-use Rattle.checking_rules.specs.Names.{type_named}
-use Rattle.checking_rules.specs.Parts.{first, first_of_type}
-use Rattle.checking_rules.specs.PlainTypes as v
-use Rattle.checking_rules.specs.PlainTypes.{PlainType}
-use Rattle.checking_rules.specs.Steps.{State, ◌>>=◌, and_then, pure, lift, ensure, or_refuse}
-use Rattle.checking_rules.specs.TypeRules.{bound, elements, few, interval_base, is_index, limited, subrange}
-use Rattle.checking_rules.specs.Values.{bound_aim}
-use Rattle.checking_rules.specs.declared.fault.Cause.TheVariants.{TypeMismatch}
+use Rattle.check_rules.specs.Around.{Around, in_constant}
+use Rattle.check_rules.specs.Checking as spec
+use Rattle.check_rules.specs.Names.{type_named}
+use Rattle.check_rules.specs.Parts.{first, first_of_type}
+use Rattle.check_rules.specs.PlainTypes as v
+use Rattle.check_rules.specs.PlainTypes.{PlainType}
+use Rattle.check_rules.specs.Steps.{State, ◌>>=◌, and_then, pure, lift, ensure, or_refuse}
+use Rattle.check_rules.specs.TypeRules.{bound, elements, few, interval_base, is_index, limited, subrange}
+use Rattle.check_rules.specs.Values.{bound_aim}
+use Rattle.check_rules.specs.declared.fault.Cause.TheVariants.{TypeMismatch}
 use Rattle.check_expressions.proofs.Folding.{in_turn}
 use Rattle.check_written_types.specs.Forms as forms
 

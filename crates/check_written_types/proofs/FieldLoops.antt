@@ -7,11 +7,11 @@ use Rattle.mesa_types.specs.Syntax as s
 use Rattle.mesa_types.specs.declared.syntax.Labeled.{Labeled}
 use Rattle.mesa_types.specs.declared.syntax.TypeExp.{TypeExp}
 use Rattle.mesa_types.specs.declared.types.FieldType.{FieldType}
-use Rattle.checking_rules.specs.Around.{Around}
-use Rattle.checking_rules.specs.Checking as spec
-use Rattle.checking_rules.specs.Parts.{distinct, each_of, names_of}
-use Rattle.checking_rules.specs.PlainTypes.{PlainField, PlainType, plain_field}
-use Rattle.checking_rules.specs.Steps.{State, Check, Checked, and_then}
+use Rattle.check_rules.specs.Around.{Around}
+use Rattle.check_rules.specs.Checking as spec
+use Rattle.check_rules.specs.Parts.{distinct, each_of, names_of}
+use Rattle.check_rules.specs.PlainTypes.{PlainField, PlainType, plain_field}
+use Rattle.check_rules.specs.Steps.{State, Check, Checked, and_then}
 use Rattle.check_jumps.proofs.Tests.{at_drop}
 use Rattle.check_jumps.proofs.Gathering.{behind}
 

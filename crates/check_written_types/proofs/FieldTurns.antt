@@ -6,16 +6,16 @@ use Rattle.mesa_types.specs.PlainSyntax as plain
 use Rattle.mesa_types.specs.declared.syntax.Labeled.{Labeled}
 use Rattle.mesa_types.specs.declared.syntax.TypeExp.{TypeExp}
 use Rattle.mesa_types.specs.declared.types.FieldType.{FieldType}
-use Rattle.checking_rules.specs.Around.{Around}
-use Rattle.checking_rules.specs.Checking as spec
-use Rattle.checking_rules.specs.Parts.{distinct, each_of, names_of}
-use Rattle.checking_rules.specs.PlainTypes.{PlainField, PlainType, plain_field}
-use Rattle.checking_rules.specs.Steps.{State, and_then}
-use Rattle.checking_rules.specs.declared.fault.CheckFault.{CheckFault}
-use Rattle.checking_rules.specs.declared.fault.CheckFault.TheVariants.{Memory}
+use Rattle.check_rules.specs.Around.{Around}
+use Rattle.check_rules.specs.Checking as spec
+use Rattle.check_rules.specs.Parts.{distinct, each_of, names_of}
+use Rattle.check_rules.specs.PlainTypes.{PlainField, PlainType, plain_field}
+use Rattle.check_rules.specs.Steps.{State, and_then}
+use Rattle.check_rules.specs.declared.fault.CheckFault.{CheckFault}
+use Rattle.check_rules.specs.declared.fault.CheckFault.TheVariants.{Memory}
 use Rattle.check_declared.specs.Naming.{HasNames}
 use Rattle.check_scopes.specs.declared.names.Names.{Names}
-use Rattle.check_words.specs.Gives.{GivesOnly, fault}
+use Rattle.check_state.specs.Gives.{GivesOnly, fault}
 use Rattle.check_written_types.proofs.FieldLoops.{field_more, named_at, named_rest, names_before, names_more, unnamed_at, unnamed_rest}
 
 pub unnamed_turn : (a : Around) (all : List TypeExp) (i : ℕ) (x : TypeExp) (σ τ : State) (held made : List FieldType) (f : FieldType) (k : PlainType)

@@ -5,14 +5,14 @@ use Rattle.mesa_base.specs.declared.place.Place.{Place}
 use Rattle.mesa_types.specs.Syntax as s
 use Rattle.mesa_types.specs.declared.syntax.TypeBase.{TypeBase}
 use Rattle.check_types.specs.Elements.{all_elements}
-use Rattle.checking_rules.specs.Around.{Around}
-use Rattle.checking_rules.specs.Checking.{of_interval}
-use Rattle.checking_rules.specs.Names.{word_base}
-use Rattle.checking_rules.specs.Parts.{names_of}
-use Rattle.checking_rules.specs.PlainTypes as v
-use Rattle.checking_rules.specs.PlainTypes.{PlainField, PlainType, parts_of}
-use Rattle.checking_rules.specs.Steps.{Check, ◌>>=◌, pure}
-use Rattle.checking_rules.specs.TypeRules.{origin}
+use Rattle.check_rules.specs.Around.{Around}
+use Rattle.check_rules.specs.Checking.{of_interval}
+use Rattle.check_rules.specs.Names.{word_base}
+use Rattle.check_rules.specs.Parts.{names_of}
+use Rattle.check_rules.specs.PlainTypes as v
+use Rattle.check_rules.specs.PlainTypes.{PlainField, PlainType, parts_of}
+use Rattle.check_rules.specs.Steps.{Check, ◌>>=◌, pure}
+use Rattle.check_rules.specs.TypeRules.{origin}
 
 abbrev pub enumeration_type : Around → Place → List Identifier → PlainType
 enumeration_type a p xs = v.Enumeration (origin a.known p) (names_of xs)

@@ -1,15 +1,15 @@
 //! Fields with names, which have one type.
 ghost use Rattle.std.specs.Prelude.{◌≡◌, ◌++◌, Some, None, IfOk, OnOk};
-ghost use Rattle.checking_rules.specs.Parts as parts;
-ghost use Rattle.checking_rules.specs.PlainTypes.{plain, plain_field};
-ghost use Rattle.check_words.specs.Views as words;
+ghost use Rattle.check_rules.specs.Parts as parts;
+ghost use Rattle.check_rules.specs.PlainTypes.{plain, plain_field};
+ghost use Rattle.check_state.specs.Views as words;
 
 use held_trees::{LetGo, both, put};
 use mesa_base::{Identifier, OutOfMemory};
 use mesa_types::{FieldType, Fields, TypeTree};
 use std::alloc::Global;
 
-#[tactic(auto, using(check_words::proofs::TypeForms::parts_of_field))]
+#[tactic(auto, using(check_state::proofs::TypeForms::parts_of_field))]
 fn named_field(name: &Identifier, alloc: Global, kind: &TypeTree) -> Result<FieldType, OutOfMemory>
     ensures { IfOk result (λ made. plain_field made ≡ record { name = Some name.now.name; kind = plain kind.now }) }
 {
@@ -19,7 +19,7 @@ fn named_field(name: &Identifier, alloc: Global, kind: &TypeTree) -> Result<Fiel
     })
 }
 
-#[tactic(auto, using(check_words::proofs::TypeForms::parts_of_field))]
+#[tactic(auto, using(check_state::proofs::TypeForms::parts_of_field))]
 pub(crate) fn unnamed_field(kind: TypeTree) -> FieldType
     ensures { plain_field result ≡ record { name = None; kind = plain kind } }
 {

@@ -2,18 +2,18 @@
 ghost use Rattle.std.specs.Prelude.{◌≡◌, option_map};
 ghost use Rattle.std.specs.Option.{option_copied};
 ghost use Rattle.mesa_types.specs.PlainSyntax as syntax;
-ghost use Rattle.checking_rules.specs.Checking as spec;
-ghost use Rattle.checking_rules.specs.Parts as parts;
-ghost use Rattle.checking_rules.specs.PlainTypes.{plain};
-ghost use Rattle.check_words.specs.Gives.{Gives};
-ghost use Rattle.check_words.specs.Views as words;
+ghost use Rattle.check_rules.specs.Checking as spec;
+ghost use Rattle.check_rules.specs.Parts as parts;
+ghost use Rattle.check_rules.specs.PlainTypes.{plain};
+ghost use Rattle.check_state.specs.Gives.{Gives};
+ghost use Rattle.check_state.specs.Views as words;
 ghost use Rattle.check_written_types.specs.Forms as form;
 
 use check_expressions::{Checker, Phrases};
-use check_parts::{aim_for, first, first_of_interval};
+use check_operands::{aim_for, first, first_of_interval};
+use check_rules::{Cause, CheckFault};
+use check_state::{Around, State, word_base};
 use check_types::{bound, interval_base, subrange};
-use check_words::{Around, State, word_base};
-use checking_rules::{Cause, CheckFault};
 use held_trees::{LetGo, both};
 use mesa_base::Place;
 use mesa_types::TypeTree;

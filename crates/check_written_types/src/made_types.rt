@@ -1,23 +1,23 @@
 //! Types that are made of their parts.
 ghost use Rattle.std.specs.Prelude.{◌≡◌, IfOk};
-ghost use Rattle.checking_rules.specs.Parts.{names_of};
-ghost use Rattle.checking_rules.specs.PlainTypes as types;
-ghost use Rattle.checking_rules.specs.PlainTypes.{plain};
-ghost use Rattle.checking_rules.specs.TypeRules as spec;
-ghost use Rattle.check_words.specs.Gives.{Gives};
-ghost use Rattle.check_words.specs.Views as words;
+ghost use Rattle.check_rules.specs.Parts.{names_of};
+ghost use Rattle.check_rules.specs.PlainTypes as types;
+ghost use Rattle.check_rules.specs.PlainTypes.{plain};
+ghost use Rattle.check_rules.specs.TypeRules as spec;
+ghost use Rattle.check_state.specs.Gives.{Gives};
+ghost use Rattle.check_state.specs.Views as words;
 ghost use Rattle.check_written_types.specs.Forms as form;
 
+use check_rules::CheckFault;
+use check_state::{Around, Known, State, narrow};
 use check_types::declare_elements;
-use check_words::{Around, Known, State, narrow};
-use checking_rules::CheckFault;
 use held_trees::{both, put, shared};
 use mesa_base::{Identifier, List, OutOfMemory, Place};
 use mesa_types::{Fields, Names, Origin, TypeTree};
 use std::alloc::Global;
 
 /// The declaration of the record or enumeration that stands at this place.
-#[tactic(auto, unfolding(check_words::specs::Views::known))]
+#[tactic(auto, unfolding(check_state::specs::Views::known))]
 pub fn origin(place: Place, alloc: Global, known: &Known) -> Result<Origin, OutOfMemory>
     ensures { IfOk result (λ made. made ≡ spec.origin (words.known known.now) place) }
 {
@@ -40,7 +40,7 @@ fn names_of_elements(elements: &[Identifier], alloc: Global) -> Result<Names, Ou
     Ok(names)
 }
 
-#[tactic(auto, using(check_words::proofs::TypeForms::type_forms), unfolding(check_words::specs::Views::around))]
+#[tactic(auto, using(check_state::proofs::TypeForms::type_forms), unfolding(check_state::specs::Views::around))]
 fn enumeration_of(
     elements: &[Identifier],
     place: Place,
@@ -71,7 +71,7 @@ pub(crate) fn enumeration(
     Ok(kind)
 }
 
-#[tactic(auto, using(check_words::proofs::TypeForms::type_forms))]
+#[tactic(auto, using(check_state::proofs::TypeForms::type_forms))]
 pub(crate) fn array_of(
     alloc: Global,
     index: TypeTree,
@@ -84,7 +84,7 @@ pub(crate) fn array_of(
     Ok(TypeTree::Array(index, element))
 }
 
-#[tactic(auto, using(check_words::proofs::TypeForms::type_forms), unfolding(check_words::specs::Views::around))]
+#[tactic(auto, using(check_state::proofs::TypeForms::type_forms), unfolding(check_state::specs::Views::around))]
 pub(crate) fn record_of(
     place: Place,
     alloc: Global,

@@ -1,20 +1,20 @@
 //! Types as they are written, part by part.
 ghost use Rattle.std.specs.Prelude.{[]};
 ghost use Rattle.mesa_types.specs.PlainSyntax as syntax;
-ghost use Rattle.checking_rules.specs.Checking as spec;
-ghost use Rattle.checking_rules.specs.PlainTypes.{plain};
-ghost use Rattle.check_words.specs.Gives.{Gives};
-ghost use Rattle.check_words.specs.Views as words;
+ghost use Rattle.check_rules.specs.Checking as spec;
+ghost use Rattle.check_rules.specs.PlainTypes.{plain};
+ghost use Rattle.check_state.specs.Gives.{Gives};
+ghost use Rattle.check_state.specs.Views as words;
 
 use crate::fields::{and_fields, unnamed_field};
 use crate::intervals::{first_of_type, ranged};
 use crate::made_types::{array_of, enumeration, record_of};
 use check_declared::different;
 use check_expressions::{Checker, Phrases};
+use check_rules::{Cause, CheckFault};
 use check_scopes::Names;
+use check_state::{Around, State, type_named};
 use check_types::{is_index, limited};
-use check_words::{Around, State, type_named};
-use checking_rules::{Cause, CheckFault};
 use held_trees::{LetGo, both, pushed};
 use mesa_base::{Identifiers, List};
 use mesa_types::syntax::{FieldList, Labeled, TypeExp};
@@ -22,7 +22,7 @@ use mesa_types::{Fields, TypeTree};
 
 /// The type that is written.
 #[cycle(types)]
-#[tactic(auto, using(mesa_types::proofs::PlainForms::type_exp_forms, check_words::proofs::TypeForms::type_forms, crate::proofs::Clauses::clauses))]
+#[tactic(auto, using(mesa_types::proofs::PlainForms::type_exp_forms, check_state::proofs::TypeForms::type_forms, crate::proofs::Clauses::clauses))]
 pub fn type_exp<P: Phrases>(
     e: &TypeExp,
     checker: &Checker<P>,

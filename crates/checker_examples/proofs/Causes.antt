@@ -1,11 +1,11 @@
 -- Each cause at each kind of place, where no other table has it.
 use Rattle.std.specs.Prelude.{◌≡◌, ℕ, List, [], ◌∷◌, ◌++◌, codes}
 use Rattle.std.proofs.Common.{refl}
-use Rattle.checking_rules.specs.PlainTypes.{PlainInterface}
-use Rattle.checking_rules.specs.declared.fault.Cause.{Cause}
-use Rattle.checking_rules.specs.declared.fault.Cause.TheVariants.{UnknownName, TwiceDeclared, TypeMismatch, NotConstant, BadLabel, WrongCount, ExportDiffers}
-use Rattle.checking_rules.proofs.Texts.{Row, fine, bad, good, wrong, mistakes, interface}
-use Rattle.checking_rules.proofs.Everything.{everything}
+use Rattle.check_rules.specs.PlainTypes.{PlainInterface}
+use Rattle.check_rules.specs.declared.fault.Cause.{Cause}
+use Rattle.check_rules.specs.declared.fault.Cause.TheVariants.{UnknownName, TwiceDeclared, TypeMismatch, NotConstant, BadLabel, WrongCount, ExportDiffers}
+use Rattle.check_rules.proofs.Texts.{Row, fine, bad, good, wrong, mistakes, interface}
+use Rattle.check_rules.proofs.Everything.{everything}
 
 abbrev given : List PlainInterface
 given = interface 10 (codes "I: DEFINITIONS = BEGIN Color: TYPE = {red, green}; Put: PROCEDURE [c: Color]; Full: ERROR; "

@@ -1,9 +1,9 @@
 -- Expressions: operators, relations, records, arrays, calls, raises.
 use Rattle.std.specs.Prelude.{◌≡◌, List, [], ◌∷◌, ◌++◌, codes}
 use Rattle.std.proofs.Common.{refl}
-use Rattle.checking_rules.specs.declared.fault.Cause.TheVariants.{UnknownName, TwiceDeclared, TypeMismatch, WrongCount}
-use Rattle.checking_rules.proofs.Texts.{Row, good, wrong, mistakes}
-use Rattle.checking_rules.proofs.Everything.{everything}
+use Rattle.check_rules.specs.declared.fault.Cause.TheVariants.{UnknownName, TwiceDeclared, TypeMismatch, WrongCount}
+use Rattle.check_rules.proofs.Texts.{Row, good, wrong, mistakes}
+use Rattle.check_rules.proofs.Everything.{everything}
 
 abbrev operators : List Row
 operators =

@@ -7,26 +7,26 @@ use Rattle.mesa_base.specs.declared.limits.TheConstants.{DISTINCT_STRINGS, ENUME
 use Rattle.mesa_base.specs.declared.place.Place.{Place}
 use Rattle.mesa_base.specs.declared.identifier.Identifier.{Identifier}
 use Rattle.mesa_types.specs.Syntax as syntax
-use Rattle.checking_rules.specs.PlainTypes as v
-use Rattle.checking_rules.specs.PlainTypes.{PlainType, PlainInterface}
-use Rattle.checking_rules.specs.Scopes.{innermost, nothing}
-use Rattle.checking_rules.specs.Meanings.{Meaning, Constant, Later}
-use Rattle.checking_rules.specs.Around.{Around, Known, body_of}
-use Rattle.checking_rules.specs.Steps.{State, Fault, Checked, and_then, only, or_refuse, refuse}
-use Rattle.checking_rules.specs.Typed as t
-use Rattle.checking_rules.specs.Ranges.{typed, Free}
-use Rattle.checking_rules.specs.Names.{is_declared, at_once, coming, element_in, announce, settle, each_means}
-use Rattle.checking_rules.specs.Definitions.{Defined, definition, defined, nothing_defined, and_defined, all_defined}
-use Rattle.checking_rules.specs.Programs.{outermost, told}
-use Rattle.checking_rules.specs.CheckedModule.{defined_as, interface_by, known_of, start}
-use Rattle.checking_rules.specs.Mentions as mentions
-use Rattle.checking_rules.specs.Directory as directory
-use Rattle.checking_rules.specs.Definitions as definitions
-use Rattle.checking_rules.specs.Parts.{names_of}
-use Rattle.checking_rules.specs.TypeRules.{elements, few, origin}
-use Rattle.checking_rules.specs.Checking.{type_exp, check}
-use Rattle.checking_rules.specs.Values.{number_in, string}
-use Rattle.checking_rules.specs.declared.fault.Cause.TheVariants.{TwiceDeclared, TypeTooLarge, GlobalsTooLarge}
+use Rattle.check_rules.specs.PlainTypes as v
+use Rattle.check_rules.specs.PlainTypes.{PlainType, PlainInterface}
+use Rattle.check_rules.specs.Scopes.{innermost, nothing}
+use Rattle.check_rules.specs.Meanings.{Meaning, Constant, Later}
+use Rattle.check_rules.specs.Around.{Around, Known, body_of}
+use Rattle.check_rules.specs.Steps.{State, Fault, Checked, and_then, only, or_refuse, refuse}
+use Rattle.check_rules.specs.Typed as t
+use Rattle.check_rules.specs.Ranges.{typed, Free}
+use Rattle.check_rules.specs.Names.{is_declared, at_once, coming, element_in, announce, settle, each_means}
+use Rattle.check_rules.specs.Definitions.{Defined, definition, defined, nothing_defined, and_defined, all_defined}
+use Rattle.check_rules.specs.Programs.{outermost, told}
+use Rattle.check_rules.specs.CheckedModule.{defined_as, interface_by, known_of, start}
+use Rattle.check_rules.specs.Mentions as mentions
+use Rattle.check_rules.specs.Directory as directory
+use Rattle.check_rules.specs.Definitions as definitions
+use Rattle.check_rules.specs.Parts.{names_of}
+use Rattle.check_rules.specs.TypeRules.{elements, few, origin}
+use Rattle.check_rules.specs.Checking.{type_exp, check}
+use Rattle.check_rules.specs.Values.{number_in, string}
+use Rattle.check_rules.specs.declared.fault.Cause.TheVariants.{TwiceDeclared, TypeTooLarge, GlobalsTooLarge}
 
 -- names of five letters from a to p, one for each number that is small enough
 name : ℕ → List ℕ

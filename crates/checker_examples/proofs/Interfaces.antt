@@ -1,10 +1,10 @@
 -- Interfaces: DIRECTORY, USING, IMPORTS, EXPORTS, OPEN, and DEFINITIONS.
 use Rattle.std.specs.Prelude.{◌≡◌, List, [], ◌∷◌, ◌++◌, codes}
 use Rattle.std.proofs.Common.{refl}
-use Rattle.checking_rules.specs.PlainTypes.{PlainInterface}
-use Rattle.checking_rules.specs.declared.fault.Cause.TheVariants.{UnknownName, TwiceDeclared, TypeMismatch, NotConstant, WrongCount, ExportDiffers, StampMissing, StampUnwanted}
-use Rattle.checking_rules.proofs.Texts.{Row, fine, bad, mistakes, mistakes_under, interface}
-use Rattle.checking_rules.proofs.Everything.{everything}
+use Rattle.check_rules.specs.PlainTypes.{PlainInterface}
+use Rattle.check_rules.specs.declared.fault.Cause.TheVariants.{UnknownName, TwiceDeclared, TypeMismatch, NotConstant, WrongCount, ExportDiffers, StampMissing, StampUnwanted}
+use Rattle.check_rules.proofs.Texts.{Row, fine, bad, mistakes, mistakes_under, interface}
+use Rattle.check_rules.proofs.Everything.{everything}
 
 abbrev shapes : List PlainInterface
 shapes = interface 10 (codes "I: DEFINITIONS = BEGIN Color: TYPE = {red, green}; Max: CARDINAL = 3; Put: PROCEDURE [c: Color]; Same: ERROR; "

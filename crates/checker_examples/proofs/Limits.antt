@@ -1,9 +1,9 @@
 -- Limits, at their edge.
 use Rattle.std.specs.Prelude.{◌≡◌, ℕ, List, [], ◌∷◌, ◌++◌, codes}
 use Rattle.std.proofs.Common.{refl}
-use Rattle.checking_rules.specs.declared.fault.Cause.TheVariants.{UnknownName, FrameTooLarge, GlobalsTooLarge, TypeTooLarge}
-use Rattle.checking_rules.proofs.Texts.{Row, fine, bad, good, wrong, mistakes, mistakes_under}
-use Rattle.checking_rules.proofs.Everything.{everything}
+use Rattle.check_rules.specs.declared.fault.Cause.TheVariants.{UnknownName, FrameTooLarge, GlobalsTooLarge, TypeTooLarge}
+use Rattle.check_rules.proofs.Texts.{Row, fine, bad, good, wrong, mistakes, mistakes_under}
+use Rattle.check_rules.proofs.Everything.{everything}
 
 -- 1,024 words of locals: parameters, results, the variables of all blocks, three words for each FOR or THROUGH, one for each SELECT
 abbrev locals : List Row

@@ -6,10 +6,10 @@ use Rattle.mesa_base.specs.declared.identifier.Identifier.{Identifier}
 use Rattle.mesa_types.specs.declared.syntax.Operator.TheVariants as op
 use Rattle.mesa_types.specs.declared.syntax.TypeBase.TheVariants as base
 use Rattle.mesa_types.specs.Syntax as s
-use Rattle.checking_rules.specs.CheckedModule.{program_by}
-use Rattle.checking_rules.specs.declared.fault.Cause.TheVariants.{UnknownName, TypeMismatch, FrameTooLarge}
-use Rattle.checking_rules.proofs.Texts.{Answer, Fine, Refused, answer_of}
-use Rattle.checking_rules.proofs.Everything.{everything}
+use Rattle.check_rules.specs.CheckedModule.{program_by}
+use Rattle.check_rules.specs.declared.fault.Cause.TheVariants.{UnknownName, TypeMismatch, FrameTooLarge}
+use Rattle.check_rules.proofs.Texts.{Answer, Fine, Refused, answer_of}
+use Rattle.check_rules.proofs.Everything.{everything}
 
 abbrev at : ℕ → Place
 at n = record { token = n; line = 1; column = n }

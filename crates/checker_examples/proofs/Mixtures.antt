@@ -1,9 +1,9 @@
 -- Forms in one another.
 use Rattle.std.specs.Prelude.{◌≡◌, List, [], ◌∷◌, codes}
 use Rattle.std.proofs.Common.{refl}
-use Rattle.checking_rules.specs.declared.fault.Cause.TheVariants.{UnknownName, TwiceDeclared, TypeMismatch, NotConstant, WrongCount, UnwindJumps}
-use Rattle.checking_rules.proofs.Texts.{Row, good, wrong, mistakes}
-use Rattle.checking_rules.proofs.Everything.{everything}
+use Rattle.check_rules.specs.declared.fault.Cause.TheVariants.{UnknownName, TwiceDeclared, TypeMismatch, NotConstant, WrongCount, UnwindJumps}
+use Rattle.check_rules.proofs.Texts.{Row, good, wrong, mistakes}
+use Rattle.check_rules.proofs.Everything.{everything}
 
 abbrev jumps : List Row
 jumps =

@@ -1,9 +1,9 @@
 -- Names: what is visible where, and what stands twice.
 use Rattle.std.specs.Prelude.{◌≡◌, List, [], ◌∷◌, codes}
 use Rattle.std.proofs.Common.{refl}
-use Rattle.checking_rules.specs.declared.fault.Cause.TheVariants.{UnknownName, TwiceDeclared, TypeMismatch, NotConstant, WrongCount}
-use Rattle.checking_rules.proofs.Texts.{Row, good, wrong, mistakes}
-use Rattle.checking_rules.proofs.Everything.{everything}
+use Rattle.check_rules.specs.declared.fault.Cause.TheVariants.{UnknownName, TwiceDeclared, TypeMismatch, NotConstant, WrongCount}
+use Rattle.check_rules.proofs.Texts.{Row, good, wrong, mistakes}
+use Rattle.check_rules.proofs.Everything.{everything}
 
 abbrev rows : List Row
 rows =

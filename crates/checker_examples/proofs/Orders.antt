@@ -1,10 +1,10 @@
 -- Two faults in one text: the first in the order of checking is the one that is told. And the words of operands.
 use Rattle.std.specs.Prelude.{◌≡◌, ℕ, List, [], ◌∷◌, ◌++◌, codes}
 use Rattle.std.proofs.Common.{refl}
-use Rattle.checking_rules.specs.declared.fault.Cause.TheVariants.{UnknownName, TwiceDeclared, TypeMismatch, NotConstant, BadLabel, WrongCount, NotResumable, UnwindJumps, FrameTooLarge}
-use Rattle.checking_rules.specs.PlainTypes.{PlainInterface}
-use Rattle.checking_rules.proofs.Texts.{Row, good, wrong, fine, bad, mistakes, interface}
-use Rattle.checking_rules.proofs.Everything.{everything}
+use Rattle.check_rules.specs.declared.fault.Cause.TheVariants.{UnknownName, TwiceDeclared, TypeMismatch, NotConstant, BadLabel, WrongCount, NotResumable, UnwindJumps, FrameTooLarge}
+use Rattle.check_rules.specs.PlainTypes.{PlainInterface}
+use Rattle.check_rules.proofs.Texts.{Row, good, wrong, fine, bad, mistakes, interface}
+use Rattle.check_rules.proofs.Everything.{everything}
 
 abbrev rows : List Row
 rows =

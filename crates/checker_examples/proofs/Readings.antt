@@ -7,16 +7,16 @@ use Rattle.mesa_types.specs.declared.faces.Export.{Export}
 use Rattle.mesa_types.specs.declared.faces.ItemKind.TheVariants as item
 use Rattle.mesa_types.specs.declared.types.Origin.{Origin}
 use Rattle.mesa_types.specs.Syntax as s
-use Rattle.checking_rules.specs.Typed as t
-use Rattle.checking_rules.specs.Steps.{Checked}
-use Rattle.checking_rules.specs.CheckedModule.{program_by}
-use Rattle.checking_rules.specs.PlainTypes as v
-use Rattle.checking_rules.specs.PlainTypes.{PlainInterface, item_of}
-use Rattle.checking_rules.specs.declared.fault.Cause.TheVariants.{UnknownName, TwiceDeclared, TypeMismatch, ExportDiffers}
-use Rattle.checking_rules.proofs.Lexing.{Token}
-use Rattle.checking_rules.proofs.Reading.{read}
-use Rattle.checking_rules.proofs.Texts.{Row, fine, bad, good, wrong, in_program, mistakes, mistakes_under, interface}
-use Rattle.checking_rules.proofs.Everything.{everything}
+use Rattle.check_rules.specs.Typed as t
+use Rattle.check_rules.specs.Steps.{Checked}
+use Rattle.check_rules.specs.CheckedModule.{program_by}
+use Rattle.check_rules.specs.PlainTypes as v
+use Rattle.check_rules.specs.PlainTypes.{PlainInterface, item_of}
+use Rattle.check_rules.specs.declared.fault.Cause.TheVariants.{UnknownName, TwiceDeclared, TypeMismatch, ExportDiffers}
+use Rattle.check_rules.proofs.Lexing.{Token}
+use Rattle.check_rules.proofs.Reading.{read}
+use Rattle.check_rules.proofs.Texts.{Row, fine, bad, good, wrong, in_program, mistakes, mistakes_under, interface}
+use Rattle.check_rules.proofs.Everything.{everything}
 
 abbrev names : List Row
 names =

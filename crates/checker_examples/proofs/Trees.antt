@@ -3,13 +3,13 @@ use Rattle.std.specs.Prelude.{◌≡◌, ℕ, List, [], ◌∷◌, Option, Some,
 use Rattle.std.proofs.Common.{refl}
 use Rattle.mesa_types.specs.declared.faces.Import.{Import}
 use Rattle.mesa_types.specs.Syntax as s
-use Rattle.checking_rules.specs.Typed as t
-use Rattle.checking_rules.specs.Steps.{Checked}
-use Rattle.checking_rules.specs.CheckedModule.{program_by}
-use Rattle.checking_rules.proofs.Lexing.{Token}
-use Rattle.checking_rules.proofs.Reading.{read}
-use Rattle.checking_rules.proofs.Texts.{in_program, with_io}
-use Rattle.checking_rules.proofs.Everything.{everything}
+use Rattle.check_rules.specs.Typed as t
+use Rattle.check_rules.specs.Steps.{Checked}
+use Rattle.check_rules.specs.CheckedModule.{program_by}
+use Rattle.check_rules.proofs.Lexing.{Token}
+use Rattle.check_rules.proofs.Reading.{read}
+use Rattle.check_rules.proofs.Texts.{in_program, with_io}
+use Rattle.check_rules.proofs.Everything.{everything}
 use Rattle.checker_examples.proofs.Worked.{io}
 
 abbrev pub body_of : Checked t.Module → Option t.Body

@@ -1,8 +1,8 @@
 -- The typed tree of each form: where a text has several that mean the same, the one that is taken.
 use Rattle.std.specs.Prelude.{◌≡◌, true, false, [], ◌∷◌, ◌++◌, codes}
 use Rattle.std.proofs.Common.{refl}
-use Rattle.checking_rules.specs.Typed as t
-use Rattle.checking_rules.proofs.Everything.{everything}
+use Rattle.check_rules.specs.Typed as t
+use Rattle.check_rules.proofs.Everything.{everything}
 use Rattle.checker_examples.proofs.Trees.{body, block, then, word, of}
 
 abbrev x : t.Expr

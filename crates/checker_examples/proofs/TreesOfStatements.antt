@@ -2,13 +2,13 @@
 use Rattle.std.specs.Prelude.{◌≡◌, ℕ, true, false, List, [], ◌∷◌, ◌++◌, Option, Some, None, Ok, Err, codes}
 use Rattle.std.proofs.Common.{refl}
 use Rattle.mesa_types.specs.Syntax as s
-use Rattle.checking_rules.specs.Typed as t
-use Rattle.checking_rules.specs.Steps.{Checked}
-use Rattle.checking_rules.specs.CheckedModule.{program_by}
-use Rattle.checking_rules.proofs.Lexing.{Token}
-use Rattle.checking_rules.proofs.Reading.{read}
-use Rattle.checking_rules.proofs.Texts.{in_program}
-use Rattle.checking_rules.proofs.Everything.{everything}
+use Rattle.check_rules.specs.Typed as t
+use Rattle.check_rules.specs.Steps.{Checked}
+use Rattle.check_rules.specs.CheckedModule.{program_by}
+use Rattle.check_rules.proofs.Lexing.{Token}
+use Rattle.check_rules.proofs.Reading.{read}
+use Rattle.check_rules.proofs.Texts.{in_program}
+use Rattle.check_rules.proofs.Everything.{everything}
 use Rattle.checker_examples.proofs.Trees.{body, block, then, word, of}
 
 abbrev statement : t.Stmt → t.Stmts

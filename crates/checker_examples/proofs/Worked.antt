@@ -4,11 +4,11 @@ use Rattle.std.proofs.Common.{refl}
 use Rattle.interface_records.specs.Faces.{iodefs}
 use Rattle.interface_records.specs.declared.interface.Interface.{Interface}
 use Rattle.mesa_types.specs.declared.faces.ItemKind.TheVariants as item
-use Rattle.checking_rules.specs.PlainTypes as v
-use Rattle.checking_rules.specs.PlainTypes.{PlainInterface, interface_of}
-use Rattle.checking_rules.specs.declared.fault.Cause.TheVariants.{UnknownName, TwiceDeclared, BadLabel, NotResumable, StampMissing, StampUnwanted}
-use Rattle.checking_rules.proofs.Texts.{Row, fine, bad, runs, mistakes, mistakes_under, interface}
-use Rattle.checking_rules.proofs.Everything.{everything}
+use Rattle.check_rules.specs.PlainTypes as v
+use Rattle.check_rules.specs.PlainTypes.{PlainInterface, interface_of}
+use Rattle.check_rules.specs.declared.fault.Cause.TheVariants.{UnknownName, TwiceDeclared, BadLabel, NotResumable, StampMissing, StampUnwanted}
+use Rattle.check_rules.proofs.Texts.{Row, fine, bad, runs, mistakes, mistakes_under, interface}
+use Rattle.check_rules.proofs.Everything.{everything}
 
 -- the text of the built-in interface, whose stamp is 1
 abbrev pub io : List PlainInterface

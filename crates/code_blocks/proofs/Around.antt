@@ -4,7 +4,7 @@ use Rattle.std.proofs.lemmas.Bool.{cases_lt, le-ltb, le-leb}
 use Rattle.std.proofs.lemmas.Bool.Decides.{leb_tells}
 use Rattle.std.specs.Prelude.{slice_get}
 use Rattle.code_forms.specs.declared.module_code.Phrase.{Phrase}
-use Rattle.code_relation.specs.Reading.{covers, and_if, phrases_before, phrases_around}
+use Rattle.code_rules.specs.Reading.{covers, and_if, phrases_before, phrases_around}
 use Rattle.code_blocks.specs.Blocks.{ArmBlocks, NoArmBlock, AndArmBlock}
 use Rattle.code_blocks.specs.Writing.{Env, Pending, own_phrase, unless_empty, phrase_from}
 use Rattle.code_blocks.proofs.Lists.{From, In, from_parts}

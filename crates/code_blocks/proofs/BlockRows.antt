@@ -4,8 +4,8 @@ use Rattle.mesa_types.specs.Sound as sound
 use Rattle.mesa_types.specs.Sound.{Scope, LabelsIn, HasArm}
 use Rattle.mesa_types.specs.Typed.{Phrase, NoPhrase, Catch, Arms, NoArms, AndArm, Block, Stmts, Exits}
 use Rattle.mesa_types.specs.Counts.{hidden_phrase, hidden_stmts}
-use Rattle.code_relation.specs.CodeFor.{PhraseCode, StmtsCode, no_phrase, no_range, in_range, block, label_at, with_labels}
-use Rattle.code_relation.specs.Reading.{Coded, Place, beyond}
+use Rattle.code_rules.specs.CodeFor.{PhraseCode, StmtsCode, no_phrase, no_range, in_range, block, label_at, with_labels}
+use Rattle.code_rules.specs.Reading.{Coded, Place, beyond}
 use Rattle.code_blocks.specs.Blocks as tree
 use Rattle.code_blocks.specs.Blocks.{Here, Enables, ArmBlocks, NoArmBlock, AndArmBlock, ◌▹◌}
 use Rattle.code_blocks.specs.Sizes.{size, depth_behind}

@@ -9,8 +9,8 @@ use Rattle.code_forms.specs.declared.module_code.CodeProcedure.{CodeProcedure}
 use Rattle.code_forms.specs.declared.module_code.Phrase.{Phrase}
 use Rattle.code_forms.specs.Instructions.{bytes_of}
 use Rattle.code_forms.specs.Routine.{Routine, spots, code_end}
-use Rattle.code_relation.specs.Modules.{BodyCode, body_end, body_end_of, coded}
-use Rattle.code_relation.specs.Reading.{Coded, at_body, scratch}
+use Rattle.code_rules.specs.Modules.{BodyCode, body_end, body_end_of, coded}
+use Rattle.code_rules.specs.Reading.{Coded, at_body, scratch}
 use Rattle.code_blocks.specs.Blocks.{Block, Does}
 use Rattle.code_blocks.specs.Sizes.{size}
 use Rattle.code_blocks.specs.Writing.{in_procedure}

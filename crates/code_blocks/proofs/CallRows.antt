@@ -10,11 +10,11 @@ use Rattle.mesa_types.specs.Sound.{Scope, ExprsIn, HasArm}
 use Rattle.code_forms.specs.declared.instruction.Instruction.{Instruction}
 use Rattle.code_forms.specs.Instructions.{bytes_of}
 use Rattle.code_forms.proofs.Ordered.{some_bytes}
-use Rattle.code_relation.specs.CodeFor.{ExprsCode, PhraseCode, ArmsCode, call, raise, no_phrase, catch, in_range}
-use Rattle.code_relation.specs.Links.{call_code, raise_code}
-use Rattle.code_relation.specs.OwnCode.{arrange_code}
-use Rattle.code_relation.specs.Reading.{Coded, Place, Own, past_all, in_region}
-use Rattle.code_relation.specs.Slots.{sizes}
+use Rattle.code_rules.specs.CodeFor.{ExprsCode, PhraseCode, ArmsCode, call, raise, no_phrase, catch, in_range}
+use Rattle.code_rules.specs.Links.{call_code, raise_code}
+use Rattle.code_rules.specs.OwnCode.{arrange_code}
+use Rattle.code_rules.specs.Reading.{Coded, Place, Own, past_all, in_region}
+use Rattle.code_rules.specs.Slots.{sizes}
 use Rattle.code_blocks.specs.Blocks.{Does, Calls, ◌▹◌}
 use Rattle.code_blocks.specs.Own.{bytes_in}
 use Rattle.code_blocks.specs.Sizes.{size}

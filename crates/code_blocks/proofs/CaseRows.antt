@@ -9,10 +9,10 @@ use Rattle.mesa_types.specs.Operators.{differ}
 use Rattle.mesa_types.specs.Counts.{hidden, hidden_expr, hidden_interval, hidden_tests, words_of}
 use Rattle.mesa_types.specs.Sound.{Scope, a_word, ExprIn}
 use Rattle.code_forms.specs.declared.instruction.Instruction.TheVariants as i
-use Rattle.code_relation.specs.CodeFor.{CasesCode, TestsCode, RelatedCode, LiesCode, Onward, select, select_none, otherwise, and_case, no_test, related, related_last, lies, lies_last, relates, lies_within}
-use Rattle.code_relation.specs.OwnCode.{pop_code, check_code, comparison, is_opposite, within_code}
-use Rattle.code_relation.specs.Reading.{Coded, Place, past, deeper, beyond, scratch}
-use Rattle.code_relation.proofs.Depths.{own_code_keeps_words}
+use Rattle.code_rules.specs.CodeFor.{CasesCode, TestsCode, RelatedCode, LiesCode, Onward, select, select_none, otherwise, and_case, no_test, related, related_last, lies, lies_last, relates, lies_within}
+use Rattle.code_rules.specs.OwnCode.{pop_code, check_code, comparison, is_opposite, within_code}
+use Rattle.code_rules.specs.Reading.{Coded, Place, past, deeper, beyond, scratch}
+use Rattle.code_rules.proofs.Depths.{own_code_keeps_words}
 use Rattle.code_blocks.specs.Blocks as tree
 use Rattle.code_blocks.specs.Blocks.{Here, Anyhow, Where, Does, Ends, Out, nothing, ◌▹◌}
 use Rattle.code_blocks.specs.Own.{bytes_in, left_of}

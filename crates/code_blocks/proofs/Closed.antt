@@ -13,12 +13,12 @@ use Rattle.mesa_types.specs.Shapes.{words_in}
 use Rattle.mesa_types.specs.declared.faces.Import.{Import}
 use Rattle.code_forms.specs.Jumps.{JumpsRightly}
 use Rattle.code_forms.specs.Routine.{Routine}
-use Rattle.code_relation.specs.CodeFor.{words_taken, words_over}
-use Rattle.code_relation.specs.Links.{call_code, raise_code}
-use Rattle.code_relation.specs.Loops.{Counter, NoCounter, CountedIn, next_slot}
-use Rattle.code_relation.specs.OwnCode.{lift_code, check_code, arrange_code}
-use Rattle.code_relation.specs.Reading.{Coded, scratch}
-use Rattle.code_relation.specs.Slots.{fields_of, sizes}
+use Rattle.code_rules.specs.CodeFor.{words_taken, words_over}
+use Rattle.code_rules.specs.Links.{call_code, raise_code}
+use Rattle.code_rules.specs.Loops.{Counter, NoCounter, CountedIn, next_slot}
+use Rattle.code_rules.specs.OwnCode.{lift_code, check_code, arrange_code}
+use Rattle.code_rules.specs.Reading.{Coded, scratch}
+use Rattle.code_rules.specs.Slots.{fields_of, sizes}
 use Rattle.code_blocks.specs.Blocks as tree
 use Rattle.code_blocks.specs.Blocks.{Statement, Labels, Here, Does, Calls, Both, Ends, Out, Goes, Rounds, Enables, ArmBlocks, NoArmBlock, AndArmBlock, ◌▹◌}
 use Rattle.code_blocks.specs.Own.{AreOwn}

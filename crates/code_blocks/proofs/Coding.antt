@@ -9,7 +9,7 @@ use Rattle.code_forms.specs.declared.module_code.CodeLink.{CodeLink}
 use Rattle.code_forms.specs.declared.module_code.CodeProcedure.{CodeProcedure}
 use Rattle.code_forms.specs.declared.module_code.CodeSignal.{CodeSignal}
 use Rattle.code_forms.specs.Routine.{Routine, routine_with}
-use Rattle.code_relation.specs.Modules.{ProcedureCode, ProceduresCode, main_of, procedures_of}
+use Rattle.code_rules.specs.Modules.{ProcedureCode, ProceduresCode, main_of, procedures_of}
 use Rattle.code_blocks.specs.Modules.{procedure_code, module_code}
 use Rattle.code_blocks.specs.Laws.{ModulesAreCoded}
 use Rattle.code_blocks.proofs.Bodies.{body_stands}

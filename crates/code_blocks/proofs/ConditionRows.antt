@@ -8,9 +8,9 @@ use Rattle.mesa_types.specs.Counts.{hidden_expr}
 use Rattle.mesa_types.specs.Sound.{Scope, a_word, ExprIn, WordsIn}
 use Rattle.code_forms.specs.declared.instruction.Instruction.{Instruction}
 use Rattle.code_forms.specs.declared.instruction.Instruction.TheVariants as i
-use Rattle.code_relation.specs.CodeFor.{BranchCode, OperandsCode, all_of, some_of, on_value, on_negation, on_relation, unless_all, if_all, if_some, unless_some, no_operands, and_operand}
-use Rattle.code_relation.specs.OwnCode.{comparison, is_opposite}
-use Rattle.code_relation.specs.Reading.{Coded, Place, Own, past, beyond}
+use Rattle.code_rules.specs.CodeFor.{BranchCode, OperandsCode, all_of, some_of, on_value, on_negation, on_relation, unless_all, if_all, if_some, unless_some, no_operands, and_operand}
+use Rattle.code_rules.specs.OwnCode.{comparison, is_opposite}
+use Rattle.code_rules.specs.Reading.{Coded, Place, Own, past, beyond}
 use Rattle.code_blocks.specs.Blocks.{Leap, Here, Anyhow, Where, Does, Ends, Out, ◌▹◌}
 use Rattle.code_blocks.specs.Own.{bytes_in, left_of, AreOwn}
 use Rattle.code_blocks.specs.Sizes.{leap_to, size}

@@ -1,6 +1,6 @@
 -- The code that is written of loops, labels and cases.
 use Rattle.std.specs.Prelude.{◌≡◌, [], false, refl, true, ◌∷◌}
-use Rattle.code_relation.proofs.Made.{at, bases, global, kinds, local, plain_block, procedure, stmts}
+use Rattle.code_rules.proofs.Made.{at, bases, global, kinds, local, plain_block, procedure, stmts}
 use Rattle.mesa_types.specs.Counts.{hidden, hidden_arms, hidden_cases, hidden_condition, hidden_exits, hidden_expr, hidden_exprs, hidden_finish, hidden_interval, hidden_loop, hidden_operations, hidden_phrase, hidden_stmts, hidden_suffixes, hidden_targets, hidden_tests, last_words, words_given, words_of}
 use Rattle.mesa_types.specs.Operators.{differ}
 use Rattle.mesa_types.specs.Shapes.{join, words_before, words_in, words_in_all}

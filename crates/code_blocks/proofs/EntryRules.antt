@@ -15,7 +15,7 @@ use Rattle.code_forms.specs.Operands.{OperandsFit}
 use Rattle.code_forms.specs.Regions.{region_at, around_phrase, holder}
 use Rattle.code_forms.specs.Routine.{Routine, IsStart}
 use Rattle.code_forms.proofs.Ordered.{some_bytes}
-use Rattle.code_relation.specs.Points.{in_body, in_arm}
+use Rattle.code_rules.specs.Points.{in_body, in_arm}
 use Rattle.code_blocks.specs.Blocks.{Statement, Labels, Here, Leap, Anyhow, Where, Block, Does, Calls, Both, Ends, Out, Goes, Rounds, Enables, ArmBlocks, NoArmBlock, AndArmBlock}
 use Rattle.code_blocks.specs.Own.{alone, bytes_in, IsOwn, AreOwn}
 use Rattle.code_blocks.specs.Regions.{Written, returning, first_region, with_arms, next_written, all_written}

@@ -14,11 +14,11 @@ use Rattle.mesa_types.specs.Shapes.{one}
 use Rattle.mesa_types.specs.Sound.{Scope, a_word, FieldsIn, ExprIn, ExprsIn, SuffixesIn}
 use Rattle.code_forms.specs.declared.instruction.Instruction.{Instruction}
 use Rattle.code_forms.specs.declared.instruction.Instruction.TheVariants as i
-use Rattle.code_relation.specs.CodeFor.{ExprCode, ExprsCode, BoundsCode, OperationsCode, PathCode, BranchCode, OperandsCode, number, literal, variable, element, field_of, length_of, byte_of, checked, operate, negate, relate, within, negation, construct, no_values, and_value, bounds, no_operation, operation, here, field, index, words_before_last}
-use Rattle.code_relation.specs.OwnCode.{check_code, field_code, relation_code, operator_code, within_code, arrange_code, index_code}
-use Rattle.code_relation.specs.Reading.{Coded, Place, Own, past, past_all, deeper, beyond, scratch}
-use Rattle.code_relation.proofs.Depths.{own_code_keeps_words}
-use Rattle.code_relation.specs.Slots.{load, load_within, fields_of, sizes, HasIndex, HasNoIndex}
+use Rattle.code_rules.specs.CodeFor.{ExprCode, ExprsCode, BoundsCode, OperationsCode, PathCode, BranchCode, OperandsCode, number, literal, variable, element, field_of, length_of, byte_of, checked, operate, negate, relate, within, negation, construct, no_values, and_value, bounds, no_operation, operation, here, field, index, words_before_last}
+use Rattle.code_rules.specs.OwnCode.{check_code, field_code, relation_code, operator_code, within_code, arrange_code, index_code}
+use Rattle.code_rules.specs.Reading.{Coded, Place, Own, past, past_all, deeper, beyond, scratch}
+use Rattle.code_rules.proofs.Depths.{own_code_keeps_words}
+use Rattle.code_rules.specs.Slots.{load, load_within, fields_of, sizes, HasIndex, HasNoIndex}
 use Rattle.code_blocks.specs.Blocks as tree
 use Rattle.code_blocks.specs.Blocks.{Does, ◌▹◌}
 use Rattle.code_blocks.specs.Own.{bytes_in, left_of, AreOwn}

@@ -10,15 +10,15 @@ use Rattle.mesa_types.specs.Counts.{hidden_suffixes, hidden_targets, words_of}
 use Rattle.mesa_types.specs.Shapes.{words_in_all, HasWords, AllHaveWords, KindAt}
 use Rattle.mesa_types.specs.Sound.{Scope, VariableIn, AllDiffer, ExprIn, SuffixesIn, TargetsIn, taken}
 use Rattle.mesa_types.proofs.WordSizes.{values_have_words}
-use Rattle.code_relation.specs.CodeFor.{words_taken, words_over}
-use Rattle.code_relation.specs.OwnCode.{pop_code, lift_code, check_code}
+use Rattle.code_rules.specs.CodeFor.{words_taken, words_over}
+use Rattle.code_rules.specs.OwnCode.{pop_code, lift_code, check_code}
 use Rattle.code_blocks.specs.Own.{left_of, IsOwn, AreOwn, bytes_in}
 use Rattle.mesa_types.specs.declared.typed_parts.Base.TheVariants.{Signed, Unsigned}
 use Rattle.code_forms.specs.declared.instruction.Instruction.{Instruction}
 use Rattle.code_forms.specs.declared.instruction.Instruction.TheVariants as i
-use Rattle.code_relation.specs.CodeFor.{TargetsCode, leaving, extract, no_targets, and_target, and_element}
-use Rattle.code_relation.specs.Reading.{Coded, Place, Own, deeper, beyond}
-use Rattle.code_relation.specs.Slots.{store, store_within, fields_of}
+use Rattle.code_rules.specs.CodeFor.{TargetsCode, leaving, extract, no_targets, and_target, and_element}
+use Rattle.code_rules.specs.Reading.{Coded, Place, Own, deeper, beyond}
+use Rattle.code_rules.specs.Slots.{store, store_within, fields_of}
 use Rattle.code_blocks.specs.Blocks as tree
 use Rattle.code_blocks.specs.Blocks.{Does, ◌▹◌}
 use Rattle.code_blocks.specs.Sizes.{size, depth_behind}

@@ -4,7 +4,7 @@ use Rattle.mesa_types.specs.Typed.{Procedure, Module}
 use Rattle.code_forms.specs.declared.module_code.Phrase.{Phrase}
 use Rattle.code_forms.specs.Phrases.{EndsWithCode}
 use Rattle.code_forms.specs.Routine.{Spot, spots, code_end}
-use Rattle.code_relation.specs.Modules.{procedures_of}
+use Rattle.code_rules.specs.Modules.{procedures_of}
 use Rattle.code_blocks.specs.Laws.{RegionsFill, RegionsFillTheCode}
 use Rattle.code_blocks.specs.Modules.{body_block, procedure_code}
 use Rattle.code_blocks.specs.Regions.{written, returning}

@@ -17,10 +17,10 @@ use Rattle.mesa_types.specs.Typed.{Exprs, Interval, Between}
 use Rattle.mesa_types.specs.Counts.{words_given}
 use Rattle.code_forms.specs.declared.instruction.Instruction.{Instruction}
 use Rattle.code_forms.specs.declared.instruction.Instruction.TheVariants as i
-use Rattle.code_relation.specs.Loops.{Counter, NoCounter, CountedIn, start_code, some_code, up_code, down_code, when, give_code, step_code}
-use Rattle.code_relation.specs.OwnCode.{pop_code, lift_code, drop_code, field_code, check_code, from_code, index_code, less, comparison, is_opposite, not_if, relation_code, operator_code, less_code, bound_code, within_code, total, size_for, size_after, without, rolls, arrange_from, arrange_code}
-use Rattle.code_relation.specs.Reading.{Coded}
-use Rattle.code_relation.specs.Slots.{load, store, load_within, store_within, zero_code, copy_code, spread_code, sizes}
+use Rattle.code_rules.specs.Loops.{Counter, NoCounter, CountedIn, start_code, some_code, up_code, down_code, when, give_code, step_code}
+use Rattle.code_rules.specs.OwnCode.{pop_code, lift_code, drop_code, field_code, check_code, from_code, index_code, less, comparison, is_opposite, not_if, relation_code, operator_code, less_code, bound_code, within_code, total, size_for, size_after, without, rolls, arrange_from, arrange_code}
+use Rattle.code_rules.specs.Reading.{Coded}
+use Rattle.code_rules.specs.Slots.{load, store, load_within, store_within, zero_code, copy_code, spread_code, sizes}
 use Rattle.code_blocks.specs.Own.{left_of}
 use Rattle.code_blocks.specs.Translation.{within_of, start_of}
 use Rattle.code_blocks.proofs.ExtractRows.{lift_left, check_left}

@@ -9,8 +9,8 @@ use Rattle.code_forms.specs.declared.region.Region.TheVariants.{Body}
 use Rattle.code_forms.specs.Operands.{OperandsFit, LabelTakes}
 use Rattle.code_forms.specs.Ranges.{LabelInRange}
 use Rattle.code_forms.specs.Routine.{Routine}
-use Rattle.code_relation.specs.Agreement.{IsOutOf}
-use Rattle.code_relation.specs.Points.{Points, in_marked, in_labelled, in_arm, is_among}
+use Rattle.code_rules.specs.Agreement.{IsOutOf}
+use Rattle.code_rules.specs.Points.{Points, in_marked, in_labelled, in_arm, is_among}
 use Rattle.code_blocks.specs.Blocks.{Mark, Statement, Labels, Here, Block, Does, Calls, Both, Ends, Out, Goes, Rounds, Enables, ArmBlocks, NoArmBlock, AndArmBlock}
 use Rattle.code_blocks.specs.Translation.{Forms, by_value, turned, unless, enabled}
 

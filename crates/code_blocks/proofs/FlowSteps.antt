@@ -12,8 +12,8 @@ use Rattle.code_forms.specs.declared.module_code.Phrase.{Phrase}
 use Rattle.code_forms.specs.Instructions.{bytes_of}
 use Rattle.code_forms.specs.Routine.{Routine, goes_on}
 use Rattle.code_forms.proofs.Ordered.{some_bytes}
-use Rattle.code_relation.specs.Points.{Way, NoWay, OutOf, Points, one_arm_more, in_arm}
-use Rattle.code_relation.specs.Reading.{Destination, Offset, Caller}
+use Rattle.code_rules.specs.Points.{Way, NoWay, OutOf, Points, one_arm_more, in_arm}
+use Rattle.code_rules.specs.Reading.{Destination, Offset, Caller}
 use Rattle.code_blocks.specs.Blocks.{Statement, Labels, Here, Anyhow, Where, Block, Does, Calls, Both, Ends, Out, Goes, Rounds, Enables, ArmBlocks, NoArmBlock, AndArmBlock}
 use Rattle.code_blocks.specs.Own.{alone}
 use Rattle.code_forms.specs.Depths.{depth_after}

@@ -12,8 +12,8 @@ use Rattle.code_forms.specs.Instructions.{bytes_of}
 use Rattle.code_forms.specs.Regions.{region_at}
 use Rattle.code_forms.specs.Routine.{Routine, goes_on}
 use Rattle.code_forms.proofs.Ordered.{some_bytes}
-use Rattle.code_relation.specs.Points.{Way, OutOf, Points, here_if, here_or, in_marked, in_labelled, is_among}
-use Rattle.code_relation.specs.Reading.{Destination, Offset, Caller, jump_to}
+use Rattle.code_rules.specs.Points.{Way, OutOf, Points, here_if, here_or, in_marked, in_labelled, is_among}
+use Rattle.code_rules.specs.Reading.{Destination, Offset, Caller, jump_to}
 use Rattle.code_blocks.specs.Blocks.{Statement, Labels, Here, Leap, Anyhow, Where, Block, Does, Calls, Both, Ends, Out, Goes, Rounds, Enables}
 use Rattle.code_blocks.specs.Own.{alone, bytes_in, left_of}
 use Rattle.code_blocks.specs.Sizes.{size, leap_to, goes_to, at_end, depth_behind}

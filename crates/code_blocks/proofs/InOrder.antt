@@ -6,7 +6,7 @@ use Rattle.code_forms.specs.declared.module_code.CodeEntry.{CodeEntry}
 use Rattle.code_forms.specs.declared.module_code.CodeProcedure.{CodeProcedure}
 use Rattle.code_forms.specs.Instructions.{bytes_of}
 use Rattle.code_forms.specs.Ranges.{InOrder}
-use Rattle.code_relation.specs.Modules.{procedures_of}
+use Rattle.code_rules.specs.Modules.{procedures_of}
 use Rattle.code_blocks.specs.Laws.{ModulesAreInOrder}
 use Rattle.code_blocks.specs.Modules.{body_block, procedure_code}
 use Rattle.code_blocks.specs.Regions.{written}

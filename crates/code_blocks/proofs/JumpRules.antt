@@ -13,8 +13,8 @@ use Rattle.code_forms.specs.Jumps.{GoesForward, JumpsRightly}
 use Rattle.code_forms.specs.Regions.{region_at}
 use Rattle.code_forms.specs.Routine.{Routine, IsStart}
 use Rattle.code_forms.proofs.Ordered.{some_bytes}
-use Rattle.code_relation.specs.Modules.{procedures_of}
-use Rattle.code_relation.specs.Reading.{Destination, Offset, Caller, jump_to, scratch}
+use Rattle.code_rules.specs.Modules.{procedures_of}
+use Rattle.code_rules.specs.Reading.{Destination, Offset, Caller, jump_to, scratch}
 use Rattle.code_blocks.specs.Blocks.{Statement, Labels, Here, Leap, Anyhow, Where, Block, Does, Calls, Both, Ends, Out, Goes, Rounds, Enables, ArmBlocks, NoArmBlock, AndArmBlock}
 use Rattle.code_blocks.specs.Laws.{JumpsInside, InsideJumpsRight, JumpsInsideAreRight}
 use Rattle.code_blocks.specs.Modules.{uncoded, body_block, procedure_code}

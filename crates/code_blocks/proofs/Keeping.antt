@@ -6,9 +6,9 @@ use Rattle.mesa_types.specs.Counts.{hidden, hidden_expr, hidden_suffixes, hidden
 use Rattle.mesa_types.specs.Shapes.{words_in, words_in_all, one}
 use Rattle.mesa_types.specs.Sound.{Scope, ExprIn, Selects, StmtIn, StmtsIn, CasesIn}
 use Rattle.code_forms.specs.declared.instruction.Instruction.TheVariants as i
-use Rattle.code_relation.specs.OwnCode.{pop_code, arrange_code}
-use Rattle.code_relation.specs.Reading.{Coded}
-use Rattle.code_relation.specs.Slots.{local_slot, store, store_within, fields_of, spread_code, sizes}
+use Rattle.code_rules.specs.OwnCode.{pop_code, arrange_code}
+use Rattle.code_rules.specs.Reading.{Coded}
+use Rattle.code_rules.specs.Slots.{local_slot, store, store_within, fields_of, spread_code, sizes}
 use Rattle.code_blocks.specs.Blocks.{Does, ◌▹◌}
 use Rattle.code_blocks.specs.Own.{left_of}
 use Rattle.code_blocks.specs.Sizes.{depth_behind}

@@ -5,10 +5,10 @@ use Rattle.mesa_types.specs.declared.typed_parts.Label.{Label}
 use Rattle.mesa_types.specs.Sound as sound
 use Rattle.mesa_types.specs.Sound.{Scope, Reaches, IsForRaises, scope_of}
 use Rattle.mesa_types.specs.Typed.{Point, Start, After, At, Leave, Body, Module}
-use Rattle.code_relation.specs.Agreement.{IsOutOf, Agrees}
-use Rattle.code_relation.specs.Points.{Way, NoWay, OutOf, Points, here_if, one_arm_more, in_body, in_marked, in_arm}
-use Rattle.code_relation.specs.Reading.{Destination, Offset, Caller, jump_to}
-use Rattle.code_relation.proofs.Agreement.{jumps_leave_their_arms}
+use Rattle.code_rules.specs.Agreement.{IsOutOf, Agrees}
+use Rattle.code_rules.specs.Points.{Way, NoWay, OutOf, Points, here_if, one_arm_more, in_body, in_marked, in_arm}
+use Rattle.code_rules.specs.Reading.{Destination, Offset, Caller, jump_to}
+use Rattle.code_rules.proofs.Agreement.{jumps_leave_their_arms}
 use Rattle.code_blocks.specs.Sizes.{goes_to}
 use Rattle.code_blocks.specs.Writing.{offset_of}
 use Rattle.code_blocks.proofs.Reaching.{reaches_marked, one_arm_out}

@@ -3,9 +3,9 @@ use Rattle.std.proofs.Common.{◌≡◌, refl, sym, ap, ◌∙◌, subst, ℕ, �
 use Rattle.mesa_types.specs.Typed.{Point, Start, After, At, Leave, Stmt, Exits, NoExits, AndExit}
 use Rattle.mesa_types.specs.Counts.{hidden}
 use Rattle.mesa_types.specs.Sound.{Scope, labels_in}
-use Rattle.code_relation.specs.CodeFor.{ExitsCode, Onward, label_at, no_exits, and_exit}
-use Rattle.code_relation.specs.Points.{Way, NoWay, OutOf, Points, here_or, in_labelled, is_among}
-use Rattle.code_relation.specs.Reading.{Coded, Destination, Offset, Place, beyond}
+use Rattle.code_rules.specs.CodeFor.{ExitsCode, Onward, label_at, no_exits, and_exit}
+use Rattle.code_rules.specs.Points.{Way, NoWay, OutOf, Points, here_or, in_labelled, is_among}
+use Rattle.code_rules.specs.Reading.{Coded, Destination, Offset, Place, beyond}
 use Rattle.code_blocks.specs.Blocks as tree
 use Rattle.code_blocks.specs.Blocks.{Labels, Ends, ◌▹◌}
 use Rattle.code_blocks.specs.Sizes.{size}

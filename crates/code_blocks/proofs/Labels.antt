@@ -4,9 +4,9 @@ use Rattle.std.proofs.lemmas.List.Elements.{All-contains, Contains-append_left, 
 use Rattle.mesa_types.specs.Sound as sound
 use Rattle.mesa_types.specs.Sound.{Scope, LabelsIn, labels_in}
 use Rattle.mesa_types.specs.Typed.{Point, Start, After, At, Leave, Exits, NoExits, AndExit}
-use Rattle.code_relation.specs.Points.{NoWay, OutOf, Points, here_or, in_labelled, is_among}
-use Rattle.code_relation.specs.Reading.{Destination, Offset}
-use Rattle.code_relation.proofs.Agreement.{jumps_leave_their_arms}
+use Rattle.code_rules.specs.Points.{NoWay, OutOf, Points, here_or, in_labelled, is_among}
+use Rattle.code_rules.specs.Reading.{Destination, Offset}
+use Rattle.code_rules.proofs.Agreement.{jumps_leave_their_arms}
 use Rattle.code_blocks.proofs.Known.{Lands, Known}
 use Rattle.code_blocks.proofs.Reaching.{reaches_labelled}
 

@@ -6,7 +6,7 @@ use Rattle.code_forms.specs.declared.module_code.CodeEntry.{CodeEntry}
 use Rattle.code_forms.specs.Instructions.{bytes_of}
 use Rattle.code_forms.specs.Depths.{depth_after}
 use Rattle.code_forms.proofs.Ordered.{some_bytes}
-use Rattle.code_relation.specs.Reading.{entry_at}
+use Rattle.code_rules.specs.Reading.{entry_at}
 use Rattle.code_blocks.specs.Blocks.{Block, Does, Calls, Both, Ends, Out, Goes, Rounds, Enables, ArmBlocks, NoArmBlock, AndArmBlock}
 use Rattle.code_blocks.specs.Own.{alone, bytes_in}
 use Rattle.code_blocks.specs.Sizes.{size, depth_behind}

@@ -10,9 +10,9 @@ use Rattle.code_forms.specs.Jumps.{JumpsRightly}
 use Rattle.code_forms.specs.Operands.{OperandsFit}
 use Rattle.code_forms.specs.Regions.{region_at, holder, and_then, outward}
 use Rattle.code_forms.specs.Routine.{Routine, IsStart}
-use Rattle.code_relation.specs.Agreement.{IsOutOf}
-use Rattle.code_relation.specs.Points.{Way, NoWay, OutOf, Points, here_if, here_or, one_arm_more, in_body, in_marked, in_labelled, in_arm, is_among}
-use Rattle.code_relation.specs.Reading.{Destination, Offset, Caller, jump_to}
+use Rattle.code_rules.specs.Agreement.{IsOutOf}
+use Rattle.code_rules.specs.Points.{Way, NoWay, OutOf, Points, here_if, here_or, one_arm_more, in_body, in_marked, in_labelled, in_arm, is_among}
+use Rattle.code_rules.specs.Reading.{Destination, Offset, Caller, jump_to}
 use Rattle.code_blocks.specs.Sizes.{goes_to}
 use Rattle.code_blocks.specs.Writing.{offset_of, at_labels}
 use Rattle.code_blocks.proofs.Fits.{Ways, NotBack, is_label}

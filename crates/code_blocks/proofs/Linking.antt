@@ -6,7 +6,7 @@ use Rattle.mesa_types.specs.declared.faces.Import.{Import}
 use Rattle.mesa_types.specs.declared.faces.Item.{Item}
 use Rattle.mesa_types.specs.Links.{item_in, imported, UsedIn, IsUsed, items_used, links_of}
 use Rattle.mesa_types.specs.Sound.{HeadIn, FaceIn, ImportIn}
-use Rattle.code_relation.specs.Links.{rank, link_number}
+use Rattle.code_rules.specs.Links.{rank, link_number}
 use Rattle.code_blocks.proofs.Lists.{all_get, get_there, get_front}
 
 abbrev Each : List Item → List ℕ → Type 0

@@ -9,12 +9,12 @@ use Rattle.mesa_types.specs.Sound.{Scope, a_word, LabelsIn, ExprIn}
 use Rattle.mesa_types.specs.Typed.{Expr, Between, Stmt, Repeat, Endless, For, Exits, Loop, LoopOf, Finish, NoFinish, Finished, Condition, Always, While, Until}
 use Rattle.mesa_types.specs.Counts.{hidden, hidden_condition, hidden_exits, hidden_interval, words_of}
 use Rattle.code_forms.specs.declared.instruction.Instruction.TheVariants as i
-use Rattle.code_relation.specs.CodeFor.{LoopCode, ConditionCode, FinishCode, label_at, with_labels, rounds, always, while, until, no_finish, finished, never, loop, count}
-use Rattle.code_relation.specs.Loops.{Counter, NoCounter, CountedIn, start_code, count_code, give_code, next_slot, step_code}
-use Rattle.code_relation.specs.OwnCode.{check_code}
-use Rattle.code_relation.specs.Slots.{store}
-use Rattle.code_relation.specs.Reading.{Coded, Place, Own, no_more, past, beyond, entry_at, phrases_around}
-use Rattle.code_relation.proofs.Depths.{own_code_keeps_words}
+use Rattle.code_rules.specs.CodeFor.{LoopCode, ConditionCode, FinishCode, label_at, with_labels, rounds, always, while, until, no_finish, finished, never, loop, count}
+use Rattle.code_rules.specs.Loops.{Counter, NoCounter, CountedIn, start_code, count_code, give_code, next_slot, step_code}
+use Rattle.code_rules.specs.OwnCode.{check_code}
+use Rattle.code_rules.specs.Slots.{store}
+use Rattle.code_rules.specs.Reading.{Coded, Place, Own, no_more, past, beyond, entry_at, phrases_around}
+use Rattle.code_rules.proofs.Depths.{own_code_keeps_words}
 use Rattle.code_blocks.specs.Blocks as tree
 use Rattle.code_blocks.specs.Blocks.{Here, Where, Does, Ends, Out, Rounds, nothing, ◌▹◌}
 use Rattle.code_blocks.specs.Own.{bytes_in, left_of}

@@ -6,9 +6,9 @@ use Rattle.code_forms.specs.declared.module_code.CodeEntry.{CodeEntry}
 use Rattle.code_forms.specs.Instructions.{bytes_of}
 use Rattle.code_forms.specs.Routine.{Routine}
 use Rattle.code_forms.proofs.Ordered.{some_bytes}
-use Rattle.code_relation.specs.Laws.{behind_all}
-use Rattle.code_relation.specs.Reading.{Coded, Place, Own, no_more, one_more, read_of, entry_at, phrases_around, behind}
-use Rattle.code_relation.proofs.Whole.{own_code_joins}
+use Rattle.code_rules.specs.Laws.{behind_all}
+use Rattle.code_rules.specs.Reading.{Coded, Place, Own, no_more, one_more, read_of, entry_at, phrases_around, behind}
+use Rattle.code_rules.proofs.Whole.{own_code_joins}
 use Rattle.code_blocks.specs.Blocks.{Mark, Leap, Block, Does, Calls, Both, Ends, Out, Goes, Rounds, Enables, ArmBlocks, NoArmBlock, AndArmBlock}
 use Rattle.code_blocks.specs.Own.{bytes_in, left_of, AreOwn}
 use Rattle.code_blocks.specs.Sizes.{leap_to, goes_to, size, depth_behind}

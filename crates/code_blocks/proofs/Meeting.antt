@@ -6,9 +6,9 @@ use Rattle.mesa_types.specs.declared.typed_parts.Label.{Label}
 use Rattle.mesa_types.specs.Sound as sound
 use Rattle.mesa_types.specs.Sound.{Scope, Reaches, IsForRaises, LabelsIn, labels_in, scope_of}
 use Rattle.mesa_types.specs.Typed.{Point, Start, After, At, Leave, Exits, NoExits, AndExit, Body, Module}
-use Rattle.code_relation.specs.Agreement.{IsOutOf, IsUsed, Agrees}
-use Rattle.code_relation.specs.Points.{Way, here_or, in_body, in_marked, in_labelled, in_arm, is_among}
-use Rattle.code_relation.proofs.Agreement.{jumps_leave_their_arms}
+use Rattle.code_rules.specs.Agreement.{IsOutOf, IsUsed, Agrees}
+use Rattle.code_rules.specs.Points.{Way, here_or, in_body, in_marked, in_labelled, in_arm, is_among}
+use Rattle.code_rules.proofs.Agreement.{jumps_leave_their_arms}
 use Rattle.code_blocks.proofs.Fits.{Ways, is_label}
 use Rattle.code_blocks.proofs.Labels.{among, not_among, among_both}
 use Rattle.code_blocks.proofs.Reaching.{reaches_marked, reaches_labelled, one_arm_out}

@@ -4,8 +4,8 @@ use Rattle.std.proofs.lemmas.List.Sums.{sum-map, sum_by-cons}
 use Rattle.mesa_types.specs.Nodes.{stmt_nodes, procedure_nodes, nodes}
 use Rattle.mesa_types.specs.Sound.{BodyIn, ProcedureIn, scope_of}
 use Rattle.mesa_types.specs.Typed.{Procedure, Module}
-use Rattle.code_relation.specs.Modules.{main_of}
-use Rattle.code_relation.specs.Reading.{scratch}
+use Rattle.code_rules.specs.Modules.{main_of}
+use Rattle.code_rules.specs.Reading.{scratch}
 use Rattle.code_blocks.specs.Laws.{ModulesAreShort}
 use Rattle.code_blocks.specs.Modules.{uncoded, body_block, procedure_code}
 use Rattle.code_blocks.specs.Weights.{procedure_bytes, procedures_bytes}

@@ -25,10 +25,10 @@ use Rattle.mesa_types.specs.Typed.{Kind, Array, Kinds, NoKinds, AndKind, Suffixe
 use Rattle.code_forms.specs.Operands.{IsCalled, IsRaised, CalledLink, RaisedLink, LabelTakes, SignalTakes, LinkTakes}
 use Rattle.code_forms.specs.Ranges.{LabelInRange, IsSignalLink, IsSignalWith}
 use Rattle.code_forms.specs.Routine.{Routine}
-use Rattle.code_relation.specs.Links.{link_number, call_code, raise_code, label_code}
-use Rattle.code_relation.specs.Modules.{kind_code, words_of_fields, signal_code, link_code}
-use Rattle.code_relation.specs.Reading.{Coded, scratch}
-use Rattle.code_relation.specs.Slots.{words_at, words_from, local_slot, global_slot, load, store, load_within, store_within, clear, fields_of}
+use Rattle.code_rules.specs.Links.{link_number, call_code, raise_code, label_code}
+use Rattle.code_rules.specs.Modules.{kind_code, words_of_fields, signal_code, link_code}
+use Rattle.code_rules.specs.Reading.{Coded, scratch}
+use Rattle.code_rules.specs.Slots.{words_at, words_from, local_slot, global_slot, load, store, load_within, store_within, clear, fields_of}
 use Rattle.code_blocks.specs.Translation.{has_index}
 use Rattle.code_blocks.proofs.ExtractRows.{kind_has, fields_have}
 use Rattle.code_blocks.proofs.Fits.{FitsIn, ArmFine}

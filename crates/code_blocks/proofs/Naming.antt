@@ -9,8 +9,8 @@ use Rattle.mesa_types.specs.Links.{imported, links_of}
 use Rattle.mesa_types.specs.Sound.{Sound, HeadIn, SignalIn, ImportIn}
 use Rattle.mesa_types.specs.Typed.{Procedure, Module}
 use Rattle.code_forms.specs.Routine.{Routine, words, words_of}
-use Rattle.code_relation.specs.Links.{link_number}
-use Rattle.code_relation.specs.Modules.{words_of_fields, signal_code, link_code, procedures_of}
+use Rattle.code_rules.specs.Links.{link_number}
+use Rattle.code_rules.specs.Modules.{words_of_fields, signal_code, link_code, procedures_of}
 use Rattle.code_blocks.specs.Modules.{procedure_code}
 use Rattle.code_blocks.proofs.Linking.{linked_there, head_there}
 use Rattle.code_blocks.proofs.SteadyRows.{Named}

@@ -19,11 +19,11 @@ use Rattle.code_forms.specs.declared.instruction.Instruction.TheVariants as i
 use Rattle.code_forms.specs.Instructions.{Effect, Fixed, OfProcedure, OfSignal, OfLink, effect_of}
 use Rattle.code_forms.specs.Depths.{depth_after}
 use Rattle.code_forms.specs.Routine.{Routine, effect_words}
-use Rattle.code_relation.specs.Laws.{left_by}
-use Rattle.code_relation.specs.Loops.{Counter, NoCounter, CountedIn, start_code, some_code, up_code, down_code, when, give_code, step_code}
-use Rattle.code_relation.specs.OwnCode.{pop_code, lift_code, drop_code, field_code, check_code, from_code, index_code, less, comparison, is_opposite, not_if, relation_code, operator_code, less_code, bound_code, within_code, size_for, size_after, without, rolls, arrange_from, arrange_code}
-use Rattle.code_relation.specs.Reading.{Coded}
-use Rattle.code_relation.specs.Slots.{load, store, load_within, store_within, clear, zero_code, copy_code, spread_code}
+use Rattle.code_rules.specs.Laws.{left_by}
+use Rattle.code_rules.specs.Loops.{Counter, NoCounter, CountedIn, start_code, some_code, up_code, down_code, when, give_code, step_code}
+use Rattle.code_rules.specs.OwnCode.{pop_code, lift_code, drop_code, field_code, check_code, from_code, index_code, less, comparison, is_opposite, not_if, relation_code, operator_code, less_code, bound_code, within_code, size_for, size_after, without, rolls, arrange_from, arrange_code}
+use Rattle.code_rules.specs.Reading.{Coded}
+use Rattle.code_rules.specs.Slots.{load, store, load_within, store_within, clear, zero_code, copy_code, spread_code}
 use Rattle.code_blocks.specs.Own.{alone, left_of, IsFixed, IsOwn, AreOwn}
 
 effect_alone : (r : Routine) (x : Effect) → IsFixed x → effect_words alone x ≡ effect_words r x

@@ -17,10 +17,10 @@ use Rattle.mesa_types.specs.Nodes.{check_nodes, given_nodes}
 use Rattle.code_forms.specs.declared.instruction.Instruction.{Instruction}
 use Rattle.code_forms.specs.declared.instruction.Instruction.TheVariants as i
 use Rattle.code_forms.specs.Instructions.{bytes_of}
-use Rattle.code_relation.specs.Loops.{Counter, NoCounter, CountedIn, start_code, some_code, up_code, down_code, when, give_code, step_code}
-use Rattle.code_relation.specs.OwnCode.{pop_code, lift_code, drop_code, field_code, check_code, from_code, index_code, less, comparison, is_opposite, not_if, jump_where, relation_code, operator_code, less_code, bound_code, within_code, size_for, size_after, without, rolls, arrange_from, arrange_code}
-use Rattle.code_relation.specs.Reading.{Coded}
-use Rattle.code_relation.specs.Slots.{load, store, load_within, store_within, clear, zero_code, copy_code, spread_code}
+use Rattle.code_rules.specs.Loops.{Counter, NoCounter, CountedIn, start_code, some_code, up_code, down_code, when, give_code, step_code}
+use Rattle.code_rules.specs.OwnCode.{pop_code, lift_code, drop_code, field_code, check_code, from_code, index_code, less, comparison, is_opposite, not_if, jump_where, relation_code, operator_code, less_code, bound_code, within_code, size_for, size_after, without, rolls, arrange_from, arrange_code}
+use Rattle.code_rules.specs.Reading.{Coded}
+use Rattle.code_rules.specs.Slots.{load, store, load_within, store_within, clear, zero_code, copy_code, spread_code}
 use Rattle.code_blocks.specs.Own.{bytes_in}
 use Rattle.code_blocks.proofs.Bytes.{in_joined}
 

@@ -16,8 +16,8 @@ use Rattle.code_forms.specs.declared.instruction.Instruction.{Instruction}
 use Rattle.code_forms.specs.declared.region.Region.{Region}
 use Rattle.code_forms.specs.declared.region.Region.TheVariants.{Body}
 use Rattle.code_forms.specs.Routine.{Routine}
-use Rattle.code_relation.specs.Loops.{Counter, NoCounter, CountedIn, start_code, some_code, up_code, down_code, when, step_code}
-use Rattle.code_relation.specs.OwnCode.{pop_code, lift_code, drop_code, field_code, check_code, from_code, index_code, less, comparison, is_opposite, not_if, relation_code, operator_code, less_code, bound_code, within_code, size_for, size_after, without, rolls, arrange_from, arrange_code}
+use Rattle.code_rules.specs.Loops.{Counter, NoCounter, CountedIn, start_code, some_code, up_code, down_code, when, step_code}
+use Rattle.code_rules.specs.OwnCode.{pop_code, lift_code, drop_code, field_code, check_code, from_code, index_code, less, comparison, is_opposite, not_if, relation_code, operator_code, less_code, bound_code, within_code, size_for, size_after, without, rolls, arrange_from, arrange_code}
 use Rattle.code_blocks.specs.Translation.{within_of, start_of}
 use Rattle.code_blocks.proofs.Fits.{FitsIn, AllFit, all_fit_both, all_fit_if}
 

@@ -4,8 +4,8 @@ use Rattle.std.proofs.lemmas.Bool.{cases_lt, cases_eq, cases_order, lt-ltb, le-l
 use Rattle.mesa_types.specs.declared.typed_parts.Part.{Part}
 use Rattle.mesa_types.specs.Typed.{Kind, Kinds, NoKinds, AndKind}
 use Rattle.mesa_types.specs.Shapes.{words_in, words_in_all, words_before, count_in, KindAt}
-use Rattle.code_relation.specs.CodeFor.{words_taken, taken_behind, words_over}
-use Rattle.code_relation.specs.Slots.{words_at}
+use Rattle.code_rules.specs.CodeFor.{words_taken, taken_behind, words_over}
+use Rattle.code_rules.specs.Slots.{words_at}
 
 pub before_none : (ks : Kinds) → words_before ks 0 ≡ 0
 unfolding words_before

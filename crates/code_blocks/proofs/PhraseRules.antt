@@ -13,7 +13,7 @@ use Rattle.code_forms.specs.declared.module_code.Phrase.{Phrase}
 use Rattle.code_forms.specs.Phrases.{Nests, PhraseIsRight, PhrasesFill, first_start}
 use Rattle.code_forms.specs.Regions.{region_at}
 use Rattle.code_forms.specs.Routine.{spot_of, spots, IsStart}
-use Rattle.code_relation.specs.Modules.{procedures_of}
+use Rattle.code_rules.specs.Modules.{procedures_of}
 use Rattle.code_blocks.specs.Blocks.{Block, ArmBlocks, NoArmBlock, AndArmBlock}
 use Rattle.code_blocks.specs.Laws.{PhrasesStand}
 use Rattle.code_blocks.specs.Modules.{body_block, procedure_code}

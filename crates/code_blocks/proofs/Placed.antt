@@ -2,7 +2,7 @@
 use Rattle.std.proofs.Common.{◌≡◌, ap, ◌∙◌, ℕ, ◌+◌, inl, inr, [], length, arith}
 use Rattle.std.specs.Prelude.{slice_get}
 use Rattle.code_forms.specs.Routine.{Routine}
-use Rattle.code_relation.specs.Reading.{Coded}
+use Rattle.code_rules.specs.Reading.{Coded}
 use Rattle.code_blocks.specs.Blocks.{Block, ArmBlocks, NoArmBlock, AndArmBlock}
 use Rattle.code_blocks.specs.Sizes.{size}
 use Rattle.code_blocks.specs.Writing.{Env, in_arms, in_procedure, region}

@@ -7,7 +7,7 @@ use Rattle.mesa_types.specs.Shapes.{words_in_all, words_before, count_in, join}
 use Rattle.mesa_types.specs.Sound.{Sound, scope_of}
 use Rattle.mesa_types.specs.Typed.{Kind, Kinds, NoKinds, AndKind, Procedure, Module}
 use Rattle.code_forms.specs.Routine.{words_of}
-use Rattle.code_relation.specs.Modules.{procedures_of}
+use Rattle.code_rules.specs.Modules.{procedures_of}
 use Rattle.code_blocks.specs.Laws.{routine_in}
 use Rattle.code_blocks.specs.Modules.{uncoded, procedure_code, module_code}
 use Rattle.code_blocks.proofs.Coding.{BodyFine}

@@ -17,8 +17,8 @@ use Rattle.code_forms.specs.declared.module_code.CodeProcedure.{CodeProcedure}
 use Rattle.code_forms.specs.declared.module_code.Phrase.{Phrase}
 use Rattle.code_forms.specs.Phrases.{first_start}
 use Rattle.code_forms.specs.Ranges.{ArmInRange, PhraseInRange, ProcedureInRange, SignalInRange, LinkInRange, IsLinkWith, InOrder}
-use Rattle.code_relation.specs.Modules.{kind_code, words_of_fields, signal_code, link_code}
-use Rattle.code_relation.specs.Reading.{scratch}
+use Rattle.code_rules.specs.Modules.{kind_code, words_of_fields, signal_code, link_code}
+use Rattle.code_rules.specs.Reading.{scratch}
 use Rattle.code_blocks.specs.Laws.{RangesAreKept}
 use Rattle.code_blocks.specs.Modules.{uncoded, body_block, procedure_code, module_code}
 use Rattle.code_blocks.specs.Sizes.{phrase_count}

@@ -6,7 +6,7 @@ use Rattle.mesa_types.specs.declared.typed_parts.Label.TheVariants.{OnAny, OnUnw
 use Rattle.mesa_types.specs.Sound as sound
 use Rattle.mesa_types.specs.Sound.{Scope, Seen, Reaches, IsForRaises, labels_in, points_past}
 use Rattle.mesa_types.specs.Typed.{Point, Start, After, At, Exits}
-use Rattle.code_relation.specs.Agreement.{seen}
+use Rattle.code_rules.specs.Agreement.{seen}
 
 one_further : {X : Type 0} (x : X) (xs : List X) (z : X) → Contains xs z → Contains (x ∷ xs) z
 one_further x xs z (k, h, e) = (suc k, omega (h, arith), e)

@@ -1,6 +1,6 @@
 -- The code, the phrases and the regions that are written of calls, raises, catch phrases, arms and jumps out of arms.
 use Rattle.std.specs.Prelude.{◌≡◌, [], refl, ◌∷◌}
-use Rattle.code_relation.proofs.Made.{arm, at, exprs, import, kinds, local, phrase, plain_block, procedure, stmts, with_imports}
+use Rattle.code_rules.proofs.Made.{arm, at, exprs, import, kinds, local, phrase, plain_block, procedure, stmts, with_imports}
 use Rattle.mesa_types.specs.Counts.{hidden, hidden_arms, hidden_cases, hidden_condition, hidden_exits, hidden_expr, hidden_exprs, hidden_finish, hidden_interval, hidden_loop, hidden_operations, hidden_phrase, hidden_stmts, hidden_suffixes, hidden_targets, hidden_tests, last_words, words_given, words_of}
 use Rattle.mesa_types.specs.Operators.{differ}
 use Rattle.mesa_types.specs.Shapes.{join, words_before, words_in, words_in_all}

@@ -13,9 +13,9 @@ use Rattle.code_forms.specs.declared.region.Region.TheVariants.{Body, ArmOf}
 use Rattle.code_forms.specs.Operands.{ArmFits}
 use Rattle.code_forms.specs.Regions.{region_at, arm_in, arm_of}
 use Rattle.code_forms.specs.Routine.{Routine}
-use Rattle.code_relation.specs.Modules.{procedures_of}
-use Rattle.code_relation.specs.Points.{in_body, in_arm}
-use Rattle.code_relation.specs.Reading.{scratch}
+use Rattle.code_rules.specs.Modules.{procedures_of}
+use Rattle.code_rules.specs.Points.{in_body, in_arm}
+use Rattle.code_rules.specs.Reading.{scratch}
 use Rattle.code_blocks.specs.Blocks.{Block, ArmBlocks, NoArmBlock, AndArmBlock}
 use Rattle.code_blocks.specs.Laws.{routine_in, JumpsRight, JumpsAreRight, OperandsRight, OperandsAreInRange}
 use Rattle.code_blocks.specs.Modules.{uncoded, body_block, procedure_code, module_code}

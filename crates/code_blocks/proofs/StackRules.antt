@@ -6,8 +6,8 @@ use Rattle.mesa_types.specs.Typed.{Procedure, Module}
 use Rattle.code_forms.specs.declared.module_code.CodeEntry.{CodeEntry}
 use Rattle.code_forms.specs.declared.module_code.CodeProcedure.{CodeProcedure}
 use Rattle.code_forms.specs.Routine.{Routine, routine_with}
-use Rattle.code_relation.specs.Modules.{procedures_of}
-use Rattle.code_relation.specs.Reading.{scratch}
+use Rattle.code_rules.specs.Modules.{procedures_of}
+use Rattle.code_rules.specs.Reading.{scratch}
 use Rattle.code_blocks.specs.Laws.{StackStands, StacksStand}
 use Rattle.code_blocks.specs.Modules.{Parts, uncoded, body_block, procedure_code, module_code}
 use Rattle.code_blocks.specs.Regions.{Written, returning, first_region, with_arms, next_written, all_written, written}

@@ -7,9 +7,9 @@ use Rattle.mesa_types.specs.Shapes.{one}
 use Rattle.mesa_types.specs.Sound as sound
 use Rattle.mesa_types.specs.Sound.{Scope, a_word, CountIn, Selects, Reaches, ExprIn, ExprsIn, WordsIn, SuffixesIn, OperationsIn, IntervalIn, PhraseIn, ArmsIn, StmtIn, StmtsIn, TargetsIn, CasesIn, TestsIn, ExitsIn, LoopIn, FinishIn, ConditionIn}
 use Rattle.code_forms.specs.declared.instruction.Instruction.TheVariants as i
-use Rattle.code_relation.specs.CodeFor.{no_arms, and_arm}
-use Rattle.code_relation.specs.Loops.{Counter, NoCounter, CountedIn}
-use Rattle.code_relation.specs.Reading.{Coded, beyond, in_region}
+use Rattle.code_rules.specs.CodeFor.{no_arms, and_arm}
+use Rattle.code_rules.specs.Loops.{Counter, NoCounter, CountedIn}
+use Rattle.code_rules.specs.Reading.{Coded, beyond, in_region}
 use Rattle.code_blocks.specs.Blocks.{Does}
 use Rattle.code_blocks.specs.Sizes.{size, depth_behind}
 use Rattle.code_blocks.specs.Translation.{block}

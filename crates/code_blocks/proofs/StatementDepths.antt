@@ -6,11 +6,11 @@ use Rattle.mesa_types.specs.declared.typed_parts.Home.TheVariants.{Global, Local
 use Rattle.mesa_types.specs.Typed.{Exprs, Interval, Between}
 use Rattle.mesa_types.specs.Counts.{words_given}
 use Rattle.code_forms.specs.declared.instruction.Instruction.{Instruction}
-use Rattle.code_relation.specs.OwnCode.{pop_code, arrange_code}
-use Rattle.code_relation.specs.Loops.{start_code}
-use Rattle.code_relation.specs.Reading.{Coded}
-use Rattle.code_relation.specs.Slots.{store, store_within, zero_code, spread_code, sizes}
-use Rattle.code_relation.proofs.Depths.{own_code_keeps_words}
+use Rattle.code_rules.specs.OwnCode.{pop_code, arrange_code}
+use Rattle.code_rules.specs.Loops.{start_code}
+use Rattle.code_rules.specs.Reading.{Coded}
+use Rattle.code_rules.specs.Slots.{store, store_within, zero_code, spread_code, sizes}
+use Rattle.code_rules.proofs.Depths.{own_code_keeps_words}
 use Rattle.code_blocks.specs.Own.{left_of}
 use Rattle.code_blocks.specs.Translation.{start_of}
 use Rattle.code_blocks.proofs.Own.{left_same, left_both, zero_own, spread_own}

@@ -10,11 +10,11 @@ use Rattle.mesa_types.specs.Sound as sound
 use Rattle.mesa_types.specs.Sound.{Scope, a_word, ExprIn, ExprsIn, SuffixesIn, Reaches}
 use Rattle.code_forms.specs.declared.instruction.Instruction.{Instruction}
 use Rattle.code_forms.specs.declared.instruction.Instruction.TheVariants as i
-use Rattle.code_relation.specs.CodeFor.{with_mark, StmtCode, StmtsCode, ArmsCode, Onward, falls, jumps, null, marked, declare, declare_as, assign, assign_element, perform, if_else, jump, return_with, resume, reject, retry, continue, no_statements, and_statement, no_arms}
-use Rattle.code_relation.specs.OwnCode.{pop_code, arrange_code}
-use Rattle.code_relation.specs.Points.{OutOf, Points}
-use Rattle.code_relation.specs.Reading.{Coded, Destination, Place, Own, no_more, one_more, past, past_all, deeper, beyond, in_region, jump_to}
-use Rattle.code_relation.specs.Slots.{local_slot, store, store_within, clear, load, zero_code, copy_code, spread_code, fields_of, sizes}
+use Rattle.code_rules.specs.CodeFor.{with_mark, StmtCode, StmtsCode, ArmsCode, Onward, falls, jumps, null, marked, declare, declare_as, assign, assign_element, perform, if_else, jump, return_with, resume, reject, retry, continue, no_statements, and_statement, no_arms}
+use Rattle.code_rules.specs.OwnCode.{pop_code, arrange_code}
+use Rattle.code_rules.specs.Points.{OutOf, Points}
+use Rattle.code_rules.specs.Reading.{Coded, Destination, Place, Own, no_more, one_more, past, past_all, deeper, beyond, in_region, jump_to}
+use Rattle.code_rules.specs.Slots.{local_slot, store, store_within, clear, load, zero_code, copy_code, spread_code, fields_of, sizes}
 use Rattle.code_blocks.specs.Blocks as tree
 use Rattle.code_blocks.specs.Blocks.{Statement, Here, Anyhow, Does, Ends, Out, Goes, ◌▹◌}
 use Rattle.code_blocks.specs.Own.{bytes_in, left_of}

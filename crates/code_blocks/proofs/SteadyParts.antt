@@ -12,11 +12,11 @@ use Rattle.mesa_types.specs.Sound.{Scope, a_word, ExprIn, IntervalIn, TargetsIn}
 use Rattle.mesa_types.specs.Typed.{Kinds, Expr, Suffixes, Interval, Stmt, Null, Marked, Declare, DeclareAs, Assign, Extract, Perform, If, Select, Block, Repeat, For, Jump, ReturnWith, Resume, Reject, Retry, Continue, Targets, NoTargets, AndTarget, Cases, Otherwise, AndCase, Exits, NoExits, AndExit}
 use Rattle.code_forms.specs.declared.instruction.Instruction.TheVariants as i
 use Rattle.code_forms.specs.Routine.{Routine}
-use Rattle.code_relation.specs.CodeFor.{words_taken, words_over}
-use Rattle.code_relation.specs.Loops.{Counter, NoCounter, CountedIn, next_slot, step_code}
-use Rattle.code_relation.specs.OwnCode.{check_code, comparison}
-use Rattle.code_relation.specs.Reading.{Coded, scratch}
-use Rattle.code_relation.specs.Slots.{store, store_within, fields_of}
+use Rattle.code_rules.specs.CodeFor.{words_taken, words_over}
+use Rattle.code_rules.specs.Loops.{Counter, NoCounter, CountedIn, next_slot, step_code}
+use Rattle.code_rules.specs.OwnCode.{check_code, comparison}
+use Rattle.code_rules.specs.Reading.{Coded, scratch}
+use Rattle.code_rules.specs.Slots.{store, store_within, fields_of}
 use Rattle.code_blocks.specs.Blocks as tree
 use Rattle.code_blocks.specs.Blocks.{Here, Where, Does, Ends, Out, ◌▹◌}
 use Rattle.code_blocks.specs.Own.{left_of}

@@ -21,9 +21,9 @@ use Rattle.code_forms.specs.declared.instruction.Instruction.{Instruction}
 use Rattle.code_forms.specs.declared.instruction.Instruction.TheVariants as i
 use Rattle.code_forms.specs.Depths.{forward_target, backward_target, outward_target, is_return}
 use Rattle.code_forms.specs.Routine.{Routine, moves, goes_on, words, words_there, signal_words, link_words, is_error, is_error_signal, is_error_link}
-use Rattle.code_relation.specs.Links.{link_number, call_code, raise_code}
-use Rattle.code_relation.specs.Modules.{words_of_fields, kind_code, signal_code, link_code}
-use Rattle.code_relation.specs.OwnCode.{lift_code, check_code}
+use Rattle.code_rules.specs.Links.{link_number, call_code, raise_code}
+use Rattle.code_rules.specs.Modules.{words_of_fields, kind_code, signal_code, link_code}
+use Rattle.code_rules.specs.OwnCode.{lift_code, check_code}
 use Rattle.code_blocks.specs.Blocks.{Block, Labels, Here, Anyhow, Ends, Out, Rounds, ArmBlocks, NoArmBlock, AndArmBlock, ◌▹◌}
 use Rattle.code_blocks.specs.Sizes.{depth_behind}
 use Rattle.code_blocks.specs.Translation.{turned, answer, enabled}

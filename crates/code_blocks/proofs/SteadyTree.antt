@@ -13,14 +13,14 @@ use Rattle.mesa_types.proofs.Arranged.{arranged_words}
 use Rattle.mesa_types.proofs.WordSizes.{sizes_agree}
 use Rattle.code_forms.specs.declared.instruction.Instruction.TheVariants as i
 use Rattle.code_forms.specs.Routine.{Routine}
-use Rattle.code_relation.specs.CodeFor.{words_before_last}
-use Rattle.code_relation.specs.Links.{call_code, raise_code}
-use Rattle.code_relation.specs.Loops.{Counter, NoCounter, CountedIn, step_code}
-use Rattle.code_relation.specs.Modules.{words_of_fields}
-use Rattle.code_relation.specs.OwnCode.{field_code, check_code, index_code, comparison, relation_code, operator_code, arrange_code}
-use Rattle.code_relation.specs.Reading.{Coded, scratch}
-use Rattle.code_relation.specs.Slots.{load, load_within, fields_of, local_slot, sizes, zero_code}
-use Rattle.code_relation.proofs.Depths.{own_code_keeps_words}
+use Rattle.code_rules.specs.CodeFor.{words_before_last}
+use Rattle.code_rules.specs.Links.{call_code, raise_code}
+use Rattle.code_rules.specs.Loops.{Counter, NoCounter, CountedIn, step_code}
+use Rattle.code_rules.specs.Modules.{words_of_fields}
+use Rattle.code_rules.specs.OwnCode.{field_code, check_code, index_code, comparison, relation_code, operator_code, arrange_code}
+use Rattle.code_rules.specs.Reading.{Coded, scratch}
+use Rattle.code_rules.specs.Slots.{load, load_within, fields_of, local_slot, sizes, zero_code}
+use Rattle.code_rules.proofs.Depths.{own_code_keeps_words}
 use Rattle.code_blocks.specs.Blocks as tree
 use Rattle.code_blocks.specs.Blocks.{Labels, Here, Where, Does, Ends, Out, Rounds, ◌▹◌}
 use Rattle.code_blocks.specs.Own.{left_of}

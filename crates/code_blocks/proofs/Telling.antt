@@ -12,7 +12,7 @@ use Rattle.code_forms.specs.declared.region.Region.TheVariants.{Body, ArmOf}
 use Rattle.code_forms.specs.Phrases.{first_start}
 use Rattle.code_forms.specs.Regions.{later_arm, later_phrase, region_at}
 use Rattle.code_forms.proofs.Ordered.{some_bytes}
-use Rattle.code_relation.specs.Modules.{procedures_of}
+use Rattle.code_rules.specs.Modules.{procedures_of}
 use Rattle.code_blocks.specs.Blocks.{Block, ArmBlocks, NoArmBlock, AndArmBlock}
 use Rattle.code_blocks.specs.Laws.{RegionsTell, RegionsAreTold}
 use Rattle.code_blocks.specs.Modules.{body_block, procedure_code}

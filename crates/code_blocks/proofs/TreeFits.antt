@@ -13,12 +13,12 @@ use Rattle.mesa_types.specs.Sound.{Scope, a_word, VariableIn, Reaches, LabelsIn,
 use Rattle.mesa_types.proofs.Arranged.{arranged_words}
 use Rattle.mesa_types.proofs.WordSizes.{sizes_agree}
 use Rattle.code_forms.specs.Routine.{Routine}
-use Rattle.code_relation.specs.CodeFor.{words_taken, words_over}
-use Rattle.code_relation.specs.Loops.{Counter, NoCounter, CountedIn, next_slot}
-use Rattle.code_relation.specs.OwnCode.{lift_code, check_code, arrange_code}
-use Rattle.code_relation.specs.Points.{in_marked, in_arm}
-use Rattle.code_relation.specs.Reading.{Coded, scratch}
-use Rattle.code_relation.specs.Slots.{local_slot, zero_code, copy_code, spread_code, fields_of, sizes}
+use Rattle.code_rules.specs.CodeFor.{words_taken, words_over}
+use Rattle.code_rules.specs.Loops.{Counter, NoCounter, CountedIn, next_slot}
+use Rattle.code_rules.specs.OwnCode.{lift_code, check_code, arrange_code}
+use Rattle.code_rules.specs.Points.{in_marked, in_arm}
+use Rattle.code_rules.specs.Reading.{Coded, scratch}
+use Rattle.code_rules.specs.Slots.{local_slot, zero_code, copy_code, spread_code, fields_of, sizes}
 use Rattle.code_blocks.specs.Blocks as tree
 use Rattle.code_blocks.specs.Blocks.{◌▹◌}
 use Rattle.code_blocks.specs.Translation.{has_index, head_code, gives_next, past_else, past_cases, past_exits, is_last, is_endless, forms, values, operands, bounds, operations, path, caught_by, arm_blocks, block, blocks, targets, selected, cases, tests, exits, loop, condition, finish}

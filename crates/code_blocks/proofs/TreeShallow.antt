@@ -18,12 +18,12 @@ use Rattle.mesa_types.specs.Sound.{Scope, a_word, Fits, CountIn, Selects, Variab
 use Rattle.mesa_types.proofs.WordSizes.{sizes_agree, values_have_words}
 use Rattle.code_forms.specs.declared.instruction.Instruction.{Instruction}
 use Rattle.code_forms.specs.declared.instruction.Instruction.TheVariants as i
-use Rattle.code_relation.specs.CodeFor.{words_before_last, words_taken, words_over}
-use Rattle.code_relation.specs.Loops.{Counter, NoCounter, CountedIn, next_slot, give_code, step_code}
-use Rattle.code_relation.specs.OwnCode.{pop_code, lift_code, field_code, check_code, index_code, comparison, relation_code, operator_code, arrange_code}
-use Rattle.code_relation.specs.Reading.{Coded, scratch}
-use Rattle.code_relation.specs.Slots.{local_slot, store, store_within, load, zero_code, spread_code, fields_of, sizes}
-use Rattle.code_relation.proofs.Depths.{own_code_keeps_words}
+use Rattle.code_rules.specs.CodeFor.{words_before_last, words_taken, words_over}
+use Rattle.code_rules.specs.Loops.{Counter, NoCounter, CountedIn, next_slot, give_code, step_code}
+use Rattle.code_rules.specs.OwnCode.{pop_code, lift_code, field_code, check_code, index_code, comparison, relation_code, operator_code, arrange_code}
+use Rattle.code_rules.specs.Reading.{Coded, scratch}
+use Rattle.code_rules.specs.Slots.{local_slot, store, store_within, load, zero_code, spread_code, fields_of, sizes}
+use Rattle.code_rules.proofs.Depths.{own_code_keeps_words}
 use Rattle.code_blocks.specs.Blocks as tree
 use Rattle.code_blocks.specs.Blocks.{ArmBlocks, NoArmBlock, AndArmBlock, ◌▹◌}
 use Rattle.code_blocks.specs.Own.{left_of}

@@ -25,12 +25,12 @@ use Rattle.mesa_types.specs.Sound.{Scope, a_word, HasTest, Placed, Arranged, Exp
 use Rattle.code_forms.specs.declared.instruction.Instruction.{Instruction}
 use Rattle.code_forms.specs.declared.instruction.Instruction.TheVariants as i
 use Rattle.code_forms.specs.Instructions.{bytes_of}
-use Rattle.code_relation.specs.CodeFor.{words_before_last, words_taken, words_over}
-use Rattle.code_relation.specs.Links.{call_code, raise_code, label_code}
-use Rattle.code_relation.specs.Loops.{Counter, NoCounter, CountedIn, next_slot, step_code}
-use Rattle.code_relation.specs.OwnCode.{lift_code, check_code, is_opposite, arrange_code}
-use Rattle.code_relation.specs.Reading.{Coded, scratch}
-use Rattle.code_relation.specs.Slots.{local_slot, load, store, load_within, store_within, fields_of, sizes}
+use Rattle.code_rules.specs.CodeFor.{words_before_last, words_taken, words_over}
+use Rattle.code_rules.specs.Links.{call_code, raise_code, label_code}
+use Rattle.code_rules.specs.Loops.{Counter, NoCounter, CountedIn, next_slot, step_code}
+use Rattle.code_rules.specs.OwnCode.{lift_code, check_code, is_opposite, arrange_code}
+use Rattle.code_rules.specs.Reading.{Coded, scratch}
+use Rattle.code_rules.specs.Slots.{local_slot, load, store, load_within, store_within, fields_of, sizes}
 use Rattle.code_blocks.specs.Blocks as tree
 use Rattle.code_blocks.specs.Blocks.{Where, Does, ArmBlocks, ◌▹◌}
 use Rattle.code_blocks.specs.Heaviness.{weight, caught_weight, arms_weight}

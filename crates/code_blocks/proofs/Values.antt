@@ -15,12 +15,12 @@ use Rattle.mesa_types.specs.Sound.{Scope, a_word, FieldsIn, ExprIn, ExprsIn, Wor
 use Rattle.mesa_types.proofs.WordSizes.{sizes_agree}
 use Rattle.code_forms.specs.declared.instruction.Instruction.{Instruction}
 use Rattle.code_forms.specs.Depths.{depth_after}
-use Rattle.code_relation.specs.CodeFor.{words_before_last}
-use Rattle.code_relation.specs.Laws.{left_by}
-use Rattle.code_relation.specs.OwnCode.{check_code, field_code, comparison, relation_code, operator_code, within_code, arrange_code, index_code, total}
-use Rattle.code_relation.specs.Reading.{Coded, scratch}
-use Rattle.code_relation.specs.Slots.{load, load_within, fields_of, sizes}
-use Rattle.code_relation.proofs.Depths.{own_code_keeps_words}
+use Rattle.code_rules.specs.CodeFor.{words_before_last}
+use Rattle.code_rules.specs.Laws.{left_by}
+use Rattle.code_rules.specs.OwnCode.{check_code, field_code, comparison, relation_code, operator_code, within_code, arrange_code, index_code, total}
+use Rattle.code_rules.specs.Reading.{Coded, scratch}
+use Rattle.code_rules.specs.Slots.{load, load_within, fields_of, sizes}
+use Rattle.code_rules.proofs.Depths.{own_code_keeps_words}
 use Rattle.code_blocks.specs.Blocks.{Block, Where, Does, Out, ◌▹◌}
 use Rattle.code_blocks.specs.Own.{alone, left_of}
 use Rattle.code_blocks.specs.Sizes.{depth_behind}

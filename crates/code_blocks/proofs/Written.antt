@@ -1,7 +1,7 @@
 -- How the examples are written.
 use Rattle.std.specs.Prelude.{◌+◌}
 use Rattle.mesa_types.specs.Typed.{Stmt}
-use Rattle.code_relation.specs.Reading.{Coded, scratch}
+use Rattle.code_rules.specs.Reading.{Coded, scratch}
 use Rattle.code_blocks.specs.Regions.{Written, written}
 use Rattle.code_blocks.specs.Translation.{block}
 

@@ -18,7 +18,7 @@ use Rattle.code_forms.specs.Operands.{OperandsAreRight}
 use Rattle.code_forms.specs.Routine.{Routine, routine_with, spot_of, spots}
 use Rattle.code_forms.specs.Ranges.{KeepsRanges, InOrder}
 use Rattle.code_forms.specs.Valid.{AreValid, HaveDepths}
-use Rattle.code_relation.specs.Modules.{PartsFor}
+use Rattle.code_rules.specs.Modules.{PartsFor}
 use Rattle.code_blocks.specs.Modules.{Parts, module_code}
 use Rattle.code_blocks.specs.Weights.{procedures_bytes}
 

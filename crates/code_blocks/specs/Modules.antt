@@ -9,8 +9,8 @@ use Rattle.code_forms.specs.declared.module_code.CodeEntry.{CodeEntry}
 use Rattle.code_forms.specs.declared.module_code.CodeLink.{CodeLink}
 use Rattle.code_forms.specs.declared.module_code.CodeProcedure.{CodeProcedure}
 use Rattle.code_forms.specs.declared.module_code.CodeSignal.{CodeSignal}
-use Rattle.code_relation.specs.Modules.{words_of_fields, signal_code, link_code, procedures_of}
-use Rattle.code_relation.specs.Reading.{Coded, scratch}
+use Rattle.code_rules.specs.Modules.{words_of_fields, signal_code, link_code, procedures_of}
+use Rattle.code_rules.specs.Reading.{Coded, scratch}
 use Rattle.code_blocks.specs.Blocks.{Block}
 use Rattle.code_blocks.specs.Translation.{without_code, block}
 use Rattle.code_blocks.specs.Regions.{Written, written}

@@ -5,8 +5,8 @@ use Rattle.mesa_types.specs.Typed.{Point, Start, After, At, Leave}
 use Rattle.code_forms.specs.declared.instruction.Instruction.{Instruction}
 use Rattle.code_forms.specs.declared.instruction.Instruction.TheVariants as i
 use Rattle.code_forms.specs.Instructions.{bytes_of}
-use Rattle.code_relation.specs.OwnCode.{jump_where}
-use Rattle.code_relation.specs.Reading.{Offset, Caller, jump_to}
+use Rattle.code_rules.specs.OwnCode.{jump_where}
+use Rattle.code_rules.specs.Reading.{Offset, Caller, jump_to}
 use Rattle.code_blocks.specs.Own.{bytes_in, left_of}
 use Rattle.code_blocks.specs.Blocks.{Mark, Statement, Labels, Here, Leap, Anyhow, Where, Block, Does, Calls, Both, Ends, Out, Goes, Rounds, Enables, ArmBlocks, NoArmBlock, AndArmBlock}
 

@@ -14,12 +14,12 @@ use Rattle.mesa_types.specs.Shapes.{words_in}
 use Rattle.mesa_types.specs.Counts.{hidden, hidden_expr, hidden_exprs, hidden_suffixes, hidden_interval, hidden_phrase, hidden_stmts, hidden_targets, hidden_tests, hidden_exits, hidden_condition, words_of, words_given, last_words}
 use Rattle.code_forms.specs.declared.instruction.Instruction.{Instruction}
 use Rattle.code_forms.specs.declared.instruction.Instruction.TheVariants as i
-use Rattle.code_relation.specs.CodeFor.{words_before_last, words_taken, words_over}
-use Rattle.code_relation.specs.Links.{call_code, raise_code, label_code}
-use Rattle.code_relation.specs.Loops.{Counter, NoCounter, CountedIn, start_code, give_code, next_slot, step_code}
-use Rattle.code_relation.specs.OwnCode.{pop_code, lift_code, field_code, check_code, index_code, comparison, is_opposite, relation_code, operator_code, within_code, arrange_code}
-use Rattle.code_relation.specs.Reading.{Coded, scratch}
-use Rattle.code_relation.specs.Slots.{words_from, local_slot, load, store, load_within, store_within, fields_of, zero_code, spread_code, sizes}
+use Rattle.code_rules.specs.CodeFor.{words_before_last, words_taken, words_over}
+use Rattle.code_rules.specs.Links.{call_code, raise_code, label_code}
+use Rattle.code_rules.specs.Loops.{Counter, NoCounter, CountedIn, start_code, give_code, next_slot, step_code}
+use Rattle.code_rules.specs.OwnCode.{pop_code, lift_code, field_code, check_code, index_code, comparison, is_opposite, relation_code, operator_code, within_code, arrange_code}
+use Rattle.code_rules.specs.Reading.{Coded, scratch}
+use Rattle.code_rules.specs.Slots.{words_from, local_slot, load, store, load_within, store_within, fields_of, zero_code, spread_code, sizes}
 use Rattle.code_blocks.specs.Blocks as tree
 use Rattle.code_blocks.specs.Own.{alone}
 use Rattle.code_blocks.specs.Blocks.{Statement, Labels, Here, Anyhow, Where, Does, Calls, Ends, Out, Goes, Rounds, Enables, ArmBlocks, NoArmBlock, AndArmBlock, nothing, ◌▹◌}

@@ -7,8 +7,8 @@ use Rattle.code_forms.specs.declared.module_code.CodeEntry.{CodeEntry}
 use Rattle.code_forms.specs.declared.module_code.Phrase.{Phrase}
 use Rattle.code_forms.specs.Instructions.{bytes_of}
 use Rattle.code_forms.specs.Depths.{depth_after}
-use Rattle.code_relation.specs.Points.{Way, NoWay, OutOf, Points, in_body, in_marked, in_labelled, in_arm, is_among}
-use Rattle.code_relation.specs.Reading.{Destination, Offset, Caller}
+use Rattle.code_rules.specs.Points.{Way, NoWay, OutOf, Points, in_body, in_marked, in_labelled, in_arm, is_among}
+use Rattle.code_rules.specs.Reading.{Destination, Offset, Caller}
 use Rattle.code_blocks.specs.Blocks.{Mark, Statement, Labels, Here, Block, Does, Calls, Both, Ends, Out, Goes, Rounds, Enables, ArmBlocks, NoArmBlock, AndArmBlock, ◌▹◌}
 use Rattle.code_blocks.specs.Own.{alone}
 use Rattle.code_blocks.specs.Sizes.{size, leap_to, goes_to, depth_behind}

@@ -11,15 +11,15 @@ use Rattle.mesa_types.specs.Shapes.{join, words_in_all}
 use Rattle.mesa_types.specs.Sound.{Sound}
 use Rattle.mesa_types.specs.Typed.{Kinds, Module, NoKinds, AndKind, Procedure}
 use Rattle.code_forms.specs.declared.module_code.CodeProcedure.{CodeProcedure}
-use Rattle.code_relation.specs.Modules.{procedures_of}
-use Rattle.code_relation.specs.Reading.{Coded, scratch}
+use Rattle.code_rules.specs.Modules.{procedures_of}
+use Rattle.code_rules.specs.Reading.{Coded, scratch}
 use Rattle.code_blocks.specs.Modules.{body_block, procedure_code, uncoded}
 use Rattle.code_blocks.specs.Translation.{without_code}
 use Rattle.code_blocks.proofs.RangeRules.{ranges_are_kept}
-use Rattle.block_trees.specs.Excess.{excess}
-use Rattle.block_trees.proofs.VariableStarts.{words_of_three}
-use Rattle.block_ranges.specs.Ranges.{BodiesAreInRange}
-use Rattle.block_writer.specs.Bounds.{BodiesCanBeWritten}
+use Rattle.code_trees.specs.Excess.{excess}
+use Rattle.code_trees.proofs.VariableStarts.{words_of_three}
+use Rattle.code_ranges.specs.Ranges.{BodiesAreInRange}
+use Rattle.code_writer.specs.Bounds.{BodiesCanBeWritten}
 use Rattle.frame_code.specs.Rooms.{HasRoom}
 
 module _ (in_range : BodiesAreInRange) (can_be_written : BodiesCanBeWritten)

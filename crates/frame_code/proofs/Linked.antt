@@ -8,7 +8,7 @@ use Rattle.mesa_types.specs.declared.faces.Item.{Item}
 use Rattle.mesa_types.specs.Links.{items_used, links_of}
 use Rattle.mesa_types.specs.Sound.{HeadIn, FaceIn, ImportIn}
 use Rattle.code_forms.specs.declared.module_code.CodeLink.{CodeLink}
-use Rattle.code_relation.specs.Modules.{link_code}
+use Rattle.code_rules.specs.Modules.{link_code}
 use Rattle.code_blocks.proofs.Linking.{used_first}
 
 used_none : (items : List Item) (n : ℕ) (ns : List ℕ) → slice_get items n ≡ None → items_used items (n ∷ ns) ≡ items_used items ns

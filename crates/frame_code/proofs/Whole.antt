@@ -8,7 +8,7 @@ use Rattle.mesa_types.specs.Typed.{Module}
 use Rattle.code_forms.specs.declared.module_code.CodeLink.{CodeLink}
 use Rattle.code_forms.specs.declared.module_code.CodeProcedure.{CodeProcedure}
 use Rattle.code_forms.specs.declared.module_code.CodeSignal.{CodeSignal}
-use Rattle.code_relation.specs.Modules.{signal_code, link_code, procedures_of}
+use Rattle.code_rules.specs.Modules.{signal_code, link_code, procedures_of}
 use Rattle.code_blocks.specs.Laws.{StandFor}
 use Rattle.code_blocks.specs.Modules.{Parts, procedure_code, module_code}
 use Rattle.code_blocks.proofs.Translated.{modules_are_translated}

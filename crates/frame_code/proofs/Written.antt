@@ -6,15 +6,15 @@ use Rattle.std.specs.Prelude.{slice_get}
 use Rattle.mesa_types.specs.Counts.{hidden}
 use Rattle.mesa_types.specs.Typed.{Module, Procedure, Stmt}
 use Rattle.code_forms.specs.declared.module_code.CodeProcedure.{CodeProcedure}
-use Rattle.code_relation.specs.Modules.{words_of_fields}
-use Rattle.code_relation.specs.Reading.{Coded, scratch}
+use Rattle.code_rules.specs.Modules.{words_of_fields}
+use Rattle.code_rules.specs.Reading.{Coded, scratch}
 use Rattle.code_blocks.specs.Blocks.{Block}
 use Rattle.code_blocks.specs.Modules.{body_block, procedure_code, uncoded}
 use Rattle.code_blocks.specs.Translation.{block}
-use Rattle.block_trees.specs.Excess.{excess}
-use Rattle.block_writer.specs.Bounds.{CanBeWritten}
-use Rattle.block_writer.specs.declared.procedure.FrameWords.{FrameWords}
-use Rattle.block_writer.specs.Procedures.{words_of}
+use Rattle.code_trees.specs.Excess.{excess}
+use Rattle.code_writer.specs.Bounds.{CanBeWritten}
+use Rattle.code_writer.specs.declared.procedure.FrameWords.{FrameWords}
+use Rattle.code_writer.specs.Procedures.{words_of}
 use Rattle.frame_code.specs.Rooms.{HasRoom}
 
 abbrev with_words : (args results frame : ℕ) → FrameWords

@@ -2,13 +2,13 @@
 use Rattle.std.specs.Prelude.{◌≡◌, ◌+◌, ◌≤◌}
 use Rattle.mesa_types.specs.Counts.{hidden}
 use Rattle.mesa_types.specs.Typed.{Module, Procedure}
-use Rattle.code_relation.specs.Modules.{words_of_fields}
-use Rattle.code_relation.specs.Reading.{Coded, scratch}
+use Rattle.code_rules.specs.Modules.{words_of_fields}
+use Rattle.code_rules.specs.Reading.{Coded, scratch}
 use Rattle.code_blocks.specs.Translation.{block}
-use Rattle.block_trees.specs.Excess.{excess}
-use Rattle.block_trees.specs.Routines.{kinds_laid}
-use Rattle.block_trees.specs.declared.routine.Routine.{Routine}
-use Rattle.block_writer.specs.Bounds.{CanBeWritten}
+use Rattle.code_trees.specs.Excess.{excess}
+use Rattle.code_trees.specs.Routines.{kinds_laid}
+use Rattle.code_trees.specs.declared.routine.Routine.{Routine}
+use Rattle.code_writer.specs.Bounds.{CanBeWritten}
 
 -- the words of a procedure's parameters, results and frame have 16 bits, each number of its block has the bits of its type, and what is
 -- written of the block is short and shallow enough

@@ -1,7 +1,7 @@
 //! The procedures of a module by number, its body among them.
 ghost use Rattle.std.specs.Prelude.{◌≡◌, suc, ◌≤◌, length, Some, slice_get};
 ghost use Rattle.mesa_types.specs.Plain.{plain};
-ghost use Rattle.code_relation.specs.Modules.{procedures_of};
+ghost use Rattle.code_rules.specs.Modules.{procedures_of};
 ghost use Rattle.frame_code.specs.Heads.{procedure_in};
 
 use mesa_base::Name;

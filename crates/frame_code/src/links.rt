@@ -2,7 +2,7 @@
 ghost use Rattle.std.specs.Prelude.{◌≡◌, ◌++◌, ◌∷◌, [], map, All, IfOk, OnOk};
 ghost use Rattle.mesa_types.specs.Links.{items_used, links_of};
 ghost use Rattle.mesa_types.specs.Sound.{HeadIn, ImportIn};
-ghost use Rattle.code_relation.specs.Modules.{link_code};
+ghost use Rattle.code_rules.specs.Modules.{link_code};
 
 use crate::signals::kind_of;
 use crate::words::all_words;

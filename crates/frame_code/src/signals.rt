@@ -1,7 +1,7 @@
 //! The signals of a module.
 ghost use Rattle.std.specs.Prelude.{◌≡◌, map, All, IfOk};
 ghost use Rattle.mesa_types.specs.Sound.{SignalIn};
-ghost use Rattle.code_relation.specs.Modules.{kind_code, signal_code};
+ghost use Rattle.code_rules.specs.Modules.{kind_code, signal_code};
 
 use crate::words::few_words;
 use code_forms::{CodeKind, CodeSignal, CodeSignals};

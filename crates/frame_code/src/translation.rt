@@ -3,7 +3,7 @@ ghost use Rattle.std.specs.Prelude.{◌≡◌, ◌≤◌, map, IfOk};
 ghost use Rattle.mesa_types.specs.Nodes.{nodes};
 ghost use Rattle.mesa_types.specs.Plain.{plain};
 ghost use Rattle.mesa_types.specs.Sound.{Sound};
-ghost use Rattle.code_relation.specs.Modules.{procedures_of};
+ghost use Rattle.code_rules.specs.Modules.{procedures_of};
 ghost use Rattle.code_blocks.specs.Modules.{procedure_code};
 ghost use Rattle.frame_code.specs.Code.{IsCodeOf};
 

@@ -1,7 +1,7 @@
 //! The words of parameters and results.
 ghost use Rattle.std.specs.Prelude.{◌≡◌, ◌+◌, ◌≤◌, All, IfOk};
 ghost use Rattle.mesa_types.specs.Types.{IsWithinLimits, types_in};
-ghost use Rattle.code_relation.specs.Modules.{words_of_fields};
+ghost use Rattle.code_rules.specs.Modules.{words_of_fields};
 
 use mesa_base::OutOfMemory;
 use mesa_types::{FieldType, fields_words, size_words};

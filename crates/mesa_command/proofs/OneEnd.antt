@@ -6,10 +6,10 @@ use Rattle.mesa_types.specs.Typed.{Module}
 use Rattle.source_meaning.specs.Program.{Program, single}
 use Rattle.source_meaning.specs.Means.{Means, outcome}
 use Rattle.source_meaning.specs.State.{End, Answer, Normal, Gives, Go, Resumed, Rejected, Retried, Continued, Uncaught, Spent, FrameLimit, Broken}
-use Rattle.image_runs.specs.declared.outcome.Outcome.{Outcome}
-use Rattle.machine_steps.specs.declared.end.End as machine
-use Rattle.machine_steps.specs.declared.end.End.TheVariants as end
-use Rattle.image_runs.specs.Running.{AreBytes, IsInput}
+use Rattle.frame_machine.specs.declared.outcome.Outcome.{Outcome}
+use Rattle.machine_rules.specs.declared.end.End as machine
+use Rattle.machine_rules.specs.declared.end.End.TheVariants as end
+use Rattle.frame_machine.specs.Running.{AreBytes, IsInput}
 use Rattle.mesa_command.specs.Outputs.{HasFaulted, PrintsAll}
 use Rattle.mesa_command.specs.Worlds.{Scene}
 use Rattle.mesa_command.specs.Shown.{IsShownAs, case_of_end}

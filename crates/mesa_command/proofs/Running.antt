@@ -7,11 +7,11 @@ use Rattle.mesa_types.specs.declared.faces.Item.{Item}
 use Rattle.mesa_types.specs.Typed.{Module}
 use Rattle.source_meaning.specs.Program.{Signal, SignalOf, BoundsFault, ZeroDivisor, NoInput, Unnamed, instance_of, module_of, or_else, single}
 use Rattle.source_meaning.specs.State.{Answer, Normal, Gives, Go, Resumed, Rejected, Retried, Continued, Uncaught, Spent, FrameLimit, Broken}
-use Rattle.code_simulation.specs.Agreement.{EndsAs, id_of}
-use Rattle.machine_steps.specs.declared.end.End.{End}
-use Rattle.machine_steps.specs.declared.end.End.TheVariants as end
-use Rattle.machine_steps.specs.State as machine
-use Rattle.image_runs.specs.declared.outcome.Outcome.{Outcome}
+use Rattle.agreement_rules.specs.Agreement.{EndsAs, id_of}
+use Rattle.machine_rules.specs.declared.end.End.{End}
+use Rattle.machine_rules.specs.declared.end.End.TheVariants as end
+use Rattle.machine_rules.specs.State as machine
+use Rattle.frame_machine.specs.declared.outcome.Outcome.{Outcome}
 use Rattle.module_runs.specs.declared.fault.ModuleFault.{ModuleFault}
 use Rattle.module_runs.specs.declared.fault.ModuleFault.TheVariants as fault
 use Rattle.module_runs.specs.Coded.{BreaksInCode, CompletesInCode, CutsInCode}

@@ -4,9 +4,9 @@ use Rattle.std.specs.Prelude.{◌≡◌, ℕ, ◌+◌, List, Some, IfSome}
 use Rattle.mesa_base.specs.Outside.{Rose}
 use Rattle.mesa_types.specs.Typed.{Module}
 use Rattle.source_meaning.specs.Program.{single}
-use Rattle.image_runs.specs.declared.outcome.Outcome.{Outcome}
-use Rattle.image_runs.specs.Running.{AreBytes}
-use Rattle.meant_runs.specs.Meant.{Ran, BrokenOff, CutOff}
+use Rattle.frame_machine.specs.declared.outcome.Outcome.{Outcome}
+use Rattle.frame_machine.specs.Running.{AreBytes}
+use Rattle.linked_run.specs.Meant.{Ran, BrokenOff, CutOff}
 use Rattle.module_runs.specs.Coded.{BreaksInCode, CompletesInCode, CutsInCode}
 use Rattle.mesa_command.specs.Outputs.{HasFaulted}
 use Rattle.mesa_command.specs.Worlds.{Scene}

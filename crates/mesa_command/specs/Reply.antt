@@ -1,7 +1,7 @@
 -- The case that a reply of the code is, and the bytes of the pieces of its line.
 use Rattle.std.specs.Prelude.{ℕ, List, [], ◌∷◌, ◌++◌, Result, Ok, Err, codes, decimal}
 use Rattle.mesa_types.specs.Typed.{Module}
-use Rattle.image_runs.specs.declared.outcome.Outcome.{Outcome}
+use Rattle.frame_machine.specs.declared.outcome.Outcome.{Outcome}
 use Rattle.module_runs.specs.declared.fault.ModuleFault.{ModuleFault}
 use Rattle.module_runs.specs.declared.fault.ModuleFault.TheVariants as fault
 use Rattle.mesa_command.specs.Case as c

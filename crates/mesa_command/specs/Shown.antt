@@ -7,8 +7,8 @@ use Rattle.source_meaning.specs.State as s
 use Rattle.source_meaning.specs.State.{Answer}
 use Rattle.signaller.specs.declared.signal_id.SignalId.{SignalId}
 use Rattle.signaller.specs.declared.signal_id.SignalId.TheVariants as id
-use Rattle.machine_steps.specs.declared.end.End as machine
-use Rattle.machine_steps.specs.declared.end.End.TheVariants as end
+use Rattle.machine_rules.specs.declared.end.End as machine
+use Rattle.machine_rules.specs.declared.end.End.TheVariants as end
 use Rattle.mesa_command.specs.Case.{Case, Done, Uncaught, Spent, FrameLimit}
 
 -- the names of a path and a last name, with dots between

@@ -7,13 +7,13 @@ use Rattle.mesa_lexer.specs.declared.fault.SyntaxFault.{SyntaxFault}
 use Rattle.mesa_lexer.specs.declared.fault.SyntaxFault.TheVariants as f
 use Rattle.token_cursor.specs.Parsing.{Why, Unexpected, TooDeep, Got, Stop}
 use Rattle.mesa_types.specs.declared.syntax.Module.{Module}
-use Rattle.module_productions.specs.ReadModules as r
+use Rattle.grammar_rules.specs.ReadModules as r
 use Rattle.token_cursor.specs.declared.fault.Stopped.{Stopped}
 use Rattle.token_cursor.specs.declared.fault.Stopped.TheVariants as h
 use Rattle.token_cursor.specs.Running.{why_of, fault_of}
-use Rattle.module_productions.specs.Answer as a
-use Rattle.module_productions.specs.Answer.{Parses, FaultAt, IsFault, HasSyntaxFault, Answer, Tree, Fault, Answers, place_at, place_of}
-use Rattle.module_productions.proofs.Whole as w
+use Rattle.grammar_rules.specs.Answer as a
+use Rattle.grammar_rules.specs.Answer.{Parses, FaultAt, IsFault, HasSyntaxFault, Answer, Tree, Fault, Answers, place_at, place_of}
+use Rattle.grammar_rules.proofs.Whole as w
 
 -- the tokens that are left are those from the fault on
 rest_at : (ts rest : List Token) (why : Why) → r.text ts ≡ Stop why rest → drop (length ts - length rest) ts ≡ rest

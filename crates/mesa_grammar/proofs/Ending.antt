@@ -4,9 +4,9 @@ use Rattle.mesa_base.specs.declared.place.Place.{Place}
 use Rattle.mesa_lexer.specs.declared.token.Token.{Token}
 use Rattle.token_cursor.specs.Parsing.{Got, Stop, Unexpected}
 use Rattle.mesa_types.specs.declared.syntax.Module.{Module}
-use Rattle.module_productions.specs.Answer.{place_at}
+use Rattle.grammar_rules.specs.Answer.{place_at}
 use Rattle.token_cursor.specs.Running.{next}
-use Rattle.module_productions.specs.ReadModules.{at_end}
+use Rattle.grammar_rules.specs.ReadModules.{at_end}
 
 pub ended_none : (x : Module) (ts : List Token) → next ts ≡ None → at_end x ts ≡ Got x ts
 unfolding next

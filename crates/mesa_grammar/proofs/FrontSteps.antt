@@ -10,16 +10,16 @@ use Rattle.mesa_types.specs.declared.syntax.Defined.{Defined}
 use Rattle.mesa_types.specs.declared.syntax.Labeled.{Labeled}
 use Rattle.token_cursor.specs.Parsing.{Out, Got, Stop, Parser, ◌>>=◌, ◌>>◌, and_then, pure, a_name, need, choose, many_turn}
 use Rattle.token_cursor.specs.ReadNames.{names_from}
-use Rattle.module_productions.specs.Grammar.{labeled}
+use Rattle.grammar_rules.specs.Grammar.{labeled}
 use Rattle.mesa_grammar.specs.ReadItems.{definition}
 use Rattle.token_cursor.proofs.Loops.{Eats}
 use Rattle.token_cursor.specs.Running.{taken, behind}
 use Rattle.token_cursor.proofs.Choosing.{choose_some, if_true}
-use Rattle.module_productions.specs.ReadNested.{identifier}
-use Rattle.module_productions.specs.ReadStatements.{nested, semicolon}
-use Rattle.module_productions.specs.ReadModules as tx
-use Rattle.module_productions.proofs.Levels.{all_of}
-use Rattle.module_productions.proofs.KeepModules as km
+use Rattle.grammar_rules.specs.ReadNested.{identifier}
+use Rattle.grammar_rules.specs.ReadStatements.{nested, semicolon}
+use Rattle.grammar_rules.specs.ReadModules as tx
+use Rattle.grammar_rules.proofs.Levels.{all_of}
+use Rattle.grammar_rules.proofs.KeepModules as km
 
 pub front_eats : (n : ℕ) → Eats (tx.front_turn (nested n))
 front_eats n = km.front_eats n (nested n) (all_of n)

@@ -7,10 +7,10 @@ use Rattle.mesa_types.specs.declared.syntax.Labeled.{Labeled}
 use Rattle.mesa_types.specs.declared.syntax.Defined.{Defined}
 use Rattle.token_cursor.specs.Parsing.{Parser, ◌>>=◌, ◌>>◌, pure, need}
 use Rattle.token_cursor.specs.ReadNames.{names_from}
-use Rattle.module_productions.specs.Grammar.{labeled}
-use Rattle.module_productions.specs.ReadNested.{Nested}
-use Rattle.module_productions.specs.ReadStatements.{semicolon}
-use Rattle.module_productions.specs.ReadModules as r
+use Rattle.grammar_rules.specs.Grammar.{labeled}
+use Rattle.grammar_rules.specs.ReadNested.{Nested}
+use Rattle.grammar_rules.specs.ReadStatements.{semicolon}
+use Rattle.grammar_rules.specs.ReadModules as r
 
 -- an item with its names, of which the first was taken
 unfoldable pub definition : Nested → Identifier → Parser (Labeled (List Identifier) Defined)

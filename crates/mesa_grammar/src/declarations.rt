@@ -3,23 +3,23 @@
 ghost use Rattle.std.specs.Prelude.{◌≡◌};
 ghost use Rattle.token_cursor.specs.Running.{Reads};
 ghost use Rattle.token_cursor.specs.Parsing.{repeat};
-ghost use Rattle.module_productions.specs.ReadStatements.{nested};
-ghost use Rattle.module_productions.specs.ReadModules as spec;
-ghost use Rattle.statement_parser.specs.ReadTurns.{ReadsTurn};
+ghost use Rattle.grammar_rules.specs.ReadStatements.{nested};
+ghost use Rattle.grammar_rules.specs.ReadModules as spec;
+ghost use Rattle.grammar_statements.specs.ReadTurns.{ReadsTurn};
 
 use crate::nesting::Grammar;
-use expression_parser::NestedParsers;
+use grammar_expressions::NestedParsers;
+use grammar_statements::Turn;
+use grammar_tokens::begins::declares;
+use grammar_tokens::words_and_marks::takes_accessing;
 use held_trees::{LetGo, both, pushed};
 use mesa_base::{Identifier, List};
 use mesa_lexer::Mark;
 use mesa_types::syntax::{Access, Declaration, Declarations, Inner, Statements};
-use module_tokens::begins::declares;
-use module_tokens::words_and_marks::takes_accessing;
-use statement_parser::Turn;
 use token_cursor::naming::names_from;
 use token_cursor::{Cursor, Stopped};
 
-#[tactic(auto, using(token_cursor::proofs::Choosing::choose_none, token_cursor::proofs::Choosing::choose_some), unfolding(module_productions::specs::ReadModules::access))]
+#[tactic(auto, using(token_cursor::proofs::Choosing::choose_none, token_cursor::proofs::Choosing::choose_some), unfolding(grammar_rules::specs::ReadModules::access))]
 fn access(tokens: &mut Cursor<'_>) -> Result<Option<Access>, Stopped>
     ensures { Reads (spec.access tokens.old.rest.now) result tokens.new.rest.now }
 {
@@ -31,7 +31,7 @@ fn access(tokens: &mut Cursor<'_>) -> Result<Option<Access>, Stopped>
 
 impl<N: NestedParsers> Grammar<N> {
     /// A declaration, whose first name was taken.
-    #[tactic(auto, unfolding(module_productions::specs::ReadModules::declaration))]
+    #[tactic(auto, unfolding(grammar_rules::specs::ReadModules::declaration))]
     fn declaration(
         &self,
         tokens: &mut Cursor<'_>,
@@ -54,7 +54,7 @@ impl<N: NestedParsers> Grammar<N> {
     }
 
     /// The statements behind these declarations.
-    #[tactic(auto, unfolding(module_productions::specs::ReadModules::front_end))]
+    #[tactic(auto, unfolding(grammar_rules::specs::ReadModules::front_end))]
     fn behind_front(
         &self,
         tokens: &mut Cursor<'_>,
@@ -68,7 +68,7 @@ impl<N: NestedParsers> Grammar<N> {
     }
 
     /// A declaration or the statements behind these, whose first name was taken.
-    #[tactic(auto, using(token_cursor::proofs::Choosing::when_true, token_cursor::proofs::Choosing::when_false), unfolding(module_productions::specs::ReadModules::front_from))]
+    #[tactic(auto, using(token_cursor::proofs::Choosing::when_true, token_cursor::proofs::Choosing::when_false), unfolding(grammar_rules::specs::ReadModules::front_from))]
     fn named_turn(
         &self,
         tokens: &mut Cursor<'_>,
@@ -87,7 +87,7 @@ impl<N: NestedParsers> Grammar<N> {
     }
 
     /// One more declaration behind these, or the statements.
-    #[tactic(auto, using(token_cursor::proofs::Choosing::choose_none, token_cursor::proofs::Choosing::choose_some, token_cursor::proofs::Choosing::if_true, token_cursor::proofs::Choosing::if_false), unfolding(module_productions::specs::ReadModules::front_turn))]
+    #[tactic(auto, using(token_cursor::proofs::Choosing::choose_none, token_cursor::proofs::Choosing::choose_some, token_cursor::proofs::Choosing::if_true, token_cursor::proofs::Choosing::if_false), unfolding(grammar_rules::specs::ReadModules::front_turn))]
     fn turn(&self, tokens: &mut Cursor<'_>, all: Declarations) -> Result<Turn<Declaration>, Stopped>
         requires { N.parse_at self.now.statements.level.nested self.now.statements.level.depth }
         ensures { ReadsTurn (spec.front_turn (nested self.now.statements.level.depth) all tokens.old.rest.now) result tokens.new.rest.now }
@@ -123,7 +123,7 @@ impl<N: NestedParsers> Grammar<N> {
         }
     }
 
-    #[tactic(auto, unfolding(module_productions::specs::ReadModules::inner))]
+    #[tactic(auto, unfolding(grammar_rules::specs::ReadModules::inner))]
     pub fn inner(&self, tokens: &mut Cursor<'_>) -> Result<Inner, Stopped>
         requires { N.parse_at self.now.statements.level.nested self.now.statements.level.depth }
         ensures { Reads (spec.inner (nested self.now.statements.level.depth) tokens.old.rest.now) result tokens.new.rest.now }

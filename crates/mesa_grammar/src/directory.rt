@@ -3,8 +3,8 @@
 ghost use Rattle.std.specs.Prelude.{◌≡◌};
 ghost use Rattle.token_cursor.specs.Running.{Reads};
 ghost use Rattle.token_cursor.specs.Parsing.{many};
-ghost use Rattle.module_productions.specs.ReadNested.{comma};
-ghost use Rattle.module_productions.specs.ReadModules as spec;
+ghost use Rattle.grammar_rules.specs.ReadNested.{comma};
+ghost use Rattle.grammar_rules.specs.ReadModules as spec;
 
 use held_trees::{both, pushed};
 use mesa_base::{Identifiers, List, Placed};
@@ -14,7 +14,7 @@ use std::alloc::Global;
 use token_cursor::naming::{named, names};
 use token_cursor::{Cursor, Stopped};
 
-#[tactic(auto, using(token_cursor::proofs::Choosing::choose_none, token_cursor::proofs::Choosing::choose_some), unfolding(module_productions::specs::ReadModules::opened))]
+#[tactic(auto, using(token_cursor::proofs::Choosing::choose_none, token_cursor::proofs::Choosing::choose_some), unfolding(grammar_rules::specs::ReadModules::opened))]
 pub fn opened(alloc: Global, tokens: &mut Cursor<'_>) -> Result<Identifiers, Stopped>
     ensures { Reads (spec.opened tokens.old.rest.now) result tokens.new.rest.now }
 {
@@ -29,7 +29,7 @@ pub fn opened(alloc: Global, tokens: &mut Cursor<'_>) -> Result<Identifiers, Sto
 }
 
 /// The names behind this word, where it comes.
-#[tactic(auto, using(token_cursor::proofs::Choosing::choose_none, token_cursor::proofs::Choosing::choose_some), unfolding(module_productions::specs::ReadModules::listed))]
+#[tactic(auto, using(token_cursor::proofs::Choosing::choose_none, token_cursor::proofs::Choosing::choose_some), unfolding(grammar_rules::specs::ReadModules::listed))]
 pub fn listed(alloc: Global, tokens: &mut Cursor<'_>, word: Word) -> Result<Identifiers, Stopped>
     ensures { Reads (spec.listed word tokens.old.rest.now) result tokens.new.rest.now }
 {
@@ -39,7 +39,7 @@ pub fn listed(alloc: Global, tokens: &mut Cursor<'_>, word: Word) -> Result<Iden
     }
 }
 
-#[tactic(auto, using(token_cursor::proofs::Choosing::choose_none, token_cursor::proofs::Choosing::choose_some), unfolding(module_productions::specs::ReadModules::using_names))]
+#[tactic(auto, using(token_cursor::proofs::Choosing::choose_none, token_cursor::proofs::Choosing::choose_some), unfolding(grammar_rules::specs::ReadModules::using_names))]
 fn using_names(alloc: Global, tokens: &mut Cursor<'_>) -> Result<Option<Identifiers>, Stopped>
     ensures { Reads (spec.using_names tokens.old.rest.now) result tokens.new.rest.now }
 {
@@ -54,7 +54,7 @@ fn using_names(alloc: Global, tokens: &mut Cursor<'_>) -> Result<Option<Identifi
 }
 
 /// The names that a module may use of an interface, where it says them.
-#[tactic(auto, using(token_cursor::proofs::Choosing::choose_none, token_cursor::proofs::Choosing::choose_some), unfolding(module_productions::specs::ReadModules::using))]
+#[tactic(auto, using(token_cursor::proofs::Choosing::choose_none, token_cursor::proofs::Choosing::choose_some), unfolding(grammar_rules::specs::ReadModules::using))]
 fn used(alloc: Global, tokens: &mut Cursor<'_>) -> Result<Option<Identifiers>, Stopped>
     ensures { Reads (spec.using tokens.old.rest.now) result tokens.new.rest.now }
 {
@@ -67,7 +67,7 @@ fn used(alloc: Global, tokens: &mut Cursor<'_>) -> Result<Option<Identifiers>, S
     }
 }
 
-#[tactic(auto, using(token_cursor::proofs::Choosing::choose_none, token_cursor::proofs::Choosing::choose_some), unfolding(module_productions::specs::ReadModules::item, module_productions::specs::ReadModules::file))]
+#[tactic(auto, using(token_cursor::proofs::Choosing::choose_none, token_cursor::proofs::Choosing::choose_some), unfolding(grammar_rules::specs::ReadModules::item, grammar_rules::specs::ReadModules::file))]
 fn item(alloc: Global, tokens: &mut Cursor<'_>) -> Result<DirectoryItem, Stopped>
     ensures { Reads (spec.item tokens.old.rest.now) result tokens.new.rest.now }
 {
@@ -91,7 +91,7 @@ fn item(alloc: Global, tokens: &mut Cursor<'_>) -> Result<DirectoryItem, Stopped
 }
 
 /// Further items behind these.
-#[tactic(auto, using(token_cursor::proofs::Taking::many_by, module_productions::proofs::KeepModules::items_eats))]
+#[tactic(auto, using(token_cursor::proofs::Taking::many_by, grammar_rules::proofs::KeepModules::items_eats))]
 fn more_items(
     alloc: Global,
     tokens: &mut Cursor<'_>,
@@ -106,7 +106,7 @@ fn more_items(
     Ok(all)
 }
 
-#[tactic(auto, unfolding(module_productions::specs::ReadModules::items))]
+#[tactic(auto, unfolding(grammar_rules::specs::ReadModules::items))]
 fn items(alloc: Global, tokens: &mut Cursor<'_>) -> Result<Directory, Stopped>
     ensures { Reads (spec.items tokens.old.rest.now) result tokens.new.rest.now }
 {
@@ -117,7 +117,7 @@ fn items(alloc: Global, tokens: &mut Cursor<'_>) -> Result<Directory, Stopped>
     Ok(all)
 }
 
-#[tactic(auto, using(token_cursor::proofs::Choosing::choose_none, token_cursor::proofs::Choosing::choose_some), unfolding(module_productions::specs::ReadModules::directory))]
+#[tactic(auto, using(token_cursor::proofs::Choosing::choose_none, token_cursor::proofs::Choosing::choose_some), unfolding(grammar_rules::specs::ReadModules::directory))]
 pub fn interfaces(alloc: Global, tokens: &mut Cursor<'_>) -> Result<Directory, Stopped>
     ensures { Reads (spec.directory tokens.old.rest.now) result tokens.new.rest.now }
 {

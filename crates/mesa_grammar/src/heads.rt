@@ -2,21 +2,21 @@
 
 ghost use Rattle.std.specs.Prelude.{◌≡◌};
 ghost use Rattle.token_cursor.specs.Running.{Reads};
-ghost use Rattle.module_productions.specs.ReadStatements.{nested};
-ghost use Rattle.module_productions.specs.ReadModules as spec;
+ghost use Rattle.grammar_rules.specs.ReadStatements.{nested};
+ghost use Rattle.grammar_rules.specs.ReadModules as spec;
 
 use crate::nesting::Grammar;
-use expression_parser::NestedParsers;
+use grammar_expressions::NestedParsers;
+use grammar_statements::BlockEnd;
+use grammar_tokens::words_and_marks::takes_procedure_word;
 use held_trees::both;
 use mesa_lexer::{Mark, Word};
 use mesa_types::syntax::{Block, Declared, FieldList, Head};
-use module_tokens::words_and_marks::takes_procedure_word;
-use statement_parser::BlockEnd;
 use token_cursor::{Cursor, Stopped};
 
 impl<N: NestedParsers> Grammar<N> {
     /// Parameters behind their bracket.
-    #[tactic(auto, using(token_cursor::proofs::Choosing::choose_none, token_cursor::proofs::Choosing::choose_some), unfolding(module_productions::specs::ReadModules::in_params))]
+    #[tactic(auto, using(token_cursor::proofs::Choosing::choose_none, token_cursor::proofs::Choosing::choose_some), unfolding(grammar_rules::specs::ReadModules::in_params))]
     fn in_params(&self, tokens: &mut Cursor<'_>) -> Result<Option<FieldList>, Stopped>
         requires { N.parse_at self.now.statements.level.nested self.now.statements.level.depth }
         ensures { Reads (spec.in_params (nested self.now.statements.level.depth) tokens.old.rest.now) result tokens.new.rest.now }
@@ -31,7 +31,7 @@ impl<N: NestedParsers> Grammar<N> {
         }
     }
 
-    #[tactic(auto, using(token_cursor::proofs::Choosing::choose_none, token_cursor::proofs::Choosing::choose_some), unfolding(module_productions::specs::ReadModules::params))]
+    #[tactic(auto, using(token_cursor::proofs::Choosing::choose_none, token_cursor::proofs::Choosing::choose_some), unfolding(grammar_rules::specs::ReadModules::params))]
     pub fn params(&self, tokens: &mut Cursor<'_>) -> Result<Option<FieldList>, Stopped>
         requires { N.parse_at self.now.statements.level.nested self.now.statements.level.depth }
         ensures { Reads (spec.params (nested self.now.statements.level.depth) tokens.old.rest.now) result tokens.new.rest.now }
@@ -42,7 +42,7 @@ impl<N: NestedParsers> Grammar<N> {
         }
     }
 
-    #[tactic(auto, using(token_cursor::proofs::Choosing::choose_none, token_cursor::proofs::Choosing::choose_some), unfolding(module_productions::specs::ReadModules::returns))]
+    #[tactic(auto, using(token_cursor::proofs::Choosing::choose_none, token_cursor::proofs::Choosing::choose_some), unfolding(grammar_rules::specs::ReadModules::returns))]
     fn results(&self, tokens: &mut Cursor<'_>) -> Result<Option<FieldList>, Stopped>
         requires { N.parse_at self.now.statements.level.nested self.now.statements.level.depth }
         ensures { Reads (spec.returns (nested self.now.statements.level.depth) tokens.old.rest.now) result tokens.new.rest.now }
@@ -56,7 +56,7 @@ impl<N: NestedParsers> Grammar<N> {
         }
     }
 
-    #[tactic(auto, unfolding(module_productions::specs::ReadModules::head))]
+    #[tactic(auto, unfolding(grammar_rules::specs::ReadModules::head))]
     pub fn head(&self, tokens: &mut Cursor<'_>) -> Result<Head, Stopped>
         requires { N.parse_at self.now.statements.level.nested self.now.statements.level.depth }
         ensures { Reads (spec.head (nested self.now.statements.level.depth) tokens.old.rest.now) result tokens.new.rest.now }
@@ -66,7 +66,7 @@ impl<N: NestedParsers> Grammar<N> {
         Ok(Head { takes, gives })
     }
 
-    #[tactic(auto, using(token_cursor::proofs::Choosing::choose_none, token_cursor::proofs::Choosing::choose_some), unfolding(module_productions::specs::ReadModules::block))]
+    #[tactic(auto, using(token_cursor::proofs::Choosing::choose_none, token_cursor::proofs::Choosing::choose_some), unfolding(grammar_rules::specs::ReadModules::block))]
     fn any_block(&self, tokens: &mut Cursor<'_>) -> Result<Block, Stopped>
         requires { N.parse_at self.now.statements.level.nested self.now.statements.level.depth }
         ensures { Reads (spec.block (nested self.now.statements.level.depth) tokens.old.rest.now) result tokens.new.rest.now }
@@ -80,7 +80,7 @@ impl<N: NestedParsers> Grammar<N> {
         }
     }
 
-    #[tactic(auto, unfolding(module_productions::specs::ReadModules::procedure))]
+    #[tactic(auto, unfolding(grammar_rules::specs::ReadModules::procedure))]
     fn procedure(&self, tokens: &mut Cursor<'_>) -> Result<Declared, Stopped>
         requires { N.parse_at self.now.statements.level.nested self.now.statements.level.depth }
         ensures { Reads (spec.procedure (nested self.now.statements.level.depth) tokens.old.rest.now) result tokens.new.rest.now }
@@ -91,7 +91,7 @@ impl<N: NestedParsers> Grammar<N> {
         Ok(Declared::Procedure(head, body))
     }
 
-    #[tactic(auto, unfolding(module_productions::specs::ReadModules::signal))]
+    #[tactic(auto, unfolding(grammar_rules::specs::ReadModules::signal))]
     fn signal(&self, tokens: &mut Cursor<'_>) -> Result<Declared, Stopped>
         requires { N.parse_at self.now.statements.level.nested self.now.statements.level.depth }
         ensures { Reads (spec.signal (nested self.now.statements.level.depth) tokens.old.rest.now) result tokens.new.rest.now }
@@ -102,7 +102,7 @@ impl<N: NestedParsers> Grammar<N> {
         Ok(Declared::Signal(head))
     }
 
-    #[tactic(auto, unfolding(module_productions::specs::ReadModules::error))]
+    #[tactic(auto, unfolding(grammar_rules::specs::ReadModules::error))]
     fn error(&self, tokens: &mut Cursor<'_>) -> Result<Declared, Stopped>
         requires { N.parse_at self.now.statements.level.nested self.now.statements.level.depth }
         ensures { Reads (spec.error (nested self.now.statements.level.depth) tokens.old.rest.now) result tokens.new.rest.now }
@@ -113,7 +113,7 @@ impl<N: NestedParsers> Grammar<N> {
         Ok(Declared::Error(takes))
     }
 
-    #[tactic(auto, using(token_cursor::proofs::Choosing::choose_none, token_cursor::proofs::Choosing::choose_some), unfolding(module_productions::specs::ReadModules::declared))]
+    #[tactic(auto, using(token_cursor::proofs::Choosing::choose_none, token_cursor::proofs::Choosing::choose_some), unfolding(grammar_rules::specs::ReadModules::declared))]
     pub fn declared(&self, tokens: &mut Cursor<'_>) -> Result<Declared, Stopped>
         requires { N.parse_at self.now.statements.level.nested self.now.statements.level.depth }
         ensures { Reads (spec.declared (nested self.now.statements.level.depth) tokens.old.rest.now) result tokens.new.rest.now }

@@ -2,23 +2,23 @@
 
 ghost use Rattle.std.specs.Prelude.{◌≡◌};
 ghost use Rattle.token_cursor.specs.Running.{Reads};
-ghost use Rattle.module_productions.specs.ReadStatements.{nested};
-ghost use Rattle.module_productions.specs.ReadModules as spec;
+ghost use Rattle.grammar_rules.specs.ReadStatements.{nested};
+ghost use Rattle.grammar_rules.specs.ReadModules as spec;
 ghost use Rattle.mesa_grammar.specs.ReadItems as items;
 
 use crate::nesting::Grammar;
-use expression_parser::NestedParsers;
+use grammar_expressions::NestedParsers;
+use grammar_rules::Begun;
+use grammar_tokens::words_and_marks::takes_procedure_word;
 use held_trees::{LetGo, both, pushed};
 use mesa_base::{Identifier, Identifiers, List};
 use mesa_lexer::{Mark, Word};
 use mesa_types::syntax::{Defined, Definitions, Labeled};
-use module_productions::Begun;
-use module_tokens::words_and_marks::takes_procedure_word;
 use token_cursor::naming::names_from;
 use token_cursor::{Cursor, Stopped};
 
 impl<N: NestedParsers> Grammar<N> {
-    #[tactic(auto, unfolding(module_productions::specs::ReadModules::constant))]
+    #[tactic(auto, unfolding(grammar_rules::specs::ReadModules::constant))]
     fn constant(&self, tokens: &mut Cursor<'_>) -> Result<Defined, Stopped>
         requires { N.parse_at self.now.statements.level.nested self.now.statements.level.depth }
         ensures { Reads (spec.constant (nested self.now.statements.level.depth) tokens.old.rest.now) result tokens.new.rest.now }
@@ -29,7 +29,7 @@ impl<N: NestedParsers> Grammar<N> {
         Ok(Defined::ConstantItem(of, value))
     }
 
-    #[tactic(auto, unfolding(module_productions::specs::ReadModules::type_item))]
+    #[tactic(auto, unfolding(grammar_rules::specs::ReadModules::type_item))]
     fn type_item(&self, tokens: &mut Cursor<'_>) -> Result<Defined, Stopped>
         requires { N.parse_at self.now.statements.level.nested self.now.statements.level.depth }
         ensures { Reads (spec.type_item (nested self.now.statements.level.depth) tokens.old.rest.now) result tokens.new.rest.now }
@@ -39,7 +39,7 @@ impl<N: NestedParsers> Grammar<N> {
         Ok(Defined::TypeItem(is))
     }
 
-    #[tactic(auto, using(token_cursor::proofs::Choosing::choose_none, token_cursor::proofs::Choosing::choose_some), unfolding(module_productions::specs::ReadModules::defined))]
+    #[tactic(auto, using(token_cursor::proofs::Choosing::choose_none, token_cursor::proofs::Choosing::choose_some), unfolding(grammar_rules::specs::ReadModules::defined))]
     fn defined(&self, tokens: &mut Cursor<'_>) -> Result<Defined, Stopped>
         requires { N.parse_at self.now.statements.level.nested self.now.statements.level.depth }
         ensures { Reads (spec.defined (nested self.now.statements.level.depth) tokens.old.rest.now) result tokens.new.rest.now }
@@ -91,7 +91,7 @@ impl<N: NestedParsers> Grammar<N> {
         Ok(pushed(all, item)?)
     }
 
-    #[tactic(auto, using(token_cursor::proofs::Taking::many_by, crate::proofs::FrontSteps::definitions_eats), unfolding(module_productions::specs::ReadModules::definitions))]
+    #[tactic(auto, using(token_cursor::proofs::Taking::many_by, crate::proofs::FrontSteps::definitions_eats), unfolding(grammar_rules::specs::ReadModules::definitions))]
     pub fn definitions(&self, tokens: &mut Cursor<'_>) -> Result<Definitions, Stopped>
         requires { N.parse_at self.now.statements.level.nested self.now.statements.level.depth }
         ensures { Reads (spec.definitions (nested self.now.statements.level.depth) tokens.old.rest.now) result tokens.new.rest.now }

@@ -2,12 +2,12 @@
 
 ghost use Rattle.std.specs.Prelude.{◌≡◌};
 ghost use Rattle.token_cursor.specs.Running.{Reads};
-ghost use Rattle.module_productions.specs.ReadStatements.{nested};
-ghost use Rattle.module_productions.specs.ReadModules as spec;
+ghost use Rattle.grammar_rules.specs.ReadStatements.{nested};
+ghost use Rattle.grammar_rules.specs.ReadModules as spec;
 
 use crate::directory::{interfaces, listed, opened};
 use crate::nesting::Grammar;
-use expression_parser::NestedParsers;
+use grammar_expressions::NestedParsers;
 use held_trees::both;
 use mesa_base::Place;
 use mesa_lexer::{Mark, Word};
@@ -17,7 +17,7 @@ use token_cursor::{Cursor, Stopped};
 
 impl<N: NestedParsers> Grammar<N> {
     /// A program behind its word.
-    #[tactic(auto, unfolding(module_productions::specs::ReadModules::program))]
+    #[tactic(auto, unfolding(grammar_rules::specs::ReadModules::program))]
     fn program(&self, tokens: &mut Cursor<'_>, place: Place) -> Result<ModuleKind, Stopped>
         requires { N.parse_at self.now.statements.level.nested self.now.statements.level.depth }
         ensures { Reads (spec.program (nested self.now.statements.level.depth) place tokens.old.rest.now) result tokens.new.rest.now }
@@ -41,7 +41,7 @@ impl<N: NestedParsers> Grammar<N> {
     }
 
     /// An interface behind its word.
-    #[tactic(auto, unfolding(module_productions::specs::ReadModules::interface))]
+    #[tactic(auto, unfolding(grammar_rules::specs::ReadModules::interface))]
     fn interface(&self, tokens: &mut Cursor<'_>, place: Place) -> Result<ModuleKind, Stopped>
         requires { N.parse_at self.now.statements.level.nested self.now.statements.level.depth }
         ensures { Reads (spec.interface (nested self.now.statements.level.depth) place tokens.old.rest.now) result tokens.new.rest.now }
@@ -59,7 +59,7 @@ impl<N: NestedParsers> Grammar<N> {
         })
     }
 
-    #[tactic(auto, using(token_cursor::proofs::Choosing::choose_none, token_cursor::proofs::Choosing::choose_some), unfolding(module_productions::specs::ReadModules::kind))]
+    #[tactic(auto, using(token_cursor::proofs::Choosing::choose_none, token_cursor::proofs::Choosing::choose_some), unfolding(grammar_rules::specs::ReadModules::kind))]
     fn module_kind(&self, tokens: &mut Cursor<'_>) -> Result<ModuleKind, Stopped>
         requires { N.parse_at self.now.statements.level.nested self.now.statements.level.depth }
         ensures { Reads (spec.kind (nested self.now.statements.level.depth) tokens.old.rest.now) result tokens.new.rest.now }
@@ -73,7 +73,7 @@ impl<N: NestedParsers> Grammar<N> {
         }
     }
 
-    #[tactic(auto, unfolding(module_productions::specs::ReadModules::module_text))]
+    #[tactic(auto, unfolding(grammar_rules::specs::ReadModules::module_text))]
     pub fn module_text(&self, tokens: &mut Cursor<'_>) -> Result<Module, Stopped>
         requires { N.parse_at self.now.statements.level.nested self.now.statements.level.depth }
         ensures { Reads (spec.module_text (nested self.now.statements.level.depth) tokens.old.rest.now) result tokens.new.rest.now }

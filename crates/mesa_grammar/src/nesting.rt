@@ -1,4 +1,4 @@
-use statement_parser::StatementParser;
+use grammar_statements::StatementParser;
 
 /// The parsers of declarations and modules, over those of statements.
 #[derive(Clone, Copy)]

@@ -2,22 +2,22 @@
 ghost use Rattle.std.specs.Prelude.{◌≡◌, ◌≢◌, if◌then◌else◌, IfErr, IfOk, MatchResult};
 ghost use Rattle.mesa_lexer.specs.declared.fault.SyntaxFault.{SyntaxFault};
 ghost use Rattle.mesa_types.specs.declared.syntax.Module.{Module};
-ghost use Rattle.module_productions.specs.Answer.{HasSyntaxFault, Parses, place_at};
+ghost use Rattle.grammar_rules.specs.Answer.{HasSyntaxFault, Parses, place_at};
 ghost use Rattle.token_cursor.specs.Running.{Reads, fault_of};
-ghost use Rattle.module_productions.specs.ReadStatements.{nested};
-ghost use Rattle.module_productions.specs.ReadModules as texts;
+ghost use Rattle.grammar_rules.specs.ReadStatements.{nested};
+ghost use Rattle.grammar_rules.specs.ReadModules as texts;
 
 use crate::nesting::Grammar;
-use expression_parser::{Level, ParserFunctions};
+use grammar_expressions::{Level, ParserFunctions};
+use grammar_rules::Begun;
+use grammar_statements::StatementParser;
+use grammar_tokens::begins::{begins_expr, begins_stmt, begins_type};
 use held_trees::LetGo;
 use mesa_base::limits::NESTING;
 use mesa_base::{Identifier, Place};
 use mesa_lexer::{SyntaxFault, Tokens};
 use mesa_types::Module;
 use mesa_types::syntax::{Expr, Statement, TypeExp};
-use module_productions::Begun;
-use module_tokens::begins::{begins_expr, begins_stmt, begins_type};
-use statement_parser::StatementParser;
 use std::alloc::Global;
 use token_cursor::{Cursor, Stopped};
 
@@ -103,7 +103,7 @@ fn type_exp(
     .any_type(tokens, begun)
 }
 
-#[tactic(auto, using(crate::proofs::Ending::ended_none, crate::proofs::Ending::ended_some), unfolding(module_productions::specs::ReadModules::text, module_productions::specs::ReadModules::limit))]
+#[tactic(auto, using(crate::proofs::Ending::ended_none, crate::proofs::Ending::ended_some), unfolding(grammar_rules::specs::ReadModules::text, grammar_rules::specs::ReadModules::limit))]
 fn text(alloc: Global, tokens: &mut Cursor<'_>) -> Result<Module, Stopped>
     ensures { Reads (texts.text tokens.old.rest.now) result tokens.new.rest.now }
 {

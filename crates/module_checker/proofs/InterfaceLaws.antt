@@ -5,10 +5,10 @@ use Rattle.interface_records.specs.declared.interface.NamedType.{NamedType}
 use Rattle.mesa_types.specs.Syntax as s
 use Rattle.mesa_types.specs.declared.faces.Item.{Item}
 use Rattle.mesa_types.specs.declared.types.FieldType.{FieldType, roll-FieldType, out-FieldType, roll-out-FieldType}
-use Rattle.checking_rules.specs.CheckedModule.{defined_as}
-use Rattle.checking_rules.specs.PlainTypes.{constant_of, field_of, interface_of, item_of, named_of, plain_constant, plain_field, plain_item, plain_name}
-use Rattle.check_words.proofs.TypeBack.{back}
-use Rattle.check_words.proofs.TypeForms.{parts_of_field}
+use Rattle.check_rules.specs.CheckedModule.{defined_as}
+use Rattle.check_rules.specs.PlainTypes.{constant_of, field_of, interface_of, item_of, named_of, plain_constant, plain_field, plain_item, plain_name}
+use Rattle.check_state.proofs.TypeBack.{back}
+use Rattle.check_state.proofs.TypeForms.{parts_of_field}
 
 all_back : {A B : Type 0} (f : A → B) (g : B → A) → ((x : A) → g (f x) ≡ x) → (xs : List A) → map g (map f xs) ≡ xs
 all_back f g h [] = refl

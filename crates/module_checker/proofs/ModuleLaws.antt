@@ -9,12 +9,12 @@ use Rattle.mesa_types.specs.declared.syntax.Module.{Module}
 use Rattle.mesa_types.specs.declared.syntax.ModuleKind.{ModuleKind}
 use Rattle.mesa_types.specs.declared.syntax.ModuleKind.TheVariants.{Program}
 use Rattle.interface_records.specs.declared.interface.Interface.{Interface}
-use Rattle.checking_rules.specs.Typed as t
-use Rattle.checking_rules.specs.CheckedModule as spec
-use Rattle.checking_rules.specs.CheckedModule.{checked}
-use Rattle.checking_rules.specs.PlainTypes.{PlainInterface, plain_interface}
-use Rattle.checking_rules.specs.Programs.{Whole}
-use Rattle.checking_rules.specs.Steps.{State, Checked, and_then}
+use Rattle.check_rules.specs.Typed as t
+use Rattle.check_rules.specs.CheckedModule as spec
+use Rattle.check_rules.specs.CheckedModule.{checked}
+use Rattle.check_rules.specs.PlainTypes.{PlainInterface, plain_interface}
+use Rattle.check_rules.specs.Programs.{Whole}
+use Rattle.check_rules.specs.Steps.{State, Checked, and_then}
 use Rattle.check_programs.specs.Shown.{Shown, shown}
 use Rattle.module_checker.specs.Modules.{kept_texts, module_of, read}
 

@@ -5,13 +5,13 @@ use Rattle.mesa_base.specs.declared.limits.TheConstants.{DISTINCT_STRINGS}
 use Rattle.mesa_types.specs.Syntax as s
 use Rattle.mesa_types.specs.declared.faces.Export.{Export}
 use Rattle.mesa_types.specs.declared.faces.Import.{Import}
-use Rattle.checking_rules.specs.Typed as t
-use Rattle.checking_rules.specs.CheckedModule.{whole_of}
-use Rattle.checking_rules.specs.Directory.{those_of}
-use Rattle.checking_rules.specs.Mentions.{of_kind, texts}
-use Rattle.checking_rules.specs.PlainTypes.{PlainInterface, item_of}
-use Rattle.checking_rules.specs.Programs.{Offer, exported, imported}
-use Rattle.checking_rules.specs.Steps.{Checked, and_then}
+use Rattle.check_rules.specs.Typed as t
+use Rattle.check_rules.specs.CheckedModule.{whole_of}
+use Rattle.check_rules.specs.Directory.{those_of}
+use Rattle.check_rules.specs.Mentions.{of_kind, texts}
+use Rattle.check_rules.specs.PlainTypes.{PlainInterface, item_of}
+use Rattle.check_rules.specs.Programs.{Offer, exported, imported}
+use Rattle.check_rules.specs.Steps.{Checked, and_then}
 use Rattle.check_programs.specs.Shown.{Shown, shown}
 
 abbrev pub imports_of : s.Module → List PlainInterface → List Identifier → List (List Bool) → List Import

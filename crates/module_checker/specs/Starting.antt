@@ -2,15 +2,15 @@
 use Rattle.std.specs.Prelude.{ℕ, Bool, false, true, List, [], ◌∷◌, Some, None}
 use Rattle.mesa_base.specs.declared.identifier.Identifier.{Identifier}
 use Rattle.mesa_types.specs.Syntax as s
-use Rattle.checking_rules.specs.CheckedModule.{known_of, start}
-use Rattle.checking_rules.specs.Definitions as d
-use Rattle.checking_rules.specs.Directory.{directory_scope, offered, opened, predeclared, those_of}
-use Rattle.checking_rules.specs.Meanings.{Meaning}
-use Rattle.checking_rules.specs.PlainTypes.{PlainInterface}
-use Rattle.checking_rules.specs.Programs.{ahead, unused}
-use Rattle.checking_rules.specs.Scopes.{Scope, nothing}
-use Rattle.checking_rules.specs.Steps.{State}
-use Rattle.checking_rules.specs.Typed.{NoKinds}
+use Rattle.check_rules.specs.CheckedModule.{known_of, start}
+use Rattle.check_rules.specs.Definitions as d
+use Rattle.check_rules.specs.Directory.{directory_scope, offered, opened, predeclared, those_of}
+use Rattle.check_rules.specs.Meanings.{Meaning}
+use Rattle.check_rules.specs.PlainTypes.{PlainInterface}
+use Rattle.check_rules.specs.Programs.{ahead, unused}
+use Rattle.check_rules.specs.Scopes.{Scope, nothing}
+use Rattle.check_rules.specs.Steps.{State}
+use Rattle.check_rules.specs.Typed.{NoKinds}
 
 abbrev pub of_program : s.Module → List PlainInterface → List Identifier → List Identifier → s.Inner → State
 of_program m is imports opens inner = start m (known_of m None true imports is) (ahead inner.declarations) opens (unused (those_of m.directory is imports))

@@ -1,10 +1,10 @@
 //! Interfaces.
 ghost use Rattle.std.specs.Prelude.{◌≡◌, Ok, map, IfOk};
 ghost use Rattle.check_heads.specs.Views as view;
-ghost use Rattle.check_words.specs.Gives.{GivesOnly};
-ghost use Rattle.checking_rules.specs.CheckedModule as spec;
-ghost use Rattle.checking_rules.specs.PlainTypes.{interface_of, plain_interface};
-ghost use Rattle.checking_rules.specs.Steps.{and_then};
+ghost use Rattle.check_state.specs.Gives.{GivesOnly};
+ghost use Rattle.check_rules.specs.CheckedModule as spec;
+ghost use Rattle.check_rules.specs.PlainTypes.{interface_of, plain_interface};
+ghost use Rattle.check_rules.specs.Steps.{and_then};
 ghost use Rattle.mesa_types.specs.PlainSyntax as plain;
 
 use crate::starting::InterfaceStart;
@@ -13,8 +13,8 @@ use check_expressions::Checker;
 use check_heads::{AllDefined, all_defined};
 use check_known::known_of;
 use check_programs::{Catches, around_body};
-use check_words::Around;
-use checking_rules::{Cause, CheckFault};
+use check_rules::{Cause, CheckFault};
+use check_state::Around;
 use interface_records::Interface;
 use mesa_base::{Identifier, Identifiers, OutOfMemory, Stamp};
 use mesa_types::syntax::{Defined, Labeled, ModuleKind};
@@ -44,7 +44,7 @@ fn interface_with(
 }
 
 /// An interface with this OPEN and these definitions.
-#[tactic(auto, unfolding(check_words::specs::Views::around))]
+#[tactic(auto, unfolding(check_state::specs::Views::around))]
 fn definitions(
     module: &Module,
     alloc: Global,
@@ -83,7 +83,7 @@ fn definitions(
 
 /// The interface of a DEFINITIONS module under this stamp, with the interfaces of its DIRECTORY in order. It refuses a program, which
 /// has no stamp (StampUnwanted), and else a text by its first fault: of its DIRECTORY and OPEN, and of its definitions in order.
-#[tactic(auto, unfolding(checking_rules::specs::CheckedModule::checked_definitions))]
+#[tactic(auto, unfolding(check_rules::specs::CheckedModule::checked_definitions))]
 pub fn check_definitions(
     alloc: Global,
     module: &Module,

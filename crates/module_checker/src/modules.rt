@@ -2,9 +2,9 @@
 ghost use Rattle.std.specs.Prelude.{◌≡◌, map, IfOk};
 ghost use Rattle.check_faces.specs.Offers.{offer};
 ghost use Rattle.check_programs.specs.Views as parts;
-ghost use Rattle.check_words.specs.Gives.{GivesOnly};
-ghost use Rattle.checking_rules.specs.CheckedModule as spec;
-ghost use Rattle.checking_rules.specs.PlainTypes.{plain_interface};
+ghost use Rattle.check_state.specs.Gives.{GivesOnly};
+ghost use Rattle.check_rules.specs.CheckedModule as spec;
+ghost use Rattle.check_rules.specs.PlainTypes.{plain_interface};
 ghost use Rattle.mesa_types.specs.Plain.{plain as plain_module};
 ghost use Rattle.mesa_types.specs.PlainSyntax as plain;
 ghost use Rattle.module_checker.specs.Modules as step;
@@ -14,9 +14,9 @@ use check_directory::{all_listed, those_of};
 use check_faces::{Offer, exported, imported};
 use check_known::known_of;
 use check_programs::{Whole, program_body};
+use check_rules::{Cause, CheckFault};
 use check_scopes::Marks;
-use check_words::Known;
-use checking_rules::{Cause, CheckFault};
+use check_state::Known;
 use held_trees::both;
 use interface_records::Interface;
 use mesa_base::{Identifier, List, OutOfMemory, Shared, Texts};
@@ -150,7 +150,7 @@ fn program(
 /// The typed module of a program, with the interfaces of its DIRECTORY in order. It refuses an interface, which has no stamp
 /// (StampMissing), and else a text by its first fault: of its DIRECTORY, IMPORTS, EXPORTS and OPEN, of what stands in it, of what it
 /// exports.
-#[tactic(auto, unfolding(checking_rules::specs::CheckedModule::checked))]
+#[tactic(auto, unfolding(check_rules::specs::CheckedModule::checked))]
 pub fn check(
     alloc: Global,
     module: &Module,

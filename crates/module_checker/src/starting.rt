@@ -1,8 +1,8 @@
 //! The state in which the checking of a module begins: its names are not declared yet, and around them stand those of the DIRECTORY,
 //! of the opened interfaces, and the predeclared ones.
 ghost use Rattle.std.specs.Prelude.{◌≡◌, [], map, IfOk};
-ghost use Rattle.check_words.specs.Views as words;
-ghost use Rattle.checking_rules.specs.PlainTypes.{plain_interface};
+ghost use Rattle.check_state.specs.Views as words;
+ghost use Rattle.check_rules.specs.PlainTypes.{plain_interface};
 ghost use Rattle.mesa_types.specs.PlainSyntax as plain;
 ghost use Rattle.module_checker.specs.Starting as step;
 
@@ -10,7 +10,7 @@ use check_directory::{directory_scope, opened, predeclared, those_of};
 use check_faces::{ahead, ahead_in_interface, unused};
 use check_heads::Starts;
 use check_scopes::{Marks, Names, Scopes};
-use check_words::{Frame, Meaning, State};
+use check_state::{Frame, Meaning, State};
 use interface_records::Interface;
 use mesa_base::{Identifier, Identifiers, OutOfMemory, Stamp};
 use mesa_types::Module;
@@ -18,7 +18,7 @@ use mesa_types::syntax::{Defined, Inner, Labeled};
 use std::alloc::Global;
 
 /// The scopes around the names of a module.
-#[tactic(auto, unfolding(check_words::specs::Views::scopes, check_words::specs::Views::names))]
+#[tactic(auto, unfolding(check_state::specs::Views::scopes, check_state::specs::Views::names))]
 fn scopes_around(
     module: &Module,
     alloc: Global,
@@ -37,7 +37,7 @@ fn scopes_around(
 }
 
 /// The state before the first declaration, where this is what the module's own names mean before they are declared.
-#[tactic(auto, unfolding(check_words::specs::Views::state, check_words::specs::Views::scopes, check_words::specs::Views::names))]
+#[tactic(auto, unfolding(check_state::specs::Views::state, check_state::specs::Views::scopes, check_state::specs::Views::names))]
 fn state_before(
     around: Scopes<Meaning>,
     alloc: Global,

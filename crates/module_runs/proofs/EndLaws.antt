@@ -8,14 +8,14 @@ use Rattle.mesa_types.specs.Typed.{Module}
 use Rattle.code_forms.specs.declared.module_code.ModuleCode.{ModuleCode}
 use Rattle.signaller.specs.declared.signal_id.SignalId.{SignalId}
 use Rattle.signaller.specs.declared.signal_id.SignalId.TheVariants.{Own, BoundsFault, ZeroDivisor, NoInput, Unnamed}
-use Rattle.machine_steps.specs.declared.end.End.{End}
-use Rattle.machine_steps.specs.declared.end.End.TheVariants.{Done, Uncaught, Spent, FrameLimit}
-use Rattle.machine_steps.specs.LookUps.{code_of, code_in, module_number, signal_of}
-use Rattle.code_relation.specs.Modules.{signal_code}
+use Rattle.machine_rules.specs.declared.end.End.{End}
+use Rattle.machine_rules.specs.declared.end.End.TheVariants.{Done, Uncaught, Spent, FrameLimit}
+use Rattle.machine_rules.specs.LookUps.{code_of, code_in, module_number, signal_of}
+use Rattle.code_rules.specs.Modules.{signal_code}
 use Rattle.code_blocks.specs.Modules.{Parts}
 use Rattle.single_images.specs.Image.{image_of}
 use Rattle.frame_code.specs.Code.{IsCodeOf}
-use Rattle.image_runs.specs.Running.{EndIsInRange, SignalIsInRange}
+use Rattle.frame_machine.specs.Running.{EndIsInRange, SignalIsInRange}
 use Rattle.module_runs.specs.Ends.{IsEndOf, IsSignalOf}
 
 something : {A : Type 0} (o : Option A) → IsSome o → (x : A) × (o ≡ Some x)

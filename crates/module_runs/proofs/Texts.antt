@@ -3,7 +3,7 @@ use Rattle.std.proofs.Common.{arith}
 use Rattle.std.specs.List.{All}
 use Rattle.mesa_types.specs.Typed.{Module}
 use Rattle.code_forms.specs.declared.module_code.ModuleCode.{ModuleCode}
-use Rattle.code_simulation.specs.Stands.{TextFits}
+use Rattle.agreement_rules.specs.Stands.{TextFits}
 use Rattle.frame_code.specs.Code.{IsCodeOf}
 
 pub texts_fit : (m : Module) (c : ModuleCode) → IsCodeOf m c → All TextFits c.strings

@@ -4,8 +4,8 @@ use Rattle.mesa_types.specs.Typed.{Module}
 use Rattle.code_forms.specs.declared.module_code.ModuleCode.{ModuleCode}
 use Rattle.single_images.specs.Image.{image_of}
 use Rattle.frame_code.specs.Code.{IsCodeOf}
-use Rattle.image_runs.specs.declared.outcome.Outcome.{Outcome}
-use Rattle.image_runs.specs.Running.{BreaksAtInput, BreaksAtOutput, Completes}
+use Rattle.frame_machine.specs.declared.outcome.Outcome.{Outcome}
+use Rattle.frame_machine.specs.Running.{BreaksAtInput, BreaksAtOutput, Completes}
 
 -- there is a code that is the module's, and the machine's run of the image of the module with this code comes to this end, with so many
 -- turns left and so many instructions begun

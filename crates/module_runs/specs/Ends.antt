@@ -3,8 +3,8 @@ use Rattle.std.specs.Prelude.{◌≡◌, ◌<◌, length}
 use Rattle.mesa_types.specs.Typed.{Module}
 use Rattle.signaller.specs.declared.signal_id.SignalId.{SignalId}
 use Rattle.signaller.specs.declared.signal_id.SignalId.TheVariants.{Own, BoundsFault, ZeroDivisor, NoInput, Unnamed}
-use Rattle.machine_steps.specs.declared.end.End.{End}
-use Rattle.machine_steps.specs.declared.end.End.TheVariants.{Done, Uncaught, Spent, FrameLimit}
+use Rattle.machine_rules.specs.declared.end.End.{End}
+use Rattle.machine_rules.specs.declared.end.End.TheVariants.{Done, Uncaught, Spent, FrameLimit}
 
 abbrev pub IsSignalOf : Module → SignalId → Type 0
 IsSignalOf m (Own instance signal) = (instance ≡ 0) × (signal < length m.signals)

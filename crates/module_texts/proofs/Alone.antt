@@ -3,7 +3,7 @@ use Rattle.std.proofs.Common.{length, subst}
 use Rattle.std.specs.Prelude.{IfOk}
 use Rattle.mesa_types.specs.PlainSyntax.{syntax}
 use Rattle.mesa_types.specs.Typed as t
-use Rattle.checking_rules.specs.Steps.{Checked}
+use Rattle.check_rules.specs.Steps.{Checked}
 use Rattle.written_trees.specs.Alone.{CheckedTextsStandAlone, StandsAlone}
 use Rattle.module_texts.specs.Laws.{ReadModulesStandAlone}
 

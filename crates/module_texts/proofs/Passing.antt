@@ -10,11 +10,11 @@ use Rattle.mesa_lexer.specs.declared.fault.SyntaxFault.{SyntaxFault}
 use Rattle.mesa_lexer.specs.declared.fault.SyntaxFault.TheVariants as syntax_fault
 use Rattle.mesa_types.specs.declared.syntax.DirectoryItem.{DirectoryItem}
 use Rattle.mesa_types.specs.declared.syntax.Module.{Module}
-use Rattle.module_productions.specs.Answer as grammar
+use Rattle.grammar_rules.specs.Answer as grammar
 use Rattle.interface_records.specs.Faces.{iodefs}
-use Rattle.checking_rules.specs.declared.fault.CheckFault.{CheckFault}
-use Rattle.checking_rules.specs.declared.fault.CheckFault.TheVariants as check
-use Rattle.check_words.specs.Gives.{fault}
+use Rattle.check_rules.specs.declared.fault.CheckFault.{CheckFault}
+use Rattle.check_rules.specs.declared.fault.CheckFault.TheVariants as check
+use Rattle.check_state.specs.Gives.{fault}
 use Rattle.written_trees.specs.Laws.{IsTreeOf}
 use Rattle.module_texts.specs.TextFaults as f
 use Rattle.module_texts.specs.TextFaults.{TextFault, of_lexical, of_syntactic, of_checking}

@@ -6,10 +6,10 @@ use Rattle.mesa_lexer.specs.declared.fault.LexFault.{LexFault}
 use Rattle.mesa_lexer.specs.declared.fault.LexFault.TheVariants as lex
 use Rattle.mesa_lexer.specs.declared.fault.SyntaxFault.{SyntaxFault}
 use Rattle.mesa_lexer.specs.declared.fault.SyntaxFault.TheVariants as syntax
-use Rattle.checking_rules.specs.declared.fault.Cause.{Cause}
-use Rattle.checking_rules.specs.declared.fault.Cause.TheVariants as cause
-use Rattle.checking_rules.specs.declared.fault.CheckFault.{CheckFault}
-use Rattle.checking_rules.specs.declared.fault.CheckFault.TheVariants as check
+use Rattle.check_rules.specs.declared.fault.Cause.{Cause}
+use Rattle.check_rules.specs.declared.fault.Cause.TheVariants as cause
+use Rattle.check_rules.specs.declared.fault.CheckFault.{CheckFault}
+use Rattle.check_rules.specs.declared.fault.CheckFault.TheVariants as check
 pub use Rattle.module_texts.specs.declared.text_fault.TextFault.{TextFault}
 pub use Rattle.module_texts.specs.declared.text_fault.TextFault.TheVariants.{Lexical, Syntactic, NotYet, Wrong, Memory}
 

@@ -9,10 +9,10 @@ use Rattle.mesa_types.specs.declared.syntax.DirectoryItem.{DirectoryItem}
 use Rattle.mesa_types.specs.declared.syntax.Module.{Module}
 use Rattle.mesa_types.specs.PlainSyntax.{syntax}
 use Rattle.mesa_types.specs.Typed as t
-use Rattle.module_productions.specs.Answer as grammar
+use Rattle.grammar_rules.specs.Answer as grammar
 use Rattle.interface_records.specs.Faces.{iodefs}
-use Rattle.checking_rules.specs.Steps.{Checked, Fault}
-use Rattle.checking_rules.specs.CheckedModule.{checked}
+use Rattle.check_rules.specs.Steps.{Checked, Fault}
+use Rattle.check_rules.specs.CheckedModule.{checked}
 use Rattle.written_trees.specs.Alone.{built_in}
 use Rattle.written_trees.specs.Laws.{IsTreeOf}
 use Rattle.module_texts.specs.TextFaults.{TextFault, Lexical, Syntactic, NotYet, Wrong}

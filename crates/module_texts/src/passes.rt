@@ -2,14 +2,14 @@
 ghost use Rattle.std.specs.Prelude.{◌≡◌, ◌≢◌, ℕ, List as Items, bytes_eq, IfErr, IfOk};
 ghost use Rattle.interface_records.specs.Faces.{iodefs as the_built_in};
 ghost use Rattle.mesa_types.specs.Plain.{plain};
-ghost use Rattle.check_words.specs.Gives.{GivesOnly};
+ghost use Rattle.check_state.specs.Gives.{GivesOnly};
 ghost use Rattle.module_texts.specs.Texts as spec;
 ghost use Rattle.module_texts.specs.Texts.{HasFault, Reads};
 ghost use Rattle.written_trees.specs.Alone.{built_in};
 ghost use Rattle.written_trees.specs.Laws.{IsTreeOf};
 
 use crate::text_fault::TextFault;
-use checking_rules::CheckFault;
+use check_rules::CheckFault;
 use held_trees::{LetGo, boxed};
 use interface_records::{Interface, iodefs};
 use mesa_base::{Boxed, OutOfMemory};

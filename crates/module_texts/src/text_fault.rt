@@ -2,7 +2,7 @@
 ghost use Rattle.std.specs.Prelude.{◌≡◌};
 ghost use Rattle.module_texts.specs.TextFaults.{cause_name, fault_name, fault_place};
 
-use checking_rules::{Cause, CheckFault};
+use check_rules::{Cause, CheckFault};
 use mesa_base::Place;
 use mesa_lexer::{LexFault, SyntaxFault};
 

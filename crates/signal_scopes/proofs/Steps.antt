@@ -20,10 +20,10 @@ use Rattle.mesa_types.specs.declared.typed_tree.TypedExpr.{TypedExpr}
 use Rattle.mesa_types.specs.declared.typed_tree.TypedStmt.{TypedStmt}
 use Rattle.mesa_types.specs.declared.typed_tree.TypedStmt.TheVariants as v_stmt
 use Rattle.mesa_types.specs.declared.typed_tree.Condition.TheFolds.{fold_out-Case, fold-roll-Phrase, fold-roll-TypedStmt}
-use Rattle.code_relation.specs.Scopes.{Found, JumpScope, PhraseScope, ◌&◌, scopes, the_phrase}
-use Rattle.code_relation.specs.Scopes as spec
-use Rattle.code_relation.specs.Told.{a_told_jump, told_arms, told_cases, told_exits, told_expr, told_exprs, told_interval, told_loop, told_phrase, told_scopes, told_stmt, told_stmts, told_tests}
-use Rattle.code_relation.proofs.Counted.{scopes_are_told}
+use Rattle.code_rules.specs.Scopes.{Found, JumpScope, PhraseScope, ◌&◌, scopes, the_phrase}
+use Rattle.code_rules.specs.Scopes as spec
+use Rattle.code_rules.specs.Told.{a_told_jump, told_arms, told_cases, told_exits, told_expr, told_exprs, told_interval, told_loop, told_phrase, told_scopes, told_stmt, told_stmts, told_tests}
+use Rattle.code_rules.proofs.Counted.{scopes_are_told}
 use Rattle.signal_scopes.specs.Bodies.{IsSoundBody}
 use Rattle.signal_scopes.specs.declared.scope_types.ArmScope.{ArmScope}
 use Rattle.signal_scopes.specs.Views.{arms_of}

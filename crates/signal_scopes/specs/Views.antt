@@ -1,7 +1,7 @@
 -- What the scopes of the code are in the definition of scopes.
 use Rattle.std.specs.Prelude.{List, map}
 use Rattle.mesa_types.specs.Typed as t
-use Rattle.code_relation.specs.Scopes as s
+use Rattle.code_rules.specs.Scopes as s
 use Rattle.signal_scopes.specs.declared.scope_types.Point.{Point}
 use Rattle.signal_scopes.specs.declared.scope_types.JumpScope.{JumpScope}
 use Rattle.signal_scopes.specs.declared.scope_types.ArmScope.{ArmScope}

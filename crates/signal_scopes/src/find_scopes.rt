@@ -2,8 +2,8 @@ ghost use Rattle.std.specs.Prelude.{◌≡◌, [], ◌∷◌, ◌++◌, map, opt
 ghost use Rattle.mesa_types.specs.Chain.{chain};
 ghost use Rattle.mesa_types.specs.Plain.{arm, case, condition, exit, expr, exprs, finish, interval, loop, operation, phrase, plain_body, stmt, stmts, suffix, target, test};
 ghost use Rattle.mesa_types.specs.Typed as t;
-ghost use Rattle.code_relation.specs.Scopes as spec;
-ghost use Rattle.code_relation.specs.Told.{told_arms, told_cases, told_condition, told_exits, told_expr, told_exprs, told_finish, told_interval, told_loop, told_operations, told_phrase, told_stmt, told_stmts, told_suffixes, told_targets, told_tests};
+ghost use Rattle.code_rules.specs.Scopes as spec;
+ghost use Rattle.code_rules.specs.Told.{told_arms, told_cases, told_condition, told_exits, told_expr, told_exprs, told_finish, told_interval, told_loop, told_operations, told_phrase, told_stmt, told_stmts, told_suffixes, told_targets, told_tests};
 ghost use Rattle.signal_scopes.specs.Views.{jumps_of, arms_of, phrases_of, point_of};
 ghost use Rattle.signal_scopes.specs.FirstCases.{told_first_cases};
 ghost use Rattle.signal_scopes.specs.Bodies.{IsSoundBody};
@@ -48,7 +48,7 @@ fn put_jump(jumps: &mut JumpScopes, arms: u32, point: Point) -> Result<(), OutOf
 }
 
 #[cycle(scopes)]
-#[tactic(auto, unfolding(code_relation::specs::Told::told_expr))]
+#[tactic(auto, unfolding(code_rules::specs::Told::told_expr))]
 fn find_in_expr(
     alloc: Global,
     e: &TypedExpr,
@@ -91,7 +91,7 @@ fn find_in_expr(
 }
 
 #[cycle(scopes)]
-#[tactic(auto, unfolding(code_relation::specs::Told::told_expr))]
+#[tactic(auto, unfolding(code_rules::specs::Told::told_expr))]
 fn find_in_exprs(
     alloc: Global,
     es: &[TypedExpr],
@@ -108,7 +108,7 @@ fn find_in_exprs(
 }
 
 #[cycle(scopes)]
-#[tactic(auto, unfolding(code_relation::specs::Told::told_expr))]
+#[tactic(auto, unfolding(code_rules::specs::Told::told_expr))]
 fn find_in_suffixes(
     alloc: Global,
     suffixes: &[Suffix],
@@ -128,7 +128,7 @@ fn find_in_suffixes(
 }
 
 #[cycle(scopes)]
-#[tactic(auto, unfolding(code_relation::specs::Told::told_expr))]
+#[tactic(auto, unfolding(code_rules::specs::Told::told_expr))]
 fn find_in_operations(
     alloc: Global,
     operations: &[Operation],
@@ -145,7 +145,7 @@ fn find_in_operations(
 }
 
 #[cycle(scopes)]
-#[tactic(auto, unfolding(code_relation::specs::Told::told_expr))]
+#[tactic(auto, unfolding(code_rules::specs::Told::told_expr))]
 fn find_in_interval(
     alloc: Global,
     range: &Interval,
@@ -161,7 +161,7 @@ fn find_in_interval(
 
 /// A phrase stands before those in its arms, so its place is taken first.
 #[cycle(scopes)]
-#[tactic(auto, unfolding(code_relation::specs::Told::told_expr))]
+#[tactic(auto, unfolding(code_rules::specs::Told::told_expr))]
 fn find_in_phrase(alloc: Global, catching: &Phrase, phrases: &mut Scopes) -> Result<(), OutOfMemory>
     ensures { OnOk result (phrases_of phrases.new ≡ phrases_of phrases.old ++ (told_phrase (phrase catching.now)).phrases) }
 {
@@ -185,7 +185,7 @@ fn find_in_phrase(alloc: Global, catching: &Phrase, phrases: &mut Scopes) -> Res
 }
 
 #[cycle(scopes)]
-#[tactic(auto, unfolding(code_relation::specs::Told::told_expr))]
+#[tactic(auto, unfolding(code_rules::specs::Told::told_expr))]
 fn find_in_arms(alloc: Global, arms: &[Arm], phrases: &mut Scopes) -> Result<ArmScopes, OutOfMemory>
     ensures arms { IfOk result (λ found. arms_of found ≡ (told_arms (chain (map arm arms.now) t.NoArms)).arms) }
     ensures phrases { OnOk result (phrases_of phrases.new ≡ phrases_of phrases.old ++ (told_arms (chain (map arm arms.now) t.NoArms)).phrases) }
@@ -201,7 +201,7 @@ fn find_in_arms(alloc: Global, arms: &[Arm], phrases: &mut Scopes) -> Result<Arm
 }
 
 #[cycle(scopes)]
-#[tactic(auto, unfolding(code_relation::specs::Told::told_expr))]
+#[tactic(auto, unfolding(code_rules::specs::Told::told_expr))]
 fn find_in_stmt(
     alloc: Global,
     s: &TypedStmt,
@@ -257,7 +257,7 @@ fn find_in_stmt(
 }
 
 #[cycle(scopes)]
-#[tactic(auto, unfolding(code_relation::specs::Told::told_expr))]
+#[tactic(auto, unfolding(code_rules::specs::Told::told_expr))]
 fn find_in_stmts(
     alloc: Global,
     ss: &[TypedStmt],
@@ -274,7 +274,7 @@ fn find_in_stmts(
 }
 
 #[cycle(scopes)]
-#[tactic(auto, unfolding(code_relation::specs::Told::told_expr))]
+#[tactic(auto, unfolding(code_rules::specs::Told::told_expr))]
 fn find_in_targets(
     alloc: Global,
     targets: &[Target],
@@ -292,7 +292,7 @@ fn find_in_targets(
 
 /// The cases but the last one, in which there is no test.
 #[cycle(scopes)]
-#[tactic(auto, unfolding(code_relation::specs::Told::told_cases, crate::specs::FirstCases::told_first_cases))]
+#[tactic(auto, unfolding(code_rules::specs::Told::told_cases, crate::specs::FirstCases::told_first_cases))]
 fn find_in_cases(
     alloc: Global,
     cases: &[Case],
@@ -310,7 +310,7 @@ fn find_in_cases(
 }
 
 #[cycle(scopes)]
-#[tactic(auto, unfolding(code_relation::specs::Told::told_expr))]
+#[tactic(auto, unfolding(code_rules::specs::Told::told_expr))]
 fn find_in_tests(
     alloc: Global,
     tests: &[Test],
@@ -330,7 +330,7 @@ fn find_in_tests(
 }
 
 #[cycle(scopes)]
-#[tactic(auto, unfolding(code_relation::specs::Told::told_expr))]
+#[tactic(auto, unfolding(code_rules::specs::Told::told_expr))]
 fn find_in_exits(
     alloc: Global,
     exits: &[Exit],
@@ -347,7 +347,7 @@ fn find_in_exits(
 }
 
 #[cycle(scopes)]
-#[tactic(auto, unfolding(code_relation::specs::Told::told_expr))]
+#[tactic(auto, unfolding(code_rules::specs::Told::told_expr))]
 fn find_in_loop(
     alloc: Global,
     l: &Loop,
@@ -367,7 +367,7 @@ fn find_in_loop(
 }
 
 #[cycle(scopes)]
-#[tactic(auto, unfolding(code_relation::specs::Told::told_expr))]
+#[tactic(auto, unfolding(code_rules::specs::Told::told_expr))]
 fn find_in_condition(
     alloc: Global,
     control: &Condition,

@@ -13,12 +13,12 @@ use Rattle.code_forms.specs.Valid.{Valid}
 use Rattle.object_files.specs.declared.image.Instance.{Instance}
 use Rattle.object_files.specs.declared.image.Link.TheVariants.{Wanted}
 use Rattle.object_files.specs.declared.object.Object.{Object}
-use Rattle.machine_steps.specs.LookUps.{bound_to}
+use Rattle.machine_rules.specs.LookUps.{bound_to}
 use Rattle.source_meaning.specs.Program.{Host, host_of, host_target, target_of, single}
 use Rattle.source_meaning.specs.Program as source
-use Rattle.code_relation.specs.Links.{link_number}
-use Rattle.code_relation.specs.Modules.{CodeFor}
-use Rattle.code_simulation.specs.Stands.{IsWanted, BoundTo, InstanceStands, TextFits}
+use Rattle.code_rules.specs.Links.{link_number}
+use Rattle.code_rules.specs.Modules.{CodeFor}
+use Rattle.agreement_rules.specs.Stands.{IsWanted, BoundTo, InstanceStands, TextFits}
 use Rattle.code_blocks.proofs.Linking.{linked_there}
 use Rattle.single_images.specs.Image.{ImportsTheHostAlone, of_host, table_of, object_of, instance_of, image_of}
 use Rattle.single_images.specs.Laws.{ImagesStand}

@@ -15,7 +15,7 @@ use Rattle.mesa_types.specs.Typed.{Module}
 use Rattle.interface_records.specs.Faces.{iodefs}
 use Rattle.source_meaning.specs.Program.{single, host_of, host_target, target_of}
 use Rattle.source_meaning.specs.Lawful.{host_takes, host_gives, StandsFor, LawfulInstance}
-use Rattle.ready_images.specs.Hosts.{IsHostItem}
+use Rattle.machine_ready.specs.Hosts.{IsHostItem}
 use Rattle.single_images.specs.Image.{AreTheHosts, ImportsTheHostAlone, of_host}
 use Rattle.single_images.specs.Laws.{SinglesAreLawful, ImagesWantTheHost, WantedItemsAreHosts}
 use Rattle.code_blocks.proofs.Linking.{used_first}

@@ -15,10 +15,10 @@ use Rattle.interface_records.specs.declared.wanted.Wanted.{Wanted as WantedEntry
 use Rattle.object_files.specs.declared.image.Instance.{Instance}
 use Rattle.object_files.specs.declared.image.Link.{Link}
 use Rattle.object_files.specs.declared.image.Link.TheVariants.{Wanted}
-use Rattle.machine_steps.specs.LookUps.{module_number, code_in, code_of, link_of, bound_to}
-use Rattle.activation_region.specs.Links.{IsLike}
-use Rattle.code_relation.specs.Modules.{CodeFor, kind_code, link_code}
-use Rattle.ready_images.specs.Order.{code_kind, IsBoundAlike}
+use Rattle.machine_rules.specs.LookUps.{module_number, code_in, code_of, link_of, bound_to}
+use Rattle.machine_activations.specs.Links.{IsLike}
+use Rattle.code_rules.specs.Modules.{CodeFor, kind_code, link_code}
+use Rattle.machine_ready.specs.Order.{code_kind, IsBoundAlike}
 use Rattle.single_images.specs.Image.{instance_of, image_of}
 use Rattle.single_images.specs.Laws.{ImagesAreInOrder}
 use Rattle.single_images.proofs.Bound.{table_past, linked, wanted_at}

@@ -6,10 +6,10 @@ use Rattle.code_forms.specs.declared.module_code.ModuleCode.{ModuleCode}
 use Rattle.code_forms.specs.Valid.{Valid}
 use Rattle.source_meaning.specs.Program.{single}
 use Rattle.source_meaning.specs.Lawful.{Lawful}
-use Rattle.code_relation.specs.Modules.{CodeFor}
-use Rattle.code_simulation.specs.Stands.{TextFits, Stands, WantsTheHost}
-use Rattle.ready_images.specs.Hosts.{IsHostItem}
-use Rattle.ready_images.specs.Order.{ImageInOrder}
+use Rattle.code_rules.specs.Modules.{CodeFor}
+use Rattle.agreement_rules.specs.Stands.{TextFits, Stands, WantsTheHost}
+use Rattle.machine_ready.specs.Hosts.{IsHostItem}
+use Rattle.machine_ready.specs.Order.{ImageInOrder}
 use Rattle.single_images.specs.Image.{ImportsTheHostAlone, image_of}
 
 -- a program of one sound module is lawful

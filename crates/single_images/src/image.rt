@@ -3,10 +3,10 @@ ghost use Rattle.mesa_types.specs.Plain.{plain};
 ghost use Rattle.mesa_types.specs.Sound.{Sound};
 ghost use Rattle.code_forms.specs.Valid.{Valid};
 ghost use Rattle.source_meaning.specs.Program.{single};
-ghost use Rattle.code_relation.specs.Modules.{CodeFor};
-ghost use Rattle.code_simulation.specs.Stands.{TextFits, Stands, WantsTheHost};
-ghost use Rattle.ready_images.specs.Hosts.{IsHostItem};
-ghost use Rattle.ready_images.specs.Order.{ImageInOrder};
+ghost use Rattle.code_rules.specs.Modules.{CodeFor};
+ghost use Rattle.agreement_rules.specs.Stands.{TextFits, Stands, WantsTheHost};
+ghost use Rattle.machine_ready.specs.Hosts.{IsHostItem};
+ghost use Rattle.machine_ready.specs.Order.{ImageInOrder};
 ghost use Rattle.single_images.specs.Image.{ImportsTheHostAlone, image_of};
 
 use crate::links::table_of;

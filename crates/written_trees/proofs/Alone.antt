@@ -10,13 +10,13 @@ use Rattle.mesa_types.specs.PlainSyntax.{syntax}
 use Rattle.mesa_types.specs.Sound.{Sound}
 use Rattle.interface_records.specs.declared.interface.Interface.{Interface}
 use Rattle.interface_records.specs.Faces.{iodefs}
-use Rattle.checking_rules.specs.CheckedModule.{checked}
-use Rattle.checking_rules.specs.Interfaces.{InterfacesInOrder}
-use Rattle.checking_rules.specs.Laws.{ShapesAreGiven, faces}
-use Rattle.checking_rules.specs.PlainTypes.{plain_interface}
-use Rattle.checking_rules.specs.Steps.{Checked}
-use Rattle.checking_rules.specs.Typed as t
-use Rattle.checking_rules.proofs.KeptModule.{few_nodes}
+use Rattle.check_rules.specs.CheckedModule.{checked}
+use Rattle.check_rules.specs.Interfaces.{InterfacesInOrder}
+use Rattle.check_rules.specs.Laws.{ShapesAreGiven, faces}
+use Rattle.check_rules.specs.PlainTypes.{plain_interface}
+use Rattle.check_rules.specs.Steps.{Checked}
+use Rattle.check_rules.specs.Typed as t
+use Rattle.check_rules.proofs.KeptModule.{few_nodes}
 use Rattle.written_trees.specs.Alone.{StandsAlone, built_in, CheckedTextsStandAlone}
 use Rattle.written_trees.proofs.InOrder as order
 use Rattle.written_trees.proofs.LawProofs.{checked_texts_are_sound}

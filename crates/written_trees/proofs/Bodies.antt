@@ -33,10 +33,10 @@ use Rattle.mesa_types.specs.declared.syntax.PlainItem.{PlainItem}
 use Rattle.mesa_types.specs.Syntax as s
 use Rattle.mesa_types.specs.PlainSyntax as plain
 use Rattle.mesa_types.proofs.PlainForms as of
-use Rattle.module_productions.specs.Grammar as g
-use Rattle.checking_rules.specs.Written as w
+use Rattle.grammar_rules.specs.Grammar as g
+use Rattle.check_rules.specs.Written as w
 use Rattle.written_trees.specs.Limits.{AreWithin}
-use Rattle.checking_rules.specs.TreeNames as n
+use Rattle.check_rules.specs.TreeNames as n
 use Rattle.written_trees.proofs.Lists.{Both, Behind, BehindNames, whole, push_types, push_fields, has_field, has_type, push_exprs, push_keyed, push_lefts, push_keyed_lefts, push_statements, push_locals, push_exits, push_repeats, Puts, puts, puts_push}
 use Rattle.written_trees.proofs.Names as names
 

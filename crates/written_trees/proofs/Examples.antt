@@ -9,7 +9,7 @@ use Rattle.mesa_types.specs.declared.syntax.RepeatLabels.TheVariants as repeat
 use Rattle.mesa_types.specs.declared.syntax.TypeBase.TheVariants.{OfName}
 use Rattle.mesa_types.specs.declared.syntax.DirectoryItem.{DirectoryItem}
 use Rattle.mesa_types.specs.Syntax as s
-use Rattle.checking_rules.specs.TreeNames.{Named, QualifiedNamed, LabelsNamed, RepeatNamed, BaseNamed, DirectoryItemNamed, DeclarationNamed, DefinitionNamed, StatementNamed, InnerNamed, KindNamed, HasNames}
+use Rattle.check_rules.specs.TreeNames.{Named, QualifiedNamed, LabelsNamed, RepeatNamed, BaseNamed, DirectoryItemNamed, DeclarationNamed, DefinitionNamed, StatementNamed, InnerNamed, KindNamed, HasNames}
 
 -- ---- small trees
 

@@ -2,10 +2,10 @@
 use Rattle.std.specs.Prelude.{[], ◌∷◌}
 use Rattle.mesa_types.specs.PlainSyntax.{syntax}
 use Rattle.interface_records.specs.Faces.{iodefs}
-use Rattle.checking_rules.proofs.SoundLaw.{checked_modules_are_sound}
-use Rattle.checking_rules.proofs.OrderKept.{interfaces_in_order}
-use Rattle.checking_rules.proofs.SpelledShapes.{modules_can_be_spelled}
-use Rattle.checking_rules.proofs.SpelledLaw.{interfaces_can_be_spelled}
+use Rattle.check_rules.proofs.SoundLaw.{checked_modules_are_sound}
+use Rattle.check_rules.proofs.OrderKept.{interfaces_in_order}
+use Rattle.check_rules.proofs.SpelledShapes.{modules_can_be_spelled}
+use Rattle.check_rules.proofs.SpelledLaw.{interfaces_can_be_spelled}
 use Rattle.written_trees.specs.Laws.{TreesAreWritten, NamesOfTreesAreNames, CheckedTextsAreSound, CheckedDefinitionsAreInOrder, CheckedTextsCanBeSpelled}
 use Rattle.written_trees.proofs.Tokens.{tokens_are_within}
 use Rattle.written_trees.proofs.Modules.{module_read}

@@ -13,8 +13,8 @@ use Rattle.mesa_types.specs.declared.syntax.Statement.{Statement}
 use Rattle.mesa_types.specs.declared.syntax.PlainItem.{PlainItem}
 use Rattle.mesa_types.specs.Syntax as s
 use Rattle.mesa_types.specs.PlainSyntax as plain
-use Rattle.checking_rules.specs.Written.{RepeatWritten, HasField, TypeWritten, NamedWritten, TypesWritten, ExprWritten, ExprsWritten, KeyedWritten, LeftWritten, LeftsWritten, KeyedLeftsWritten, StatementWritten, StatementsWritten, ItemWritten, LocalsWritten, ExitsWritten, RepeatsWritten}
-use Rattle.checking_rules.specs.TreeNames.{Named, RepeatNamed, TypeNamed, LabeledNamed, TypesNamed, ExprNamed, ExprsNamed, KeyedNamed, LeftNamed, LeftsNamed, KeyedLeftsNamed, StatementNamed, StatementsNamed, ItemNamed, LocalsNamed, ExitsNamed, RepeatsNamed}
+use Rattle.check_rules.specs.Written.{RepeatWritten, HasField, TypeWritten, NamedWritten, TypesWritten, ExprWritten, ExprsWritten, KeyedWritten, LeftWritten, LeftsWritten, KeyedLeftsWritten, StatementWritten, StatementsWritten, ItemWritten, LocalsWritten, ExitsWritten, RepeatsWritten}
+use Rattle.check_rules.specs.TreeNames.{Named, RepeatNamed, TypeNamed, LabeledNamed, TypesNamed, ExprNamed, ExprsNamed, KeyedNamed, LeftNamed, LeftsNamed, KeyedLeftsNamed, StatementNamed, StatementsNamed, ItemNamed, LocalsNamed, ExitsNamed, RepeatsNamed}
 
 -- ---- what is said of a tree, its names and what stands behind it
 

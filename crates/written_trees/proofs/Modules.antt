@@ -16,11 +16,11 @@ use Rattle.mesa_types.specs.declared.syntax.ModuleKind.{ModuleKind}
 use Rattle.mesa_types.specs.declared.syntax.DirectoryItem.{DirectoryItem}
 use Rattle.mesa_types.specs.declared.syntax.Module.{Module}
 use Rattle.mesa_types.specs.PlainSyntax as plain
-use Rattle.module_productions.specs.Grammar.{labeled}
-use Rattle.module_productions.specs.Modules as m
-use Rattle.checking_rules.specs.Written.{MaybeFieldsWritten, HeadWritten, DeclaredWritten, DeclarationWritten, InnerWritten, DefinedWritten, DefinitionWritten, ModuleWritten}
+use Rattle.grammar_rules.specs.Grammar.{labeled}
+use Rattle.grammar_rules.specs.Modules as m
+use Rattle.check_rules.specs.Written.{MaybeFieldsWritten, HeadWritten, DeclaredWritten, DeclarationWritten, InnerWritten, DefinedWritten, DefinitionWritten, ModuleWritten}
 use Rattle.written_trees.specs.Limits.{AreWithin}
-use Rattle.checking_rules.specs.TreeNames.{Named, MaybeFieldsNamed, HeadNamed, DeclaredNamed, DeclarationNamed, InnerNamed, DefinedNamed, DefinitionNamed, UsedNamed, DirectoryItemNamed, KindNamed, HasNames}
+use Rattle.check_rules.specs.TreeNames.{Named, MaybeFieldsNamed, HeadNamed, DeclaredNamed, DeclarationNamed, InnerNamed, DefinedNamed, DefinitionNamed, UsedNamed, DirectoryItemNamed, KindNamed, HasNames}
 use Rattle.written_trees.proofs.Lists.{Both}
 use Rattle.written_trees.proofs.Names.{names}
 use Rattle.written_trees.proofs.Bodies as body

@@ -7,10 +7,10 @@ use Rattle.mesa_types.specs.declared.syntax.QualifiedName.{QualifiedName}
 use Rattle.mesa_types.specs.declared.syntax.Labels.{Labels}
 use Rattle.mesa_types.specs.declared.syntax.RepeatLabels.{RepeatLabels}
 use Rattle.mesa_types.specs.declared.syntax.TypeBase.{TypeBase}
-use Rattle.module_productions.specs.Grammar as g
-use Rattle.checking_rules.specs.Written.{LabelsWritten, RepeatWritten}
+use Rattle.grammar_rules.specs.Grammar as g
+use Rattle.check_rules.specs.Written.{LabelsWritten, RepeatWritten}
 use Rattle.written_trees.specs.Limits.{AreWithin}
-use Rattle.checking_rules.specs.TreeNames.{Named, QualifiedNamed, LabelsNamed, RepeatNamed, BaseNamed}
+use Rattle.check_rules.specs.TreeNames.{Named, QualifiedNamed, LabelsNamed, RepeatNamed, BaseNamed}
 use Rattle.written_trees.proofs.Lists.{Both, IsSome, not_empty}
 
 pub named : (i : Identifier) → Named i → All Named (i ∷ [])

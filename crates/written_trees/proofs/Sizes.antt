@@ -9,8 +9,8 @@ use Rattle.mesa_lexer.proofs.Same.{token_some}
 use Rattle.mesa_types.specs.declared.syntax.Module.{Module}
 use Rattle.mesa_types.specs.PlainSyntax.{syntax}
 use Rattle.mesa_types.specs.SyntaxNodes.{module_nodes, nodes}
-use Rattle.module_productions.proofs.TwoNodes.{module_fits}
-use Rattle.checking_rules.specs.Laws.{IsOfTextSize}
+use Rattle.grammar_rules.proofs.TwoNodes.{module_fits}
+use Rattle.check_rules.specs.Laws.{IsOfTextSize}
 use Rattle.written_trees.specs.Laws.{IsTreeOf}
 
 few_tokens : {text : List ℕ} {at : ℕ} {tokens : List Token} → Reaches text at tokens → length tokens ≤ at

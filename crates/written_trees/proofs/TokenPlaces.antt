@@ -5,10 +5,10 @@ use Rattle.std.proofs.lemmas.List.Elements.{All-nil, All-cons, All-head, All-tai
 use Rattle.mesa_base.specs.declared.place.Place.{Place}
 use Rattle.mesa_lexer.specs.declared.token.Token.{Token}
 use Rattle.mesa_types.specs.PlainSyntax.{syntax}
-use Rattle.checking_rules.specs.Places.{places_in}
-use Rattle.checking_rules.specs.Steps.{Checked, Fault}
-use Rattle.checking_rules.specs.CheckedModule.{checked, checked_definitions}
-use Rattle.checking_rules.proofs.KeptModule.{in_the_text}
+use Rattle.check_rules.specs.Places.{places_in}
+use Rattle.check_rules.specs.Steps.{Checked, Fault}
+use Rattle.check_rules.specs.CheckedModule.{checked, checked_definitions}
+use Rattle.check_rules.proofs.KeptModule.{in_the_text}
 use Rattle.written_trees.specs.Laws.{IsOfToken, PlacesAreOfTokens, FaultsStandAtTokens}
 use Rattle.written_trees.proofs.Tokened.{Stand, none, more, TokensStand}
 use Rattle.written_trees.proofs.TokenedModules.{module_stands}

@@ -11,8 +11,8 @@ use Rattle.mesa_types.specs.declared.syntax.Labels.{Labels}
 use Rattle.mesa_types.specs.declared.syntax.Labeled.{Labeled}
 use Rattle.mesa_types.specs.declared.syntax.RepeatLabels.{RepeatLabels}
 use Rattle.mesa_types.specs.declared.syntax.TypeBase.{TypeBase}
-use Rattle.module_productions.specs.Grammar as g
-use Rattle.checking_rules.specs.Places as places
+use Rattle.grammar_rules.specs.Grammar as g
+use Rattle.check_rules.specs.Places as places
 
 -- ---- places and tokens
 

@@ -33,8 +33,8 @@ use Rattle.mesa_types.specs.declared.syntax.PlainItem.{PlainItem}
 use Rattle.mesa_types.specs.Syntax as s
 use Rattle.mesa_types.specs.PlainSyntax as plain
 use Rattle.mesa_types.proofs.PlainForms as of
-use Rattle.module_productions.specs.Grammar as g
-use Rattle.checking_rules.specs.Places as places
+use Rattle.grammar_rules.specs.Grammar as g
+use Rattle.check_rules.specs.Places as places
 use Rattle.written_trees.proofs.Tokened as names
 use Rattle.written_trees.proofs.Tokened.{Stand, none, more, TokensStand, Read, Puts, Behind, one, both, whole, each, puts, chained}
 

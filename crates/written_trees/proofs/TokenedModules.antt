@@ -17,9 +17,9 @@ use Rattle.mesa_types.specs.declared.syntax.ModuleKind.{ModuleKind}
 use Rattle.mesa_types.specs.declared.syntax.DirectoryItem.{DirectoryItem}
 use Rattle.mesa_types.specs.declared.syntax.Module.{Module}
 use Rattle.mesa_types.specs.PlainSyntax as plain
-use Rattle.module_productions.specs.Grammar.{labeled}
-use Rattle.module_productions.specs.Modules as m
-use Rattle.checking_rules.specs.Places as places
+use Rattle.grammar_rules.specs.Grammar.{labeled}
+use Rattle.grammar_rules.specs.Modules as m
+use Rattle.check_rules.specs.Places as places
 use Rattle.written_trees.proofs.Tokened.{Stand, none, more, TokensStand, Read, both, each, names, identifiers}
 use Rattle.written_trees.proofs.TokenedBodies as body
 

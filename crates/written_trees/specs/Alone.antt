@@ -8,8 +8,8 @@ use Rattle.mesa_types.specs.PlainSyntax.{syntax}
 use Rattle.mesa_types.specs.Sound.{Sound}
 use Rattle.interface_records.specs.declared.interface.Interface.{Interface}
 use Rattle.interface_records.specs.Faces.{SameFace, iodefs}
-use Rattle.checking_rules.specs.CheckedModule.{checked}
-use Rattle.checking_rules.specs.Typed as t
+use Rattle.check_rules.specs.CheckedModule.{checked}
+use Rattle.check_rules.specs.Typed as t
 use Rattle.written_trees.specs.Laws.{IsTreeOf}
 
 -- a module that can be translated and run by itself: it is sound, has so many nodes as a text can have and no more, and imports nothing

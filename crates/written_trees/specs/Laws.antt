@@ -5,23 +5,23 @@ use Rattle.mesa_base.specs.declared.place.Place.{Place}
 use Rattle.mesa_lexer.specs.Tokens.{HasTokens}
 use Rattle.mesa_lexer.specs.declared.token.Token.{Token}
 use Rattle.mesa_lexer.specs.declared.token.Tokens.{Tokens}
-use Rattle.module_productions.specs.Answer.{Parses}
+use Rattle.grammar_rules.specs.Answer.{Parses}
 use Rattle.mesa_types.specs.declared.syntax.Module.{Module}
 use Rattle.mesa_types.specs.PlainSyntax.{syntax}
 use Rattle.mesa_types.specs.Sound.{Sound}
 use Rattle.interface_records.specs.declared.interface.Interface.{Interface}
 use Rattle.interface_records.specs.Faces.{iodefs}
-use Rattle.checking_rules.specs.Written.{ModuleWritten}
-use Rattle.checking_rules.specs.Interfaces.{InterfaceInOrder, InterfacesInOrder}
-use Rattle.checking_rules.specs.Laws.{shape_of}
-use Rattle.checking_rules.specs.Spelled.{InSixBytes, InterfaceCanBeSpelled, InterfacesCanBeSpelled, ShapeCanBeSpelled}
-use Rattle.checking_rules.specs.Typed as t
-use Rattle.checking_rules.specs.PlainTypes.{plain_interface}
-use Rattle.checking_rules.specs.CheckedModule.{checked, checked_definitions}
+use Rattle.check_rules.specs.Written.{ModuleWritten}
+use Rattle.check_rules.specs.Interfaces.{InterfaceInOrder, InterfacesInOrder}
+use Rattle.check_rules.specs.Laws.{shape_of}
+use Rattle.check_rules.specs.Spelled.{InSixBytes, InterfaceCanBeSpelled, InterfacesCanBeSpelled, ShapeCanBeSpelled}
+use Rattle.check_rules.specs.Typed as t
+use Rattle.check_rules.specs.PlainTypes.{plain_interface}
+use Rattle.check_rules.specs.CheckedModule.{checked, checked_definitions}
 use Rattle.written_trees.specs.Limits.{AreWithin}
-use Rattle.checking_rules.specs.TreeNames.{HasNames}
-use Rattle.checking_rules.specs.Places.{places_in}
-use Rattle.checking_rules.specs.Steps.{Fault}
+use Rattle.check_rules.specs.TreeNames.{HasNames}
+use Rattle.check_rules.specs.Places.{places_in}
+use Rattle.check_rules.specs.Steps.{Fault}
 
 -- the tokens of a text are within their limits
 abbrev pub TokensAreWithin : Type 0

@@ -1,7 +1,7 @@
 ghost use Rattle.written_trees.specs.Alone.{CheckedTextsStandAlone};
 ghost use Rattle.written_trees.specs.Laws.{CheckedDefinitionsAreInOrder, CheckedTextsAreSound, CheckedTextsCanBeSpelled, FaultsStandAtTokens, NamesOfTreesAreNames, PlacesAreOfTokens, TokensAreWithin, TreesAreWritten};
 
-use checking_rules::laws::shapes_are_given;
+use check_rules::laws::shapes_are_given;
 
 /// The tokens of a text are within their limits: what is written as a name is one, and strings have at most their bytes.
 #[tactic(auto, using(crate::proofs::Tokens::tokens_are_within))]

@@ -1,5 +1,5 @@
 use Rattle.std.proofs.Common.{◌≡◌, ℕ, List, drop}
-use Rattle.checking_rules.specs.Parts.{distinct}
+use Rattle.check_rules.specs.Parts.{distinct}
 use Rattle.check_declared.specs.Naming.{HasNames}
 use Rattle.check_declared.proofs.NameLaws.{so_far}
 use Rattle.check_declared.proofs.differing.different.Given as goal

@@ -1,5 +1,5 @@
 use Rattle.std.proofs.Common.{◌≡◌, ◌++◌, drop}
-use Rattle.checking_rules.specs.Statements.{numbers_from}
+use Rattle.check_rules.specs.Statements.{numbers_from}
 use Rattle.check_declared.proofs.differing.numbers_from.Given as goal
 
 abbrev pub invariant-loop-name : goal.invariant-loop-name

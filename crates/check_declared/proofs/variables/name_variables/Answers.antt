@@ -1,7 +1,7 @@
 use Rattle.std.proofs.Common.{rules, ◌∙◌, get_or, refl, arith}
-use Rattle.checking_rules.specs.PlainTypes.{plain}
-use Rattle.checking_rules.specs.Statements.{meaning_of}
-use Rattle.checking_rules.specs.Typed.{Global}
+use Rattle.check_rules.specs.PlainTypes.{plain}
+use Rattle.check_rules.specs.Statements.{meaning_of}
+use Rattle.check_rules.specs.Typed.{Global}
 use Rattle.check_declared.proofs.VariableLoops.{means_at, means_out, settled}
 use Rattle.check_declared.proofs.variables.name_variables.Goals as goal
 

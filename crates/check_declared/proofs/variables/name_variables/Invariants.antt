@@ -1,8 +1,8 @@
 use Rattle.std.proofs.Common.{◌≡◌, drop, map}
-use Rattle.checking_rules.specs.Names.{each_means}
-use Rattle.checking_rules.specs.PlainTypes.{plain}
-use Rattle.checking_rules.specs.Statements.{meaning_of}
-use Rattle.check_words.specs.Views.{state}
+use Rattle.check_rules.specs.Names.{each_means}
+use Rattle.check_rules.specs.PlainTypes.{plain}
+use Rattle.check_rules.specs.Statements.{meaning_of}
+use Rattle.check_state.specs.Views.{state}
 use Rattle.check_declared.proofs.variables.name_variables.Given as goal
 
 abbrev pub invariant-loop-i : goal.invariant-loop-i

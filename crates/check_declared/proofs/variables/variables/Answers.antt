@@ -1,6 +1,6 @@
 use Rattle.std.proofs.Common.{rules}
-use Rattle.checking_rules.specs.PlainTypes.{plain}
-use Rattle.check_words.specs.Views.{around}
+use Rattle.check_rules.specs.PlainTypes.{plain}
+use Rattle.check_state.specs.Views.{around}
 use Rattle.check_jumps.proofs.Gathering.{gathered_at, gathered_end}
 use Rattle.check_declared.proofs.VariableLoops.{one_variable, variables_begin}
 use Rattle.check_declared.proofs.variables.variables.Goals as goal

@@ -1,7 +1,7 @@
 use Rattle.std.proofs.Common.{◌≡◌, drop}
-use Rattle.checking_rules.specs.PlainTypes.{plain}
-use Rattle.checking_rules.specs.Statements.{variables}
-use Rattle.check_words.specs.Views.{around, state}
+use Rattle.check_rules.specs.PlainTypes.{plain}
+use Rattle.check_rules.specs.Statements.{variables}
+use Rattle.check_state.specs.Views.{around, state}
 use Rattle.check_jumps.proofs.Gathering.{gathered, behind}
 use Rattle.check_declared.proofs.VariableLoops.{one_variable}
 use Rattle.check_declared.proofs.variables.variables.Given as goal

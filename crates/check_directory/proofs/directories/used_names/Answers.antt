@@ -1,5 +1,5 @@
 use Rattle.std.proofs.Common.{rules, ◌∙◌, sym, refl, true, [], ◌∷◌}
-use Rattle.check_words.specs.Views.{names}
+use Rattle.check_state.specs.Views.{names}
 use Rattle.check_directory.proofs.ItemLaws.{used_unknown, used_twice, used_once, used_end, scope_has}
 use Rattle.check_directory.proofs.ListLaws.{none_before, one_before}
 use Rattle.check_directory.proofs.directories.used_names.Goals as goal

@@ -1,6 +1,6 @@
 use Rattle.std.proofs.Common.{◌≡◌, ℕ, List, [], drop}
-use Rattle.checking_rules.specs.Directory.{used_names}
-use Rattle.check_words.specs.Views.{names}
+use Rattle.check_rules.specs.Directory.{used_names}
+use Rattle.check_state.specs.Views.{names}
 use Rattle.check_directory.specs.Lists.{HasNames}
 use Rattle.check_directory.proofs.directories.used_names.Given as goal
 

@@ -1,6 +1,6 @@
 use Rattle.std.proofs.Common.{rules}
-use Rattle.checking_rules.specs.PlainTypes.{plain_interface}
-use Rattle.check_words.specs.Views.{names}
+use Rattle.check_rules.specs.PlainTypes.{plain_interface}
+use Rattle.check_state.specs.Views.{names}
 use Rattle.check_directory.proofs.EntryLaws as laws
 use Rattle.check_directory.proofs.elements.in_constants.Goals as goal
 

@@ -1,11 +1,11 @@
 use Rattle.std.proofs.Common.{◌≡◌, rules, [], ◌∷◌, refl, ap, ◌∙◌}
 use Rattle.check_scopes.specs.Scopes.{over}
 use Rattle.check_scopes.proofs.Innermost.{ok_also}
-use Rattle.checking_rules.specs.Directory.{entry, first_entry, predeclared_error}
-use Rattle.checking_rules.specs.Meanings as m
-use Rattle.checking_rules.specs.PlainTypes.{plain_item}
-use Rattle.check_words.specs.Views.{names}
-use Rattle.check_words.specs.declared.meaning.Meaning.TheVariants.{Signal}
+use Rattle.check_rules.specs.Directory.{entry, first_entry, predeclared_error}
+use Rattle.check_rules.specs.Meanings as m
+use Rattle.check_rules.specs.PlainTypes.{plain_item}
+use Rattle.check_state.specs.Views.{names}
+use Rattle.check_state.specs.declared.meaning.Meaning.TheVariants.{Signal}
 use Rattle.check_directory.proofs.EntryLaws.{offered_by}
 use Rattle.check_directory.proofs.errors.predeclare.Goals as goal
 

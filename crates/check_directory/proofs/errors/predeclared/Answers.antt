@@ -1,8 +1,8 @@
 use Rattle.std.proofs.Common.{rules}
 use Rattle.std.specs.Prelude.{codes}
-use Rattle.checking_rules.specs.Directory.{predeclared_entry}
-use Rattle.checking_rules.specs.Typed as t
-use Rattle.check_words.specs.Views.{names}
+use Rattle.check_rules.specs.Directory.{predeclared_entry}
+use Rattle.check_rules.specs.Typed as t
+use Rattle.check_state.specs.Views.{names}
 use Rattle.check_directory.proofs.EntryLaws.{no_names, two_together}
 use Rattle.check_directory.proofs.errors.predeclared.Goals as goal
 

@@ -1,5 +1,5 @@
 use Rattle.std.proofs.Common.{rules}
-use Rattle.check_words.specs.Views.{names}
+use Rattle.check_state.specs.Views.{names}
 use Rattle.check_directory.proofs.EntryLaws as laws
 use Rattle.check_directory.proofs.interface_names.constants.Goals as goal
 

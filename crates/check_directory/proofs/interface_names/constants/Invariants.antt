@@ -1,7 +1,7 @@
 use Rattle.std.proofs.Common.{◌≡◌, drop}
 use Rattle.check_scopes.specs.Scopes.{over}
-use Rattle.checking_rules.specs.Directory.{first_entry}
-use Rattle.check_words.specs.Views.{names}
+use Rattle.check_rules.specs.Directory.{first_entry}
+use Rattle.check_state.specs.Views.{names}
 use Rattle.check_directory.proofs.EntryLaws as laws
 use Rattle.check_directory.proofs.interface_names.constants.Given as goal
 

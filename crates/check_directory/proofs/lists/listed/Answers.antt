@@ -1,4 +1,4 @@
-use Rattle.checking_rules.specs.Directory.{names_in}
+use Rattle.check_rules.specs.Directory.{names_in}
 use Rattle.check_directory.proofs.PlaceLaws.{places_have}
 use Rattle.check_directory.proofs.lists.listed.Goals as goal
 

@@ -1,5 +1,5 @@
 use Rattle.std.proofs.Common.{◌≡◌, ℕ, List, [], drop}
-use Rattle.checking_rules.specs.Directory.{listed}
+use Rattle.check_rules.specs.Directory.{listed}
 use Rattle.check_directory.specs.Lists.{HasNames}
 use Rattle.check_directory.proofs.lists.named_in.Given as goal
 

@@ -1,7 +1,7 @@
 use Rattle.std.proofs.Common.{◌≡◌, ◌++◌, length, map}
-use Rattle.checking_rules.specs.Directory.{offered}
-use Rattle.checking_rules.specs.PlainTypes.{plain_interface}
-use Rattle.check_words.specs.Views.{names}
+use Rattle.check_rules.specs.Directory.{offered}
+use Rattle.check_rules.specs.PlainTypes.{plain_interface}
+use Rattle.check_state.specs.Views.{names}
 use Rattle.check_directory.proofs.openings.offered.Given as goal
 
 abbrev pub invariant-items : goal.invariant-items

@@ -1,8 +1,8 @@
 use Rattle.std.proofs.Common.{◌≡◌, rules, map, sym, ap, ◌∙◌}
-use Rattle.checking_rules.specs.Directory.{names_in, offered, place_in, scope_at}
-use Rattle.checking_rules.specs.PlainTypes.{plain_interface}
+use Rattle.check_rules.specs.Directory.{names_in, offered, place_in, scope_at}
+use Rattle.check_rules.specs.PlainTypes.{plain_interface}
 use Rattle.check_scopes.specs.Scopes.{over}
-use Rattle.check_words.specs.Views.{names}
+use Rattle.check_state.specs.Views.{names}
 use Rattle.check_directory.proofs.EntryLaws.{no_names}
 use Rattle.check_directory.proofs.OfferLaws.{all_over, opened_all, opened_end, opened_over, opened_step}
 use Rattle.check_directory.proofs.openings.opened.Goals as goal

@@ -1,7 +1,7 @@
 use Rattle.std.proofs.Common.{◌≡◌, length, map}
-use Rattle.checking_rules.specs.Directory.{offered, opened}
-use Rattle.checking_rules.specs.PlainTypes.{plain_interface}
-use Rattle.check_words.specs.Views.{names}
+use Rattle.check_rules.specs.Directory.{offered, opened}
+use Rattle.check_rules.specs.PlainTypes.{plain_interface}
+use Rattle.check_state.specs.Views.{names}
 use Rattle.check_directory.proofs.OfferLaws.{opened_over}
 use Rattle.check_directory.proofs.openings.opened.Given as goal
 

@@ -1,5 +1,5 @@
 use Rattle.std.proofs.Common.{rules, sym}
-use Rattle.check_words.specs.Views.{names}
+use Rattle.check_state.specs.Views.{names}
 use Rattle.check_directory.proofs.KeptLaws.{none_kept}
 use Rattle.check_directory.proofs.restricted.keep.Goals as goal
 

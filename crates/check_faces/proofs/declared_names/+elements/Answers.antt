@@ -1,5 +1,5 @@
 use Rattle.std.proofs.Common.{rules}
-use Rattle.check_words.specs.Views.{names}
+use Rattle.check_state.specs.Views.{names}
 use Rattle.check_directory.proofs.ElementLaws.{then_ok}
 use Rattle.check_faces.proofs.AheadLaws as laws
 use Rattle.check_faces.proofs.FormLaws as forms

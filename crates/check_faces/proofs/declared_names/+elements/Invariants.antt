@@ -1,8 +1,8 @@
 use Rattle.std.proofs.Common.{◌≡◌, drop}
 use Rattle.mesa_types.specs.PlainSyntax.{named_fields, types}
 use Rattle.check_scopes.specs.Scopes.{over}
-use Rattle.checking_rules.specs.Programs.{elements_in_named, elements_in_types}
-use Rattle.check_words.specs.Views.{names}
+use Rattle.check_rules.specs.Programs.{elements_in_named, elements_in_types}
+use Rattle.check_state.specs.Views.{names}
 use Rattle.check_faces.specs.Ahead.{later}
 use Rattle.check_faces.proofs.declared_names.+elements.Given as goal
 

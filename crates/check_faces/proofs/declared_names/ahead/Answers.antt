@@ -1,8 +1,8 @@
 use Rattle.std.proofs.Common.{rules, sym, ap, map}
 use Rattle.mesa_types.specs.PlainSyntax.{declaration}
 use Rattle.check_scopes.specs.Scopes.{over}
-use Rattle.checking_rules.specs.Programs.{ahead}
-use Rattle.check_words.specs.Views.{names}
+use Rattle.check_rules.specs.Programs.{ahead}
+use Rattle.check_state.specs.Views.{names}
 use Rattle.check_directory.proofs.EntryLaws.{no_names}
 use Rattle.check_faces.proofs.AheadLaws as laws
 use Rattle.check_faces.proofs.declared_names.ahead.Goals as goal

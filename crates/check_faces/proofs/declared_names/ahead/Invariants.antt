@@ -1,8 +1,8 @@
 use Rattle.std.proofs.Common.{◌≡◌, drop, map}
 use Rattle.mesa_types.specs.PlainSyntax.{declaration}
 use Rattle.check_scopes.specs.Scopes.{over}
-use Rattle.checking_rules.specs.Programs.{ahead}
-use Rattle.check_words.specs.Views.{names}
+use Rattle.check_rules.specs.Programs.{ahead}
+use Rattle.check_state.specs.Views.{names}
 use Rattle.check_faces.proofs.declared_names.ahead.Given as goal
 
 abbrev pub invariant-loop-declaration : goal.invariant-loop-declaration

@@ -1,8 +1,8 @@
 use Rattle.std.proofs.Common.{◌≡◌, drop, map}
 use Rattle.mesa_types.specs.PlainSyntax.{definition}
 use Rattle.check_scopes.specs.Scopes.{over}
-use Rattle.checking_rules.specs.Definitions.{ahead}
-use Rattle.check_words.specs.Views.{names}
+use Rattle.check_rules.specs.Definitions.{ahead}
+use Rattle.check_state.specs.Views.{names}
 use Rattle.check_faces.proofs.declared_names.ahead_in_interface.Given as goal
 
 abbrev pub invariant-loop-definition : goal.invariant-loop-definition

@@ -1,5 +1,5 @@
 use Rattle.std.proofs.Common.{rules}
-use Rattle.check_words.specs.Views.{meaning, names}
+use Rattle.check_state.specs.Views.{meaning, names}
 use Rattle.check_faces.proofs.AheadLaws as laws
 use Rattle.check_faces.proofs.declared_names.also.Goals as goal
 

@@ -1,6 +1,6 @@
 use Rattle.std.proofs.Common.{◌≡◌, drop}
 use Rattle.check_scopes.specs.Scopes.{over}
-use Rattle.check_words.specs.Views.{meaning, names}
+use Rattle.check_state.specs.Views.{meaning, names}
 use Rattle.check_faces.specs.Ahead.{all}
 use Rattle.check_faces.proofs.declared_names.also.Given as goal
 

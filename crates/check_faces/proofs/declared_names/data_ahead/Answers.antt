@@ -1,8 +1,8 @@
 use Rattle.std.proofs.Common.{◌≡◌, rules, sym, ap, ◌∙◌}
 use Rattle.mesa_types.specs.PlainSyntax.{type_exp}
 use Rattle.check_scopes.specs.Scopes.{over}
-use Rattle.checking_rules.specs.Programs.{elements_of}
-use Rattle.check_words.specs.Views.{names}
+use Rattle.check_rules.specs.Programs.{elements_of}
+use Rattle.check_state.specs.Views.{names}
 use Rattle.check_directory.proofs.ElementLaws.{then_ok}
 use Rattle.check_faces.specs.Ahead.{later}
 use Rattle.check_faces.proofs.AheadLaws.{two_more}

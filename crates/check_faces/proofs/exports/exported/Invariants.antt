@@ -1,5 +1,5 @@
 use Rattle.std.proofs.Common.{◌≡◌, drop, map}
-use Rattle.checking_rules.specs.Programs.{exported}
+use Rattle.check_rules.specs.Programs.{exported}
 use Rattle.check_directory.specs.Interfaces.{found}
 use Rattle.check_faces.specs.Offers.{offer}
 use Rattle.check_faces.proofs.ExportLaws.{export_on}

@@ -1,7 +1,7 @@
 use Rattle.std.proofs.Common.{◌≡◌, drop}
 use Rattle.check_scopes.specs.Scopes.{over}
 use Rattle.check_scopes.specs.Shows.{means}
-use Rattle.checking_rules.specs.Directory.{place_in}
+use Rattle.check_rules.specs.Directory.{place_in}
 use Rattle.check_faces.specs.Offers.{names}
 use Rattle.check_faces.proofs.exports.offer_places.Given as goal
 

@@ -1,8 +1,8 @@
 use Rattle.std.proofs.Common.{◌≡◌, drop, map}
 use Rattle.check_scopes.specs.Shows.{means}
-use Rattle.checking_rules.specs.Directory.{place_in}
-use Rattle.checking_rules.specs.PlainTypes.{plain_item}
-use Rattle.checking_rules.specs.Programs.{pairs}
+use Rattle.check_rules.specs.Directory.{place_in}
+use Rattle.check_rules.specs.PlainTypes.{plain_item}
+use Rattle.check_rules.specs.Programs.{pairs}
 use Rattle.check_faces.specs.Offers.{names, offer}
 use Rattle.check_faces.proofs.ExportLaws.{go_on}
 use Rattle.check_faces.proofs.exports.pairs.Given as goal

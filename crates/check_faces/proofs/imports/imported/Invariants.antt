@@ -1,5 +1,5 @@
 use Rattle.std.proofs.Common.{◌≡◌, ◌++◌, drop}
-use Rattle.checking_rules.specs.Programs.{imported}
+use Rattle.check_rules.specs.Programs.{imported}
 use Rattle.check_directory.specs.Interfaces.{found}
 use Rattle.check_faces.proofs.imports.imported.Given as goal
 

@@ -1,6 +1,6 @@
 use Rattle.std.proofs.Common.{◌≡◌, ◌++◌, drop, map}
-use Rattle.checking_rules.specs.PlainTypes.{plain_item}
-use Rattle.checking_rules.specs.Programs.{marked_from}
+use Rattle.check_rules.specs.PlainTypes.{plain_item}
+use Rattle.check_rules.specs.Programs.{marked_from}
 use Rattle.check_faces.proofs.imports.marked.Given as goal
 
 abbrev pub invariant-loop-item : goal.invariant-loop-item

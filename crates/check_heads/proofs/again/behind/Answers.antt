@@ -1,6 +1,6 @@
 -- Where it has no fault the one of the two states goes on, and where it has one the other.
 use Rattle.std.proofs.Common.{ap, sym, ◌∙◌}
-use Rattle.check_words.specs.Views as words
+use Rattle.check_state.specs.Views as words
 use Rattle.check_heads.specs.Again.{is_fault, next}
 use Rattle.check_heads.proofs.AgainLaws.{at_fault, declared_on, no_fault, passed_on}
 use Rattle.check_heads.proofs.again.behind.Goals as goal

@@ -1,6 +1,6 @@
 use Rattle.std.proofs.Common.{sym, ◌∙◌}
-use Rattle.checking_rules.specs.Programs.{passed_over}
-use Rattle.check_words.specs.Views as words
+use Rattle.check_rules.specs.Programs.{passed_over}
+use Rattle.check_state.specs.Views as words
 use Rattle.check_heads.proofs.AgainLaws.{behind_none, gone_on}
 use Rattle.check_heads.proofs.again.behind_all.Goals as goal
 

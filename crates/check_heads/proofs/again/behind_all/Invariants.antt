@@ -1,6 +1,6 @@
 use Rattle.std.proofs.Common.{◌≡◌, take}
-use Rattle.checking_rules.specs.Programs.{behind, passed_over}
-use Rattle.check_words.specs.Views as words
+use Rattle.check_rules.specs.Programs.{behind, passed_over}
+use Rattle.check_state.specs.Views as words
 use Rattle.check_heads.proofs.again.behind_all.Given as goal
 
 abbrev pub invariant-loop-other : goal.invariant-loop-other

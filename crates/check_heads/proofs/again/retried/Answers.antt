@@ -1,4 +1,4 @@
-use Rattle.check_words.specs.Views as words
+use Rattle.check_state.specs.Views as words
 use Rattle.check_heads.proofs.AgainLaws.{retried_by}
 use Rattle.check_heads.proofs.again.retried.Goals as goal
 

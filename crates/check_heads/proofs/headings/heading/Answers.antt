@@ -1,7 +1,7 @@
 use Rattle.std.proofs.Common.{rules}
 use Rattle.mesa_types.specs.PlainSyntax as plain
 use Rattle.check_jumps.proofs.ArmVariables.{names_nothing}
-use Rattle.check_words.specs.Views as words
+use Rattle.check_state.specs.Views as words
 use Rattle.check_heads.specs.Views as view
 use Rattle.check_heads.proofs.HeadingLaws.{at_gives, at_takes, headed}
 use Rattle.check_heads.proofs.headings.heading.Goals as goal

@@ -1,7 +1,7 @@
 use Rattle.std.proofs.Common.{◌≡◌, [], map, drop}
 use Rattle.mesa_types.specs.PlainSyntax as plain
-use Rattle.checking_rules.specs.PlainTypes.{plain_field}
-use Rattle.check_words.specs.Views as words
+use Rattle.check_rules.specs.PlainTypes.{plain_field}
+use Rattle.check_state.specs.Views as words
 use Rattle.check_heads.proofs.HeadingLaws.{parameters_rest}
 use Rattle.check_heads.proofs.headings.named_parameters.Given as goal
 

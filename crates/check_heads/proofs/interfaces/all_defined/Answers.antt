@@ -1,8 +1,8 @@
 use Rattle.std.proofs.Common.{map, rules, sym, ap, ◌+◌, ◌∙◌}
 use Rattle.mesa_types.specs.PlainSyntax as plain
-use Rattle.checking_rules.specs.Definitions.{definition, nothing_defined}
-use Rattle.check_words.specs.Gives.{fault}
-use Rattle.check_words.specs.Views as words
+use Rattle.check_rules.specs.Definitions.{definition, nothing_defined}
+use Rattle.check_state.specs.Gives.{fault}
+use Rattle.check_state.specs.Views as words
 use Rattle.check_heads.specs.Views as view
 use Rattle.check_heads.proofs.AgainLaws.{after_none, after_ok}
 use Rattle.check_heads.proofs.DefinedLaws.{all_told, defined_rest, defined_turn, fault_behind, the_rest}

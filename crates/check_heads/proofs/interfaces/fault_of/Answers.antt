@@ -1,9 +1,9 @@
 use Rattle.std.proofs.Common.{map}
 use Rattle.mesa_types.specs.PlainSyntax as plain
 use Rattle.mesa_types.specs.Syntax as s
-use Rattle.checking_rules.specs.Definitions.{definition}
-use Rattle.check_words.specs.Gives.{fault}
-use Rattle.check_words.specs.Views as words
+use Rattle.check_rules.specs.Definitions.{definition}
+use Rattle.check_state.specs.Gives.{fault}
+use Rattle.check_state.specs.Views as words
 use Rattle.check_heads.specs.Again.{after}
 use Rattle.check_heads.proofs.AgainLaws.{before_dropped}
 use Rattle.check_heads.proofs.interfaces.fault_of.Goals as goal

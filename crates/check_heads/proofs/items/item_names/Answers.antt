@@ -1,7 +1,7 @@
 use Rattle.std.proofs.Common.{rules}
-use Rattle.checking_rules.specs.PlainTypes.{plain_item}
-use Rattle.checking_rules.specs.Programs.{named_item}
-use Rattle.check_words.specs.Views as words
+use Rattle.check_rules.specs.PlainTypes.{plain_item}
+use Rattle.check_rules.specs.Programs.{named_item}
+use Rattle.check_state.specs.Views as words
 use Rattle.check_heads.specs.Views as view
 use Rattle.check_heads.proofs.ItemLaws.{item_more, items_end, put_more}
 use Rattle.check_heads.proofs.items.item_names.Goals as goal

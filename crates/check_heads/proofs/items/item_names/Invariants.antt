@@ -1,8 +1,8 @@
 use Rattle.std.proofs.Common.{◌≡◌, map, take, drop}
-use Rattle.checking_rules.specs.Definitions.{item_meaning}
-use Rattle.checking_rules.specs.PlainTypes.{plain_item}
-use Rattle.checking_rules.specs.Programs.{named_item}
-use Rattle.check_words.specs.Views as words
+use Rattle.check_rules.specs.Definitions.{item_meaning}
+use Rattle.check_rules.specs.PlainTypes.{plain_item}
+use Rattle.check_rules.specs.Programs.{named_item}
+use Rattle.check_state.specs.Views as words
 use Rattle.check_heads.specs.Views as view
 use Rattle.check_heads.proofs.ItemLaws.{all_mean}
 use Rattle.check_heads.proofs.items.item_names.Given as goal

@@ -1,6 +1,6 @@
 use Rattle.std.proofs.Common.{◌≡◌, ◌+◌, drop}
-use Rattle.checking_rules.specs.Statements.{fields_from}
-use Rattle.check_words.specs.Views.{fields, names}
+use Rattle.check_rules.specs.Statements.{fields_from}
+use Rattle.check_state.specs.Views.{fields, names}
 use Rattle.check_heads.proofs.naming.name_fields.Given as goal
 
 abbrev pub invariant-loop-field : goal.invariant-loop-field

@@ -1,5 +1,5 @@
 use Rattle.std.proofs.Common.{rules, sym, ◌∙◌}
-use Rattle.check_words.specs.Views.{names}
+use Rattle.check_state.specs.Views.{names}
 use Rattle.check_heads.proofs.TakenHeads.{all_taken, none_taken, one_more}
 use Rattle.check_heads.proofs.scopes.heads_alone.Goals as goal
 

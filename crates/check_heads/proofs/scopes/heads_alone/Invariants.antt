@@ -1,6 +1,6 @@
 use Rattle.std.proofs.Common.{◌≡◌}
 use Rattle.check_scopes.specs.Counts.{how_many}
-use Rattle.check_words.specs.Views.{names}
+use Rattle.check_state.specs.Views.{names}
 use Rattle.check_heads.specs.Again.{heads_among}
 use Rattle.check_heads.proofs.TakenHeads.{heads_over}
 use Rattle.check_heads.proofs.scopes.heads_alone.Given as goal

@@ -1,10 +1,10 @@
 use Rattle.std.proofs.Common.{rules, ◌+◌, ◌∙◌, ap, drop, sym}
-use Rattle.checking_rules.specs.Meanings.{Later}
+use Rattle.check_rules.specs.Meanings.{Later}
 use Rattle.check_faces.specs.Ahead.{later}
 use Rattle.check_faces.proofs.AheadLaws.{all_at, all_out, named_more}
 use Rattle.check_scopes.specs.Scopes.{over}
-use Rattle.check_words.specs.Views.{names}
-use Rattle.check_words.specs.declared.meaning.Meaning.TheVariants as m
+use Rattle.check_state.specs.Views.{names}
+use Rattle.check_state.specs.declared.meaning.Meaning.TheVariants as m
 use Rattle.check_heads.proofs.scopes.take.Goals as goal
 
 pub loop-name-preserved : goal.loop-name-preserved

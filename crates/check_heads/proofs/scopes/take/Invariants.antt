@@ -1,7 +1,7 @@
 use Rattle.std.proofs.Common.{◌≡◌, drop}
 use Rattle.check_faces.specs.Ahead.{later}
 use Rattle.check_scopes.specs.Scopes.{over}
-use Rattle.check_words.specs.Views.{names}
+use Rattle.check_state.specs.Views.{names}
 use Rattle.check_heads.proofs.scopes.take.Given as goal
 
 abbrev pub invariant-loop-name : goal.invariant-loop-name

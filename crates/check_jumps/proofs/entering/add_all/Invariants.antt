@@ -1,8 +1,8 @@
 use Rattle.std.proofs.Common.{◌≡◌, drop}
 use Rattle.mesa_types.specs.Plain.{kinds_of}
 use Rattle.mesa_types.specs.Shapes.{join}
-use Rattle.checking_rules.specs.PlainTypes as types
-use Rattle.check_words.specs.Views.{fields}
+use Rattle.check_rules.specs.PlainTypes as types
+use Rattle.check_state.specs.Views.{fields}
 use Rattle.check_jumps.proofs.entering.add_all.Given as goal
 
 abbrev pub invariant-loop-field : goal.invariant-loop-field

@@ -1,7 +1,7 @@
 use Rattle.std.proofs.Common.{◌≡◌, drop}
-use Rattle.checking_rules.specs.Scopes.{nothing}
-use Rattle.checking_rules.specs.Statements.{fields_from}
-use Rattle.check_words.specs.Views.{fields, names}
+use Rattle.check_rules.specs.Scopes.{nothing}
+use Rattle.check_rules.specs.Statements.{fields_from}
+use Rattle.check_state.specs.Views.{fields, names}
 use Rattle.check_jumps.proofs.entering.scope_of.Given as goal
 
 abbrev pub invariant-loop-field : goal.invariant-loop-field

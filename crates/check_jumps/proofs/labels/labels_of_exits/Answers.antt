@@ -1,5 +1,5 @@
 use Rattle.std.proofs.Common.{rules, arith, ◌∙◌, ap, length}
-use Rattle.check_words.specs.Views.{around, labels}
+use Rattle.check_state.specs.Views.{around, labels}
 use Rattle.check_jumps.proofs.LabelLoops.{labels_turn, labels_counted, labels_done, labels_made, scope_out, exits_at, exits_out}
 use Rattle.check_jumps.proofs.labels.labels_of_exits.Goals as goal
 

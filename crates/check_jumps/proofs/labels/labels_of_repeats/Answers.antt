@@ -1,6 +1,6 @@
 use Rattle.std.proofs.Common.{rules, arith, ◌∙◌, ap, length}
-use Rattle.checking_rules.specs.Statements.{labels_of}
-use Rattle.check_words.specs.Views.{around, labels}
+use Rattle.check_rules.specs.Statements.{labels_of}
+use Rattle.check_state.specs.Views.{around, labels}
 use Rattle.check_jumps.proofs.LabelLoops.{labels_turn, labels_counted, labels_done, labels_made, scope_out, repeats_at, repeats_out}
 use Rattle.check_jumps.proofs.labels.labels_of_repeats.Goals as goal
 

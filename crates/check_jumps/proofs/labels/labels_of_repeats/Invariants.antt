@@ -2,9 +2,9 @@ use Rattle.std.proofs.Common.{◌≡◌, ◌+◌, drop, length}
 use Rattle.mesa_types.specs.PlainSyntax.{repeats}
 use Rattle.check_scopes.specs.Scopes.{nothing}
 use Rattle.check_scopes.specs.Shows.{means}
-use Rattle.checking_rules.specs.Around.{label_scope}
-use Rattle.checking_rules.specs.Statements.{labels_of_repeats}
-use Rattle.check_words.specs.Views.{seen, seen_as}
+use Rattle.check_rules.specs.Around.{label_scope}
+use Rattle.check_rules.specs.Statements.{labels_of_repeats}
+use Rattle.check_state.specs.Views.{seen, seen_as}
 use Rattle.check_jumps.proofs.labels.labels_of_repeats.Given as goal
 
 abbrev pub invariant-loop-repeat : goal.invariant-loop-repeat

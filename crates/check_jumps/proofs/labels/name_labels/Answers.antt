@@ -1,5 +1,5 @@
 use Rattle.std.proofs.Common.{rules, arith}
-use Rattle.check_words.proofs.ScopeLaws.{with_name_as}
+use Rattle.check_state.proofs.ScopeLaws.{with_name_as}
 use Rattle.check_jumps.proofs.LabelLoops.{label_at, label_out}
 use Rattle.check_jumps.proofs.labels.name_labels.Goals as goal
 

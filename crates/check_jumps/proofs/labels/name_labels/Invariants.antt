@@ -1,7 +1,7 @@
 use Rattle.std.proofs.Common.{◌≡◌, ◌+◌, drop}
 use Rattle.check_scopes.specs.Shows.{means}
-use Rattle.checking_rules.specs.Around.{label_scope}
-use Rattle.check_words.specs.Views.{seen, seen_as}
+use Rattle.check_rules.specs.Around.{label_scope}
+use Rattle.check_state.specs.Views.{seen, seen_as}
 use Rattle.check_jumps.proofs.labels.name_labels.Given as goal
 
 abbrev pub invariant-loop-name : goal.invariant-loop-name

@@ -1,5 +1,5 @@
 use Rattle.std.proofs.Common.{rules}
-use Rattle.check_words.specs.Views.{fields}
+use Rattle.check_state.specs.Views.{fields}
 use Rattle.check_jumps.proofs.Tests.{giving_at, giving_out}
 use Rattle.check_jumps.proofs.likeness.all_give.Goals as goal
 

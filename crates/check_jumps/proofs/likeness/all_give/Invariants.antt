@@ -1,6 +1,6 @@
 use Rattle.std.proofs.Common.{◌≡◌, drop, map}
-use Rattle.checking_rules.specs.Around.{all_give}
-use Rattle.check_words.specs.Views.{arm_label, fields}
+use Rattle.check_rules.specs.Around.{all_give}
+use Rattle.check_state.specs.Views.{arm_label, fields}
 use Rattle.check_jumps.proofs.likeness.all_give.Given as goal
 
 abbrev pub invariant-loop-one : goal.invariant-loop-one

@@ -1,7 +1,7 @@
 use Rattle.std.proofs.Common.{◌≡◌, drop, map}
-use Rattle.checking_rules.specs.Around.{all_like}
-use Rattle.checking_rules.specs.PlainTypes.{plain_item}
-use Rattle.check_words.specs.Views.{arm_label}
+use Rattle.check_rules.specs.Around.{all_like}
+use Rattle.check_rules.specs.PlainTypes.{plain_item}
+use Rattle.check_state.specs.Views.{arm_label}
 use Rattle.check_jumps.proofs.likeness.all_like.Given as goal
 
 abbrev pub invariant-loop-one : goal.invariant-loop-one

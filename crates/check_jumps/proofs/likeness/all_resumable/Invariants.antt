@@ -1,6 +1,6 @@
 use Rattle.std.proofs.Common.{◌≡◌, drop, map}
-use Rattle.checking_rules.specs.Around.{all_resumable}
-use Rattle.check_words.specs.Views.{arm_label}
+use Rattle.check_rules.specs.Around.{all_resumable}
+use Rattle.check_state.specs.Views.{arm_label}
 use Rattle.check_jumps.proofs.likeness.all_resumable.Given as goal
 
 abbrev pub invariant-loop-one : goal.invariant-loop-one

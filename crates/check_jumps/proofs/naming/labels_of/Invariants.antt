@@ -1,6 +1,6 @@
 use Rattle.std.proofs.Common.{◌≡◌, take, map}
-use Rattle.checking_rules.specs.Around.{label_of}
-use Rattle.check_words.specs.Views.{arm_label}
+use Rattle.check_rules.specs.Around.{label_of}
+use Rattle.check_state.specs.Views.{arm_label}
 use Rattle.check_jumps.proofs.naming.labels_of.Given as goal
 
 abbrev pub invariant-loop-one : goal.invariant-loop-one

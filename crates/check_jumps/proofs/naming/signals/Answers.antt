@@ -1,5 +1,5 @@
 use Rattle.std.proofs.Common.{rules, ◌∙◌}
-use Rattle.check_words.specs.Views.{arm_label, around}
+use Rattle.check_state.specs.Views.{arm_label, around}
 use Rattle.check_jumps.specs.Arms.{signal}
 use Rattle.check_jumps.proofs.Gathering.{gathered_at, gathered_turn, gathered_end}
 use Rattle.check_jumps.proofs.Signals.{signals_begin}

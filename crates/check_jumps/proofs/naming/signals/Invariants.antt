@@ -1,6 +1,6 @@
 use Rattle.std.proofs.Common.{◌≡◌, drop, map}
-use Rattle.checking_rules.specs.Names.{signals}
-use Rattle.check_words.specs.Views.{arm_label, around, state}
+use Rattle.check_rules.specs.Names.{signals}
+use Rattle.check_state.specs.Views.{arm_label, around, state}
 use Rattle.check_jumps.specs.Arms.{signal}
 use Rattle.check_jumps.proofs.Gathering.{gathered, behind}
 use Rattle.check_jumps.proofs.naming.signals.Given as goal

@@ -1,5 +1,5 @@
 use Rattle.mesa_types.specs.PlainSyntax as plain
-use Rattle.checking_rules.specs.Mentions.{of_kind}
+use Rattle.check_rules.specs.Mentions.{of_kind}
 use Rattle.check_mentions.proofs.GatherLaws.{origins_whole, texts_whole}
 use Rattle.check_mentions.proofs.modules.mentions_of.Goals as goal
 

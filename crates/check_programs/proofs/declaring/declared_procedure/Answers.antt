@@ -1,6 +1,6 @@
 use Rattle.std.proofs.Common.{rules}
-use Rattle.checking_rules.specs.PlainTypes.{plain_item}
-use Rattle.check_words.specs.Views as words
+use Rattle.check_rules.specs.PlainTypes.{plain_item}
+use Rattle.check_state.specs.Views as words
 use Rattle.check_programs.specs.Views as view
 use Rattle.check_programs.proofs.DeclaredLaws.{declared_is}
 use Rattle.check_heads.specs.Views.{heading}

@@ -1,7 +1,7 @@
 use Rattle.std.proofs.Common.{rules, map, ◌∙◌, ap}
 use Rattle.check_faces.specs.Offers.{offer}
-use Rattle.checking_rules.specs.PlainTypes.{plain_item}
-use Rattle.check_words.specs.Views as words
+use Rattle.check_rules.specs.PlainTypes.{plain_item}
+use Rattle.check_state.specs.Views as words
 use Rattle.check_programs.specs.Heads.{renamed}
 use Rattle.check_programs.specs.Views as view
 use Rattle.check_programs.proofs.DeclaredLaws.{signals_is, signals_put}

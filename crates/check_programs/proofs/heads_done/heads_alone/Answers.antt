@@ -1,8 +1,8 @@
 use Rattle.std.proofs.Common.{Some, sym, ap, ◌∙◌}
 use Rattle.check_scopes.specs.Scopes.{with_name}
 use Rattle.check_scopes.specs.Shows.{means, valued}
-use Rattle.checking_rules.specs.Programs.{heads_alone, hidden_unless_head}
-use Rattle.check_words.specs.Views.{meaning, names, seen_as}
+use Rattle.check_rules.specs.Programs.{heads_alone, hidden_unless_head}
+use Rattle.check_state.specs.Views.{meaning, names, seen_as}
 use Rattle.check_programs.proofs.HeadScopes.{still, still_begin, still_end, still_next}
 use Rattle.check_programs.proofs.heads_done.heads_alone.Goals as goal
 

@@ -2,8 +2,8 @@
 use Rattle.std.proofs.Common.{◌≡◌}
 use Rattle.check_scopes.specs.Counts.{how_many}
 use Rattle.check_scopes.specs.Shows.{valued}
-use Rattle.checking_rules.specs.Programs.{heads_alone}
-use Rattle.check_words.specs.Views.{names}
+use Rattle.check_rules.specs.Programs.{heads_alone}
+use Rattle.check_state.specs.Views.{names}
 use Rattle.check_programs.proofs.HeadScopes.{still}
 use Rattle.check_programs.proofs.heads_done.heads_alone.Given as goal
 

@@ -1,6 +1,6 @@
 use Rattle.std.proofs.Common.{◌≡◌, ◌++◌, map, take}
-use Rattle.checking_rules.specs.PlainTypes.{plain_item}
-use Rattle.checking_rules.specs.Programs.{procedure_offer}
+use Rattle.check_rules.specs.PlainTypes.{plain_item}
+use Rattle.check_rules.specs.Programs.{procedure_offer}
 use Rattle.check_faces.specs.Offers.{offer}
 use Rattle.check_programs.proofs.offers.offer_procedures.Given as goal
 

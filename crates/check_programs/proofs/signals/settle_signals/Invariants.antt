@@ -1,5 +1,5 @@
 use Rattle.std.proofs.Common.{◌≡◌}
-use Rattle.check_words.specs.Views.{state}
+use Rattle.check_state.specs.Views.{state}
 use Rattle.check_programs.proofs.SignalLoops.{to_mean}
 use Rattle.check_programs.proofs.signals.settle_signals.Given as goal
 

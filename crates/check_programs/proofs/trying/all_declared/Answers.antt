@@ -1,7 +1,7 @@
 use Rattle.std.proofs.Common.{◌+◌, ◌-◌, rules, drop, length, take, refl, ◌∙◌}
 use Rattle.std.proofs.lemmas.List.{take_rest}
-use Rattle.check_words.specs.Gives.{fault}
-use Rattle.check_words.specs.Views.{around, state}
+use Rattle.check_state.specs.Gives.{fault}
+use Rattle.check_state.specs.Views.{around, state}
 use Rattle.check_programs.specs.Again.{so_far}
 use Rattle.check_programs.specs.Found.{nothing_found}
 use Rattle.check_programs.specs.Views as view

@@ -1,6 +1,6 @@
 use Rattle.std.proofs.Common.{◌≡◌, drop, map, take}
 use Rattle.mesa_types.specs.PlainSyntax as plain
-use Rattle.check_words.specs.Views.{around, state}
+use Rattle.check_state.specs.Views.{around, state}
 use Rattle.check_programs.specs.Again.{so_far}
 use Rattle.check_programs.specs.Found.{all_found, nothing_found}
 use Rattle.check_programs.specs.Views as view

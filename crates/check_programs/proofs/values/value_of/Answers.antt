@@ -1,4 +1,4 @@
-use Rattle.check_words.specs.Views.{around, state}
+use Rattle.check_state.specs.Views.{around, state}
 use Rattle.check_programs.proofs.ValueCases.{data_of_procedure, data_of_signal, data_of_error, procedure_of_data, procedure_of_signal, procedure_of_error, procedure_value}
 use Rattle.check_programs.proofs.values.value_of.Goals as goal
 

@@ -1,7 +1,7 @@
 use Rattle.mesa_types.specs.PlainSyntax as plain
-use Rattle.check_words.specs.Views.{around, state}
+use Rattle.check_state.specs.Views.{around, state}
 use Rattle.check_programs.proofs.Endings.{giving}
-use Rattle.check_nested.specs.Views.{stmts}
+use Rattle.check_statement_lists.specs.Views.{stmts}
 use Rattle.check_programs.proofs.whole.ends_of.Goals as goal
 
 pub returns : goal.returns

@@ -1,6 +1,6 @@
 use Rattle.std.proofs.Common.{rules}
-use Rattle.checking_rules.specs.PlainTypes.{plain}
-use Rattle.check_words.specs.Views.{around, state}
+use Rattle.check_rules.specs.PlainTypes.{plain}
+use Rattle.check_state.specs.Views.{around, state}
 use Rattle.check_types.proofs.ElementLaws.{few_are_all, too_many_are_all}
 use Rattle.check_types.proofs.elements.declare_elements.Goals as goal
 

@@ -1,7 +1,7 @@
 use Rattle.std.proofs.Common.{◌≡◌, drop}
-use Rattle.checking_rules.specs.PlainTypes.{plain}
-use Rattle.checking_rules.specs.TypeRules.{elements}
-use Rattle.check_words.specs.Views.{around, state}
+use Rattle.check_rules.specs.PlainTypes.{plain}
+use Rattle.check_rules.specs.TypeRules.{elements}
+use Rattle.check_state.specs.Views.{around, state}
 use Rattle.check_types.proofs.elements.few_elements.Given as goal
 
 abbrev pub invariant-loop-i : goal.invariant-loop-i

@@ -1,6 +1,6 @@
 use Rattle.std.proofs.Common.{rules}
-use Rattle.checking_rules.specs.PlainTypes.{plain}
-use Rattle.check_words.specs.Views.{fields}
+use Rattle.check_rules.specs.PlainTypes.{plain}
+use Rattle.check_state.specs.Views.{fields}
 use Rattle.check_written_types.proofs.FieldLoops.{each_at, each_out, field_more}
 use Rattle.check_written_types.proofs.fields.add_fields.Goals as goal
 

@@ -1,7 +1,7 @@
 use Rattle.std.proofs.Common.{◌≡◌, ◌++◌, drop}
-use Rattle.checking_rules.specs.Parts.{each_of}
-use Rattle.checking_rules.specs.PlainTypes.{plain}
-use Rattle.check_words.specs.Views.{fields}
+use Rattle.check_rules.specs.Parts.{each_of}
+use Rattle.check_rules.specs.PlainTypes.{plain}
+use Rattle.check_state.specs.Views.{fields}
 use Rattle.check_written_types.proofs.fields.add_fields.Given as goal
 
 abbrev pub invariant-loop-name : goal.invariant-loop-name

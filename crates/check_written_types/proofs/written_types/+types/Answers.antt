@@ -1,9 +1,9 @@
 use Rattle.std.proofs.Common.{[], map, take, rules, sym, ap, ◌∙◌}
 use Rattle.std.specs.Prelude.{is_some}
 use Rattle.mesa_types.specs.PlainSyntax as plain
-use Rattle.checking_rules.specs.PlainTypes.{plain as plain_type, plain_field}
+use Rattle.check_rules.specs.PlainTypes.{plain as plain_type, plain_field}
 use Rattle.check_scopes.specs.Scopes.{has}
-use Rattle.check_words.specs.Views as words
+use Rattle.check_state.specs.Views as words
 use Rattle.check_written_types.proofs.FieldLoops.{named_at, named_end, named_first, named_rest, names_before, unnamed_at, unnamed_end, unnamed_first}
 use Rattle.check_written_types.proofs.FieldTurns.{named_turn, names_turn, one_twice, they_differ, unnamed_turn}
 use Rattle.check_written_types.proofs.written_types.+types.Goals as goal

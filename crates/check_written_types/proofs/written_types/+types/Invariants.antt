@@ -1,8 +1,8 @@
 -- What is still to come, behind the fields that are done.
 use Rattle.std.proofs.Common.{◌≡◌, [], map, take, drop}
 use Rattle.mesa_types.specs.PlainSyntax as plain
-use Rattle.checking_rules.specs.PlainTypes.{plain_field}
-use Rattle.check_words.specs.Views as words
+use Rattle.check_rules.specs.PlainTypes.{plain_field}
+use Rattle.check_state.specs.Views as words
 use Rattle.check_declared.specs.Naming.{HasNames}
 use Rattle.check_written_types.proofs.FieldLoops.{named_rest, names_before, unnamed_rest}
 use Rattle.check_written_types.proofs.written_types.+types.Given as goal

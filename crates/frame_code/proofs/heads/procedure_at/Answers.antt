@@ -1,5 +1,5 @@
 use Rattle.mesa_types.specs.Plain.{plain}
-use Rattle.code_relation.specs.Modules.{main_of}
+use Rattle.code_rules.specs.Modules.{main_of}
 use Rattle.frame_code.proofs.Placing.{procedure_there}
 use Rattle.frame_code.proofs.heads.procedure_at.Goals as goal
 

@@ -2,7 +2,7 @@
 use Rattle.std.proofs.Common.{map, arith}
 use Rattle.std.proofs.lemmas.List.{length-map}
 use Rattle.mesa_types.specs.Plain.{plain, plain_procedure}
-use Rattle.code_relation.specs.Modules.{procedures_of}
+use Rattle.code_rules.specs.Modules.{procedures_of}
 use Rattle.code_blocks.specs.Modules.{procedure_code}
 use Rattle.frame_code.proofs.BodyRooms.{few_procedures}
 use Rattle.frame_code.proofs.Written.{one_more}

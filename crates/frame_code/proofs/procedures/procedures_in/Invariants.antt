@@ -1,6 +1,6 @@
 use Rattle.std.proofs.Common.{◌≡◌, map, take}
 use Rattle.mesa_types.specs.Plain.{plain}
-use Rattle.code_relation.specs.Modules.{procedures_of}
+use Rattle.code_rules.specs.Modules.{procedures_of}
 use Rattle.code_blocks.specs.Modules.{procedure_code}
 use Rattle.frame_code.specs.Rooms.{IsOf}
 use Rattle.frame_code.proofs.procedures.procedures_in.Given as goal

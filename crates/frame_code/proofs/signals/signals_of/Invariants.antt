@@ -1,5 +1,5 @@
 use Rattle.std.proofs.Common.{◌≡◌, map, take}
-use Rattle.code_relation.specs.Modules.{signal_code}
+use Rattle.code_rules.specs.Modules.{signal_code}
 use Rattle.frame_code.proofs.signals.signals_of.Given as goal
 
 abbrev pub invariant-loop-item : goal.invariant-loop-item

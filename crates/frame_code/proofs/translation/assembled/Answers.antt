@@ -4,7 +4,7 @@ use Rattle.mesa_types.specs.declared.faces.Item.{Item}
 use Rattle.mesa_types.specs.declared.types.FieldType.{FieldType}
 use Rattle.mesa_types.specs.Links.{links_of}
 use Rattle.mesa_types.specs.Plain.{plain}
-use Rattle.code_relation.specs.Modules.{words_of_fields, signal_code, link_code}
+use Rattle.code_rules.specs.Modules.{words_of_fields, signal_code, link_code}
 use Rattle.frame_code.specs.Code.{IsCodeOf}
 use Rattle.frame_code.proofs.Whole.{parts_stand}
 use Rattle.frame_code.proofs.translation.assembled.Goals as goal

@@ -1,4 +1,4 @@
-use Rattle.code_relation.specs.Modules.{words_of_fields}
+use Rattle.code_rules.specs.Modules.{words_of_fields}
 use Rattle.frame_code.proofs.FieldWords.{one_more, all_counted}
 use Rattle.frame_code.proofs.words.all_words.Goals as goal
 

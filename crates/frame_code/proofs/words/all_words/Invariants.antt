@@ -1,7 +1,7 @@
 use Rattle.std.proofs.Common.{◌≡◌, ◌+◌, drop}
 use Rattle.mesa_types.specs.Plain.{kinds_of}
 use Rattle.mesa_types.specs.Shapes.{words_in_all}
-use Rattle.code_relation.specs.Modules.{words_of_fields}
+use Rattle.code_rules.specs.Modules.{words_of_fields}
 use Rattle.frame_code.proofs.words.all_words.Given as goal
 
 abbrev pub invariant-loop-field : goal.invariant-loop-field

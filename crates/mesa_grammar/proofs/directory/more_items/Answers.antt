@@ -1,8 +1,8 @@
 use Rattle.std.proofs.Common.{rules, arith}
 use Rattle.std.proofs.lemmas.Grind.{common_steps}
-use Rattle.module_productions.specs.ReadNested.{comma}
-use Rattle.module_productions.specs.ReadModules.{items_step}
-use Rattle.module_productions.proofs.KeepModules.{items_eats}
+use Rattle.grammar_rules.specs.ReadNested.{comma}
+use Rattle.grammar_rules.specs.ReadModules.{items_step}
+use Rattle.grammar_rules.proofs.KeepModules.{items_eats}
 use Rattle.token_cursor.proofs.Taking.{many_falls}
 use Rattle.mesa_grammar.proofs.directory.more_items.Goals as goal
 

@@ -1,7 +1,7 @@
 use Rattle.std.proofs.Common.{◌≡◌, length}
 use Rattle.token_cursor.specs.Parsing.{many}
-use Rattle.module_productions.specs.ReadNested.{comma}
-use Rattle.module_productions.specs.ReadModules.{items_step}
+use Rattle.grammar_rules.specs.ReadNested.{comma}
+use Rattle.grammar_rules.specs.ReadModules.{items_step}
 use Rattle.mesa_grammar.proofs.directory.more_items.Given as goal
 
 abbrev pub invariant-items : goal.invariant-items

@@ -1,6 +1,6 @@
 use Rattle.std.proofs.Common.{arith}
-use Rattle.module_productions.specs.ReadNested.{begins_expr, begins_stmt, begins_type}
-use Rattle.module_productions.specs.ReadStatements.{nested}
+use Rattle.grammar_rules.specs.ReadNested.{begins_expr, begins_stmt, begins_type}
+use Rattle.grammar_rules.specs.ReadStatements.{nested}
 use Rattle.mesa_grammar.proofs.Deeper.{deeper, too_deep_by}
 use Rattle.mesa_grammar.proofs.parser.+nest.Goals as goal
 

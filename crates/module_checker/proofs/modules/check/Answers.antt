@@ -1,8 +1,8 @@
 use Rattle.std.proofs.Common.{sym, subst}
 use Rattle.mesa_types.specs.Plain.{plain as plain_module}
-use Rattle.checking_rules.specs.Steps.{Checked}
-use Rattle.checking_rules.specs.Typed as t
-use Rattle.check_words.specs.Gives.{GivesOnly}
+use Rattle.check_rules.specs.Steps.{Checked}
+use Rattle.check_rules.specs.Typed as t
+use Rattle.check_state.specs.Gives.{GivesOnly}
 use Rattle.module_checker.proofs.ModuleLaws.{checked_program}
 use Rattle.module_checker.proofs.modules.check.Goals as goal
 

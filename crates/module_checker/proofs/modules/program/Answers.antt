@@ -1,11 +1,11 @@
 use Rattle.std.proofs.Common.{map, sym, subst}
 use Rattle.mesa_types.specs.Plain.{plain as plain_module}
 use Rattle.mesa_types.specs.PlainSyntax as plain
-use Rattle.checking_rules.specs.PlainTypes.{plain_interface}
-use Rattle.checking_rules.specs.Steps.{Checked}
-use Rattle.checking_rules.specs.Typed as t
+use Rattle.check_rules.specs.PlainTypes.{plain_interface}
+use Rattle.check_rules.specs.Steps.{Checked}
+use Rattle.check_rules.specs.Typed as t
 use Rattle.check_programs.specs.Views as parts
-use Rattle.check_words.specs.Gives.{GivesOnly}
+use Rattle.check_state.specs.Gives.{GivesOnly}
 use Rattle.module_checker.proofs.ModuleLaws.{program_is}
 use Rattle.module_checker.proofs.modules.program.Goals as goal
 

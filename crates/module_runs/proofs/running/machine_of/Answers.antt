@@ -2,7 +2,7 @@
 use Rattle.std.proofs.Common.{sym, subst}
 use Rattle.mesa_types.specs.Plain.{plain}
 use Rattle.source_meaning.specs.Program.{single}
-use Rattle.meant_runs.specs.Meant.{IsImageOf}
+use Rattle.linked_run.specs.Meant.{IsImageOf}
 use Rattle.module_runs.proofs.Texts.{texts_fit}
 use Rattle.module_runs.proofs.running.machine_of.Goals as goal
 

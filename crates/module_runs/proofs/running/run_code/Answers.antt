@@ -2,7 +2,7 @@
 use Rattle.std.proofs.Common.{subst}
 use Rattle.object_files.specs.declared.image.Image.{Image}
 use Rattle.mesa_types.specs.Plain.{plain}
-use Rattle.image_runs.specs.Running.{EndIsInRange}
+use Rattle.frame_machine.specs.Running.{EndIsInRange}
 use Rattle.module_runs.proofs.EndLaws.{ends}
 use Rattle.module_runs.proofs.running.run_code.Goals as goal
 

@@ -2,7 +2,7 @@ use Rattle.std.proofs.Common.{◌≡◌, ◌++◌, map, drop}
 use Rattle.mesa_types.specs.Chain.{chain}
 use Rattle.mesa_types.specs.Plain.{arm, case, exit, expr, exprs, operation, stmt, stmts, suffix, target, test}
 use Rattle.mesa_types.specs.Typed as t
-use Rattle.code_relation.specs.Told.{told_arms, told_cases, told_exits, told_exprs, told_operations, told_stmts, told_suffixes, told_targets, told_tests}
+use Rattle.code_rules.specs.Told.{told_arms, told_cases, told_exits, told_exprs, told_operations, told_stmts, told_suffixes, told_targets, told_tests}
 use Rattle.signal_scopes.specs.Views.{jumps_of, arms_of, phrases_of}
 use Rattle.signal_scopes.proofs.find_scopes.+scopes.Given as goal
 

@@ -3,9 +3,9 @@ use Rattle.mesa_types.specs.Plain.{plain}
 use Rattle.object_files.specs.declared.image.Image.{Image}
 use Rattle.code_forms.specs.Valid.{Valid}
 use Rattle.source_meaning.specs.Program.{single}
-use Rattle.code_simulation.specs.Stands.{Stands, WantsTheHost}
-use Rattle.ready_images.specs.Hosts.{IsHostItem}
-use Rattle.ready_images.specs.Order.{ImageInOrder}
+use Rattle.agreement_rules.specs.Stands.{Stands, WantsTheHost}
+use Rattle.machine_ready.specs.Hosts.{IsHostItem}
+use Rattle.machine_ready.specs.Order.{ImageInOrder}
 use Rattle.single_images.specs.Image.{image_of}
 use Rattle.single_images.proofs.Bound.{images_stand}
 use Rattle.single_images.proofs.Hosted.{images_want_the_host, wanted_items_are_hosts}

@@ -3,11 +3,11 @@ use Rattle.mesa_types.specs.Plain.{expr}
 use Rattle.mesa_types.specs.PlainSyntax as plain
 use Rattle.mesa_types.specs.declared.syntax.Expr.{Expr}
 use Rattle.mesa_types.specs.declared.syntax.Keyed.{Keyed}
-use Rattle.check_words.specs.Views as words
-use Rattle.check_reached.specs.Views as reaching
-use Rattle.check_parts.specs.Lists.{value_turn}
-use Rattle.check_parts.specs.Runs as runs
-use Rattle.check_parts.specs.Views as view
+use Rattle.check_state.specs.Views as words
+use Rattle.check_selectors.specs.Views as reaching
+use Rattle.check_operands.specs.Lists.{value_turn}
+use Rattle.check_operands.specs.Runs as runs
+use Rattle.check_operands.specs.Views as view
 use Rattle.check_expressions.proofs.Folding.{folded_at, folded_end, folded_view_end}
 use Rattle.check_expressions.proofs.ListLaws.{arguments_fit, arguments_other, values_are, keyed_are, value_at}
 use Rattle.check_expressions.proofs.RunLaws.{sums_folded, truths_folded, truth_at, exprs_more, walk_folded}

@@ -3,13 +3,13 @@ use Rattle.mesa_types.specs.Plain.{expr}
 use Rattle.mesa_types.specs.PlainSyntax as plain
 use Rattle.mesa_types.specs.declared.syntax.Expr.{Expr}
 use Rattle.mesa_types.specs.declared.syntax.Keyed.{Keyed}
-use Rattle.checking_rules.specs.Values.{is_truth}
-use Rattle.check_words.specs.Views as words
-use Rattle.check_reached.specs.Views as reaching
-use Rattle.check_parts.specs.Folds.{folded}
-use Rattle.check_parts.specs.Lists.{value_turn}
-use Rattle.check_parts.specs.Runs as runs
-use Rattle.check_parts.specs.Views as view
+use Rattle.check_rules.specs.Values.{is_truth}
+use Rattle.check_state.specs.Views as words
+use Rattle.check_selectors.specs.Views as reaching
+use Rattle.check_operands.specs.Folds.{folded}
+use Rattle.check_operands.specs.Lists.{value_turn}
+use Rattle.check_operands.specs.Runs as runs
+use Rattle.check_operands.specs.Views as view
 use Rattle.check_expressions.proofs.expressions.Checker.+expressions.Given as goal
 
 abbrev pub invariant-sums-loop-one : goal.invariant-sums-loop-one

@@ -1,7 +1,7 @@
 use Rattle.std.proofs.Common.{sym, ◌∙◌}
 use Rattle.mesa_types.specs.PlainSyntax as plain
-use Rattle.checking_rules.specs.Definitions.{definition}
-use Rattle.check_words.specs.Views as words
+use Rattle.check_rules.specs.Definitions.{definition}
+use Rattle.check_state.specs.Views as words
 use Rattle.check_heads.specs.Views as view
 use Rattle.check_heads.proofs.AgainLaws.{after_all, after_none, after_ok}
 use Rattle.check_heads.proofs.interfaces.BehindTriesLabeledIdentifiersDefined.begin.Goals as goal

@@ -1,6 +1,6 @@
 use Rattle.std.proofs.Common.{[], ◌+◌, drop, map, refl, rules}
 use Rattle.mesa_types.specs.PlainSyntax as plain
-use Rattle.checking_rules.specs.Mentions.{of_declarations, of_declared}
+use Rattle.check_rules.specs.Mentions.{of_declarations, of_declared}
 use Rattle.check_mentions.proofs.GatherLaws.{left_is, same_left}
 use Rattle.check_mentions.proofs.ModuleForms.{declarations_at, declarations_out, turn}
 use Rattle.check_mentions.proofs.gathered.Gathered.declarations.Goals as goal

@@ -1,6 +1,6 @@
 use Rattle.std.proofs.Common.{[], ◌+◌, drop, map, refl, rules}
 use Rattle.mesa_types.specs.PlainSyntax as plain
-use Rattle.checking_rules.specs.Mentions.{of_definitions, of_defined}
+use Rattle.check_rules.specs.Mentions.{of_definitions, of_defined}
 use Rattle.check_mentions.proofs.GatherLaws.{left_is, same_left}
 use Rattle.check_mentions.proofs.ModuleForms.{definitions_at, definitions_out, turn}
 use Rattle.check_mentions.proofs.gathered.Gathered.definitions.Goals as goal

@@ -1,6 +1,6 @@
 use Rattle.std.proofs.Common.{[], ◌∷◌, ◌++◌, sym, ap}
 use Rattle.check_scopes.proofs.Innermost.{ok_also}
-use Rattle.checking_rules.specs.Mentions.{Text, Made}
+use Rattle.check_rules.specs.Mentions.{Text, Made}
 use Rattle.check_mentions.specs.Parts.{ahead, of_part}
 use Rattle.check_mentions.proofs.GatherLaws.{all_is, same_left, with_behind}
 use Rattle.check_mentions.proofs.gathered.Gathered.part.Goals as goal

@@ -1,6 +1,6 @@
 use Rattle.std.proofs.Common.{rules, sym, ap, ◌∙◌}
-use Rattle.check_words.specs.Views.{around, state}
-use Rattle.checking_rules.specs.Steps.{State}
+use Rattle.check_state.specs.Views.{around, state}
+use Rattle.check_rules.specs.Steps.{State}
 use Rattle.check_programs.specs.Found.{Found}
 use Rattle.check_programs.specs.Views as view
 use Rattle.check_programs.proofs.AgainLoops.{so_far_at, so_far_out}

@@ -1,12 +1,12 @@
 use Rattle.std.proofs.Common.{subst, sym, ap, ◌∙◌}
 use Rattle.mesa_types.specs.PlainSyntax as plain
 use Rattle.mesa_types.proofs.PlainForms.{parts_of_block}
-use Rattle.checking_rules.specs.Around.{inside}
-use Rattle.checking_rules.specs.Scopes.{nothing}
-use Rattle.checking_rules.specs.Statements.{labels_of_exits}
-use Rattle.checking_rules.specs.Steps.{in_scope}
-use Rattle.check_words.specs.Gives.{Gives}
-use Rattle.check_words.specs.Views as view
+use Rattle.check_rules.specs.Around.{inside}
+use Rattle.check_rules.specs.Scopes.{nothing}
+use Rattle.check_rules.specs.Statements.{labels_of_exits}
+use Rattle.check_rules.specs.Steps.{in_scope}
+use Rattle.check_state.specs.Gives.{Gives}
+use Rattle.check_state.specs.Views as view
 use Rattle.check_statements.specs.Rules as rules
 use Rattle.check_statements.specs.Views as views
 use Rattle.check_statements.proofs.LabelLaws.{with_labels_is}

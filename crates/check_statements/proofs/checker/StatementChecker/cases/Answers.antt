@@ -1,9 +1,9 @@
 use Rattle.std.proofs.Common.{rules, refl, ◌∙◌}
 use Rattle.mesa_types.specs.Plain as tree
-use Rattle.check_words.specs.Views as view
+use Rattle.check_state.specs.Views as view
 use Rattle.check_statements.specs.Views as views
-use Rattle.check_nested.proofs.Chaining.{chained_at, chained_end, chained_turn, nothing_behind}
-use Rattle.check_nested.proofs.ListLaws.{stays}
+use Rattle.check_statement_lists.proofs.Chaining.{chained_at, chained_end, chained_turn, nothing_behind}
+use Rattle.check_statement_lists.proofs.ListLaws.{stays}
 use Rattle.check_statements.proofs.ListLaws.{case_before, case_given, case_put, cases_are, cases_before, cases_onto}
 use Rattle.check_statements.proofs.checker.StatementChecker.cases.Goals as goal
 

@@ -1,7 +1,7 @@
 use Rattle.std.proofs.Common.{◌≡◌, drop}
-use Rattle.check_words.specs.Views as view
-use Rattle.check_nested.proofs.Chaining.{behind, chained}
-use Rattle.check_nested.proofs.ListLaws.{stays}
+use Rattle.check_state.specs.Views as view
+use Rattle.check_statement_lists.proofs.Chaining.{behind, chained}
+use Rattle.check_statement_lists.proofs.ListLaws.{stays}
 use Rattle.check_statements.proofs.ListLaws.{case_before, cases_before}
 use Rattle.check_statements.proofs.checker.StatementChecker.cases.Given as goal
 

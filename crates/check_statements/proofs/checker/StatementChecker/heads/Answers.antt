@@ -1,9 +1,9 @@
 use Rattle.std.proofs.Common.{◌∷◌, [], rules, refl, ◌∙◌}
 use Rattle.check_locals.specs.Views.{headed}
-use Rattle.check_words.specs.Views as view
+use Rattle.check_state.specs.Views as view
 use Rattle.check_statements.specs.Views.{heads}
-use Rattle.check_nested.proofs.Chaining.{chained_at, chained_end, chained_turn}
-use Rattle.check_nested.proofs.ListLaws.{always, stays}
+use Rattle.check_statement_lists.proofs.Chaining.{chained_at, chained_end, chained_turn}
+use Rattle.check_statement_lists.proofs.ListLaws.{always, stays}
 use Rattle.check_statements.proofs.ListLaws.{head_given, heads_are, heads_before, heads_onto, one_head}
 use Rattle.check_statements.proofs.checker.StatementChecker.heads.Goals as goal
 

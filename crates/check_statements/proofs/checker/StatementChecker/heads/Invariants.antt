@@ -1,8 +1,8 @@
 use Rattle.std.proofs.Common.{◌≡◌, [], drop}
-use Rattle.check_words.specs.Views as view
+use Rattle.check_state.specs.Views as view
 use Rattle.check_statements.specs.Views.{heads}
-use Rattle.check_nested.proofs.Chaining.{behind, chained}
-use Rattle.check_nested.proofs.ListLaws.{always, stays}
+use Rattle.check_statement_lists.proofs.Chaining.{behind, chained}
+use Rattle.check_statement_lists.proofs.ListLaws.{always, stays}
 use Rattle.check_statements.proofs.ListLaws.{heads_before, one_head}
 use Rattle.check_statements.proofs.checker.StatementChecker.heads.Given as goal
 

@@ -1,12 +1,12 @@
 use Rattle.std.proofs.Common.{◌∷◌, drop, rules, refl, sym, ap, ◌∙◌}
 use Rattle.mesa_types.specs.Typed as t
-use Rattle.checking_rules.specs.Parts.{join_stmts}
+use Rattle.check_rules.specs.Parts.{join_stmts}
 use Rattle.check_locals.specs.Views.{headed}
-use Rattle.check_words.specs.Views as view
-use Rattle.check_nested.specs.Views.{stmts}
+use Rattle.check_state.specs.Views as view
+use Rattle.check_statement_lists.specs.Views.{stmts}
 use Rattle.check_statements.specs.Views.{heads}
-use Rattle.check_nested.proofs.Chaining.{behind, chained, chained_end, made_at, made_turn, nothing_behind}
-use Rattle.check_nested.proofs.ListLaws.{join_none}
+use Rattle.check_statement_lists.proofs.Chaining.{behind, chained, chained_end, made_at, made_turn, nothing_behind}
+use Rattle.check_statement_lists.proofs.ListLaws.{join_none}
 use Rattle.check_statements.proofs.ListLaws.{initial_made, initials_are, initials_out, one_initial, other_heads}
 use Rattle.check_statements.proofs.checker.StatementChecker.initials.Goals as goal
 

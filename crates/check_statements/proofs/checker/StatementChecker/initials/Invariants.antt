@@ -1,10 +1,10 @@
 use Rattle.std.proofs.Common.{◌≡◌, drop}
 use Rattle.mesa_types.specs.Typed as t
-use Rattle.checking_rules.specs.Parts.{join_stmts}
-use Rattle.check_words.specs.Views as view
-use Rattle.check_nested.specs.Views.{stmts}
+use Rattle.check_rules.specs.Parts.{join_stmts}
+use Rattle.check_state.specs.Views as view
+use Rattle.check_statement_lists.specs.Views.{stmts}
 use Rattle.check_statements.specs.Views.{heads}
-use Rattle.check_nested.proofs.Chaining.{behind, chained}
+use Rattle.check_statement_lists.proofs.Chaining.{behind, chained}
 use Rattle.check_statements.proofs.ListLaws.{one_initial, other_heads}
 use Rattle.check_statements.proofs.checker.StatementChecker.initials.Given as goal
 

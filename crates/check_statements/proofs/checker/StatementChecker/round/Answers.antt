@@ -1,9 +1,9 @@
 use Rattle.std.proofs.Common.{subst, ◌∙◌}
 use Rattle.mesa_types.specs.Plain as tree
 use Rattle.mesa_types.specs.PlainSyntax as plain
-use Rattle.checking_rules.specs.Statements.{labels_of_repeats}
-use Rattle.check_words.specs.Gives.{Gives}
-use Rattle.check_words.specs.Views as view
+use Rattle.check_rules.specs.Statements.{labels_of_repeats}
+use Rattle.check_state.specs.Gives.{Gives}
+use Rattle.check_state.specs.Views as view
 use Rattle.check_statements.specs.Rules as rules
 use Rattle.check_statements.proofs.LabelLaws.{in_round_is}
 use Rattle.check_statements.proofs.checker.StatementChecker.round.Goals as goal

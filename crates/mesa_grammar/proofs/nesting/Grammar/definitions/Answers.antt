@@ -1,8 +1,8 @@
 use Rattle.std.proofs.Common.{rules, arith}
 use Rattle.std.proofs.lemmas.Grind.{common_steps}
 use Rattle.token_cursor.specs.Parsing.{a_name}
-use Rattle.module_productions.specs.ReadStatements.{nested}
-use Rattle.module_productions.specs.ReadModules.{definitions_step}
+use Rattle.grammar_rules.specs.ReadStatements.{nested}
+use Rattle.grammar_rules.specs.ReadModules.{definitions_step}
 use Rattle.mesa_grammar.proofs.FrontSteps.{definitions_eats}
 use Rattle.token_cursor.proofs.Taking.{many_falls}
 use Rattle.mesa_grammar.proofs.nesting.Grammar.definitions.Goals as goal

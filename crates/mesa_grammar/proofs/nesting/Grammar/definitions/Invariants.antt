@@ -1,7 +1,7 @@
 use Rattle.std.proofs.Common.{◌≡◌, length, []}
 use Rattle.token_cursor.specs.Parsing.{a_name, many}
-use Rattle.module_productions.specs.ReadStatements.{nested}
-use Rattle.module_productions.specs.ReadModules.{definitions_step}
+use Rattle.grammar_rules.specs.ReadStatements.{nested}
+use Rattle.grammar_rules.specs.ReadModules.{definitions_step}
 use Rattle.mesa_grammar.proofs.nesting.Grammar.definitions.Given as goal
 
 abbrev pub invariant-definitions : goal.invariant-definitions

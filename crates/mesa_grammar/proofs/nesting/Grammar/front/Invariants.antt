@@ -1,7 +1,7 @@
 use Rattle.std.proofs.Common.{◌≡◌, length}
 use Rattle.token_cursor.specs.Parsing.{repeat}
-use Rattle.module_productions.specs.ReadStatements.{nested}
-use Rattle.module_productions.specs.ReadModules.{front_turn}
+use Rattle.grammar_rules.specs.ReadStatements.{nested}
+use Rattle.grammar_rules.specs.ReadModules.{front_turn}
 use Rattle.mesa_grammar.proofs.nesting.Grammar.front.Given as goal
 
 abbrev pub invariant-declarations : goal.invariant-declarations

@@ -1,7 +1,0 @@
-ghost use Rattle.activation_region.specs.Laws.{RunsAsDefined};
-
-/// Where the region shows activations of a prepared image, the run of the topmost one up to its pause is a run of the
-/// machine, instruction by instruction, to where the region then shows; and there the machine does what the pause says.
-pub fn runs_as_defined()
-    ensures { RunsAsDefined }
-{}

@@ -1,7 +1,0 @@
-use Rattle.std.proofs.Common.{◌≡◌, drop}
-use Rattle.mesa_types.specs.PlainSyntax.{cases}
-use Rattle.checking_rules.specs.Phrases.{in_cases}
-use Rattle.check_clauses.proofs.holding.cases_hold.Given as goal
-
-abbrev pub invariant-loop-case : goal.invariant-loop-case
-invariant-loop-case l = in_cases (cases l.all) ≡ in_cases (cases (drop l.case-index l.all))

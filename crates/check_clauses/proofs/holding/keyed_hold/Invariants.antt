@@ -1,7 +1,0 @@
-use Rattle.std.proofs.Common.{◌≡◌, drop}
-use Rattle.mesa_types.specs.PlainSyntax.{keyed_lefts}
-use Rattle.checking_rules.specs.Phrases.{in_keyed_lefts}
-use Rattle.check_clauses.proofs.holding.keyed_hold.Given as goal
-
-abbrev pub invariant-loop-one : goal.invariant-loop-one
-invariant-loop-one l = in_keyed_lefts (keyed_lefts l.all) ≡ in_keyed_lefts (keyed_lefts (drop l.one-index l.all))

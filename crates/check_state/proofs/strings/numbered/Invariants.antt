@@ -1,0 +1,8 @@
+use Rattle.std.proofs.Common.{◌≡◌, drop}
+use Rattle.check_scopes.specs.Scopes.{over}
+use Rattle.check_scopes.specs.Shows.{means}
+use Rattle.check_state.proofs.StringLaws.{numbers}
+use Rattle.check_state.proofs.strings.numbered.Given as goal
+
+abbrev pub invariant-loop-text : goal.invariant-loop-text
+invariant-loop-text l = numbers 0 l.texts ≡ over (means l.index) (numbers l.number (drop l.text-index l.texts))

@@ -1,7 +1,0 @@
--- All of the parts before this turn is there.
-use Rattle.std.proofs.Common.{◌≡◌, take}
-use Rattle.check_words.specs.Growing.{together}
-use Rattle.check_words.proofs.growing.all_of.Given as goal
-
-abbrev pub invariant-loop-part : goal.invariant-loop-part
-invariant-loop-part l = l.all ≡ together (take l.part-index l.parts)

@@ -1,0 +1,19 @@
+use Rattle.std.proofs.Common.{◌-◌, ◌≤◌, Ok}
+use Rattle.machine_activations.specs.declared.calling.Turn.TheVariants.{Goes}
+use Rattle.frame_machine.specs.Onward.{Follows}
+use Rattle.frame_machine.specs.SoFar.{At, Carries}
+use Rattle.frame_machine.proofs.Onwards.{still_most}
+use Rattle.frame_machine.proofs.onward.run_frames.Given as goal
+
+abbrev pub invariant-running : goal.invariant-running
+invariant-running g l = record {
+  counted : l.fn.steps ≤ l.steps;
+  carries : Carries l.image l.parts (Goes l.r);
+  follows : Follows l.image l.fn.parts l.parts l.fn.turns l.left (l.steps - l.fn.steps) l.fn.ahead l.ahead (g.S.Source.left l.fn.input) (g.S.Source.left l.input)
+      (g.K.Sink.written l.fn.out) (g.K.Sink.written l.out) (At l.image l.fn.parts (Goes l.fn.first)) (Ok (Goes l.r));
+  source_stays : g.S.Source.faults l.fn.input ≤ g.S.Source.faults l.input;
+  sink_stays : g.K.Sink.faults l.fn.out ≤ g.K.Sink.faults l.out;
+}
+
+abbrev pub decreases-running : goal.decreases-running
+decreases-running g l = still_most l.image l.fn.steps l.steps

@@ -1,0 +1,15 @@
+use Rattle.std.proofs.Common.{◌-◌, ◌≤◌, drop}
+use Rattle.machine_activations.specs.declared.calling.Turn.TheVariants.{Empty}
+use Rattle.machine_ready.specs.Ready.{IsReady}
+use Rattle.frame_machine.specs.SoFar.{At, SoFar}
+use Rattle.frame_machine.proofs.running.run_control.Given as goal
+
+abbrev pub invariant-loop-instance : goal.invariant-loop-instance
+invariant-loop-instance g l = record {
+  ready : IsReady l.image l.parts;
+  counted : l.fn.steps ≤ l.steps;
+  so : SoFar l.image l.turns l.parts (drop l.instance-index l.image.control) l.left (l.steps - l.fn.steps) l.ahead (g.S.Source.left l.fn.input) (g.S.Source.left l.input)
+      (g.K.Sink.written l.fn.out) (g.K.Sink.written l.out) (At l.image l.parts Empty);
+  source_stays : g.S.Source.faults l.fn.input ≤ g.S.Source.faults l.input;
+  sink_stays : g.K.Sink.faults l.fn.out ≤ g.K.Sink.faults l.out;
+}

@@ -1,0 +1,74 @@
+-- On what the run of the topmost activation stands, and what it writes (rule of this project).
+use Rattle.std.specs.Prelude.{◌≡◌, ◌≢◌, ℕ, ◌<◌, List, [], ◌++◌, Option, Some, IfSome, slice_get}
+use Rattle.mesa_base.specs.Outside.{AppendsPrefix}
+use Rattle.code_forms.specs.declared.module_code.CodeProcedure.{CodeProcedure}
+use Rattle.code_forms.specs.declared.module_code.ModuleCode.{ModuleCode}
+use Rattle.object_files.specs.declared.image.Image.{Image}
+use Rattle.machine_rules.specs.LookUps.{code_of, module_number}
+use Rattle.machine_rules.specs.State.{Store, Stepped}
+use Rattle.machine_topmost.specs.declared.registers.Pause.{Pause}
+use Rattle.machine_topmost.specs.declared.registers.Registers.{Registers}
+use Rattle.machine_topmost.specs.Running.{HasTargets}
+use Rattle.machine_activations.specs.declared.row.Layout.{Layout}
+use Rattle.machine_activations.specs.declared.row.Row.{Row}
+use Rattle.machine_activations.specs.Frames.{row_at}
+use Rattle.machine_activations.specs.Reaching.{IsUnstuck, Shown, Later}
+use Rattle.machine_calls.specs.declared.host.Writing.{Writing}
+use Rattle.machine_calls.specs.Hosting.{text_written}
+use Rattle.machine_calls.specs.Linking.{CallsWriting}
+use Rattle.machine_ready.specs.declared.prepared.Prepared.{Prepared}
+use Rattle.frame_machine.specs.SoFar.{ShowsGlobals}
+
+-- its code, where each of its entries jumps, its instance and the number of its module
+pub record RunsCode (image : Image) (table : List Row) (r : Registers) (code : ModuleCode) (procedure : CodeProcedure) (targets : List ℕ) (instance number : ℕ) : Type 0 where
+  pub is_code : code_of image (row_at table r.top).instance ≡ Some code
+  pub is_procedure : slice_get code.procedures (row_at table r.top).procedure ≡ Some procedure
+  pub leads : HasTargets procedure.code targets
+  pub own : instance ≡ (row_at table r.top).instance
+  pub numbered : module_number image (row_at table r.top).instance ≡ Some number
+  pub small : number < 65535
+
+-- it goes on from there, with so many turns left and these globals of its instance
+pub record TopAt (image : Image) (layout : Layout) (region : List ℕ) (table : List Row) (r : Registers) (instance : ℕ) (globals : List ℕ) (turns : ℕ)
+    (s : Stepped) (m : Store) : Type 0 where
+  pub its_turns : m.turns ≡ turns
+  pub its_globals : m.globals instance ≡ globals
+  pub shown : Shown image layout region table r s m
+
+-- the same of all that a run has
+pub record GoesAt (image : Image) (p : Prepared) (r : Registers) (turns : ℕ) (s : Stepped) (m : Store) : Type 0 where
+  pub its_turns : m.turns ≡ turns
+  pub its_globals : ShowsGlobals p m.globals
+  pub shown : Shown image p.layout p.region.items p.rows.items r s m
+
+-- some state is so, on from which the machine does not get stuck
+pub record Somewhere (image : Image) (Place : Stepped → Store → Type 0) : Type 0 where
+  pub start : Stepped
+  pub unstuck : IsUnstuck image start
+  pub store : Store
+  pub at : Place start store
+
+-- so many instructions later it goes on from there
+pub record TopLater (image : Image) (layout : Layout) (region : List ℕ) (table : List Row) (r : Registers) (instance : ℕ) (globals : List ℕ) (turns count : ℕ)
+    (s : Stepped) (m : Store) : Type 0 where
+  pub store : Store
+  pub later : Later instance m count globals turns store
+  pub shown : Shown image layout region table r s store
+
+-- from each state that is so the machine comes to another place, and the sink has been given what it has written by then
+pub record Wrote (held holds : Option (List ℕ)) (From Place : Stepped → Store → Type 0) : Type 0 where
+  pub output : List ℕ
+  pub given : IfSome held (λ bytes. holds ≡ Some (bytes ++ output))
+  pub leads : (s : Stepped) (m : Store) → From s m → Place s (record m { output = m.output ++ output })
+
+-- it comes so to a pause at a call that writes, and there the sink fails
+pub record FailsAtWrite (image : Image) (layout : Layout) (region : List ℕ) (table : List Row) (top : ℕ) (held holds : Option (List ℕ))
+    (From : Stepped → Store → Type 0) (Place : Pause → Stepped → Store → Type 0) : Type 0 where
+  pub pause : Pause
+  pub same_top : pause.registers.top ≡ top
+  pub between : Option (List ℕ)
+  pub comes : Wrote held between From (Place pause)
+  pub writing : Writing
+  pub calls : CallsWriting image layout region table pause.registers pause.turns writing
+  pub some : text_written image region pause.registers writing ≢ []
+  pub partly : IfSome between (λ bytes. AppendsPrefix bytes (text_written image region pause.registers writing) holds)

@@ -1,0 +1,188 @@
+//! Calls of the host's procedures.
+
+ghost use Rattle.std.specs.Prelude.{◌≡◌, ℕ, ◌≤◌, List, Option, length, IfOk};
+ghost use Rattle.machine_rules.specs.State.{Stepped, Store};
+ghost use Rattle.machine_activations.specs.declared.calling.Turn.TheVariants.{Goes};
+ghost use Rattle.machine_activations.specs.Calling.{LeadsTo};
+ghost use Rattle.machine_activations.specs.Shows.{IsAmple};
+ghost use Rattle.machine_ready.specs.Ready.{IsReady};
+ghost use Rattle.machine_calls.specs.declared.ahead.Coming.{Coming};
+ghost use Rattle.machine_calls.specs.declared.host.HostProcedure.TheVariants.{Read, Write};
+ghost use Rattle.machine_calls.specs.declared.host.Reading.{Reading};
+ghost use Rattle.machine_calls.specs.Hosting.{GoesBehind, ReadLeads, behind_call};
+ghost use Rattle.machine_calls.specs.Hosts.{CallsHost, host_is};
+ghost use Rattle.machine_signals.specs.Raising.{ArmsHold};
+ghost use Rattle.frame_machine.specs.Onward.{CanGoOn, CountsFaults, Follows, HasRead, onward_or, waits};
+ghost use Rattle.frame_machine.specs.SoFar.{AtHost, Carries, SoFar, Then};
+
+use crate::outcome::RunFault;
+use crate::signals::raise_signal;
+use machine_activations::Turn;
+use machine_calls::{Coming, HostProcedure, ReadTurn, Reading, Writing, read, write};
+use machine_ready::Prepared;
+use machine_topmost::Registers;
+use mesa_base::{Sink, Source};
+use object_files::Image;
+use signaller::SignalId;
+
+// Writes what the call of the topmost activation says, which goes on in its registers.
+#[inline(always)]
+fn write_out<K: Sink>(
+    writing: Writing,
+    image: &Image,
+    parts: &Prepared,
+    r: &mut Registers,
+    out: &mut K,
+) -> Result<Option<Turn>, RunFault>
+    requires ready { IsReady image.now parts.now }
+    requires ample { IsAmple parts.now.layout parts.now.region.items parts.now.rows.items r.old.top }
+    requires calls { CallsHost image.now parts.now.layout parts.now.region.items parts.now.rows.items r.old (host_is (Write writing)) }
+    ensures goes { IfOk (onward_or result r.new) (λ turn. turn ≡ Goes (behind_call (Write writing) r.old)) }
+    ensures follows { (bound : ℕ) (control : List ℕ) (turns begun : ℕ) (ahead : Option Coming) (told left held : Option (List ℕ))
+        → length control ≤ length image.now.control
+        → SoFar image.now bound parts.now control turns begun ahead told left held (K.written out.old) (AtHost image.now parts.now r.old (Write writing))
+        → Then image.now bound parts.now control turns begun ahead told left held (K.written out.new) (onward_or result r.new) }
+    ensures faults { (read : ℕ) → CountsFaults (onward_or result r.new) read read (K.faults out.old) (K.faults out.new) }
+{
+    match write(writing, image, parts.region.as_slice(), *r, out) {
+        Ok(after) => {
+            *r = after;
+            Ok(None)
+        }
+        Err(_) => Err(RunFault::WriteFault),
+    }
+}
+
+// Goes on behind a call that has read, or raises NoInput.
+fn read_then(
+    turn: ReadTurn,
+    image: &Image,
+    parts: &mut Prepared,
+    r: Registers,
+    turns: &mut u64,
+) -> Turn
+    requires ready { IsReady image.now parts.old }
+    requires ample { IsAmple parts.old.layout parts.old.region.items parts.old.rows.items r.top }
+    requires arms { ArmsHold image.now parts.old.rows.items r.top }
+    requires behind { (reading : Reading) × GoesBehind r reading turn }
+    requires reads { HasRead image.now parts.old r turn }
+    ensures carries { Carries image.now parts.new result }
+    ensures globals { parts.new.globals.items ≡ parts.old.globals.items }
+    ensures marks { parts.new.started.items ≡ parts.old.started.items }
+    ensures waits_not { waits result ≡ 0 }
+    ensures leads { (s : Stepped) (m : Store) → m.turns ≡ turns.old
+        → ReadLeads image.now parts.old.layout parts.old.region.items parts.old.rows.items r s m turn
+        → LeadsTo image.now parts.new.layout parts.new.region.items parts.new.rows.items s (record m { turns = turns.new }) result }
+{
+    match turn {
+        ReadTurn::Goes(after) => Turn::Goes(after),
+        ReadTurn::NoInput => { raise_signal(image, parts, SignalId::NoInput, r, turns) }
+    }
+}
+
+// Reads what the call of the topmost activation asks for.
+#[inline(never)]
+fn read_in<S: Source>(
+    reading: Reading,
+    image: &Image,
+    parts: &mut Prepared,
+    r: Registers,
+    ahead: &mut Option<Coming>,
+    turns: &mut u64,
+    input: &mut S,
+) -> Result<Turn, RunFault>
+    requires ready { IsReady image.now parts.old }
+    requires ample { IsAmple parts.old.layout parts.old.region.items parts.old.rows.items r.top }
+    requires arms { ArmsHold image.now parts.old.rows.items r.top }
+    requires run { (holds : Option (List ℕ))
+        × CanGoOn image.now parts.old turns.old ahead.old (S.left input.old) holds (AtHost image.now parts.old r (Read reading)) }
+    ensures ready { IsReady image.now parts.new }
+    ensures carries { IfOk result (Carries image.now parts.new) }
+    ensures waits_not { IfOk result (λ turn. waits turn ≡ 0) }
+    ensures follows { (holds : Option (List ℕ))
+        → Follows image.now parts.old parts.new turns.old turns.new 0 ahead.old ahead.new (S.left input.old) (S.left input.new) holds holds
+        (AtHost image.now parts.old r (Read reading)) result }
+    ensures faults { (written : ℕ) → CountsFaults result (S.faults input.old) (S.faults input.new) written written }
+{
+    match read(reading, parts.region.as_mut_slice(), r, ahead, input) {
+        Ok(turn) => Ok(read_then(turn, image, parts, r, turns)),
+        Err(_) => Err(RunFault::ReadFault),
+    }
+}
+
+// Where an activation goes on, the registers are its; else what a call of the host leads to is given.
+#[inline(always)]
+fn settle_told(told: Result<Turn, RunFault>, r: &mut Registers) -> Result<Option<Turn>, RunFault>
+    ensures { onward_or result r.new ≡ told }
+{
+    match told {
+        Ok(turn) => match turn {
+            Turn::Goes(after) => {
+                *r = after;
+                Ok(None)
+            }
+            _ => Ok(Some(turn)),
+        },
+        Err(fault) => Err(fault),
+    }
+}
+
+// Reads so in the registers of the activation that goes on, unless something else is told.
+#[inline(always)]
+fn read_settled<S: Source>(
+    reading: Reading,
+    image: &Image,
+    parts: &mut Prepared,
+    r: &mut Registers,
+    ahead: &mut Option<Coming>,
+    turns: &mut u64,
+    input: &mut S,
+) -> Result<Option<Turn>, RunFault>
+    requires ready { IsReady image.now parts.old }
+    requires ample { IsAmple parts.old.layout parts.old.region.items parts.old.rows.items r.old.top }
+    requires arms { ArmsHold image.now parts.old.rows.items r.old.top }
+    requires run { (holds : Option (List ℕ))
+        × CanGoOn image.now parts.old turns.old ahead.old (S.left input.old) holds (AtHost image.now parts.old r.old (Read reading)) }
+    ensures ready { IsReady image.now parts.new }
+    ensures carries { IfOk (onward_or result r.new) (Carries image.now parts.new) }
+    ensures waits_not { IfOk (onward_or result r.new) (λ turn. waits turn ≡ 0) }
+    ensures follows { (holds : Option (List ℕ))
+        → Follows image.now parts.old parts.new turns.old turns.new 0 ahead.old ahead.new (S.left input.old) (S.left input.new) holds holds
+        (AtHost image.now parts.old r.old (Read reading)) (onward_or result r.new) }
+    ensures faults { (written : ℕ) → CountsFaults (onward_or result r.new) (S.faults input.old) (S.faults input.new) written written }
+{
+    let told = read_in(reading, image, parts, *r, ahead, turns, input);
+    settle_told(told, r)
+}
+
+/// Does the call of the topmost activation, of a procedure of the host: the run goes on, or breaks off where the source or
+/// the sink fails. The registers are those of the activation that goes on, unless something else is told.
+#[inline(always)]
+pub(crate) fn call_host<S: Source, K: Sink>(
+    host: HostProcedure,
+    image: &Image,
+    parts: &mut Prepared,
+    r: &mut Registers,
+    ahead: &mut Option<Coming>,
+    turns: &mut u64,
+    input: &mut S,
+    out: &mut K,
+) -> Result<Option<Turn>, RunFault>
+    requires ready { IsReady image.now parts.old }
+    requires ample { IsAmple parts.old.layout parts.old.region.items parts.old.rows.items r.old.top }
+    requires arms { ArmsHold image.now parts.old.rows.items r.old.top }
+    requires run { CanGoOn image.now parts.old turns.old ahead.old (S.left input.old) (K.written out.old) (AtHost image.now parts.old r.old host) }
+    ensures ready { IsReady image.now parts.new }
+    ensures carries { IfOk (onward_or result r.new) (Carries image.now parts.new) }
+    ensures waits_not { IfOk (onward_or result r.new) (λ turn. waits turn ≡ 0) }
+    ensures follows { Follows image.now parts.old parts.new turns.old turns.new 0 ahead.old ahead.new (S.left input.old) (S.left input.new)
+        (K.written out.old) (K.written out.new) (AtHost image.now parts.old r.old host) (onward_or result r.new) }
+    ensures faults { CountsFaults (onward_or result r.new) (S.faults input.old) (S.faults input.new) (K.faults out.old) (K.faults out.new) }
+{
+    match host {
+        HostProcedure::Write(writing) => write_out(writing, image, parts, r, out),
+        HostProcedure::Read(reading) => {
+            read_settled(reading, image, parts, r, ahead, turns, input)
+        }
+    }
+}

@@ -1,0 +1,45 @@
+//! What the code reads of an image and of the rows.
+
+ghost use Rattle.std.specs.Prelude.{◌≡◌, ◌<◌, length, IsSome, Some, slice_get};
+ghost use Rattle.machine_rules.specs.LookUps.{code_of, module_number};
+ghost use Rattle.machine_activations.specs.Frames.{row_at};
+
+use code_forms::{CodeProcedure, ModuleCode};
+use machine_activations::Row;
+use object_files::Image;
+
+/// The row of a place.
+#[inline(always)]
+#[tactic(auto, using(machine_activations::proofs::Tables::row_at_place))]
+pub(crate) fn row_of(table: &[Row], place: usize) -> Row
+    requires there { place < length table.now }
+    ensures { result ≡ row_at table.now place }
+{
+    table[place]
+}
+
+/// The number of an instance's module.
+#[tactic(auto, unfolding(machine_rules::specs::LookUps::module_number))]
+pub(crate) fn module_of(image: &Image, instance: u32) -> u32
+    requires { IsSome (module_number image.now instance) }
+    ensures { module_number image.now instance ≡ Some result }
+{
+    image.instances.as_slice()[instance as usize].module
+}
+
+/// The code of an instance.
+pub(crate) fn code_of(image: &Image, instance: u32) -> &ModuleCode
+    requires { IsSome (code_of image.now instance) }
+    ensures { code_of image.now instance ≡ Some result.now }
+{
+    let module = image.instances.as_slice()[instance as usize].module as usize;
+    image.modules.as_slice()[module].code.code()
+}
+
+/// A procedure of a module.
+pub(crate) fn procedure_in(code: &ModuleCode, number: u32) -> &CodeProcedure
+    requires { IsSome (slice_get code.now.procedures number) }
+    ensures { slice_get code.now.procedures number ≡ Some result.now }
+{
+    &code.procedures.as_slice()[number as usize]
+}

@@ -1,0 +1,175 @@
+//! One turn of the loop of a run.
+
+ghost use Rattle.std.specs.Prelude.{◌≡◌, ◌-◌, ◌<◌, ◌≤◌, IfOk};
+ghost use Rattle.machine_activations.specs.declared.calling.Turn.TheVariants.{Goes, Pending};
+ghost use Rattle.machine_ready.specs.Ready.{IsReady};
+ghost use Rattle.frame_machine.specs.Onward.{Advances, BeginsFew, CanGoOn, CountsFaults, Follows, onward_or, waits};
+ghost use Rattle.frame_machine.specs.SoFar.{At, Carries};
+
+use crate::calls::call_pending;
+use crate::happening::happen;
+use crate::hosting::call_host;
+use crate::outcome::RunFault;
+use crate::topmost::run_top;
+use machine_activations::Turn;
+use machine_calls::{Coming, LinkTurn};
+use machine_ready::Prepared;
+use machine_topmost::Registers;
+use mesa_base::{Sink, Source, Steps};
+use object_files::Image;
+use std::sync::ledger::Ledger;
+
+// What an activation that may go on in its registers leads to.
+fn told_of(other: Result<Option<Turn>, RunFault>, r: Registers) -> Result<Turn, RunFault>
+    ensures { result ≡ onward_or other r }
+{
+    match other {
+        Ok(turn) => match turn {
+            None => Ok(Turn::Goes(r)),
+            Some(turn) => Ok(turn),
+        },
+        Err(fault) => Err(fault),
+    }
+}
+
+// The topmost activation runs up to an instruction that touches more than it or that cannot go on, and that is done. The
+// registers are those of the activation that goes on, unless something else is told.
+#[inline(always)]
+fn go_on<S: Source, K: Sink, L: Ledger>(
+    r: &mut Registers,
+    image: &Image,
+    parts: &mut Prepared,
+    ahead: &mut Option<Coming>,
+    turns: &mut u64,
+    input: &mut S,
+    out: &mut K,
+    steps: &mut Steps<L>,
+) -> Result<Option<Turn>, RunFault>
+    requires carries { Carries image.now parts.old (Goes r.old) }
+    requires run { CanGoOn image.now parts.old turns.old ahead.old (S.left input.old) (K.written out.old) (At image.now parts.old (Goes r.old)) }
+    ensures ready { IsReady image.now parts.new }
+    ensures carries { IfOk (onward_or result r.new) (Carries image.now parts.new) }
+    ensures follows { Follows image.now parts.old parts.new turns.old turns.new (steps.new - steps.old) ahead.old ahead.new
+        (S.left input.old) (S.left input.new) (K.written out.old) (K.written out.new) (At image.now parts.old (Goes r.old)) (onward_or result r.new) }
+    ensures counted { steps.old < steps.new }
+    ensures few { BeginsFew image.now parts.old turns.old (steps.new - steps.old) ahead.old (S.left input.old) (K.written out.old)
+        (At image.now parts.old (Goes r.old)) }
+    ensures faults { CountsFaults result (S.faults input.old) (S.faults input.new) (K.faults out.old) (K.faults out.new) }
+{
+    let pause = match run_top(image, parts, *r, *turns, out, steps) {
+        Ok(pause) => pause,
+        Err(_) => return Err(RunFault::WriteFault),
+    };
+    let at = pause.registers;
+    *turns = pause.turns;
+    *r = at;
+    match happen(image, parts, r, pause.why, pause.instruction, turns) {
+        None => Ok(None),
+        Some(linked) => match linked {
+            LinkTurn::Done(turn) => Ok(Some(turn)),
+            LinkTurn::Host(host) => {
+                *r = at;
+                call_host(host, image, parts, r, ahead, turns, input, out)
+            }
+        },
+    }
+}
+
+// Runs on while an activation goes on.
+fn run_frames<S: Source, K: Sink, L: Ledger>(
+    first: Registers,
+    image: &Image,
+    parts: &mut Prepared,
+    ahead: &mut Option<Coming>,
+    turns: &mut u64,
+    input: &mut S,
+    out: &mut K,
+    steps: &mut Steps<L>,
+) -> Result<Turn, RunFault>
+    requires carries { Carries image.now parts.old (Goes first) }
+    requires run { CanGoOn image.now parts.old turns.old ahead.old (S.left input.old) (K.written out.old) (At image.now parts.old (Goes first)) }
+    ensures ready { IsReady image.now parts.new }
+    ensures carries { IfOk result (Carries image.now parts.new) }
+    ensures follows { Follows image.now parts.old parts.new turns.old turns.new (steps.new - steps.old) ahead.old ahead.new
+        (S.left input.old) (S.left input.new) (K.written out.old) (K.written out.new) (At image.now parts.old (Goes first)) result }
+    ensures counted { steps.old < steps.new }
+    ensures few { BeginsFew image.now parts.old turns.old (steps.new - steps.old) ahead.old (S.left input.old) (K.written out.old)
+        (At image.now parts.old (Goes first)) }
+    ensures faults { CountsFaults result (S.faults input.old) (S.faults input.new) (K.faults out.old) (K.faults out.new) }
+{
+    let mut r = first;
+    let mut left = *turns;
+    'running: loop {
+        match go_on(&mut r, image, parts, ahead, &mut left, input, out, steps) {
+            Ok(other) => match other {
+                None => {}
+                Some(turn) => {
+                    *turns = left;
+                    return Ok(turn);
+                }
+            },
+            Err(fault) => {
+                *turns = left;
+                return Err(fault);
+            }
+        }
+    }
+}
+
+// The topmost activation does the call for which an instance was started first.
+fn call_then<S: Source, K: Sink>(
+    r: Registers,
+    image: &Image,
+    parts: &mut Prepared,
+    ahead: &mut Option<Coming>,
+    turns: &mut u64,
+    input: &mut S,
+    out: &mut K,
+) -> Result<Turn, RunFault>
+    requires carries { Carries image.now parts.old (Pending r) }
+    requires run { CanGoOn image.now parts.old turns.old ahead.old (S.left input.old) (K.written out.old) (At image.now parts.old (Pending r)) }
+    ensures ready { IsReady image.now parts.new }
+    ensures carries { IfOk result (Carries image.now parts.new) }
+    ensures follows { Follows image.now parts.old parts.new turns.old turns.new 0 ahead.old ahead.new (S.left input.old) (S.left input.new)
+        (K.written out.old) (K.written out.new) (At image.now parts.old (Pending r)) result }
+    ensures waits_not { IfOk result (λ turn. waits turn ≡ 0) }
+    ensures faults { CountsFaults result (S.faults input.old) (S.faults input.new) (K.faults out.old) (K.faults out.new) }
+{
+    match call_pending(image, parts, r, turns) {
+        LinkTurn::Done(turn) => Ok(turn),
+        LinkTurn::Host(host) => {
+            let mut at = r;
+            let other = call_host(host, image, parts, &mut at, ahead, turns, input, out);
+            told_of(other, at)
+        }
+    }
+}
+
+/// One turn of the loop. Where the run is at its end it stays there.
+pub(crate) fn advance<S: Source, K: Sink, L: Ledger>(
+    turn: Turn,
+    image: &Image,
+    parts: &mut Prepared,
+    ahead: &mut Option<Coming>,
+    turns: &mut u64,
+    input: &mut S,
+    out: &mut K,
+    steps: &mut Steps<L>,
+) -> Result<Turn, RunFault>
+    requires carries { Carries image.now parts.old turn }
+    requires run { CanGoOn image.now parts.old turns.old ahead.old (S.left input.old) (K.written out.old) (At image.now parts.old turn) }
+    ensures ready { IsReady image.now parts.new }
+    ensures carries { IfOk result (Carries image.now parts.new) }
+    ensures follows { Follows image.now parts.old parts.new turns.old turns.new (steps.new - steps.old) ahead.old ahead.new
+        (S.left input.old) (S.left input.new) (K.written out.old) (K.written out.new) (At image.now parts.old turn) result }
+    ensures counted { steps.old ≤ steps.new }
+    ensures advances { Advances image.now parts.old turns.old ahead.old (S.left input.old) (K.written out.old) turn steps.old steps.new result }
+    ensures faults { CountsFaults result (S.faults input.old) (S.faults input.new) (K.faults out.old) (K.faults out.new) }
+{
+    match turn {
+        Turn::Goes(r) => run_frames(r, image, parts, ahead, turns, input, out, steps),
+        Turn::Pending(r) => call_then(r, image, parts, ahead, turns, input, out),
+        Turn::Empty => Ok(Turn::Empty),
+        Turn::Ends(end) => Ok(Turn::Ends(end)),
+    }
+}

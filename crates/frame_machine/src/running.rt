@@ -1,0 +1,146 @@
+//! The run of the instances of CONTROL.
+
+ghost use Rattle.std.specs.Prelude.{◌≡◌, ℕ, ◌+◌, ◌-◌, ◌<◌, ◌≤◌, List, ◌∷◌, length, Option, false, Some, suc, IfOk, IsErrOf, slice_get};
+ghost use Rattle.machine_rules.specs.LookUps.{code_of};
+ghost use Rattle.machine_rules.specs.Steps.{globals_in};
+ghost use Rattle.machine_rules.specs.Words.{zeros};
+ghost use Rattle.machine_activations.specs.declared.calling.Turn.TheVariants.{Empty};
+ghost use Rattle.machine_calls.specs.declared.ahead.Coming.{Coming};
+ghost use Rattle.machine_calls.specs.Started.{ShowsStarted};
+ghost use Rattle.machine_ready.specs.Ready.{IsReady};
+ghost use Rattle.frame_machine.specs.Onward.{CanGoOn, CanStart, CountsFaults, Follows, last_turn};
+ghost use Rattle.frame_machine.specs.Running.{BreaksAtInput, BreaksAtOutput, Completes, CutsOff, EndIsInRange};
+ghost use Rattle.frame_machine.specs.SoFar.{At, Carries, ShowsGlobals, SoFar, Then};
+
+use crate::look_ups::code_of;
+use crate::onward::advance;
+use crate::outcome::{Outcome, RunFault};
+use machine_activations::{Turn, begin};
+use machine_calls::Coming;
+use machine_ready::Prepared;
+use machine_rules::End;
+use mesa_base::{Sink, Source, Steps};
+use object_files::Image;
+use std::sync::ledger::Ledger;
+
+// Runs on until no activation is left, which is no end, or to an end.
+fn run_on<S: Source, K: Sink, L: Ledger>(
+    first: Turn,
+    image: &Image,
+    parts: &mut Prepared,
+    ahead: &mut Option<Coming>,
+    turns: &mut u64,
+    input: &mut S,
+    out: &mut K,
+    steps: &mut Steps<L>,
+) -> Result<Option<End>, RunFault>
+    requires carries { Carries image.now parts.old first }
+    requires run { CanGoOn image.now parts.old turns.old ahead.old (S.left input.old) (K.written out.old) (At image.now parts.old first) }
+    ensures ready { IsReady image.now parts.new }
+    ensures follows { Follows image.now parts.old parts.new turns.old turns.new (steps.new - steps.old) ahead.old ahead.new
+        (S.left input.old) (S.left input.new) (K.written out.old) (K.written out.new) (At image.now parts.old first) (last_turn result) }
+    ensures counted { steps.old ≤ steps.new }
+    ensures faults { CountsFaults result (S.faults input.old) (S.faults input.new) (K.faults out.old) (K.faults out.new) }
+{
+    let mut turn = first;
+    'running: loop {
+        match turn {
+            Turn::Empty => return Ok(None),
+            Turn::Ends(end) => return Ok(Some(end)),
+            _ => {}
+        }
+        turn = advance(turn, image, parts, ahead, turns, input, out, steps)?;
+    }
+}
+
+// Marks an instance as started, and begins its body.
+fn start(image: &Image, parts: &mut Prepared, instance: u32, turns: &mut u64) -> Turn
+    requires ready { IsReady image.now parts.old }
+    requires there { instance < length image.now.instances }
+    requires unmarked { slice_get parts.old.started.items instance ≡ Some false }
+    ensures carries { Carries image.now parts.new result }
+    ensures starts { (bound : ℕ) (control : List ℕ) (begun : ℕ) (ahead : Option Coming) (told left held holds : Option (List ℕ))
+        → SoFar image.now bound parts.old (instance ∷ control) turns.old begun ahead told left held holds (At image.now parts.old Empty)
+        → SoFar image.now bound parts.new control turns.new begun ahead told left held holds (At image.now parts.new result) }
+{
+    parts.started[instance as usize] = true;
+    let code = code_of(image, instance);
+    begin(
+        code,
+        instance,
+        &mut parts.region,
+        parts.rows.as_mut_slice(),
+        parts.layout,
+        turns,
+    )
+}
+
+// Runs an instance of CONTROL where no activation stands, unless it was started.
+fn run_instance<S: Source, K: Sink, L: Ledger>(
+    instance: u32,
+    image: &Image,
+    parts: &mut Prepared,
+    ahead: &mut Option<Coming>,
+    turns: &mut u64,
+    input: &mut S,
+    out: &mut K,
+    steps: &mut Steps<L>,
+) -> Result<Option<End>, RunFault>
+    requires ready { IsReady image.now parts.old }
+    requires there { instance < length image.now.instances }
+    requires run { CanStart image.now parts.old instance turns.old ahead.old (S.left input.old) (K.written out.old) }
+    ensures ready { IsReady image.now parts.new }
+    ensures follows { (bound : ℕ) (control : List ℕ) (begun begun' : ℕ) (told held : Option (List ℕ))
+        → suc (length control) ≤ length image.now.control → begun' ≡ begun + (steps.new - steps.old)
+        → SoFar image.now bound parts.old (instance ∷ control) turns.old begun ahead.old told (S.left input.old) held (K.written out.old)
+        (At image.now parts.old Empty)
+        → Then image.now bound parts.new control turns.new begun' ahead.new told (S.left input.new) held (K.written out.new) (last_turn result) }
+    ensures counted { steps.old ≤ steps.new }
+    ensures faults { CountsFaults result (S.faults input.old) (S.faults input.new) (K.faults out.old) (K.faults out.new) }
+{
+    if parts.started[instance as usize] {
+        return Ok(None);
+    }
+    let first = start(image, parts, instance, turns);
+    run_on(first, image, parts, ahead, turns, input, out, steps)
+}
+
+/// Runs the instances of CONTROL in their order, over globals that are zero, with nothing started yet.
+pub(crate) fn run_control<S: Source, K: Sink, L: Ledger>(
+    image: &Image,
+    parts: &mut Prepared,
+    turns: u64,
+    input: &mut S,
+    out: &mut K,
+    steps: &mut Steps<L>,
+) -> Result<Outcome, RunFault>
+    requires ready { IsReady image.now parts.old }
+    requires zero { ShowsGlobals parts.old (λ j. zeros (globals_in (code_of image.now j))) }
+    requires none { ShowsStarted parts.old.started.items (λ j. false) }
+    ensures ready { IsReady image.now parts.new }
+    ensures completes { IfOk result (λ outcome.
+        Completes image.now turns outcome (steps.new - steps.old) (S.left input.old) (S.left input.new) (K.written out.old) (K.written out.new)) }
+    ensures in_range { IfOk result (λ outcome. EndIsInRange image.now outcome.end) }
+    ensures breaks_at_input { IsErrOf result RunFault.ReadFault
+        → BreaksAtInput image.now turns (steps.new - steps.old) (S.left input.old) (S.left input.new) (K.written out.old) (K.written out.new) }
+    ensures breaks_at_output { IsErrOf result RunFault.WriteFault
+        → BreaksAtOutput image.now turns (steps.new - steps.old) (S.left input.old) (S.left input.new) (K.written out.old) (K.written out.new)
+        × CutsOff image.now turns (S.left input.old) (S.left input.new) (K.written out.old) (K.written out.new) }
+    ensures counted { steps.old ≤ steps.new }
+    ensures faults { CountsFaults result (S.faults input.old) (S.faults input.new) (K.faults out.old) (K.faults out.new) }
+{
+    let mut ahead = None;
+    let mut left = turns;
+    for instance in image.control.as_slice() {
+        let last = run_instance(
+            *instance, image, parts, &mut ahead, &mut left, input, out, steps,
+        )?;
+        if let Some(end) = last {
+            return Ok(Outcome { end, left });
+        }
+    }
+    Ok(Outcome {
+        end: End::Done,
+        left,
+    })
+}

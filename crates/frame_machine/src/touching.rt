@@ -1,0 +1,135 @@
+//! The instructions that touch more than the topmost activation.
+
+ghost use Rattle.std.specs.Prelude.{◌≡◌, suc, ◌≤◌, false};
+ghost use Rattle.machine_rules.specs.State.{Stepped, Store};
+ghost use Rattle.machine_topmost.specs.declared.registers.Why.TheVariants.{Touches};
+ghost use Rattle.machine_activations.specs.Calling.{IsAmpleFor, LeadsTo, StandsIn};
+ghost use Rattle.machine_activations.specs.Reaching.{IsUnstuck};
+ghost use Rattle.machine_activations.specs.Shows.{IsAmple};
+ghost use Rattle.machine_ready.specs.Ready.{IsReady};
+ghost use Rattle.machine_calls.specs.declared.linking.LinkTurn.TheVariants.{Done};
+ghost use Rattle.machine_calls.specs.Linking.{IsAmpleForLink, LinkedTo, StandsAt};
+ghost use Rattle.machine_calls.specs.Started.{ShowsStarted};
+ghost use Rattle.machine_signals.specs.Raising.{ArmsHold, HoldsOn};
+ghost use Rattle.frame_machine.specs.Happening.{CanPause, HoldsOnLink, is_call, linked_or};
+ghost use Rattle.frame_machine.specs.SoFar.{PausesAt};
+
+use crate::arms::{end_arm, leave_arms, resume_raiser, return_out};
+use crate::calls::{call_linked, call_top, return_top};
+use crate::signals::{raise_of_module, raise_predeclared, raise_through_link};
+use code_forms::Instruction;
+use machine_activations::Turn;
+use machine_calls::LinkTurn;
+use machine_ready::Prepared;
+use machine_topmost::Registers;
+use object_files::Image;
+
+// What the instruction leads to, at which the topmost activation stands and which neither calls nor returns.
+#[inline(always)]
+fn signal(
+    image: &Image,
+    parts: &mut Prepared,
+    instruction: Instruction,
+    r: Registers,
+    turns: &mut u64,
+) -> Turn
+    requires ready { IsReady image.now parts.old }
+    requires ample { IsAmple parts.old.layout parts.old.region.items parts.old.rows.items r.top }
+    requires arms { ArmsHold image.now parts.old.rows.items r.top }
+    requires stands { StandsIn image.now parts.old.layout parts.old.region.items parts.old.rows.items r }
+    requires pauses { CanPause image.now parts.old r Touches }
+    requires at { StandsAt image.now parts.old.rows.items r instruction }
+    requires no_call { is_call instruction ≡ false }
+    ensures ready { IsReady image.now parts.new }
+    ensures ample { IsAmpleFor parts.new.layout parts.new.region.items parts.new.rows.items result }
+    ensures arms { HoldsOn image.now parts.new.rows.items result }
+    ensures globals { parts.new.globals.items ≡ parts.old.globals.items }
+    ensures marks { parts.new.started.items ≡ parts.old.started.items }
+    ensures turns_fall { turns.new ≤ turns.old }
+    ensures leads { (s : Stepped) (m : Store) → m.turns ≡ turns.old → IsUnstuck image.now s
+        → PausesAt image.now parts.old.layout parts.old.region.items parts.old.rows.items r Touches s m
+        → LeadsTo image.now parts.new.layout parts.new.region.items parts.new.rows.items s (record m { turns = turns.new; begun = suc m.begun }) result }
+{
+    match instruction {
+        Instruction::Raise { signal } => raise_of_module(image, parts, signal, r, turns),
+        Instruction::RaiseLink { link } => { raise_through_link(image, parts, link, r, turns) }
+        Instruction::RaiseHost { fault } => { raise_predeclared(image, parts, fault, r, turns) }
+        Instruction::ArmEnd => end_arm(image, parts, r, turns),
+        Instruction::Resume { words } => resume_raiser(image, parts, words, r, turns),
+        Instruction::Leave { target, .. } => leave_arms(image, parts, target, r, turns),
+        Instruction::LeaveReturn { .. } => return_out(image, parts, r, turns),
+        // The run of the topmost activation has done each other one.
+        _ => unreachable!(),
+    }
+}
+
+/// Where an activation goes on, the registers are its; else what a turn leads to is given.
+#[inline(always)]
+pub(crate) fn settle(turn: Turn, r: &mut Registers) -> Option<LinkTurn>
+    ensures { linked_or result r.new ≡ Done turn }
+{
+    match turn {
+        Turn::Goes(after) => {
+            *r = after;
+            None
+        }
+        _ => Some(LinkTurn::Done(turn)),
+    }
+}
+
+// The same of a call through a link.
+#[inline(always)]
+fn settle_link(turn: LinkTurn, r: &mut Registers) -> Option<LinkTurn>
+    ensures { linked_or result r.new ≡ turn }
+{
+    match turn {
+        LinkTurn::Done(turn) => settle(turn, r),
+        LinkTurn::Host(host) => Some(LinkTurn::Host(host)),
+    }
+}
+
+/// What the instruction leads to, at which the topmost activation stands and which touches more than that activation: the
+/// registers are those of the activation that goes on, unless something else is told.
+#[inline(always)]
+pub(crate) fn touch(
+    image: &Image,
+    parts: &mut Prepared,
+    instruction: Instruction,
+    r: &mut Registers,
+    turns: &mut u64,
+) -> Option<LinkTurn>
+    requires ready { IsReady image.now parts.old }
+    requires ample { IsAmple parts.old.layout parts.old.region.items parts.old.rows.items r.old.top }
+    requires arms { ArmsHold image.now parts.old.rows.items r.old.top }
+    requires pauses { CanPause image.now parts.old r.old Touches }
+    requires at { StandsAt image.now parts.old.rows.items r.old instruction }
+    ensures ready { IsReady image.now parts.new }
+    ensures ample { IsAmpleForLink parts.new.layout parts.new.region.items parts.new.rows.items r.old (linked_or result r.new) }
+    ensures arms { HoldsOnLink image.now parts.new.rows.items r.old (linked_or result r.new) }
+    ensures globals { parts.new.globals.items ≡ parts.old.globals.items }
+    ensures turns_fall { turns.new ≤ turns.old }
+    ensures leads { (s : Stepped) (m : Store) → m.turns ≡ turns.old → ShowsStarted parts.old.started.items m.started → IsUnstuck image.now s
+        → PausesAt image.now parts.old.layout parts.old.region.items parts.old.rows.items r.old Touches s m
+        → LinkedTo image.now parts.new.layout parts.new.region.items parts.new.rows.items r.old parts.new.started.items s
+        (record m { turns = turns.new; begun = suc m.begun }) (linked_or result r.new) }
+{
+    let at = *r;
+    match instruction {
+        Instruction::Call { procedure } => {
+            let called = call_top(image, parts, procedure, at, turns);
+            settle(called, r)
+        }
+        Instruction::CallLink { link } => {
+            let linked = call_linked(image, parts, link, at, turns);
+            settle_link(linked, r)
+        }
+        Instruction::Return => {
+            let returned = return_top(image, parts, at);
+            settle(returned, r)
+        }
+        _ => {
+            let turn = signal(image, parts, instruction, at, turns);
+            settle(turn, r)
+        }
+    }
+}

@@ -1,5 +1,0 @@
-use Rattle.image_runs.proofs.Cleared.{none_cleared}
-use Rattle.image_runs.proofs.clearing.clear_globals.Goals as goal
-
-pub loop-instance-init : goal.loop-instance-init
-loop-instance-init c = none_cleared c.args.globals.now.items

@@ -1,5 +1,0 @@
-use Rattle.image_runs.proofs.Cleared.{ClearedUpTo}
-use Rattle.image_runs.proofs.clearing.clear_globals.Given as goal
-
-abbrev pub invariant-loop-instance : goal.invariant-loop-instance
-invariant-loop-instance l = ClearedUpTo l.instance l.fn.globals.items l.globals.items

@@ -1,0 +1,64 @@
+//! The first frame of an instance that is started where no activation stands.
+
+ghost use Rattle.std.specs.Prelude.{◌≡◌, ℕ, ◌≤◌, [], length, true, Some, vec_capacity};
+ghost use Rattle.object_files.specs.declared.image.Image.{Image};
+ghost use Rattle.machine_rules.specs.Calls.{set_of, start};
+ghost use Rattle.machine_rules.specs.LookUps.{code_of};
+ghost use Rattle.machine_rules.specs.Moves.{limit};
+ghost use Rattle.machine_rules.specs.State.{Stepped, Store};
+ghost use Rattle.machine_activations.specs.Beginning.{IsCodeFor};
+ghost use Rattle.machine_activations.specs.Calling.{AddsFirst, IsAmpleFor, LeadsTo};
+ghost use Rattle.machine_activations.specs.Reaching.{Reaches};
+ghost use Rattle.machine_activations.specs.Shows.{IsPrepared, IsReserved};
+
+use crate::calling::Turn;
+use crate::frames::clear;
+use crate::growing::make_room;
+use crate::row::{Kind, Layout, Row};
+use code_forms::ModuleCode;
+use machine_rules::End;
+use machine_topmost::Registers;
+
+/// Starts an instance, whose code this is, where no activation stands: a turn is spent, and the frame of its body is made
+/// at the lowest place.
+pub fn begin(
+    code: &ModuleCode,
+    instance: u32,
+    region: &mut Vec<u16>,
+    table: &mut [Row],
+    layout: Layout,
+    turns: &mut u64,
+) -> Turn
+    requires code { IsCodeFor layout code.now }
+    requires rows { length table.old ≡ limit }
+    requires reserved { IsReserved layout (vec_capacity region.old) }
+    ensures ample { IsAmpleFor layout region.new.items table.new result }
+    ensures reserved { vec_capacity region.old ≤ vec_capacity region.new }
+    ensures adds { AddsFirst table.old table.new result }
+    ensures turns_fall { turns.new ≤ turns.old }
+    ensures leads { (image : Image) → IsPrepared image layout → code_of image instance ≡ Some code.now
+        → (s : Stepped) (m : Store) → m.turns ≡ turns.old → Reaches image s (start image instance [] m)
+        → LeadsTo image layout region.new.items table.new s (record m { started = set_of m.started instance true; turns = turns.new }) result }
+{
+    if *turns == 0 {
+        return Turn::Ends(End::Spent);
+    }
+    *turns -= 1;
+    let body = &code.procedures.as_slice()[0];
+    let frame = usize::from(body.frame);
+    table[0] = Row {
+        instance,
+        procedure: 0,
+        entry: 0,
+        count: 0,
+        kind: Kind::Frame,
+    };
+    make_room(region, layout, 0);
+    clear(region.as_mut_slice(), 0, frame);
+    Turn::Goes(Registers {
+        top: 0,
+        slots: 0,
+        sp: layout.frame,
+        entry: 0,
+    })
+}

@@ -1,0 +1,31 @@
+//! What is known of the input that the program has not taken.
+
+ghost use Rattle.std.specs.Prelude.{◌≡◌, ◌≤◌, None, IfOk, OnErr};
+ghost use Rattle.mesa_base.specs.Outside.{Rose};
+ghost use Rattle.machine_calls.specs.Hosting.{Looks};
+
+use mesa_base::{Failed, Source};
+
+/// What comes next of the input: a byte, which is taken from the source and not by the program; or its end.
+#[derive(Clone, Copy)]
+pub enum Coming {
+    Byte(u8),
+    End,
+}
+
+/// Asks the source for the next byte of the input, unless it is known what comes. Where that fails it was not known.
+pub fn look<S: Source>(ahead: Option<Coming>, input: &mut S) -> Result<Coming, Failed>
+    ensures looks { IfOk result (λ coming. Looks ahead coming (S.left input.old) (S.left input.new)) }
+    ensures kept { OnErr result (S.left input.new ≡ S.left input.old) }
+    ensures unknown { OnErr result (ahead ≡ None) }
+    ensures fault { OnErr result (Rose (S.faults input.old) (S.faults input.new)) }
+    ensures faults_stay { S.faults input.old ≤ S.faults input.new }
+{
+    if let Some(coming) = ahead {
+        return Ok(coming);
+    }
+    match input.next()? {
+        Some(byte) => Ok(Coming::Byte(byte)),
+        None => Ok(Coming::End),
+    }
+}

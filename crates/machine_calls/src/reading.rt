@@ -1,0 +1,85 @@
+//! The procedures of the host that read.
+
+ghost use Rattle.std.specs.Prelude.{◌≡◌, ◌+◌, ◌<◌, ◌≤◌, length, None, IfOk, OnErr, slice_set};
+ghost use Rattle.mesa_base.specs.Outside.{Rose};
+ghost use Rattle.machine_calls.specs.declared.host.HostProcedure.TheVariants.{Read};
+ghost use Rattle.machine_calls.specs.declared.reading.ReadTurn.TheVariants.{Goes};
+ghost use Rattle.machine_calls.specs.Hosting.{Breaks, CanCall, GoesBehind, Reads, ReadsOn};
+
+use crate::ahead::{Coming, look};
+use crate::host::Reading;
+use machine_topmost::Registers;
+use mesa_base::{Failed, Source};
+
+/// What a reading leads to.
+#[derive(Clone, Copy)]
+pub enum ReadTurn {
+    /// The topmost activation goes on behind the call.
+    Goes(Registers),
+    /// None is left to read, and it raises NoInput.
+    NoInput,
+}
+
+// The word is pushed, and the topmost activation goes on behind the call.
+fn pushed(word: u16, region: &mut [u16], r: Registers) -> ReadTurn
+    requires room { r.sp < length region.old }
+    requires entry { r.entry < 4294967296 }
+    ensures region { region.new ≡ slice_set region.old r.sp word }
+    ensures registers { result ≡ Goes (record { top = r.top; slots = r.slots; sp = r.sp + 1; entry = r.entry + 1 }) }
+{
+    region[r.sp] = word;
+    ReadTurn::Goes(Registers {
+        top: r.top,
+        slots: r.slots,
+        sp: r.sp + 1,
+        entry: r.entry + 1,
+    })
+}
+
+// Where it is known what comes.
+fn read_known(reading: Reading, coming: Coming, region: &mut [u16], r: Registers) -> ReadTurn
+    requires { CanCall region.old r (Read reading) }
+    ensures leads { ReadsOn region.old region.new r reading coming result }
+    ensures behind { GoesBehind r reading result }
+{
+    match coming {
+        Coming::Byte(byte) => match reading {
+            Reading::Next => pushed(u16::from(byte), region, r),
+            Reading::AtEnd => pushed(0, region, r),
+        },
+        Coming::End => match reading {
+            Reading::Next => ReadTurn::NoInput,
+            Reading::AtEnd => pushed(1, region, r),
+        },
+    }
+}
+
+/// Reads the next byte of the input, or whether none is left. It takes at most one byte of the source that the program has
+/// not taken, which is known then (`ahead`). Where the source fails, the machine breaks whose input ends there in a fault.
+pub fn read<S: Source>(
+    reading: Reading,
+    region: &mut [u16],
+    r: Registers,
+    ahead: &mut Option<Coming>,
+    input: &mut S,
+) -> Result<ReadTurn, Failed>
+    requires can { CanCall region.old r (Read reading) }
+    ensures reads { IfOk result (λ turn. Reads reading ahead.old ahead.new (S.left input.old) (S.left input.new) region.old region.new r turn) }
+    ensures kept { OnErr result (S.left input.new ≡ S.left input.old) }
+    ensures unknown { OnErr result (ahead.old ≡ None) }
+    ensures ahead_stays { OnErr result (ahead.new ≡ ahead.old) }
+    ensures region_stays { OnErr result (region.new ≡ region.old) }
+    ensures breaks { Breaks region.old r reading }
+    ensures fault { OnErr result (Rose (S.faults input.old) (S.faults input.new)) }
+    ensures faults_stay { S.faults input.old ≤ S.faults input.new }
+{
+    let coming = look(*ahead, input)?;
+    *ahead = match coming {
+        Coming::Byte(_) => match reading {
+            Reading::Next => None,
+            Reading::AtEnd => Some(coming),
+        },
+        Coming::End => Some(coming),
+    };
+    Ok(read_known(reading, coming, region, r))
+}

@@ -1,6 +1,0 @@
-use Rattle.std.proofs.Common.{◌≡◌, drop}
-use Rattle.std.proofs.Math.Seq.{paste}
-use Rattle.quiet_run.proofs.region.bring.Given as goal
-
-abbrev pub invariant-loop-i : goal.invariant-loop-i
-invariant-loop-i l = l.region ≡ paste l.fn.region l.to (drop l.from l.words) l.i

@@ -1,7 +1,0 @@
-ghost use Rattle.quiet_run.specs.Laws.{WorksAsDefined};
-
-/// In valid code, an instruction on the topmost activation that is no jump makes of the region what the machine's
-/// definition makes of what the region shows, or faults as it does.
-pub fn works_as_defined()
-    ensures { WorksAsDefined }
-{}

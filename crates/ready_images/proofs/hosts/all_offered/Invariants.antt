@@ -1,6 +1,0 @@
-use Rattle.std.proofs.Common.{take, All}
-use Rattle.ready_images.specs.Hosts.{IsHostItem}
-use Rattle.ready_images.proofs.hosts.all_offered.Given as goal
-
-abbrev pub invariant-loop-wanted : goal.invariant-loop-wanted
-invariant-loop-wanted l = All IsHostItem (take l.wanted-index l.wanteds)

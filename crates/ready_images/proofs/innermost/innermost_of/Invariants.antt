@@ -1,4 +1,0 @@
-use Rattle.ready_images.proofs.innermost.innermost_of.Given as goal
-
-abbrev pub ghosts-found_counted : goal.ghosts-found_counted
-ghosts-found_counted a = record { name = a.blank.name; parts = a.blank.parts }

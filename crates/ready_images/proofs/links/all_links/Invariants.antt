@@ -1,7 +1,0 @@
-use Rattle.std.proofs.Common.{◌≡◌}
-use Rattle.machine_steps.specs.LookUps.{links_of}
-use Rattle.ready_images.proofs.Each.{EachOf}
-use Rattle.ready_images.proofs.links.all_links.Given as goal
-
-abbrev pub invariant-loop-number : goal.invariant-loop-number
-invariant-loop-number l = EachOf (λ j links. links ≡ links_of l.image j) l.number l.links

@@ -1,6 +1,0 @@
-use Rattle.std.proofs.Common.{All, subst}
-use Rattle.ready_images.specs.Hosts.{IsHostItem}
-use Rattle.ready_images.proofs.machine.prepare_if_offered.Goals as goal
-
-pub prepare-requires-clause-host : goal.prepare-requires-clause-host
-prepare-requires-clause-host c = subst (All IsHostItem) c.as_slice.ensures c.in_ok-all_from_host.ensures.ok

@@ -1,7 +1,0 @@
-use Rattle.std.proofs.Common.{take}
-use Rattle.std.specs.List.{AllZip}
-use Rattle.ready_images.specs.Openings.{IsOpening, arms_in}
-use Rattle.ready_images.proofs.openings.openings_of.Given as goal
-
-abbrev pub invariant-loop-phrase : goal.invariant-loop-phrase
-invariant-loop-phrase l = AllZip (IsOpening l.code) (arms_in (take l.phrase-index l.phrases)) l.openings

@@ -1,5 +1,0 @@
-use Rattle.std.proofs.Common.{◌≡◌, take, map, fold, max}
-use Rattle.ready_images.proofs.sizes.largest_frame_of.Given as goal
-
-abbrev pub invariant-loop-procedure : goal.invariant-loop-procedure
-invariant-loop-procedure l = l.most ≡ fold max l.fn.least (map (λ p. p.frame) (take l.procedure-index l.procedures))

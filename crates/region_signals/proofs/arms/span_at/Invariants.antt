@@ -1,7 +1,0 @@
-use Rattle.std.proofs.Common.{◌≡◌, drop}
-use Rattle.std.specs.Prelude.{slice_get}
-use Rattle.ready_images.specs.Openings.{arms_in}
-use Rattle.region_signals.proofs.arms.span_at.Given as goal
-
-abbrev pub invariant-loop-phrase : goal.invariant-loop-phrase
-invariant-loop-phrase l = slice_get (arms_in (drop l.phrase-index l.phrases)) l.left ≡ slice_get (arms_in l.phrases) l.number

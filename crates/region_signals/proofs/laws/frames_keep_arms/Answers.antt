@@ -1,5 +1,0 @@
-use Rattle.region_signals.proofs.Framed.{arms_framed}
-use Rattle.region_signals.proofs.laws.frames_keep_arms.Goals as goal
-
-pub returns : goal.returns
-returns c = arms_framed

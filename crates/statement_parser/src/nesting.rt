@@ -1,7 +1,0 @@
-use expression_parser::Level;
-
-/// The parsers of statements and declarations, over those of one level of nesting.
-#[derive(Clone, Copy)]
-pub struct StatementParser<N> {
-    pub level: Level<N>,
-}

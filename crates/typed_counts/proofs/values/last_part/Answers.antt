@@ -1,6 +1,0 @@
-use Rattle.std.proofs.Common.{arith}
-use Rattle.typed_counts.proofs.WordLaws.{last_at}
-use Rattle.typed_counts.proofs.values.last_part.Goals as goal
-
-pub returns-in-len1-up : goal.returns-in-len1-up
-returns-in-len1-up c = last_at c.args.parts.now _ (omega arith)
