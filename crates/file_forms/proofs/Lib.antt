@@ -1,0 +1,11 @@
+pub mod Numbers
+pub mod Steps
+pub mod Fields
+pub mod Pairs
+pub mod Made
+pub mod Lists
+pub mod OneSpelling
+pub mod NameLaws
+pub mod SeenNames
+pub mod FileLaws
+pub mod Loops
