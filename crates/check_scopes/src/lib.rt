@@ -12,6 +12,3 @@ pub use layers::shared_all;
 pub use marks::Marks;
 pub use names::Names;
 pub use scopes::Scopes;
-
-#[cfg(test)]
-mod tests;

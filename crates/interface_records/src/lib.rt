@@ -10,6 +10,3 @@ pub use built_in::{io_face, iodefs};
 pub use interface::{Constant, Constants, Interface, Interfaces, NamedType, NamedTypes};
 pub use sameness::{same_face, same_signature};
 pub use wanted::{Wanted, WantedItem, Wanteds};
-
-#[cfg(test)]
-mod tests;

@@ -13,8 +13,6 @@ mod number;
 mod position;
 mod scan;
 mod string;
-#[cfg(test)]
-mod tests;
 mod token;
 mod vocabulary;
 mod word;
