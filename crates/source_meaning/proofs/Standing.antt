@@ -2,15 +2,16 @@
 use Rattle.std.specs.Prelude.{◌≡◌, refl, ℕ, zero, suc, ◌-◌, List, [], ◌∷◌, ◌++◌, Bool, true, false}
 use Rattle.std.proofs.Common.{arith, append_assoc}
 use mathlib.Core.Path.{◌∙◌, ap, sym, subst}
-use Rattle.mesa_types.specs.Typed.{Stmt}
+use Rattle.mesa_types.specs.Typed.{Stmt, Phrase}
 use Rattle.source_meaning.specs.Program.{Program}
 use Rattle.source_meaning.specs.State.{Store, State, Ending, End, Fault, Answer, Run, give, carry, after, look, change, spend_of, spend, leave, enter_if, enter, put, read_of, read, peek_of, peek}
 use Rattle.source_meaning.specs.Variables.{Where}
+use Rattle.source_meaning.specs.Signals.{through_of, through}
 use Rattle.source_meaning.specs.Meaning.{meaning}
-use Rattle.source_meaning.specs.Laws.{LeftOf, AsFound, NothingIsLeftStanding}
+use Rattle.source_meaning.specs.Laws.{LeftOf, AsFound, NothingIsLeftStanding, PhrasesArePassedAsFound}
 use Rattle.source_meaning.proofs.Mild.{same_store, further}
 use Rattle.source_meaning.proofs.Kept.{Keeps, Kept, Mild, always_kept}
-use Rattle.source_meaning.proofs.Through.{value_kept, call_kept, start_kept, raise_kept, does_kept}
+use Rattle.source_meaning.proofs.Through.{value_kept, call_kept, start_kept, raise_kept, through_kept, does_kept}
 
 pub record Leaves (m m' : Run) : Type 0 where
   pub found : (σ : State) → AsFound σ (m σ).state
@@ -135,3 +136,19 @@ nothing_is_left_standing P n w σ = record {
   by_start = λ j. (start_kept Leaves Leaves leaves_kept P (meaning P n) (meaning P n) (meaning_leaves P n) j w.chain).found σ;
   by_raise = λ sig vs. (raise_kept Leaves Leaves leaves_kept P (meaning P n) (meaning P n) (meaning_leaves P n) w sig vs).found σ;
 }
+
+-- an answer is what a run gives that does nothing else
+passed : (P : Program) (n : ℕ) (w : Where) (phrase : Phrase) (a : Answer) → Leaves (through (meaning P n) w phrase (give a)) (through (meaning P n) w phrase (give a))
+passed P n w phrase a = through_kept Leaves Leaves leaves_kept P (meaning P n) (meaning P n) (meaning_leaves P n) w phrase (give_leaves a)
+
+answer_found : (P : Program) (n : ℕ) (w : Where) (phrase : Phrase) (a : Answer) (σ : State) → AsFound σ (through_of (meaning P n) w phrase a σ).state
+unfolding through after carry give
+answer_found P n w phrase a σ = (passed P n w phrase a).found σ
+
+run_found : (P : Program) (n : ℕ) (w : Where) (phrase : Phrase) (m : Run) → ((σ : State) → AsFound σ (m σ).state) → (σ : State)
+    → AsFound σ (through (meaning P n) w phrase m σ).state
+unfolding through after carry
+run_found P n w phrase m found σ = then_found (found σ) (answer_found P n w phrase (m σ).answer (m σ).state)
+
+pub phrases_are_passed_as_found : PhrasesArePassedAsFound
+phrases_are_passed_as_found P n w phrase = record { by_answer = answer_found P n w phrase; by_run = run_found P n w phrase }

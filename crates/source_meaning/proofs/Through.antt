@@ -126,7 +126,7 @@ module _ (L T : Pairs) (kept : Kept L T) (P : Program) (next next' : Next) (late
   through_of_kept w ph (Go f p) = through_go_kept w ph _ _ f p
   through_of_kept w ph a = pass L T kept a
 
-  through_kept : {m m' : Run} → (w : Where) (ph : Phrase) → T m m' → T (through next w ph m) (through next' w ph m')
+  pub through_kept : {m m' : Run} → (w : Where) (ph : Phrase) → T m m' → T (through next w ph m) (through next' w ph m')
   unfolding through
   through_kept w ph h = kept.tight_after h (through_of_passes next w ph) (through_of_kept w ph)
 

@@ -1,12 +1,12 @@
 -- The laws of the meaning.
 use Rattle.std.specs.Prelude.{◌≡◌, ◌≢◌, ℕ, ◌+◌, ◌<◌, ◌≤◌, List, ◌++◌, true}
-use Rattle.mesa_types.specs.Typed.{Stmt, Expr}
+use Rattle.mesa_types.specs.Typed.{Stmt, Expr, Phrase}
 use Rattle.source_meaning.specs.Value.{Values}
 use Rattle.source_meaning.specs.Program.{Signal, Target, Program}
 use Rattle.source_meaning.specs.Lawful.{Lawful}
-use Rattle.source_meaning.specs.State.{Store, State, Ending, Fault, Answer, Normal, Gives, Go, Resumed, Rejected, Retried, Continued, Uncaught, Spent, FrameLimit, Broken, Result}
+use Rattle.source_meaning.specs.State.{Store, State, Ending, Fault, Answer, Normal, Gives, Go, Resumed, Rejected, Retried, Continued, Uncaught, Spent, FrameLimit, Broken, Result, Run}
 use Rattle.source_meaning.specs.Variables.{Where}
-use Rattle.source_meaning.specs.Signals.{raise}
+use Rattle.source_meaning.specs.Signals.{raise, through_of, through}
 use Rattle.source_meaning.specs.Calls.{start, call}
 use Rattle.source_meaning.specs.Meaning.{value, meaning}
 use Rattle.source_meaning.specs.Means.{outcome, Means}
@@ -42,6 +42,15 @@ pub record LeavesAsFound (P : Program) (fuel : ℕ) (w : Where) (σ : State) : T
 
 abbrev pub NothingIsLeftStanding : Type 0
 NothingIsLeftStanding = (P : Program) (fuel : ℕ) (w : Where) (σ : State) → LeavesAsFound P fuel w σ
+
+-- An answer that goes through a phrase, a jump that runs its UNWIND arm among them, leaves what stands as it was found, whatever that arm
+-- answers; so a run that leaves it so does it through a phrase too
+pub record PassesAsFound (P : Program) (fuel : ℕ) (w : Where) (phrase : Phrase) : Type 0 where
+  pub by_answer : (a : Answer) (σ : State) → AsFound σ (through_of (meaning P fuel) w phrase a σ).state
+  pub by_run : (m : Run) → ((σ : State) → AsFound σ (m σ).state) → (σ : State) → AsFound σ (through (meaning P fuel) w phrase m σ).state
+
+abbrev pub PhrasesArePassedAsFound : Type 0
+PhrasesArePassedAsFound = (P : Program) (fuel : ℕ) (w : Where) (phrase : Phrase) → PassesAsFound P fuel w phrase
 
 -- there is one output, end, number of turns left and number of bytes taken, and no other
 pub record OneResult (P : Program) (input : List ℕ) (e : Ending) (turns : ℕ) : Type 0 where

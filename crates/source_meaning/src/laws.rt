@@ -1,4 +1,4 @@
-ghost use Rattle.source_meaning.specs.Laws.{AlwaysEnds, BoundsAreCuts, FaultsAreCuts, FuelNeverShows, HasOneResult, InputIsTakenInOrder, NothingIsLeftStanding};
+ghost use Rattle.source_meaning.specs.Laws.{AlwaysEnds, BoundsAreCuts, FaultsAreCuts, FuelNeverShows, HasOneResult, InputIsTakenInOrder, NothingIsLeftStanding, PhrasesArePassedAsFound};
 
 /// A program has one result for each input and each number of turns, and no other.
 #[tactic(auto, using(crate::proofs::Whole::has_one_result))]
@@ -17,6 +17,13 @@ pub fn fuel_never_shows()
 #[tactic(auto, using(crate::proofs::Standing::nothing_is_left_standing))]
 pub fn nothing_is_left_standing()
     ensures { NothingIsLeftStanding }
+{}
+
+/// A jump, or any other answer, that goes through a phrase leaves as many activations as it found, and each frame as it was
+/// found, also where it runs the phrase's UNWIND arm, and whatever that arm does.
+#[tactic(auto, using(crate::proofs::Standing::phrases_are_passed_as_found))]
+pub fn phrases_are_passed_as_found()
+    ensures { PhrasesArePassedAsFound }
 {}
 
 /// A lawful program comes to an end: it is done, or a signal is not caught, or its turns are spent, or its frames are full,
