@@ -63,6 +63,16 @@ same_at image (ArmRow k n reason) (InArm k' n' why) a phrases own offset h same 
     ∙ ap (λ o. nat_eq k own && has_offset o offset) (arm_under_is image a n ∙ ap (λ l. slice_get (arms_in l) n) (sym same))
     ∙ ap (λ b. nat_eq k own && b) (sym (span_has (slice_get (arms_in phrases) n) offset))
 
+-- such an arm is one of the frame
+kind_owner : (kind : Kind) (phrases : List Phrase) (own offset q : ℕ) → has_offset_in kind phrases own offset ≡ true → owner_place kind q ≡ own
+unfolding owner_place
+kind_owner FrameRow phrases own offset q e = absurd (false≢true e)
+kind_owner (ArmRow k n reason) phrases own offset q e = eqb-true k own (first_of (nat_eq k own) (in_span (span_in (slice_get (arms_in phrases) n)) offset) e)
+  where
+    first_of : (a b : Bool) → a && b ≡ true → a ≡ true
+    first_of true b h = refl
+    first_of false b h = absurd (false≢true h)
+
 module _ (image : Image) (layout : Layout) (region : List ℕ) (table : List Row) where
   -- the target's activation, by the rows
   pub place_same : (x : Over) (S : Activations) (own offset : ℕ) → Below image layout region table x S → place_for image S own offset ≡ place_in image table (length S) own offset
@@ -90,15 +100,6 @@ module _ (image : Image) (layout : Layout) (region : List ℕ) (table : List Row
   placed_if true own q place mine lower = at_arm (omega arith) (mine refl)
   placed_if false own q place mine (at_frame is) = at_frame is
   placed_if false own q place mine (at_arm less is) = at_arm (omega (arith, less)) is
-
-  kind_owner : (kind : Kind) (phrases : List Phrase) (own offset q : ℕ) → has_offset_in kind phrases own offset ≡ true → owner_place kind q ≡ own
-  unfolding owner_place
-  kind_owner FrameRow phrases own offset q e = absurd (false≢true e)
-  kind_owner (ArmRow k n reason) phrases own offset q e = eqb-true k own (first_of (nat_eq k own) (in_span (span_in (slice_get (arms_in phrases) n)) offset) e)
-    where
-      first_of : (a b : Bool) → a && b ≡ true → a ≡ true
-      first_of true b h = refl
-      first_of false b h = absurd (false≢true h)
 
   pub placed : (count own offset : ℕ) → Placed own count (place_in image table count own offset)
   unfolding place_in
@@ -130,9 +131,20 @@ unfolding place_in
 place_more image table k q own offset next e =
     sym (ap (λ j. place_in image table j own offset) next ∙ ap (λ b. if b then q else place_in image table q own offset) e)
 
-pub place_none : (image : Image) (table : List Row) (k own offset : ℕ) → k ≡ 0 → own ≡ place_in image table k own offset
+-- none below the frame is an arm of it
+pub place_low : (image : Image) (table : List Row) (k own offset : ℕ) → k ≤ own + 1 → ((q : ℕ) → q < k → IsAsked image table q) → own ≡ place_in image table k own offset
 unfolding place_in
-place_none image table k own offset none = sym (ap (λ j. place_in image table j own offset) none)
+place_low image table zero own offset low rows = refl
+place_low image table (suc q) own offset low rows =
+    by_case (has_offset_in (row_at table q).kind (phrases_of image (row_at table q)) own offset) refl (place_low image table q own offset (omega (arith, low)) (λ k less. rows k (omega (arith, less))))
+  where
+    by_case : (b : Bool) → has_offset_in (row_at table q).kind (phrases_of image (row_at table q)) own offset ≡ b → own ≡ place_in image table q own offset
+        → own ≡ (if b then q else place_in image table q own offset)
+    by_case true mine lower =
+        let is = kind_owner (row_at table q).kind (phrases_of image (row_at table q)) own offset q mine in
+        let high = (rows q (omega arith)).low in
+        omega (arith, is, high, low)
+    by_case false mine lower = lower
 
 arm_role : (role : Role (List ℕ)) (own n : ℕ) (reason : Reason) → IsKind (ArmRow own n reason) role → (why : Why) × (role ≡ InArm own n why)
 unfolding IsKind
@@ -168,11 +180,11 @@ module _ (image : Image) (layout : Layout) (region : List ℕ) (table : List Row
     role_is : (why : Why) × (a.role ≡ InArm own n why)
     role_is = arm_role a.role own n reason (subst (λ (k : Kind). IsKind k a.role) kind kind_here)
 
-    own_low : own < r.top
-    own_low = arm_low image layout region table r w.procedure a S w.shows own n role_is.0 role_is.1
+    pub jump_low : own < r.top
+    jump_low = arm_low image layout region table r w.procedure a S w.shows own n role_is.0 role_is.1
 
     pub jump_under : 1 ≤ r.top
-    jump_under = let l = own_low in omega (arith, l)
+    jump_under = let l = jump_low in omega (arith, l)
 
     -- at its target is an activation of the arm's procedure
     of_procedure : (q : ℕ) → q < r.top → owner_place (row_at table q).kind q ≡ own → procedure_of image (row_at table q).instance (row_at table q).procedure ≡ Some w.procedure
@@ -191,7 +203,7 @@ module _ (image : Image) (layout : Layout) (region : List ℕ) (table : List Row
         ap (λ j. procedure_of image j (row_at table own).procedure) o.0 ∙ ap (λ k. procedure_of image a.instance k) o.1 ∙ w.shows.is
 
     there_by : (place : ℕ) → Placed image layout region table own r.top place → (place < r.top) × (procedure_of image (row_at table place).instance (row_at table place).procedure ≡ Some w.procedure)
-    there_by place (at_frame is) = (let l = own_low in omega (arith, l, is), subst (λ q. procedure_of image (row_at table q).instance (row_at table q).procedure ≡ Some w.procedure) (sym is) at_own)
+    there_by place (at_frame is) = (let l = jump_low in omega (arith, l, is), subst (λ q. procedure_of image (row_at table q).instance (row_at table q).procedure ≡ Some w.procedure) (sym is) at_own)
     there_by place (at_arm less mine) = (less, of_procedure place less mine)
 
     placed_of : (goal : Option ℕ) → Placed image layout region table own r.top (place_of image table r.top own goal)

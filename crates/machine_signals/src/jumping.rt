@@ -49,14 +49,15 @@ fn has_offset(image: &Image, row: Row, owner: usize, offset: u32) -> bool
 }
 
 // The place of the activation to which a jump goes: the topmost of the first so many that is an arm of the frame with the
-// offset in its region, else the frame.
+// offset in its region, else the frame. No arm of a frame lies below it, so no place below the frame is looked at.
 fn place_for(image: &Image, table: &[Row], count: usize, owner: usize, offset: u32) -> usize
     requires rows { (q : ℕ) → q < count → IsAsked image.now table.now q }
     requires long { count ≤ length table.now }
+    requires low { owner < count }
     ensures { result ≡ place_in image.now table.now count owner offset }
 {
-    for back in 0..count {
-        let place = count - 1 - back;
+    for back in 1..count - owner {
+        let place = count - back;
         if has_offset(image, row_of(table, place), owner, offset) {
             return place;
         }
@@ -68,6 +69,7 @@ fn place_for(image: &Image, table: &[Row], count: usize, owner: usize, offset: u
 fn target_of(image: &Image, table: &[Row], count: usize, owner: usize, goal: Option<u32>) -> Target
     requires rows { (q : ℕ) → q < count → IsAsked image.now table.now q }
     requires long { count ≤ length table.now }
+    requires low { owner < count }
     ensures { Aims image.now table.now count owner goal result }
 {
     let place = match goal {

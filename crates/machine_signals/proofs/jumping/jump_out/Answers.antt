@@ -6,7 +6,7 @@ use Rattle.machine_signals.specs.Indexed.{AskedOf, IsRead}
 use Rattle.machine_signals.specs.Leaving.{LeftThere}
 use Rattle.machine_signals.specs.Raising.{AsksLeft}
 use Rattle.machine_signals.proofs.ArmRows.{arms_fewer}
-use Rattle.machine_signals.proofs.Jumped.{jump_within, jump_not_frame, under_asked, jump_under, jump_leads, jump_leaving}
+use Rattle.machine_signals.proofs.Jumped.{jump_within, jump_not_frame, under_asked, jump_low, jump_under, jump_leads, jump_leaving}
 use Rattle.machine_signals.proofs.UnwindLoop.{left_asks}
 use Rattle.machine_signals.proofs.jumping.jump_out.Goals as goal
 
@@ -19,6 +19,9 @@ target_of-target-requires-clause-rows c = under_asked c.args.image.now c.args.la
 
 pub target_of-target-requires-clause-long : goal.target_of-target-requires-clause-long
 target_of-target-requires-clause-long c = let l = jump_within c.args.image.now c.args.layout c.args.region.now.items c.args.table.now c.args.r c.args.goal c.requires.jumps.start c.requires.jumps.store c.requires.jumps.jumps in omega (arith, l)
+
+pub target_of-target-requires-clause-low : goal.target_of-target-requires-clause-low
+target_of-target-requires-clause-low c = jump_low c.args.image.now c.args.layout c.args.region.now.items c.args.table.now c.args.r c.args.goal c.requires.jumps.start c.requires.jumps.store c.requires.jumps.jumps c.in-Arm.owner c.in-Arm.arm c.in-Arm.reason (ap (λ (x : Row). x.kind) (sym c.row_of-kind.ensures) ∙ c.in-Arm.is)
 
 pub overflow_sub-top : goal.overflow_sub-top
 overflow_sub-top c = jump_under c.args.image.now c.args.layout c.args.region.now.items c.args.table.now c.args.r c.args.goal c.requires.jumps.start c.requires.jumps.store c.requires.jumps.jumps c.in-Arm.owner c.in-Arm.arm c.in-Arm.reason (ap (λ (x : Row). x.kind) (sym c.row_of-kind.ensures) ∙ c.in-Arm.is)
