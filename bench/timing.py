@@ -131,6 +131,14 @@ def records(size):
     return "r: RECORD [" + ", ".join(f"f{k}: INTEGER" for k in range(size)) + f"]; r.f{size - 1} ← 1;"
 
 
+def element_uses(size):
+    return "T: TYPE = {" + ", ".join(f"e{k}" for k in range(size)) + "}; t: T;" + "".join(f"t ← e{k};" for k in range(size))
+
+
+def field_uses(size):
+    return "r: RECORD [" + ", ".join(f"f{k}: INTEGER" for k in range(size)) + "];" + "".join(f"r.f{k} ← {k};" for k in range(size))
+
+
 def strings(size):
     return "s: STRING;" + "".join(f's ← "t{k}";' for k in range(size))
 
@@ -147,6 +155,8 @@ SOUND = (
     ("nested blocks with a name each", deep_blocks, 100),
     ("nested parentheses", deep_parentheses, 2600),
     ("operators in runs", operators, 8000),
+    ("elements and their uses", element_uses, 3000),
     ("fields of a record", records, 16384),
+    ("fields of a record and their uses", field_uses, 3000),
     ("string literals", strings, 40000),
 )

@@ -8,7 +8,7 @@ use Rattle.mesa_types.specs.declared.typed_parts.Goal.TheVariants.{PastStatement
 use Rattle.mesa_types.specs.declared.typed_parts.Home.TheVariants.{Global}
 use Rattle.mesa_types.specs.declared.typed_parts.Label.TheVariants.{OnBounds}
 use Rattle.mesa_types.specs.declared.typed_parts.Range.TheVariants.{From}
-use Rattle.mesa_types.specs.declared.relation.Relation.TheVariants.{Less}
+use Rattle.mesa_base.specs.declared.relation.Relation.TheVariants.{Less}
 use Rattle.mesa_types.specs.declared.faces.Import.{Import}
 use Rattle.mesa_types.specs.declared.faces.Item.{Item}
 use Rattle.mesa_types.specs.Typed.{point_of, Ordinal, NoKinds, AndKind, Expr, Number, Checked, Relate, Catch, Stmt, Marked, Block, Repeat, Endless, Jump, NoExits, LoopOf, NoFinish, While, Module}

@@ -4,7 +4,7 @@ use Rattle.std.specs.Prelude.{if◌then◌else◌}
 use Rattle.mesa_types.specs.declared.typed_parts.Base.{Base}
 use Rattle.mesa_types.specs.declared.typed_parts.Bases.{Bases}
 use Rattle.mesa_types.specs.declared.typed_parts.Range.{Range}
-use Rattle.mesa_types.specs.declared.relation.Relation.{Relation}
+use Rattle.mesa_base.specs.declared.relation.Relation.{Relation}
 use Rattle.mesa_types.specs.Typed.{Expr, Between, Tests, NoTests, IfRelated, IfWithin}
 use Rattle.mesa_types.specs.Counts.{hidden_expr, hidden_tests, hidden_interval}
 use Rattle.mesa_types.specs.Operators.{differ, related, lies_in, truth, is_true, checked}

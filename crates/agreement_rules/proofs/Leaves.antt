@@ -6,8 +6,8 @@ use Rattle.mesa_types.specs.declared.typed_parts.Base.TheVariants.{Signed, Unsig
 use Rattle.mesa_types.specs.declared.typed_parts.Operator.{Operator}
 use Rattle.mesa_types.specs.declared.typed_parts.Operator.TheVariants as operator
 use Rattle.mesa_types.specs.declared.typed_parts.Range.TheVariants.{From}
-use Rattle.mesa_types.specs.declared.relation.Relation.{Relation}
-use Rattle.mesa_types.specs.declared.relation.Relation.TheVariants.{Equal, NotEqual, Less, AtMost, Greater, AtLeast}
+use Rattle.mesa_base.specs.declared.relation.Relation.{Relation}
+use Rattle.mesa_base.specs.declared.relation.Relation.TheVariants.{Equal, NotEqual, Less, AtMost, Greater, AtLeast}
 use Rattle.mesa_types.specs.Operators.{WordFault, OutOfBounds, DividedByZero, wrap, shifted, quotient, remainder, related, truth, fits, by_divisor, character, tried}
 use Rattle.code_forms.specs.declared.instruction.Instruction.{Instruction}
 use Rattle.code_forms.specs.declared.instruction.Instruction.TheVariants.{LoadL, Add, Sub, LessC, CheckC, Pop, Roll}

@@ -2,7 +2,7 @@
 ghost use Rattle.std.specs.Prelude.{◌≡◌, Ok};
 ghost use Rattle.mesa_types.specs.Constants as constants;
 ghost use Rattle.mesa_types.specs.Plain.{expr};
-ghost use Rattle.mesa_types.specs.PlainSyntax as plain_syntax;
+ghost use Rattle.syntax_trees.specs.PlainSyntax as plain_syntax;
 ghost use Rattle.check_rules.specs.PlainTypes.{plain};
 ghost use Rattle.check_rules.specs.Meanings as meanings;
 ghost use Rattle.check_rules.specs.Statements as spec;
@@ -14,12 +14,13 @@ ghost use Rattle.check_state.specs.Views as view;
 use check_rules::{Cause, CheckFault};
 use check_state::{Around, Meaning, base_of, is_text};
 use mesa_base::Place;
-use mesa_types::syntax::Expr;
-use mesa_types::{TypeTree, TypedExpr, constant};
+use mesa_types::{TypeTree, TypedExpr};
 use std::alloc::Global;
+use syntax_trees::syntax::Expr;
+use typed_answers::constant;
 
 /// Whether the text of a value is a string literal, perhaps in parentheses.
-#[tactic(auto, using(mesa_types::proofs::PlainForms::expr_forms), unfolding(check_rules::specs::Statements::is_text_literal))]
+#[tactic(auto, using(syntax_trees::proofs::PlainForms::expr_forms), unfolding(check_rules::specs::Statements::is_text_literal))]
 fn is_text_literal(text: &Expr) -> bool
     ensures { result ≡ spec.is_text_literal (plain_syntax.expr text.now) }
 {

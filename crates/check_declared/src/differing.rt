@@ -9,8 +9,8 @@ use check_rules::{Cause, CheckFault};
 use check_scopes::Names;
 use check_state::next;
 use mesa_base::{Identifier, List, Numbers, OutOfMemory};
-use mesa_types::syntax::RepeatLabels;
 use std::alloc::Global;
+use syntax_trees::syntax::RepeatLabels;
 
 /// No name stands twice, or among those of the index, which has them all from here on.
 pub fn different(

@@ -13,8 +13,8 @@ use check_rules::{Cause, CheckFault};
 use check_state::{Typed, sign_of};
 use check_values::{Ends, Meeting, checked, related, turned};
 use held_trees::LetGo;
-use mesa_base::{OutOfMemory, Place};
-use mesa_types::{Base, Bases, Interval, Relation, Test, TypeTree, TypedExpr};
+use mesa_base::{OutOfMemory, Place, Relation};
+use mesa_types::{Base, Bases, Interval, Test, TypeTree, TypedExpr};
 use std::alloc::Global;
 
 fn related_test(meeting: Meeting, relation: Relation, value: TypedExpr) -> Test

@@ -2,7 +2,7 @@
 use Rattle.std.proofs.Common.{◌≡◌, ℕ, zero, suc, List, [], ◌∷◌, ◌++◌, length, map, Option, Some, None, slice_get, option_map, refl, sym, ap, ◌∙◌}
 use Rattle.std.proofs.lemmas.List.{append-nil}
 use Rattle.mesa_base.specs.declared.identifier.Identifier.{Identifier}
-use Rattle.mesa_types.specs.declared.syntax.DirectoryItem.{DirectoryItem}
+use Rattle.syntax_trees.specs.declared.syntax.DirectoryItem.{DirectoryItem}
 use Rattle.interface_records.specs.declared.interface.Interface.{Interface}
 use Rattle.check_scopes.specs.Scopes.{Scope, over, nothing}
 use Rattle.check_scopes.specs.Shows.{means}

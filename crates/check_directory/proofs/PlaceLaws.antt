@@ -9,7 +9,7 @@ use Rattle.check_scopes.specs.Scopes.{Scope, with_name, over, nothing, has}
 use Rattle.check_scopes.specs.Shows.{means}
 use Rattle.check_scopes.specs.declared.names.Names.{Names}
 use Rattle.mesa_base.specs.declared.identifier.Identifier.{Identifier}
-use Rattle.mesa_types.specs.declared.syntax.DirectoryItem.{DirectoryItem}
+use Rattle.syntax_trees.specs.declared.syntax.DirectoryItem.{DirectoryItem}
 use Rattle.check_rules.specs.Directory.{place_in, names_in}
 use Rattle.check_rules.specs.Parts.{names_of}
 use Rattle.check_directory.specs.Lists.{HasNames}

@@ -1,6 +1,6 @@
 -- One item of a DIRECTORY.
 use Rattle.std.specs.Prelude.{ℕ, List, None, bytes_eq, not}
-use Rattle.mesa_types.specs.declared.syntax.DirectoryItem.{DirectoryItem}
+use Rattle.syntax_trees.specs.declared.syntax.DirectoryItem.{DirectoryItem}
 use Rattle.check_scopes.specs.Scopes.{has}
 use Rattle.check_rules.specs.Directory.{entries, first_entry, using}
 use Rattle.check_rules.specs.PlainTypes.{PlainInterface}

@@ -14,8 +14,8 @@ use check_scopes::Names;
 use check_state::{Meaning, next};
 use interface_records::Interface;
 use mesa_base::{Identifier, OutOfMemory};
-use mesa_types::syntax::DirectoryItem;
 use std::alloc::Global;
+use syntax_trees::syntax::DirectoryItem;
 
 /// Each name of a USING list is one of the interface, and stands once.
 fn used_names(names: &[Identifier], alloc: Global, scope: &Names<Meaning>) -> Result<(), CheckFault>

@@ -10,8 +10,8 @@ use crate::positions::directory_places;
 use check_scopes::Names;
 use interface_records::Interface;
 use mesa_base::{Identifier, OutOfMemory};
-use mesa_types::syntax::DirectoryItem;
 use std::alloc::Global;
+use syntax_trees::syntax::DirectoryItem;
 
 /// The interface of the item of this name.
 fn interface_of<'a>(

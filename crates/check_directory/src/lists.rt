@@ -9,8 +9,8 @@ use crate::positions::directory_places;
 use check_rules::{Cause, CheckFault};
 use check_scopes::Names;
 use mesa_base::Identifier;
-use mesa_types::syntax::DirectoryItem;
 use std::alloc::Global;
+use syntax_trees::syntax::DirectoryItem;
 
 /// Each name is one of the index, and stands once.
 fn named_in(names: &[Identifier], alloc: Global, known: &Names<u32>) -> Result<(), CheckFault>

@@ -3,15 +3,15 @@ ghost use Rattle.std.specs.Prelude.{map};
 ghost use Rattle.check_state.specs.Gives.{GivesOnly};
 ghost use Rattle.check_rules.specs.CheckedModule as spec;
 ghost use Rattle.check_rules.specs.PlainTypes.{plain_interface};
-ghost use Rattle.mesa_types.specs.PlainSyntax as plain;
+ghost use Rattle.syntax_trees.specs.PlainSyntax as plain;
 
 use crate::directories::directory;
 use crate::lists::listed;
 use check_rules::CheckFault;
 use interface_records::Interface;
 use mesa_base::Identifier;
-use mesa_types::Module;
 use std::alloc::Global;
+use syntax_trees::Module;
 
 /// The DIRECTORY of a module with the interfaces that are given for it, then its IMPORTS, EXPORTS and OPEN.
 pub fn all_listed(

@@ -13,8 +13,8 @@ use check_scopes::Names;
 use check_state::Meaning;
 use interface_records::Interface;
 use mesa_base::{Identifier, OutOfMemory};
-use mesa_types::syntax::DirectoryItem;
 use std::alloc::Global;
+use syntax_trees::syntax::DirectoryItem;
 
 /// What an item offers: the names of its interface, or those of its USING list.
 fn offer_of(

@@ -6,8 +6,8 @@ ghost use Rattle.check_rules.specs.Directory as spec;
 use check_scopes::Names;
 use check_state::next;
 use mesa_base::{Identifier, OutOfMemory};
-use mesa_types::syntax::DirectoryItem;
 use std::alloc::Global;
+use syntax_trees::syntax::DirectoryItem;
 
 /// The place of each name, where it stands first.
 pub fn places(names: &[Identifier], alloc: Global) -> Result<Names<u32>, OutOfMemory>

@@ -3,10 +3,10 @@ use Rattle.std.proofs.Common.{◌≡◌, ◌≢◌, ◌≤◌, ◌<◌, ℕ, Boo
 use Rattle.mesa_base.specs.declared.identifier.Identifier.{Identifier}
 use Rattle.mesa_base.specs.declared.place.Place.{Place}
 use Rattle.mesa_types.specs.Operators as words
-use Rattle.mesa_types.specs.Syntax as s
-use Rattle.mesa_types.specs.declared.relation.Relation.{Relation}
-use Rattle.mesa_types.specs.declared.syntax.QualifiedName.{QualifiedName}
-use Rattle.mesa_types.specs.declared.syntax.Sign.{Sign}
+use Rattle.syntax_trees.specs.Syntax as s
+use Rattle.mesa_base.specs.declared.relation.Relation.{Relation}
+use Rattle.syntax_trees.specs.declared.syntax.QualifiedName.{QualifiedName}
+use Rattle.syntax_trees.specs.declared.syntax.Sign.{Sign}
 use Rattle.mesa_types.specs.declared.faces.ItemKind.TheVariants as item
 use Rattle.check_rules.specs.Typed as t
 use Rattle.check_rules.specs.PlainTypes.{PlainField, PlainType}
@@ -17,11 +17,11 @@ use Rattle.check_rules.specs.Meanings as mean
 use Rattle.check_rules.specs.Names.{qualified}
 use Rattle.check_rules.specs.Parts.{first, last_of}
 use Rattle.mesa_types.specs.declared.faces.ItemKind.{ItemKind}
-use Rattle.mesa_types.specs.PlainSyntax as plain
-use Rattle.mesa_types.specs.declared.syntax.Brackets.{Brackets}
-use Rattle.mesa_types.specs.declared.syntax.Expr.{Expr}
-use Rattle.mesa_types.specs.declared.syntax.Suffix.TheVariants as xv
-use Rattle.mesa_types.proofs.PlainForms.{of_field, of_applied}
+use Rattle.syntax_trees.specs.PlainSyntax as plain
+use Rattle.syntax_trees.specs.declared.syntax.Brackets.{Brackets}
+use Rattle.syntax_trees.specs.declared.syntax.Expr.{Expr}
+use Rattle.syntax_trees.specs.declared.syntax.Suffix.TheVariants as xv
+use Rattle.syntax_trees.proofs.PlainForms.{of_field, of_applied}
 use Rattle.check_rules.specs.declared.fault.Cause.TheVariants.{TypeMismatch, WrongCount}
 use Rattle.check_rules.specs.Ranges.{Typed, Aim, Free, Into, Several, finish}
 use Rattle.check_rules.specs.Reached.{Reached, Bracketed, Named, Value, Variable, Results, Shape, OfFields, OfElements, NoShape, Use, field, indexed, may_apply, settled, shape_of, text_at}

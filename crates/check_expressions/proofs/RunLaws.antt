@@ -4,31 +4,31 @@ use Rattle.std.proofs.Common.{◌≡◌, ◌<◌, ◌+◌, drop, length, get_or,
 use Rattle.mesa_base.specs.declared.place.Place.{Place}
 use Rattle.mesa_base.specs.declared.identifier.Identifier.{Identifier}
 use Rattle.mesa_types.specs.Plain as tree
-use Rattle.mesa_types.specs.PlainSyntax as plain
-use Rattle.mesa_types.specs.Syntax as s
+use Rattle.syntax_trees.specs.PlainSyntax as plain
+use Rattle.syntax_trees.specs.Syntax as s
 use Rattle.mesa_types.specs.Typed as t
-use Rattle.mesa_types.specs.declared.syntax.Operation.{Operation, out-Operation}
-use Rattle.mesa_types.specs.declared.syntax.Condition.{Condition}
-use Rattle.mesa_types.specs.declared.syntax.Count.{Count}
-use Rattle.mesa_types.specs.declared.syntax.Expr.{Expr}
-use Rattle.mesa_types.specs.declared.syntax.FieldList.{FieldList}
-use Rattle.mesa_types.specs.declared.syntax.PlainItem.{PlainItem}
-use Rattle.mesa_types.specs.declared.syntax.Raise.{Raise}
-use Rattle.mesa_types.specs.declared.syntax.Statement.{Statement}
-use Rattle.mesa_types.specs.declared.syntax.Test.{Test}
-use Rattle.mesa_types.specs.declared.syntax.TypeExp.{TypeExp}
-use Rattle.mesa_types.specs.declared.syntax.Arm.{Arm}
-use Rattle.mesa_types.specs.declared.syntax.Block.{Block}
-use Rattle.mesa_types.specs.declared.syntax.Brackets.{Brackets}
-use Rattle.mesa_types.specs.declared.syntax.Case.{Case}
-use Rattle.mesa_types.specs.declared.syntax.Control.{Control}
-use Rattle.mesa_types.specs.declared.syntax.Interval.{Interval}
-use Rattle.mesa_types.specs.declared.syntax.Left.{Left}
-use Rattle.mesa_types.specs.declared.syntax.Operator.{Operator}
-use Rattle.mesa_types.specs.declared.syntax.Suffix.{Suffix, roll-Suffix, out-Suffix, roll-out-Suffix}
-use Rattle.mesa_types.specs.declared.syntax.Condition.TheOpen.{Suffix-F}
+use Rattle.syntax_trees.specs.declared.syntax.Operation.{Operation, out-Operation}
+use Rattle.syntax_trees.specs.declared.syntax.Condition.{Condition}
+use Rattle.syntax_trees.specs.declared.syntax.Count.{Count}
+use Rattle.syntax_trees.specs.declared.syntax.Expr.{Expr}
+use Rattle.syntax_trees.specs.declared.syntax.FieldList.{FieldList}
+use Rattle.syntax_trees.specs.declared.syntax.PlainItem.{PlainItem}
+use Rattle.syntax_trees.specs.declared.syntax.Raise.{Raise}
+use Rattle.syntax_trees.specs.declared.syntax.Statement.{Statement}
+use Rattle.syntax_trees.specs.declared.syntax.Test.{Test}
+use Rattle.syntax_trees.specs.declared.syntax.TypeExp.{TypeExp}
+use Rattle.syntax_trees.specs.declared.syntax.Arm.{Arm}
+use Rattle.syntax_trees.specs.declared.syntax.Block.{Block}
+use Rattle.syntax_trees.specs.declared.syntax.Brackets.{Brackets}
+use Rattle.syntax_trees.specs.declared.syntax.Case.{Case}
+use Rattle.syntax_trees.specs.declared.syntax.Control.{Control}
+use Rattle.syntax_trees.specs.declared.syntax.Interval.{Interval}
+use Rattle.syntax_trees.specs.declared.syntax.Left.{Left}
+use Rattle.syntax_trees.specs.declared.syntax.Operator.{Operator}
+use Rattle.syntax_trees.specs.declared.syntax.Suffix.{Suffix, roll-Suffix, out-Suffix, roll-out-Suffix}
+use Rattle.syntax_trees.specs.declared.syntax.Condition.TheOpen.{Suffix-F}
 use Rattle.mesa_types.specs.declared.typed_tree.TypedExpr.{TypedExpr}
-use Rattle.mesa_types.proofs.PlainForms.{parts_of_operation, suffix_at}
+use Rattle.syntax_trees.proofs.PlainForms.{parts_of_operation, suffix_at}
 use Rattle.check_rules.specs.Around.{Around}
 use Rattle.check_rules.specs.Checking as spec
 use Rattle.check_rules.specs.PlainTypes.{PlainType}

@@ -2,15 +2,15 @@
 ghost use Rattle.std.specs.Prelude.{option_map};
 ghost use Rattle.std.specs.Option.{option_copied};
 ghost use Rattle.mesa_types.specs.Plain.{expr};
-ghost use Rattle.mesa_types.specs.PlainSyntax as plain;
-ghost use Rattle.mesa_types.specs.Syntax as s;
+ghost use Rattle.syntax_trees.specs.PlainSyntax as plain;
+ghost use Rattle.syntax_trees.specs.Syntax as s;
 ghost use Rattle.check_rules.specs.Checking as spec;
 ghost use Rattle.check_rules.specs.PlainTypes as v;
 ghost use Rattle.check_state.specs.Gives.{Gives};
 ghost use Rattle.check_state.specs.Views as words;
 ghost use Rattle.check_selectors.specs.Views as reaching;
 ghost use Rattle.check_values.specs.Views as values;
-ghost use Rattle.mesa_types.specs.declared.syntax.Brackets.{out-Brackets};
+ghost use Rattle.syntax_trees.specs.declared.syntax.Brackets.{out-Brackets};
 ghost use Rattle.check_expressions.specs.Lists as forms;
 ghost use Rattle.check_operands.specs.Lists as lists;
 ghost use Rattle.check_operands.specs.Runs as runs;
@@ -34,11 +34,11 @@ use check_values::{
 };
 use held_trees::{LetGo, both, boxed, pushed};
 use mesa_base::{List, Place, Shared};
-use mesa_types::syntax::{
-    Brackets, Entries, Expr, Interval, Keyed, Left, Operation, Raise, Suffix,
-};
 use mesa_types::{Callee, Exprs, FieldType, Item, ItemKind, TypeTree, TypedExpr};
 use std::alloc::Global;
+use syntax_trees::syntax::{
+    Brackets, Entries, Expr, Interval, Keyed, Left, Operation, Raise, Suffix,
+};
 
 /// What checks expressions: it makes trees by `alloc` and asks `phrases` for what catch phrases hold.
 pub struct Checker<P> {
@@ -49,7 +49,7 @@ pub struct Checker<P> {
 impl<P: Phrases> Checker<P> {
     /// The value of an expression and its type, for what it aims at.
     #[cycle(expressions)]
-    #[tactic(auto, using(mesa_types::proofs::PlainForms::expr_forms, crate::proofs::Clauses::clauses, crate::proofs::Clauses::construct_nothing))]
+    #[tactic(auto, using(syntax_trees::proofs::PlainForms::expr_forms, crate::proofs::Clauses::clauses, crate::proofs::Clauses::construct_nothing))]
     pub fn check(
         &self,
         e: &Expr,
@@ -226,7 +226,7 @@ impl<P: Phrases> Checker<P> {
 
     /// Both ends of an interval.
     #[cycle(expressions)]
-    #[tactic(auto, using(mesa_types::proofs::PlainForms::parts, crate::proofs::Clauses::interval_is))]
+    #[tactic(auto, using(syntax_trees::proofs::PlainForms::parts, crate::proofs::Clauses::interval_is))]
     pub fn interval(
         &self,
         interval: &Interval,
@@ -251,7 +251,7 @@ impl<P: Phrases> Checker<P> {
 
     /// The value of a name with what follows it.
     #[cycle(expressions)]
-    #[tactic(auto, using(mesa_types::proofs::PlainForms::parts), unfolding(check_operands::specs::Runs::reference))]
+    #[tactic(auto, using(syntax_trees::proofs::PlainForms::parts), unfolding(check_operands::specs::Runs::reference))]
     fn reference(
         &self,
         left: &Left,
@@ -355,7 +355,7 @@ impl<P: Phrases> Checker<P> {
 
     /// The element or byte with an index.
     #[cycle(expressions)]
-    #[tactic(auto, using(mesa_types::proofs::PlainForms::parts), unfolding(check_operands::specs::Runs::index))]
+    #[tactic(auto, using(syntax_trees::proofs::PlainForms::parts), unfolding(check_operands::specs::Runs::index))]
     fn index(
         &self,
         brackets: &Brackets,
@@ -403,7 +403,7 @@ impl<P: Phrases> Checker<P> {
 
     /// A call with its values and its phrase.
     #[cycle(expressions)]
-    #[tactic(auto, using(mesa_types::proofs::PlainForms::parts), unfolding(check_operands::specs::Runs::call))]
+    #[tactic(auto, using(syntax_trees::proofs::PlainForms::parts), unfolding(check_operands::specs::Runs::call))]
     fn call(
         &self,
         brackets: &Brackets,
@@ -427,7 +427,7 @@ impl<P: Phrases> Checker<P> {
 
     /// A constructor behind the name of its type.
     #[cycle(expressions)]
-    #[tactic(auto, using(mesa_types::proofs::PlainForms::parts), unfolding(check_operands::specs::Runs::construct_named))]
+    #[tactic(auto, using(syntax_trees::proofs::PlainForms::parts), unfolding(check_operands::specs::Runs::construct_named))]
     fn construct_named(
         &self,
         brackets: &Brackets,
@@ -709,7 +709,7 @@ impl<P: Phrases> Checker<P> {
 
     /// Where a raise begins, and what it gave.
     #[cycle(expressions)]
-    #[tactic(auto, using(mesa_types::proofs::PlainForms::raise_forms, crate::proofs::Clauses::raise_signal, crate::proofs::Clauses::raise_error, crate::proofs::Clauses::raise_unnamed, crate::proofs::Clauses::with_none, crate::proofs::Clauses::with_some))]
+    #[tactic(auto, using(syntax_trees::proofs::PlainForms::raise_forms, crate::proofs::Clauses::raise_signal, crate::proofs::Clauses::raise_error, crate::proofs::Clauses::raise_unnamed, crate::proofs::Clauses::with_none, crate::proofs::Clauses::with_some))]
     pub fn raise(
         &self,
         of: &Raise,
@@ -746,7 +746,7 @@ impl<P: Phrases> Checker<P> {
 
     /// A raise with the values and the phrase of its brackets.
     #[cycle(expressions)]
-    #[tactic(auto, using(mesa_types::proofs::PlainForms::parts), unfolding(check_operands::specs::Lists::full_raise))]
+    #[tactic(auto, using(syntax_trees::proofs::PlainForms::parts), unfolding(check_operands::specs::Lists::full_raise))]
     fn full_raise(
         &self,
         brackets: &Brackets,

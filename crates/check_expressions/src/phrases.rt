@@ -1,13 +1,14 @@
 //! Catch phrases, whose arms are statements: what checks those stands in a crate above.
 ghost use Rattle.mesa_types.specs.Plain as tree;
-ghost use Rattle.mesa_types.specs.PlainSyntax as plain;
+ghost use Rattle.syntax_trees.specs.PlainSyntax as plain;
 ghost use Rattle.check_rules.specs.Checking as spec;
 ghost use Rattle.check_state.specs.Gives.{Gives};
 ghost use Rattle.check_state.specs.Views as view;
 
 use check_rules::CheckFault;
 use check_state::{Around, State};
-use mesa_types::{Phrase, syntax};
+use mesa_types::Phrase;
+use syntax_trees::syntax;
 
 /// What checks catch phrases.
 pub trait Phrases {

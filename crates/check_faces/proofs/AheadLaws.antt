@@ -5,12 +5,12 @@ use Rattle.std.specs.Prelude.{cond, bytes_eq}
 use Rattle.std.specs.Cmp.Lexicographic.{nat_list_eq_equiv}
 use Rattle.std.proofs.lemmas.List.{drop_all}
 use Rattle.mesa_base.specs.declared.identifier.Identifier.{Identifier}
-use Rattle.mesa_types.specs.Syntax as form
-use Rattle.mesa_types.specs.PlainSyntax.{declaration, definition, named_fields, type_exp, types}
-use Rattle.mesa_types.specs.declared.syntax.Declaration.{Declaration}
-use Rattle.mesa_types.specs.declared.syntax.Defined.{Defined}
-use Rattle.mesa_types.specs.declared.syntax.Labeled.{Labeled}
-use Rattle.mesa_types.specs.declared.syntax.TypeExp.{TypeExp}
+use Rattle.syntax_trees.specs.Syntax as form
+use Rattle.syntax_trees.specs.PlainSyntax.{declaration, definition, named_fields, type_exp, types}
+use Rattle.syntax_trees.specs.declared.syntax.Declaration.{Declaration}
+use Rattle.syntax_trees.specs.declared.syntax.Defined.{Defined}
+use Rattle.syntax_trees.specs.declared.syntax.Labeled.{Labeled}
+use Rattle.syntax_trees.specs.declared.syntax.TypeExp.{TypeExp}
 use Rattle.check_scopes.specs.Scopes.{Scope, over, nothing, has, with_name}
 use Rattle.check_scopes.specs.Shows.{means}
 use Rattle.check_scopes.specs.declared.names.Names.{Names}

@@ -2,17 +2,17 @@
 use Rattle.std.proofs.Common.{◌≡◌, ◌⊎◌, inl, inr, List, [], refl, sym, ap, ◌∙◌}
 use Rattle.mesa_base.specs.declared.identifier.Identifier.{Identifier}
 use Rattle.mesa_base.specs.declared.place.Place.{Place}
-use Rattle.mesa_types.specs.PlainSyntax.{field_list, interval, named_fields, type_exp}
-use Rattle.mesa_types.specs.Syntax as form
-use Rattle.mesa_types.specs.declared.syntax.FieldList.{FieldList}
-use Rattle.mesa_types.specs.declared.syntax.FieldList.TheVariants as fv
-use Rattle.mesa_types.specs.declared.syntax.Interval.{Interval}
-use Rattle.mesa_types.specs.declared.syntax.Labeled.{Labeled}
-use Rattle.mesa_types.specs.declared.syntax.QualifiedName.{QualifiedName}
-use Rattle.mesa_types.specs.declared.syntax.TypeBase.{TypeBase}
-use Rattle.mesa_types.specs.declared.syntax.TypeExp.{TypeExp}
-use Rattle.mesa_types.specs.declared.syntax.TypeExp.TheVariants as yv
-use Rattle.mesa_types.proofs.PlainForms.{of_array, of_boolean, of_called, of_cardinal, of_character, of_integer, of_string, of_subrange, of_with_names}
+use Rattle.syntax_trees.specs.PlainSyntax.{field_list, interval, named_fields, type_exp}
+use Rattle.syntax_trees.specs.Syntax as form
+use Rattle.syntax_trees.specs.declared.syntax.FieldList.{FieldList}
+use Rattle.syntax_trees.specs.declared.syntax.FieldList.TheVariants as fv
+use Rattle.syntax_trees.specs.declared.syntax.Interval.{Interval}
+use Rattle.syntax_trees.specs.declared.syntax.Labeled.{Labeled}
+use Rattle.syntax_trees.specs.declared.syntax.QualifiedName.{QualifiedName}
+use Rattle.syntax_trees.specs.declared.syntax.TypeBase.{TypeBase}
+use Rattle.syntax_trees.specs.declared.syntax.TypeExp.{TypeExp}
+use Rattle.syntax_trees.specs.declared.syntax.TypeExp.TheVariants as yv
+use Rattle.syntax_trees.proofs.PlainForms.{of_array, of_boolean, of_called, of_cardinal, of_character, of_integer, of_string, of_subrange, of_with_names}
 use Rattle.check_scopes.specs.Scopes.{Scope, over}
 use Rattle.check_rules.specs.Meanings as m
 use Rattle.check_rules.specs.Programs.{elements_in, elements_in_named, elements_of}

@@ -1,7 +1,7 @@
 -- What names mean before their declaration, one declaration at a time.
 use Rattle.std.specs.Prelude.{List}
 use Rattle.mesa_base.specs.declared.identifier.Identifier.{Identifier}
-use Rattle.mesa_types.specs.Syntax as s
+use Rattle.syntax_trees.specs.Syntax as s
 use Rattle.check_scopes.specs.Scopes.{Scope, nothing}
 use Rattle.check_rules.specs.Definitions as interface
 use Rattle.check_rules.specs.Meanings.{Meaning, Later}

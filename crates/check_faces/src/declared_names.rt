@@ -5,13 +5,15 @@ ghost use Rattle.check_scopes.specs.Scopes.{over};
 ghost use Rattle.check_state.specs.Views as view;
 ghost use Rattle.check_rules.specs.Definitions as interface;
 ghost use Rattle.check_rules.specs.Programs as spec;
-ghost use Rattle.mesa_types.specs.PlainSyntax as plain;
+ghost use Rattle.syntax_trees.specs.PlainSyntax as plain;
 
 use check_scopes::Names;
 use check_state::Meaning;
 use mesa_base::{Identifier, Identifiers, OutOfMemory};
-use mesa_types::syntax::{Declaration, Declared, Defined, FieldList, Labeled, PlainItem, TypeExp};
 use std::alloc::Global;
+use syntax_trees::syntax::{
+    Declaration, Declared, Defined, FieldList, Labeled, PlainItem, TypeExp,
+};
 
 /// The names mean this, unless they mean something.
 fn also(
@@ -30,7 +32,7 @@ fn also(
 
 /// The elements of the enumerations in a type are declared further on.
 #[cycle(elements)]
-#[tactic(auto, using(mesa_types::proofs::PlainForms::type_exp_forms, crate::proofs::AheadLaws::none_more, crate::proofs::AheadLaws::two_more), unfolding(check_rules::specs::Programs::elements_of))]
+#[tactic(auto, using(syntax_trees::proofs::PlainForms::type_exp_forms, crate::proofs::AheadLaws::none_more, crate::proofs::AheadLaws::two_more), unfolding(check_rules::specs::Programs::elements_of))]
 fn also_elements(e: &TypeExp, alloc: Global, scope: &mut Names<Meaning>) -> Result<(), OutOfMemory>
     ensures { OnOk result (view.names scope.new ≡ over (view.names scope.old) (step.later (spec.elements_of (plain.type_exp e.now)))) }
 {
@@ -54,7 +56,7 @@ fn also_elements(e: &TypeExp, alloc: Global, scope: &mut Names<Meaning>) -> Resu
 }
 
 #[cycle(elements)]
-#[tactic(auto, using(mesa_types::proofs::PlainForms::field_list_forms), unfolding(check_rules::specs::Programs::elements_in))]
+#[tactic(auto, using(syntax_trees::proofs::PlainForms::field_list_forms), unfolding(check_rules::specs::Programs::elements_in))]
 fn also_in_fields(
     fields: &FieldList,
     alloc: Global,
@@ -110,7 +112,7 @@ fn data_ahead(
 }
 
 /// The type in a declaration.
-#[tactic(auto, using(mesa_types::proofs::PlainForms::plain_item_forms))]
+#[tactic(auto, using(syntax_trees::proofs::PlainForms::plain_item_forms))]
 fn type_of(item: &PlainItem) -> &TypeExp
     ensures { plain.type_exp result.now ≡ spec.type_of (plain.plain_item item.now) }
 {

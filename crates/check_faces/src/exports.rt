@@ -74,7 +74,7 @@ fn same_kind(a: ItemKind, b: ItemKind) -> bool
 fn same_kinds(a: &[FieldType], b: &[FieldType]) -> bool
     ensures { result ≡ same_types (map plain_field a.now) (map plain_field b.now) }
 {
-    mesa_types::same_types(a, b)
+    typed_answers::same_types(a, b)
 }
 
 /// Whether what is given is of the kind that is wanted, with the same types of parameters and of results.

@@ -5,11 +5,11 @@ use Rattle.std.specs.Prelude.{nat_le}
 use Rattle.mesa_base.specs.declared.identifier.Identifier.{Identifier}
 use Rattle.mesa_base.specs.declared.limits.TheConstants.{OPERAND_WORDS}
 use Rattle.mesa_base.specs.declared.place.Place.{Place}
-use Rattle.mesa_types.specs.PlainSyntax as plain
-use Rattle.mesa_types.specs.Syntax as s
+use Rattle.syntax_trees.specs.PlainSyntax as plain
+use Rattle.syntax_trees.specs.Syntax as s
 use Rattle.mesa_types.specs.declared.faces.ItemKind.TheVariants as item
-use Rattle.mesa_types.specs.declared.syntax.Defined.{Defined as Written}
-use Rattle.mesa_types.specs.declared.syntax.Labeled.{Labeled}
+use Rattle.syntax_trees.specs.declared.syntax.Defined.{Defined as Written}
+use Rattle.syntax_trees.specs.declared.syntax.Labeled.{Labeled}
 use Rattle.check_rules.specs.Around.{Around, in_constant}
 use Rattle.check_rules.specs.Checking.{check, type_exp}
 use Rattle.check_rules.specs.Definitions.{Defined, all_defined, and_defined, constants_by, defined, definition, nothing_defined}

@@ -4,10 +4,10 @@ use Rattle.std.specs.Option.{option_or}
 use Rattle.std.specs.Prelude.{cond, bytes_eq}
 use Rattle.std.proofs.lemmas.List.{drop_all}
 use Rattle.mesa_base.specs.declared.identifier.Identifier.{Identifier}
-use Rattle.mesa_types.specs.PlainSyntax as plain
-use Rattle.mesa_types.specs.Syntax as s
-use Rattle.mesa_types.specs.declared.syntax.Labeled.{Labeled}
-use Rattle.mesa_types.specs.declared.syntax.TypeExp.{TypeExp}
+use Rattle.syntax_trees.specs.PlainSyntax as plain
+use Rattle.syntax_trees.specs.Syntax as s
+use Rattle.syntax_trees.specs.declared.syntax.Labeled.{Labeled}
+use Rattle.syntax_trees.specs.declared.syntax.TypeExp.{TypeExp}
 use Rattle.check_rules.specs.Around.{Around, inside}
 use Rattle.check_rules.specs.Checking.{type_exp}
 use Rattle.check_rules.specs.Meanings.{Meaning, Variable}

@@ -1,7 +1,7 @@
 -- Parts of the rules of heads and definitions, as the code takes them one by one.
 use Rattle.std.specs.Prelude.{ℕ, List, Option, map}
 use Rattle.mesa_base.specs.declared.identifier.Identifier.{Identifier}
-use Rattle.mesa_types.specs.Syntax as s
+use Rattle.syntax_trees.specs.Syntax as s
 use Rattle.mesa_types.specs.declared.faces.ItemKind.{ItemKind}
 use Rattle.check_rules.specs.Around.{Around, in_constant}
 use Rattle.check_rules.specs.Checking.{check, type_exp}

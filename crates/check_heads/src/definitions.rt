@@ -1,6 +1,6 @@
 //! What one declaration of an interface declares.
 ghost use Rattle.std.specs.Prelude.{◌≡◌, [], map, IfOk};
-ghost use Rattle.mesa_types.specs.PlainSyntax as syntax;
+ghost use Rattle.syntax_trees.specs.PlainSyntax as syntax;
 ghost use Rattle.check_rules.specs.Definitions as spec;
 ghost use Rattle.check_rules.specs.PlainTypes.{plain, plain_constant, plain_name};
 ghost use Rattle.check_state.specs.Gives.{Gives};
@@ -19,9 +19,9 @@ use check_written_types::type_exp;
 use held_trees::{LetGo, both};
 use interface_records::{Constant, Constants, NamedType, NamedTypes};
 use mesa_base::{Identifier, Identifiers, List, OutOfMemory};
-use mesa_types::syntax::{Defined, Expr, FieldList, Labeled, TypeExp};
 use mesa_types::{ItemKind, Items, TypeTree};
 use std::alloc::Global;
+use syntax_trees::syntax::{Defined, Expr, FieldList, Labeled, TypeExp};
 
 /// The items, constants and types that declarations of an interface declare, each list in order.
 #[derive(Drop)]

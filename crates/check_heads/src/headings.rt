@@ -1,6 +1,6 @@
 //! Heads of procedures, signals and errors: parameters and results, in a scope of their own.
 ghost use Rattle.std.specs.Prelude.{◌≡◌, IfOk};
-ghost use Rattle.mesa_types.specs.PlainSyntax as syntax;
+ghost use Rattle.syntax_trees.specs.PlainSyntax as syntax;
 ghost use Rattle.check_rules.specs.Programs as spec;
 ghost use Rattle.check_rules.specs.Scopes.{outer};
 ghost use Rattle.check_state.specs.Gives.{Gives};
@@ -18,9 +18,9 @@ use check_written_types::{and_fields, type_exp, unnamed_fields};
 use held_trees::both;
 use mesa_base::{Identifiers, List, OutOfMemory};
 use mesa_types::Fields;
-use mesa_types::syntax::{FieldList, Labeled, TypeExp};
 use std::alloc::Global;
 use std::mem::replace;
+use syntax_trees::syntax::{FieldList, Labeled, TypeExp};
 
 fn named_parameters<P: Phrases>(
     all: &[Labeled<Identifiers, TypeExp>],
@@ -41,7 +41,7 @@ fn named_parameters<P: Phrases>(
     Ok(done)
 }
 
-#[tactic(auto, using(mesa_types::proofs::PlainForms::field_list_forms))]
+#[tactic(auto, using(syntax_trees::proofs::PlainForms::field_list_forms))]
 fn parameters<P: Phrases>(
     fields: &Option<FieldList>,
     checker: &Checker<P>,

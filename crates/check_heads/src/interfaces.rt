@@ -1,6 +1,6 @@
 //! All that an interface declares.
 ghost use Rattle.std.specs.Prelude.{◌≡◌, ◌≢◌, Err, map, IfOk, OnOk};
-ghost use Rattle.mesa_types.specs.PlainSyntax as syntax;
+ghost use Rattle.syntax_trees.specs.PlainSyntax as syntax;
 ghost use Rattle.check_rules.specs.Definitions as spec;
 ghost use Rattle.check_rules.specs.Steps as step;
 ghost use Rattle.check_rules.specs.declared.fault.CheckFault.TheVariants.{Memory};
@@ -16,8 +16,8 @@ use check_expressions::{Checker, Phrases};
 use check_rules::CheckFault;
 use check_state::{Around, State};
 use mesa_base::{Identifier, Identifiers, List, OutOfMemory};
-use mesa_types::syntax::{Defined, Labeled};
 use std::alloc::Global;
+use syntax_trees::syntax::{Defined, Labeled};
 
 /// What makes the state in which checking begins, as often as it is asked.
 pub trait Starts {

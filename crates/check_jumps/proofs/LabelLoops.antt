@@ -4,10 +4,10 @@ use Rattle.std.specs.Option.{option_or}
 use Rattle.std.specs.Prelude.{Bool, true, false, Option, Some, None, bytes_eq, cond}
 use Rattle.std.proofs.lemmas.List.{drop_all, length-append}
 use Rattle.mesa_base.specs.declared.identifier.Identifier.{Identifier}
-use Rattle.mesa_types.specs.PlainSyntax.{exits, repeats}
-use Rattle.mesa_types.specs.declared.syntax.Labeled.{Labeled}
-use Rattle.mesa_types.specs.declared.syntax.RepeatLabels.{RepeatLabels}
-use Rattle.mesa_types.specs.declared.syntax.Statement.{Statement}
+use Rattle.syntax_trees.specs.PlainSyntax.{exits, repeats}
+use Rattle.syntax_trees.specs.declared.syntax.Labeled.{Labeled}
+use Rattle.syntax_trees.specs.declared.syntax.RepeatLabels.{RepeatLabels}
+use Rattle.syntax_trees.specs.declared.syntax.Statement.{Statement}
 use Rattle.check_scopes.specs.Scopes.{Scope, nothing, over, with_name}
 use Rattle.check_rules.specs.Around.{Seen, label_scope}
 use Rattle.check_rules.specs.Statements.{labels_of_exits, labels_of_repeats, labels_of}

@@ -1,6 +1,6 @@
 -- The signals of an arm are gathered one after the other.
 use Rattle.std.proofs.Common.{◌≡◌, List, [], ◌∷◌, Ok, Err, refl, ap, ◌∙◌}
-use Rattle.mesa_types.specs.declared.syntax.QualifiedName.{QualifiedName}
+use Rattle.syntax_trees.specs.declared.syntax.QualifiedName.{QualifiedName}
 use Rattle.check_rules.specs.Around.{Around, ArmLabel}
 use Rattle.check_rules.specs.Names.{signals, qualified, signal_by}
 use Rattle.check_rules.specs.Parts.{last_of}

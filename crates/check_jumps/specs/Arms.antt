@@ -1,6 +1,6 @@
 -- One label of an arm, as the definition asks each of them.
 use Rattle.std.specs.Prelude.{Bool, false, ◌&&◌, List}
-use Rattle.mesa_types.specs.declared.syntax.QualifiedName.{QualifiedName}
+use Rattle.syntax_trees.specs.declared.syntax.QualifiedName.{QualifiedName}
 use Rattle.check_rules.specs.Around.{Around, ArmLabel, ForSignal, is_signal}
 use Rattle.check_rules.specs.Names.{qualified, signal_by}
 use Rattle.check_rules.specs.Parts.{last_of, same_fields, same_types}

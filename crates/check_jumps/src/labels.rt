@@ -1,6 +1,6 @@
 //! The labels of a block or loop, and what stands around its statements.
 ghost use Rattle.std.specs.Prelude.{◌≡◌, ◌+◌, Some, length, IfOk, OnOk};
-ghost use Rattle.mesa_types.specs.PlainSyntax as plain;
+ghost use Rattle.syntax_trees.specs.PlainSyntax as plain;
 ghost use Rattle.check_rules.specs.Around as spec;
 ghost use Rattle.check_rules.specs.Statements as rule;
 ghost use Rattle.check_scopes.specs.Shows.{means};
@@ -9,8 +9,8 @@ ghost use Rattle.check_state.specs.Views as view;
 use check_scopes::Names;
 use check_state::{Around, Labels, Seen, next};
 use mesa_base::{Identifier, OutOfMemory};
-use mesa_types::syntax::{Exit, Repeat, RepeatLabels};
 use std::alloc::Global;
+use syntax_trees::syntax::{Exit, Repeat, RepeatLabels};
 
 /// The labels that are visible in a block or loop, and how many labels stand around its statements.
 #[derive(Drop)]

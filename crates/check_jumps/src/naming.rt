@@ -9,9 +9,9 @@ ghost use Rattle.check_jumps.specs.Arms as label;
 use check_rules::{Cause, CheckFault};
 use check_state::{ArmLabel, Around, Meaning, State, last_place, qualified};
 use mesa_base::{List, OutOfMemory, Place};
-use mesa_types::syntax::{self, QualifiedName};
 use mesa_types::{Label, Labels, Raised};
 use std::alloc::Global;
+use syntax_trees::syntax::{self, QualifiedName};
 
 fn signal_by(place: Place, meaning: Meaning) -> Result<ArmLabel, CheckFault>
     ensures { GivesOnly view.arm_label (spec.signal_by place (view.meaning meaning)) result }

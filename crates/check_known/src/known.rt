@@ -4,15 +4,15 @@ ghost use Rattle.check_state.specs.Views as view;
 ghost use Rattle.check_rules.specs.CheckedModule as spec;
 ghost use Rattle.check_rules.specs.Mentions.{of_kind, texts};
 ghost use Rattle.check_rules.specs.PlainTypes.{plain_interface};
-ghost use Rattle.mesa_types.specs.PlainSyntax.{kind, syntax};
+ghost use Rattle.syntax_trees.specs.PlainSyntax.{kind, syntax};
 
 use check_directory::offered;
 use check_mentions::{Mentions, mentions_of};
 use check_state::{Known, Origins, Strings};
 use interface_records::Interface;
 use mesa_base::{Identifier, OutOfMemory, Stamp};
-use mesa_types::Module;
 use std::alloc::Global;
+use syntax_trees::Module;
 
 /// What is known of a module with these IMPORTS, whose DIRECTORY names these interfaces. Its text is gone through once.
 #[tactic(auto, unfolding(check_state::specs::Views::known))]

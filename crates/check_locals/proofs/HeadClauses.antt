@@ -1,7 +1,7 @@
 -- What reading a head and giving an initial value are, as the code takes its steps.
 use Rattle.std.proofs.Common.{◌≡◌, ℕ, List, Ok, Err, map, refl, sym, ◌∙◌}
 use Rattle.mesa_base.specs.declared.identifier.Identifier.{Identifier}
-use Rattle.mesa_types.specs.Syntax as s
+use Rattle.syntax_trees.specs.Syntax as s
 use Rattle.check_rules.specs.Typed as t
 use Rattle.check_rules.specs.Around.{Around, in_constant}
 use Rattle.check_rules.specs.Checking as spec

@@ -1,5 +1,5 @@
 //! Heads of declarations.
-ghost use Rattle.mesa_types.specs.PlainSyntax as plain;
+ghost use Rattle.syntax_trees.specs.PlainSyntax as plain;
 ghost use Rattle.check_rules.specs.Checking as spec;
 ghost use Rattle.check_state.specs.Gives.{Gives};
 ghost use Rattle.check_state.specs.Views as words;
@@ -17,7 +17,7 @@ use check_state::{Aim, Around, Meaning, State};
 use check_written_types::type_exp;
 use held_trees::{LetGo, both};
 use mesa_base::{Identifier, Place};
-use mesa_types::syntax::{Expr, PlainItem, TypeExp};
+use syntax_trees::syntax::{Expr, PlainItem, TypeExp};
 
 /// A type.
 #[tactic(auto, unfolding(crate::specs::Rules::type_head))]
@@ -135,7 +135,7 @@ fn head_ended(
 
 /// The head of a declaration of these names. A name that is declared already is refused at its place, a fault of the type or of a
 /// constant's value at its own, and too many words of operands at the first of the names.
-#[tactic(auto, using(mesa_types::proofs::PlainForms::plain_item_forms, crate::proofs::HeadClauses::head_clauses))]
+#[tactic(auto, using(syntax_trees::proofs::PlainForms::plain_item_forms, crate::proofs::HeadClauses::head_clauses))]
 pub fn head<P: Phrases>(
     checker: &Checker<P>,
     item: &PlainItem,

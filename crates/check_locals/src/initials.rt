@@ -1,7 +1,7 @@
 //! What declarations do when they are reached.
 ghost use Rattle.std.specs.Prelude.{◌≡◌};
 ghost use Rattle.mesa_types.specs.Plain.{expr, stmt};
-ghost use Rattle.mesa_types.specs.PlainSyntax as plain;
+ghost use Rattle.syntax_trees.specs.PlainSyntax as plain;
 ghost use Rattle.mesa_types.specs.Typed as t;
 ghost use Rattle.check_rules.specs.Checking as spec;
 ghost use Rattle.check_rules.specs.PlainTypes as v;
@@ -23,8 +23,8 @@ use check_simple_statements::Whole;
 use check_state::{Aim, Around, Meaning, State};
 use held_trees::{LetGo, both};
 use mesa_base::Identifier;
-use mesa_types::syntax::{Expr, PlainItem};
 use mesa_types::{Homes, TypeTree, TypedExpr, TypedStmt};
+use syntax_trees::syntax::{Expr, PlainItem};
 
 #[tactic(auto, using(crate::proofs::StmtForms::declare_form))]
 fn declare(homes: Homes, kind: TypeTree) -> TypedStmt
@@ -105,7 +105,7 @@ fn seeing<P: Phrases>(
 }
 
 /// What a declaration of these variables does, or of what has none.
-#[tactic(auto, using(mesa_types::proofs::PlainForms::plain_item_forms, crate::proofs::HeadClauses::initial_clauses))]
+#[tactic(auto, using(syntax_trees::proofs::PlainForms::plain_item_forms, crate::proofs::HeadClauses::initial_clauses))]
 fn initial_of<P: Phrases>(
     checker: &Checker<P>,
     item: &PlainItem,

@@ -3,12 +3,12 @@ use Rattle.std.proofs.Common.{◌≡◌, ◌<◌, ◌≤◌, ◌+◌, ℕ, List,
 use Rattle.std.proofs.lemmas.List.{append-nil, drop_more, drop_all}
 use Rattle.mesa_base.specs.declared.identifier.Identifier.{Identifier}
 use Rattle.mesa_base.specs.declared.place.Place.{Place}
-use Rattle.mesa_types.specs.PlainSyntax as plain
-use Rattle.mesa_types.specs.declared.syntax.Declaration.{Declaration}
-use Rattle.mesa_types.specs.declared.syntax.Defined.{Defined}
-use Rattle.mesa_types.specs.declared.syntax.Inner.{Inner}
-use Rattle.mesa_types.specs.declared.syntax.Labeled.{Labeled}
-use Rattle.mesa_types.specs.declared.syntax.ModuleKind.TheVariants.{Program, Interface}
+use Rattle.syntax_trees.specs.PlainSyntax as plain
+use Rattle.syntax_trees.specs.declared.syntax.Declaration.{Declaration}
+use Rattle.syntax_trees.specs.declared.syntax.Defined.{Defined}
+use Rattle.syntax_trees.specs.declared.syntax.Inner.{Inner}
+use Rattle.syntax_trees.specs.declared.syntax.Labeled.{Labeled}
+use Rattle.syntax_trees.specs.declared.syntax.ModuleKind.TheVariants.{Program, Interface}
 use Rattle.check_rules.specs.Mentions.{Mention, of_phrase, of_stmts, of_exits, of_declared, of_declarations, of_defined, of_definitions, of_kind}
 use Rattle.check_mentions.specs.Gathering.{Leaves}
 use Rattle.check_mentions.specs.declared.gathered.Gathered.{Gathered}

@@ -1,6 +1,6 @@
 -- What the parts that are still to be read mention.
 use Rattle.std.specs.Prelude.{List, [], ◌∷◌, ◌++◌, Option, Some, None}
-use Rattle.mesa_types.specs.PlainSyntax as plain
+use Rattle.syntax_trees.specs.PlainSyntax as plain
 use Rattle.check_rules.specs.Mentions as m
 use Rattle.check_rules.specs.Mentions.{Mention}
 use Rattle.check_mentions.specs.declared.parts.Part.{Part}

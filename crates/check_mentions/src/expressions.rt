@@ -1,17 +1,17 @@
 //! Expressions: what each is made of, put before what stands behind it.
 ghost use Rattle.std.specs.Prelude.{◌≡◌, ◌++◌, OnOk};
-ghost use Rattle.mesa_types.specs.PlainSyntax as plain;
+ghost use Rattle.syntax_trees.specs.PlainSyntax as plain;
 ghost use Rattle.check_rules.specs.Mentions as spec;
 ghost use Rattle.check_mentions.specs.Parts.{ahead};
 
 use crate::parts::{Part, Parts};
 use mesa_base::OutOfMemory;
-use mesa_types::syntax::{
+use syntax_trees::syntax::{
     Arm, Brackets, Entries, Expr, Interval, Keyed, Left, Operation, Phrase, Raise, Suffix,
 };
 
 impl<'a> Parts<'a> {
-    #[tactic(auto, using(mesa_types::proofs::PlainForms::expr_forms, crate::proofs::Clauses::expressions))]
+    #[tactic(auto, using(syntax_trees::proofs::PlainForms::expr_forms, crate::proofs::Clauses::expressions))]
     pub fn expression(&mut self, e: &'a Expr) -> Result<(), OutOfMemory>
         ensures { OnOk result (ahead self.new ≡ spec.of_expr (plain.expr e.now) ++ ahead self.old) }
     {
@@ -71,7 +71,7 @@ impl<'a> Parts<'a> {
         self.put(Part::Suffixes(left.suffixes.as_slice()))
     }
 
-    #[tactic(auto, using(mesa_types::proofs::PlainForms::suffix_forms, crate::proofs::Clauses::suffixes))]
+    #[tactic(auto, using(syntax_trees::proofs::PlainForms::suffix_forms, crate::proofs::Clauses::suffixes))]
     pub fn suffixes(&mut self, all: &'a [Suffix]) -> Result<(), OutOfMemory>
         ensures { OnOk result (ahead self.new ≡ spec.of_suffixes (plain.suffixes all.now) ++ ahead self.old) }
     {
@@ -132,7 +132,7 @@ impl<'a> Parts<'a> {
         }
     }
 
-    #[tactic(auto, using(mesa_types::proofs::PlainForms::raise_forms, crate::proofs::Clauses::raises))]
+    #[tactic(auto, using(syntax_trees::proofs::PlainForms::raise_forms, crate::proofs::Clauses::raises))]
     pub fn raise(&mut self, raise: &'a Raise) -> Result<(), OutOfMemory>
         ensures { OnOk result (ahead self.new ≡ spec.of_raise (plain.raise raise.now) ++ ahead self.old) }
     {

@@ -1,6 +1,6 @@
 //! Modules: declaration by declaration, in the order of the text.
 ghost use Rattle.std.specs.Prelude.{◌≡◌, [], ◌++◌, map, IfOk, OnOk};
-ghost use Rattle.mesa_types.specs.PlainSyntax as plain;
+ghost use Rattle.syntax_trees.specs.PlainSyntax as plain;
 ghost use Rattle.check_rules.specs.Mentions as spec;
 ghost use Rattle.check_mentions.specs.Gathering.{IsIndexed, Leaves};
 ghost use Rattle.check_mentions.specs.Parts.{ahead};
@@ -8,10 +8,10 @@ ghost use Rattle.check_mentions.specs.Parts.{ahead};
 use crate::gathered::Gathered;
 use crate::parts::{Part, Parts};
 use mesa_base::{Identifiers, Numbers, OutOfMemory, Texts};
-use mesa_types::syntax::{
+use std::alloc::Global;
+use syntax_trees::syntax::{
     Declaration, Declared, Defined, Exit, FieldList, Head, Inner, Labeled, ModuleKind, Statement,
 };
-use std::alloc::Global;
 
 /// What depends on the order of a module's text.
 #[derive(Drop)]

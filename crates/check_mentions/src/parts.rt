@@ -3,11 +3,11 @@ ghost use Rattle.std.specs.Prelude.{◌≡◌, [], ◌++◌, OnOk};
 ghost use Rattle.check_mentions.specs.Parts.{ahead, of_part, of_next};
 
 use mesa_base::{Identifiers, OutOfMemory};
-use mesa_types::syntax::{
+use std::alloc::Global;
+use syntax_trees::syntax::{
     Arm, Case, Exit, Expr, Keyed, Labeled, Left, Local, Operation, Repeat, Statement, Suffix, Test,
     TypeExp,
 };
-use std::alloc::Global;
 
 /// A part of a text: a mention, a tree, or what is left of a list of trees.
 #[derive(Clone, Copy)]

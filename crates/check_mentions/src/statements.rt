@@ -1,18 +1,18 @@
 //! Statements: what each is made of, put before what stands behind it.
 ghost use Rattle.std.specs.Prelude.{◌≡◌, ◌++◌, OnOk};
-ghost use Rattle.mesa_types.specs.PlainSyntax as plain;
+ghost use Rattle.syntax_trees.specs.PlainSyntax as plain;
 ghost use Rattle.check_rules.specs.Mentions as spec;
 ghost use Rattle.check_mentions.specs.Parts.{ahead};
 
 use crate::parts::{Part, Parts};
 use mesa_base::{Boxed, OutOfMemory};
-use mesa_types::syntax::{
+use syntax_trees::syntax::{
     Block, Case, Condition, Control, Count, Entries, Exit, Keyed, Left, ListExpr, Local, Repeat,
     Statement, Test,
 };
 
 impl<'a> Parts<'a> {
-    #[tactic(auto, using(mesa_types::proofs::PlainForms::statement_forms, crate::proofs::Clauses::forms_of_statements))]
+    #[tactic(auto, using(syntax_trees::proofs::PlainForms::statement_forms, crate::proofs::Clauses::forms_of_statements))]
     pub fn statement(&mut self, statement: &'a Statement) -> Result<(), OutOfMemory>
         ensures { OnOk result (ahead self.new ≡ spec.of_stmt (plain.statement statement.now) ++ ahead self.old) }
     {
@@ -133,7 +133,7 @@ impl<'a> Parts<'a> {
         self.count(&control.count)
     }
 
-    #[tactic(auto, using(mesa_types::proofs::PlainForms::count_forms, crate::proofs::Clauses::counts))]
+    #[tactic(auto, using(syntax_trees::proofs::PlainForms::count_forms, crate::proofs::Clauses::counts))]
     pub fn count(&mut self, count: &'a Option<Count>) -> Result<(), OutOfMemory>
         ensures { OnOk result (ahead self.new ≡ spec.of_count (plain.maybe_count count.now) ++ ahead self.old) }
     {
@@ -145,7 +145,7 @@ impl<'a> Parts<'a> {
         }
     }
 
-    #[tactic(auto, using(mesa_types::proofs::PlainForms::condition_forms, crate::proofs::Clauses::conditions))]
+    #[tactic(auto, using(syntax_trees::proofs::PlainForms::condition_forms, crate::proofs::Clauses::conditions))]
     pub fn condition(&mut self, condition: &'a Option<Condition>) -> Result<(), OutOfMemory>
         ensures { OnOk result (ahead self.new ≡ spec.of_condition (plain.maybe_condition condition.now) ++ ahead self.old) }
     {

@@ -1,15 +1,15 @@
 //! Types as they are written: what each is made of, put before what stands behind it.
 ghost use Rattle.std.specs.Prelude.{◌≡◌, ◌++◌, OnOk};
-ghost use Rattle.mesa_types.specs.PlainSyntax as plain;
+ghost use Rattle.syntax_trees.specs.PlainSyntax as plain;
 ghost use Rattle.check_rules.specs.Mentions as spec;
 ghost use Rattle.check_mentions.specs.Parts.{ahead};
 
 use crate::parts::{Part, Parts};
 use mesa_base::{Identifiers, OutOfMemory};
-use mesa_types::syntax::{FieldList, Labeled, PlainItem, TypeExp};
+use syntax_trees::syntax::{FieldList, Labeled, PlainItem, TypeExp};
 
 impl<'a> Parts<'a> {
-    #[tactic(auto, using(mesa_types::proofs::PlainForms::type_exp_forms, crate::proofs::Clauses::written_types))]
+    #[tactic(auto, using(syntax_trees::proofs::PlainForms::type_exp_forms, crate::proofs::Clauses::written_types))]
     pub fn written(&mut self, written: &'a TypeExp) -> Result<(), OutOfMemory>
         ensures { OnOk result (ahead self.new ≡ spec.of_type (plain.type_exp written.now) ++ ahead self.old) }
     {
@@ -33,7 +33,7 @@ impl<'a> Parts<'a> {
         }
     }
 
-    #[tactic(auto, using(mesa_types::proofs::PlainForms::field_list_forms, crate::proofs::Clauses::field_lists))]
+    #[tactic(auto, using(syntax_trees::proofs::PlainForms::field_list_forms, crate::proofs::Clauses::field_lists))]
     pub fn fields(&mut self, fields: &'a FieldList) -> Result<(), OutOfMemory>
         ensures { OnOk result (ahead self.new ≡ spec.of_fields (plain.field_list fields.now) ++ ahead self.old) }
     {
@@ -72,7 +72,7 @@ impl<'a> Parts<'a> {
         }
     }
 
-    #[tactic(auto, using(mesa_types::proofs::PlainForms::plain_item_forms, crate::proofs::Clauses::plain_items))]
+    #[tactic(auto, using(syntax_trees::proofs::PlainForms::plain_item_forms, crate::proofs::Clauses::plain_items))]
     pub fn plain_item(&mut self, item: &'a PlainItem) -> Result<(), OutOfMemory>
         ensures { OnOk result (ahead self.new ≡ spec.of_plain (plain.plain_item item.now) ++ ahead self.old) }
     {

@@ -1,16 +1,16 @@
 -- Operations: one more behind those of a typed run, and the level of a run.
 use Rattle.std.proofs.Common.{◌≡◌, ◌≤◌, List, [], ◌∷◌, ◌++◌, length, get_or, map, refl, sym, ap, ◌∙◌, arith}
 use Rattle.mesa_types.specs.Plain as tree
-use Rattle.mesa_types.specs.PlainSyntax as plain
+use Rattle.syntax_trees.specs.PlainSyntax as plain
 use Rattle.mesa_types.specs.Typed as t
-use Rattle.mesa_types.specs.declared.syntax.Operation.{Operation, out-Operation}
+use Rattle.syntax_trees.specs.declared.syntax.Operation.{Operation, out-Operation}
 use Rattle.mesa_types.specs.declared.typed_tree.Operation.{Operation as Typed-Operation}
 use Rattle.mesa_types.specs.declared.typed_tree.Condition.TheFolds.{fold_out-Operation, fold-roll-Operation}
 use Rattle.mesa_types.specs.declared.typed_tree.Condition.TheViews.{roll-Operation}
 use Rattle.mesa_types.specs.declared.typed_tree.TypedExpr.{TypedExpr}
 use Rattle.mesa_types.specs.declared.typed_parts.Operator.{Operator as TypedOperator}
 use Rattle.mesa_types.specs.declared.typed_parts.Range.{Range}
-use Rattle.mesa_types.proofs.PlainForms.{parts_of_operation}
+use Rattle.syntax_trees.proofs.PlainForms.{parts_of_operation}
 use Rattle.check_rules.specs.Parts.{and_operation}
 use Rattle.check_rules.specs.Values.{level, level_of}
 use Rattle.check_operands.specs.Views.{typed_operations}

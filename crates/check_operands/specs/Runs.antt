@@ -1,11 +1,11 @@
 -- Parts of the rules of expressions, as the code takes them one by one.
 use Rattle.std.specs.Prelude.{Bool, true, false, List, [], ◌∷◌, ◌++◌, None, Ok}
 use Rattle.mesa_base.specs.declared.place.Place.{Place}
-use Rattle.mesa_types.specs.PlainSyntax as plain
-use Rattle.mesa_types.specs.Syntax as s
-use Rattle.mesa_types.specs.declared.syntax.Operator.{Operator}
-use Rattle.mesa_types.specs.declared.syntax.Operation.{Operation, out-Operation}
-use Rattle.mesa_types.specs.declared.syntax.Suffix.{Suffix}
+use Rattle.syntax_trees.specs.PlainSyntax as plain
+use Rattle.syntax_trees.specs.Syntax as s
+use Rattle.syntax_trees.specs.declared.syntax.Operator.{Operator}
+use Rattle.syntax_trees.specs.declared.syntax.Operation.{Operation, out-Operation}
+use Rattle.syntax_trees.specs.declared.syntax.Suffix.{Suffix}
 use Rattle.check_rules.specs.Typed as t
 use Rattle.check_rules.specs.Around.{Around}
 use Rattle.check_rules.specs.Checking as spec

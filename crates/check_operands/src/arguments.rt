@@ -20,9 +20,9 @@ use check_state::{
 };
 use held_trees::{LetGo, both, boxed};
 use mesa_base::{List, Numbers, OutOfMemory, Place, Shared};
-use mesa_types::syntax::QualifiedName;
 use mesa_types::{Callee, Exprs, FieldType, Item, ItemKind, Phrase, Raised, TypeTree, TypedExpr};
 use std::alloc::Global;
+use syntax_trees::syntax::QualifiedName;
 
 /// The values of a list, and which parameter, result or field each is for; without places they stand in order.
 pub struct Arguments {

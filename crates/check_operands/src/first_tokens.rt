@@ -1,20 +1,20 @@
 //! Where expressions begin.
 ghost use Rattle.std.specs.Prelude.{◌≡◌};
-ghost use Rattle.mesa_types.specs.Syntax as s;
-ghost use Rattle.mesa_types.specs.PlainSyntax as plain;
+ghost use Rattle.syntax_trees.specs.Syntax as s;
+ghost use Rattle.syntax_trees.specs.PlainSyntax as plain;
 ghost use Rattle.check_rules.specs.Parts as spec;
 
 use mesa_base::Place;
-use mesa_types::syntax::{Expr, Interval, Left, Raise};
+use syntax_trees::syntax::{Expr, Interval, Left, Raise};
 
-#[tactic(auto, using(mesa_types::proofs::PlainForms::parts))]
+#[tactic(auto, using(syntax_trees::proofs::PlainForms::parts))]
 fn left_place(left: &Left) -> Place
     ensures { result ≡ s.left_place (plain.left left.now) }
 {
     left.name.place
 }
 
-#[tactic(auto, using(mesa_types::proofs::PlainForms::raise_forms))]
+#[tactic(auto, using(syntax_trees::proofs::PlainForms::raise_forms))]
 fn raise_place(raise: &Raise) -> Place
     ensures { result ≡ s.raise_place (plain.raise raise.now) }
 {
@@ -26,7 +26,7 @@ fn raise_place(raise: &Raise) -> Place
 }
 
 /// The place of an expression's first token.
-#[tactic(auto, using(mesa_types::proofs::PlainForms::expr_forms), unfolding(check_rules::specs::Parts::first))]
+#[tactic(auto, using(syntax_trees::proofs::PlainForms::expr_forms), unfolding(check_rules::specs::Parts::first))]
 pub fn first(e: &Expr) -> Place
     ensures { result ≡ spec.first (plain.expr e.now) }
 {
@@ -48,7 +48,7 @@ pub fn first(e: &Expr) -> Place
 }
 
 /// The place of an interval's bracket.
-#[tactic(auto, using(mesa_types::proofs::PlainForms::parts))]
+#[tactic(auto, using(syntax_trees::proofs::PlainForms::parts))]
 pub fn first_of_interval(interval: &Interval) -> Place
     ensures { result ≡ spec.first_of_interval (plain.interval interval.now) }
 {

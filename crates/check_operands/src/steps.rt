@@ -2,7 +2,7 @@
 ghost use Rattle.std.specs.Prelude.{◌≡◌, ◌++◌, ◌∷◌, [], ℕ, IfOk};
 ghost use Rattle.mesa_types.specs.Plain.{expr};
 ghost use Rattle.mesa_types.specs.Operators as operators;
-ghost use Rattle.mesa_types.specs.PlainSyntax as tree;
+ghost use Rattle.syntax_trees.specs.PlainSyntax as tree;
 ghost use Rattle.mesa_types.specs.Typed as t;
 ghost use Rattle.check_rules.specs.Parts.{and_operation};
 ghost use Rattle.check_rules.specs.PlainTypes.{plain};
@@ -19,10 +19,10 @@ use check_state::{Typed, of_kind};
 use check_values::{Done, step, truth};
 use held_trees::{LetGo, both, boxed, pushed};
 use mesa_base::{List, OutOfMemory, Place};
-use mesa_types::{
-    Exprs, Operation, Operations, Operator, Range, TypeTree, TypedExpr, syntax, truth as word_of,
-};
+use mesa_types::{Exprs, Operation, Operations, Operator, Range, TypeTree, TypedExpr};
 use std::alloc::Global;
+use syntax_trees::syntax;
+use typed_answers::truth as word_of;
 
 /// Where suffixes have led: the place of the last name, and what was reached.
 pub struct At {

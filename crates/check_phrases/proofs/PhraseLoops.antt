@@ -2,16 +2,16 @@
 use Rattle.std.proofs.Common.{◌≡◌, ◌<◌, ◌≤◌, ◌+◌, ℕ, Bool, false, List, ◌∷◌, drop, length, get_or, sym, ap, ◌∙◌}
 use Rattle.std.specs.Prelude.{◌||◌}
 use Rattle.std.proofs.lemmas.List.{drop_more, drop_all}
-use Rattle.mesa_types.specs.Syntax as s
+use Rattle.syntax_trees.specs.Syntax as s
 use Rattle.mesa_base.specs.declared.place.Place.{Place}
-use Rattle.mesa_types.specs.PlainSyntax.{expr, exprs, interval, keyed_exprs, operations, suffix, suffixes}
-use Rattle.mesa_types.specs.declared.syntax.Expr.{Expr}
-use Rattle.mesa_types.specs.declared.syntax.Expr.TheVariants.{Within}
-use Rattle.mesa_types.specs.declared.syntax.Interval.{Interval, out-Interval}
-use Rattle.mesa_types.specs.declared.syntax.Keyed.{Keyed}
-use Rattle.mesa_types.specs.declared.syntax.Operation.{Operation}
-use Rattle.mesa_types.specs.declared.syntax.Suffix.{Suffix}
-use Rattle.mesa_types.proofs.PlainForms.{of_within, parts_of_interval, parts_of_operation}
+use Rattle.syntax_trees.specs.PlainSyntax.{expr, exprs, interval, keyed_exprs, operations, suffix, suffixes}
+use Rattle.syntax_trees.specs.declared.syntax.Expr.{Expr}
+use Rattle.syntax_trees.specs.declared.syntax.Expr.TheVariants.{Within}
+use Rattle.syntax_trees.specs.declared.syntax.Interval.{Interval, out-Interval}
+use Rattle.syntax_trees.specs.declared.syntax.Keyed.{Keyed}
+use Rattle.syntax_trees.specs.declared.syntax.Operation.{Operation}
+use Rattle.syntax_trees.specs.declared.syntax.Suffix.{Suffix}
+use Rattle.syntax_trees.proofs.PlainForms.{of_within, parts_of_interval, parts_of_operation}
 use Rattle.check_rules.specs.Phrases.{holds, in_interval, in_steps, in_suffixes, in_exprs, in_keyed}
 
 at_drop : {A : Type 0} (all : List A) (i : ℕ) (x : A) → i < length all → x ≡ get_or all i x → drop i all ≡ x ∷ drop (i + 1) all

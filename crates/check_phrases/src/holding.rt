@@ -1,16 +1,16 @@
 //! Expressions, and what they are made of.
 ghost use Rattle.std.specs.Prelude.{◌≡◌, ◌||◌};
-ghost use Rattle.mesa_types.specs.PlainSyntax as plain;
-ghost use Rattle.mesa_types.specs.Syntax.{Suffixes};
+ghost use Rattle.syntax_trees.specs.PlainSyntax as plain;
+ghost use Rattle.syntax_trees.specs.Syntax.{Suffixes};
 ghost use Rattle.check_rules.specs.Phrases as spec;
 
-use mesa_types::syntax::{
+use syntax_trees::syntax::{
     Brackets, Entries, Expr, Interval, Keyed, Left, Operation, Raise, Suffix,
 };
 
 /// Whether a catch phrase stands in an expression.
 #[cycle(phrases)]
-#[tactic(auto, using(mesa_types::proofs::PlainForms::expr_forms), unfolding(check_rules::specs::Phrases::holds, check_rules::specs::Phrases::in_items))]
+#[tactic(auto, using(syntax_trees::proofs::PlainForms::expr_forms), unfolding(check_rules::specs::Phrases::holds, check_rules::specs::Phrases::in_items))]
 pub fn holds(e: &Expr) -> bool
     ensures { result ≡ spec.holds (plain.expr e.now) }
 {
@@ -61,7 +61,7 @@ pub fn interval_holds(interval: &Interval) -> bool
 
 /// Whether a catch phrase stands in a name with what follows it.
 #[cycle(phrases)]
-#[tactic(auto, using(mesa_types::proofs::PlainForms::parts), unfolding(check_rules::specs::Phrases::in_left))]
+#[tactic(auto, using(syntax_trees::proofs::PlainForms::parts), unfolding(check_rules::specs::Phrases::in_left))]
 pub fn left_holds(left: &Left) -> bool
     ensures { result ≡ spec.in_left (plain.left left.now) }
 {
@@ -81,7 +81,7 @@ fn suffixes_hold(suffixes: &[Suffix]) -> bool
 }
 
 #[cycle(phrases)]
-#[tactic(auto, using(mesa_types::proofs::PlainForms::suffix_forms), unfolding(check_rules::specs::Phrases::in_suffixes))]
+#[tactic(auto, using(syntax_trees::proofs::PlainForms::suffix_forms), unfolding(check_rules::specs::Phrases::in_suffixes))]
 fn suffix_holds(suffix: &Suffix) -> bool
     ensures { (rest : Suffixes) → spec.in_suffixes (plain.suffix suffix.now rest) ≡ (result || spec.in_suffixes rest) }
 {
@@ -92,7 +92,7 @@ fn suffix_holds(suffix: &Suffix) -> bool
 }
 
 #[cycle(phrases)]
-#[tactic(auto, using(mesa_types::proofs::PlainForms::parts), unfolding(check_rules::specs::Phrases::in_brackets))]
+#[tactic(auto, using(syntax_trees::proofs::PlainForms::parts), unfolding(check_rules::specs::Phrases::in_brackets))]
 fn brackets_hold(brackets: &Brackets) -> bool
     ensures { result ≡ spec.in_brackets (plain.brackets brackets.now) }
 {
@@ -144,7 +144,7 @@ fn keyed_hold(values: &[Keyed<Expr>]) -> bool
 
 /// Whether a catch phrase stands in a raise.
 #[cycle(phrases)]
-#[tactic(auto, using(mesa_types::proofs::PlainForms::raise_forms), unfolding(check_rules::specs::Phrases::in_raise, check_rules::specs::Phrases::in_maybe))]
+#[tactic(auto, using(syntax_trees::proofs::PlainForms::raise_forms), unfolding(check_rules::specs::Phrases::in_raise, check_rules::specs::Phrases::in_maybe))]
 pub fn raise_holds(raise: &Raise) -> bool
     ensures { result ≡ spec.in_raise (plain.raise raise.now) }
 {

@@ -1,7 +1,7 @@
 -- Declarations that are tried again: the rule without its value, over the trees of the code, has the faults of the definition.
 use Rattle.std.proofs.Common.{◌≡◌, List, [], ◌∷◌, ◌++◌, map, Ok, Err, refl, ap, ◌∙◌, subst}
 use Rattle.mesa_base.specs.declared.identifier.Identifier.{Identifier}
-use Rattle.mesa_types.specs.Syntax as s
+use Rattle.syntax_trees.specs.Syntax as s
 use Rattle.check_rules.specs.Around.{Around}
 use Rattle.check_rules.specs.Meanings.{Meaning}
 use Rattle.check_rules.specs.Programs.{Declared, before_others, behind, fault_or, head_alone, heads_further, next_or, passed_over, told}

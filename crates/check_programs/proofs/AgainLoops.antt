@@ -1,8 +1,8 @@
 -- Loops over the declarations before one that is tried again.
 use Rattle.std.proofs.Common.{◌≡◌, ◌<◌, ◌≤◌, ◌+◌, ℕ, List, [], ◌∷◌, ◌++◌, map, drop, take, length, get_or, Ok, Err, sym, ap, ◌∙◌}
 use Rattle.std.proofs.lemmas.List.{drop_all, map-append, take_more}
-use Rattle.mesa_types.specs.PlainSyntax as plain
-use Rattle.mesa_types.specs.declared.syntax.Declaration.{Declaration}
+use Rattle.syntax_trees.specs.PlainSyntax as plain
+use Rattle.syntax_trees.specs.declared.syntax.Declaration.{Declaration}
 use Rattle.check_rules.specs.Around.{Around}
 use Rattle.check_rules.specs.Programs.{before_others, declaration}
 use Rattle.check_rules.specs.Steps.{State, Fault}

@@ -1,8 +1,8 @@
 -- Loops over the declarations of the code.
 use Rattle.std.proofs.Common.{◌≡◌, ◌<◌, ◌≤◌, ◌+◌, ℕ, List, [], ◌∷◌, map, drop, length, get_or, Ok, Err, ap, ◌∙◌}
 use Rattle.std.proofs.lemmas.List.{drop_all}
-use Rattle.mesa_types.specs.PlainSyntax as plain
-use Rattle.mesa_types.specs.declared.syntax.Declaration.{Declaration}
+use Rattle.syntax_trees.specs.PlainSyntax as plain
+use Rattle.syntax_trees.specs.declared.syntax.Declaration.{Declaration}
 use Rattle.check_rules.specs.Around.{Around}
 use Rattle.check_rules.specs.Programs.{Values, before_others, declaration, value_of}
 use Rattle.check_rules.specs.Steps.{State, Fault}

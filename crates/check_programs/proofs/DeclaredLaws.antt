@@ -4,7 +4,7 @@ use Rattle.std.specs.Prelude.{Option}
 use Rattle.mesa_base.specs.declared.identifier.Identifier.{Identifier}
 use Rattle.mesa_types.specs.declared.faces.ItemKind.{ItemKind}
 use Rattle.mesa_types.specs.declared.faces.ItemKind.TheVariants as item
-use Rattle.mesa_types.specs.declared.syntax.Access.{Access}
+use Rattle.syntax_trees.specs.declared.syntax.Access.{Access}
 use Rattle.check_rules.specs.Meanings.{Procedure}
 use Rattle.check_rules.specs.Names.{settle}
 use Rattle.check_rules.specs.Parts.{first_name}

@@ -1,6 +1,6 @@
 -- EXITS behind statements that are checked.
 use Rattle.std.proofs.Common.{◌≡◌, Result, Ok, ap, subst, sym}
-use Rattle.mesa_types.specs.Syntax as s
+use Rattle.syntax_trees.specs.Syntax as s
 use Rattle.check_rules.specs.Typed as t
 use Rattle.check_rules.specs.Around.{Around}
 use Rattle.check_rules.specs.Checking.{statements}

@@ -1,7 +1,7 @@
 -- A declaration with a fault, which is tried again before the state that is made anew.
 use Rattle.std.proofs.Common.{◌≡◌, ◌<◌, ◌+◌, ℕ, List, map, drop, take, length, get_or, Err, sym, ap, ◌∙◌}
-use Rattle.mesa_types.specs.PlainSyntax as plain
-use Rattle.mesa_types.specs.declared.syntax.Declaration.{Declaration}
+use Rattle.syntax_trees.specs.PlainSyntax as plain
+use Rattle.syntax_trees.specs.declared.syntax.Declaration.{Declaration}
 use Rattle.check_rules.specs.Around.{Around}
 use Rattle.check_rules.specs.Programs.{before_others, declaration}
 use Rattle.check_rules.specs.Steps.{State, Checked, Fault}

@@ -1,6 +1,6 @@
 -- Declarations one after the other.
 use Rattle.std.proofs.Common.{◌≡◌, ◌+◌, ℕ, List, [], ◌∷◌, map, length, Ok, Err, refl, sym, ap, ◌∙◌, subst, append_assoc, length-append, arith}
-use Rattle.mesa_types.specs.Syntax as s
+use Rattle.syntax_trees.specs.Syntax as s
 use Rattle.check_rules.specs.Around.{Around}
 use Rattle.check_rules.specs.Programs.{Declared, all_declared, before_others, declaration, signals_of, offers_of, told}
 use Rattle.check_rules.specs.Steps.{State, Checked, Fault, and_then}

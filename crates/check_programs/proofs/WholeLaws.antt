@@ -1,7 +1,7 @@
 -- A program whole, as the code takes its steps.
 use Rattle.std.proofs.Common.{◌≡◌, List, [], map, Ok, Err, refl, sym, ap, ◌∙◌}
 use Rattle.mesa_base.specs.declared.place.Place.{Place}
-use Rattle.mesa_types.specs.Syntax as s
+use Rattle.syntax_trees.specs.Syntax as s
 use Rattle.check_rules.specs.Typed as t
 use Rattle.check_rules.specs.Around.{Around, with_labels}
 use Rattle.check_rules.specs.Checking.{phrase, statements, exits}

@@ -1,6 +1,6 @@
 -- Declarations that are checked again, up to one that has a fault.
 use Rattle.std.specs.Prelude.{◌+◌, List, [], ◌∷◌, length, Ok, Err}
-use Rattle.mesa_types.specs.Syntax as s
+use Rattle.syntax_trees.specs.Syntax as s
 use Rattle.check_rules.specs.Around.{Around}
 use Rattle.check_rules.specs.Programs.{declaration}
 use Rattle.check_rules.specs.Steps.{State, Check, Checked, and_then}

@@ -1,6 +1,6 @@
 -- What a list of declarations leaves: their heads, how many of them are procedures, their signals and what is public, each in the order of the text.
 use Rattle.std.specs.Prelude.{ℕ, ◌+◌, List, [], ◌∷◌, ◌++◌, map}
-use Rattle.mesa_types.specs.Syntax as s
+use Rattle.syntax_trees.specs.Syntax as s
 use Rattle.check_rules.specs.Around.{Around}
 use Rattle.check_rules.specs.PlainTypes.{PlainItem}
 use Rattle.check_rules.specs.Programs.{Declared, Stated, Offer, all_declared, signals_of, offers_of}

@@ -1,7 +1,7 @@
 -- What is asked of a program that is checked, and what its parts are once its heads are read.
 use Rattle.std.specs.Prelude.{Bool, List, [], Ok}
 use Rattle.mesa_base.specs.declared.place.Place.{Place}
-use Rattle.mesa_types.specs.Syntax as s
+use Rattle.syntax_trees.specs.Syntax as s
 use Rattle.check_rules.specs.Typed as t
 use Rattle.check_rules.specs.Around.{Around}
 use Rattle.check_rules.specs.Checking.{phrase, statements, exits}

@@ -3,9 +3,9 @@ use Rattle.std.specs.Prelude.{ℕ, ◌+◌, List, [], Option, nat_le}
 use Rattle.mesa_base.specs.declared.identifier.Identifier.{Identifier}
 use Rattle.mesa_base.specs.declared.limits.TheConstants.{SIGNAL_WORDS}
 use Rattle.mesa_base.specs.declared.place.Place.{Place}
-use Rattle.mesa_types.specs.Syntax as s
+use Rattle.syntax_trees.specs.Syntax as s
 use Rattle.mesa_types.specs.declared.faces.ItemKind.{ItemKind}
-use Rattle.mesa_types.specs.declared.syntax.Access.{Access}
+use Rattle.syntax_trees.specs.declared.syntax.Access.{Access}
 use Rattle.check_rules.specs.Around.{Around}
 use Rattle.check_rules.specs.Names.{announce}
 use Rattle.check_rules.specs.Parts.{first_name}

@@ -1,6 +1,6 @@
 -- Initial values and procedures, one declaration after the other, by the heads that are read.
 use Rattle.std.specs.Prelude.{List, [], ◌∷◌, ◌++◌}
-use Rattle.mesa_types.specs.Syntax as s
+use Rattle.syntax_trees.specs.Syntax as s
 use Rattle.check_rules.specs.Typed as t
 use Rattle.check_rules.specs.Around.{Around}
 use Rattle.check_rules.specs.Parts.{join_stmts}

@@ -4,8 +4,9 @@ use check_expressions::Phrases;
 use check_rules::CheckFault;
 use check_state::{Around, State};
 use check_statements::phrase;
-use mesa_types::{Phrase, syntax};
+use mesa_types::Phrase;
 use std::alloc::Global;
+use syntax_trees::syntax;
 
 /// The check of catch phrases, with all that stands in them.
 #[derive(Clone, Copy)]

@@ -12,7 +12,7 @@ ghost use Rattle.check_rules.specs.PlainTypes.{plain_item};
 ghost use Rattle.check_rules.specs.Programs as spec;
 ghost use Rattle.check_rules.specs.Typed as t;
 ghost use Rattle.mesa_types.specs.declared.faces.ItemKind.TheVariants as kinds;
-ghost use Rattle.mesa_types.specs.PlainSyntax as plain;
+ghost use Rattle.syntax_trees.specs.PlainSyntax as plain;
 ghost use Rattle.check_heads.specs.Views.{heading as plain_heading};
 
 use crate::catches::Catches;
@@ -27,9 +27,9 @@ use check_rules::{Cause, CheckFault};
 use check_state::{Around, Meaning, State, fields_size, next};
 use mesa_base::limits::SIGNAL_WORDS;
 use mesa_base::{Identifier, List, OutOfMemory, Place, Shared};
-use mesa_types::syntax::{Access, Declaration, Declared, FieldList, Head, PlainItem};
 use mesa_types::{Callee, Item, ItemKind};
 use std::alloc::Global;
+use syntax_trees::syntax::{Access, Declaration, Declared, FieldList, Head, PlainItem};
 
 /// A type, variables or a constant.
 #[tactic(auto, using(crate::proofs::FoundLaws::data_more))]

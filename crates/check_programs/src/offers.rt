@@ -8,8 +8,8 @@ use check_faces::Offer;
 use check_state::next;
 use mesa_base::{Identifier, OutOfMemory, Shared};
 use mesa_types::Item;
-use mesa_types::syntax::Access;
 use std::alloc::Global;
+use syntax_trees::syntax::Access;
 
 fn is_public(access: Option<Access>) -> bool
     ensures { result ≡ spec.is_public access }

@@ -8,7 +8,7 @@ ghost use Rattle.check_rules.specs.PlainTypes.{plain_item};
 ghost use Rattle.check_rules.specs.Programs as spec;
 ghost use Rattle.check_rules.specs.Steps.{in_scope};
 ghost use Rattle.mesa_types.specs.Plain.{kinds_of, plain_procedure, stmt};
-ghost use Rattle.mesa_types.specs.PlainSyntax as plain;
+ghost use Rattle.syntax_trees.specs.PlainSyntax as plain;
 
 use crate::found::ProcedureHead;
 use crate::frames::{close_frame, few_locals, open_frame};
@@ -19,9 +19,9 @@ use check_state::{ArmHere, Around, Known, Meaning, State};
 use check_statements::block;
 use held_trees::{both, shared};
 use mesa_base::{Identifier, OutOfMemory};
-use mesa_types::syntax::Block;
 use mesa_types::{FieldType, Fields, Item, TypedBody, TypedProcedure, TypedStmt};
 use std::alloc::Global;
+use syntax_trees::syntax::Block;
 
 /// What stands around a body.
 #[tactic(auto, unfolding(check_state::specs::Views::around))]

@@ -8,8 +8,8 @@ ghost use Rattle.check_programs.specs.Views as view;
 ghost use Rattle.check_state.specs.Gives.{GivesOnly};
 ghost use Rattle.check_state.specs.Views as words;
 ghost use Rattle.check_rules.specs.Programs as spec;
-ghost use Rattle.mesa_types.specs.PlainSyntax as plain;
-ghost use Rattle.mesa_types.specs.declared.syntax.Declaration.{Declaration as Declares};
+ghost use Rattle.syntax_trees.specs.PlainSyntax as plain;
+ghost use Rattle.syntax_trees.specs.declared.syntax.Declaration.{Declaration as Declares};
 
 use crate::catches::Catches;
 use crate::declaring::declaration;
@@ -19,7 +19,7 @@ use check_heads::{Starts, Tries, second_fault};
 use check_rules::CheckFault;
 use check_state::{Around, State};
 use mesa_base::Identifier;
-use mesa_types::syntax::Declaration;
+use syntax_trees::syntax::Declaration;
 
 /// A declaration that has a fault, with those before it, which have none.
 #[derive(Drop)]

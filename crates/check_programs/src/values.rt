@@ -5,7 +5,7 @@ ghost use Rattle.check_programs.specs.Views as view;
 ghost use Rattle.check_state.specs.Gives.{Gives};
 ghost use Rattle.check_state.specs.Views as words;
 ghost use Rattle.check_rules.specs.Programs as spec;
-ghost use Rattle.mesa_types.specs.PlainSyntax as plain;
+ghost use Rattle.syntax_trees.specs.PlainSyntax as plain;
 
 use crate::catches::Catches;
 use crate::found::Stated;
@@ -16,10 +16,10 @@ use check_rules::CheckFault;
 use check_state::{Around, State};
 use held_trees::{LetGo, both, pushed};
 use mesa_base::{List, OutOfMemory};
-use mesa_types::syntax::{Declaration, Declared};
 use mesa_types::{Stmts, TypedProcedure, TypedProcedures, TypedStmt};
 use std::alloc::Global;
 use std::collections::VecDeque;
+use syntax_trees::syntax::{Declaration, Declared};
 
 /// What one declaration leaves.
 pub enum Value {

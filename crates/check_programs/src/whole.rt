@@ -8,7 +8,7 @@ ghost use Rattle.check_state.specs.Views as words;
 ghost use Rattle.check_rules.specs.Phrases.{is_catch};
 ghost use Rattle.check_rules.specs.Programs as spec;
 ghost use Rattle.mesa_types.specs.Plain.{kinds_of, phrase as plain_phrase, plain_body, stmt};
-ghost use Rattle.mesa_types.specs.PlainSyntax as plain;
+ghost use Rattle.syntax_trees.specs.PlainSyntax as plain;
 ghost use Rattle.mesa_types.specs.Typed as t;
 ghost use Rattle.check_statement_lists.specs.Views as parts_view;
 
@@ -29,10 +29,10 @@ use check_state::{Around, GrowingFields, Known, State};
 use check_statements::{exits, phrase, statements_behind};
 use held_trees::{LetGo, both, boxed, shared};
 use mesa_base::{List, OutOfMemory, Place, Shared};
-use mesa_types::syntax::{self, Inner};
 use mesa_types::{Exits, Fields, Item, Phrase, Stmts, TypedBody, TypedProcedures, TypedStmt};
 use std::alloc::Global;
 use std::collections::VecDeque;
+use syntax_trees::syntax::{self, Inner};
 
 /// What is asked of a program that is checked: its signals and errors, what it offers, its procedures and its body; which items of
 /// its imports it names, and its variables.

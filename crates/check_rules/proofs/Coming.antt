@@ -3,13 +3,13 @@ use Rattle.std.specs.Prelude.{ℕ, ◌+◌, ◌≤◌, Bool, true, false, not, O
 use Rattle.std.proofs.Common.{arith}
 use Rattle.mesa_base.specs.declared.place.Place.{Place}
 use Rattle.mesa_base.specs.declared.identifier.Identifier.{Identifier}
-use Rattle.mesa_types.specs.Syntax as s
+use Rattle.syntax_trees.specs.Syntax as s
 use Rattle.mesa_types.specs.declared.faces.ItemKind.TheVariants as item
-use Rattle.mesa_types.specs.declared.syntax.QualifiedName.{QualifiedName}
-use Rattle.mesa_types.specs.declared.syntax.Labels.{Labels}
-use Rattle.mesa_types.specs.declared.syntax.Labels.TheVariants.{Any, Unwind, Signals}
-use Rattle.mesa_types.specs.declared.syntax.TypeBase.{TypeBase}
-use Rattle.mesa_types.specs.declared.syntax.TypeBase.TheVariants.{Unsaid, OfInteger, OfCardinal, OfCharacter, OfName}
+use Rattle.syntax_trees.specs.declared.syntax.QualifiedName.{QualifiedName}
+use Rattle.syntax_trees.specs.declared.syntax.Labels.{Labels}
+use Rattle.syntax_trees.specs.declared.syntax.Labels.TheVariants.{Any, Unwind, Signals}
+use Rattle.syntax_trees.specs.declared.syntax.TypeBase.{TypeBase}
+use Rattle.syntax_trees.specs.declared.syntax.TypeBase.TheVariants.{Unsaid, OfInteger, OfCardinal, OfCharacter, OfName}
 use Rattle.mesa_types.specs.Operators as words
 use Rattle.check_rules.specs.Typed as t
 use Rattle.check_rules.specs.Typed.{LinkedProcedure, LinkedSignal}

@@ -6,7 +6,7 @@ use Rattle.std.proofs.lemmas.Slice.Eq.{bytes_eq-Decides}
 use Rattle.mesa_base.specs.declared.limits.TheConstants.{OPERAND_WORDS}
 use Rattle.mesa_base.specs.declared.place.Place.{Place}
 use Rattle.mesa_base.specs.declared.identifier.Identifier.{Identifier}
-use Rattle.mesa_types.specs.Syntax as s
+use Rattle.syntax_trees.specs.Syntax as s
 use Rattle.mesa_types.specs.declared.faces.Item.{Item}
 use Rattle.mesa_types.specs.declared.faces.ItemKind.{ItemKind}
 use Rattle.mesa_types.specs.declared.faces.ItemKind.TheVariants as item

@@ -4,8 +4,8 @@ use Rattle.std.proofs.Common.{refl, sym, arith}
 use Rattle.std.proofs.lemmas.Bool.{leb-true}
 use Rattle.mesa_types.specs.Constants.{constant, constant_run, all_true, some_true, fine, ◌>>=◌}
 use Rattle.mesa_types.specs.Operators.{Tried, Fine, Faulty, is_true, related, lies_in, checked, tried, fine_if, fits, opposite, character, shifted}
-use Rattle.mesa_types.specs.declared.syntax.Operator.{Operator}
-use Rattle.mesa_types.specs.declared.syntax.Operator.TheVariants.{Or, And, Add, Subtract, Multiply, Divide, Modulo}
+use Rattle.syntax_trees.specs.declared.syntax.Operator.{Operator}
+use Rattle.syntax_trees.specs.declared.syntax.Operator.TheVariants.{Or, And, Add, Subtract, Multiply, Divide, Modulo}
 use Rattle.check_rules.specs.Typed as t
 use Rattle.check_rules.specs.Typed.{Base, Signed, Unsigned}
 use Rattle.check_rules.specs.PlainTypes as v

@@ -5,7 +5,7 @@ use Rattle.std.proofs.lemmas.Bool.{leb-true}
 use Rattle.mesa_base.specs.declared.place.Place.{Place}
 use Rattle.mesa_base.specs.declared.limits.TheConstants.{TYPE_WORDS, TYPE_DEPTH, ENUMERATION_ELEMENTS}
 use Rattle.mesa_base.specs.declared.identifier.Identifier.{Identifier}
-use Rattle.mesa_types.specs.Syntax as s
+use Rattle.syntax_trees.specs.Syntax as s
 use Rattle.mesa_types.specs.Constants.{constant}
 use Rattle.mesa_types.specs.Operators.{shifted, truth}
 use Rattle.check_rules.specs.Typed as t

@@ -8,9 +8,9 @@ use Rattle.mesa_base.specs.declared.identifier.Identifier.{Identifier}
 use Rattle.mesa_types.specs.Constants.{constant}
 use Rattle.mesa_types.specs.Operators as words
 use Rattle.mesa_types.specs.declared.faces.ItemKind.{ItemKind}
-use Rattle.mesa_types.specs.declared.syntax.Operator.{Operator}
-use Rattle.mesa_types.specs.declared.syntax.Sign.{Sign}
-use Rattle.mesa_types.specs.declared.syntax.Sign.TheVariants.{Positive, Negative}
+use Rattle.syntax_trees.specs.declared.syntax.Operator.{Operator}
+use Rattle.syntax_trees.specs.declared.syntax.Sign.{Sign}
+use Rattle.syntax_trees.specs.declared.syntax.Sign.TheVariants.{Positive, Negative}
 use Rattle.check_rules.specs.Typed as t
 use Rattle.check_rules.specs.Typed.{Signed, Unsigned, Relation, Home}
 use Rattle.check_rules.specs.PlainTypes as v

@@ -7,8 +7,8 @@ use Rattle.std.proofs.lemmas.List.Elements.{All-nil, All-append, All-head, All-t
 use Rattle.std.proofs.lemmas.List.{length-append}
 use Rattle.mesa_base.specs.Name.{IsName}
 use Rattle.mesa_base.specs.declared.identifier.Identifier.{Identifier}
-use Rattle.mesa_types.specs.Syntax as s
-use Rattle.mesa_types.specs.SyntaxNodes.{type_nodes, named_fields_nodes, types_nodes, field_list_nodes, maybe_fields_nodes, head_nodes, defined_nodes, definition_nodes, definitions_nodes}
+use Rattle.syntax_trees.specs.Syntax as s
+use Rattle.syntax_trees.specs.SyntaxNodes.{type_nodes, named_fields_nodes, types_nodes, field_list_nodes, maybe_fields_nodes, head_nodes, defined_nodes, definition_nodes, definitions_nodes}
 use Rattle.mesa_types.specs.declared.faces.ItemKind.{ItemKind}
 use Rattle.mesa_types.specs.declared.faces.ItemKind.TheVariants as item
 use Rattle.check_rules.specs.PlainTypes.{PlainType, PlainField, PlainItem, PlainInterface}

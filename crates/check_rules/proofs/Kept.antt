@@ -3,9 +3,9 @@ use Rattle.std.specs.Prelude.{Ok, ℕ, ◌≡◌, ◌+◌, ◌*◌, ◌≤◌, B
 use Rattle.std.proofs.Common.{refl, arith, ap}
 use Rattle.mesa_base.specs.declared.place.Place.{Place}
 use Rattle.mesa_base.specs.declared.identifier.Identifier.{Identifier}
-use Rattle.mesa_types.specs.Syntax as s
+use Rattle.syntax_trees.specs.Syntax as s
 use Rattle.mesa_types.specs.Nodes as tn
-use Rattle.mesa_types.specs.SyntaxNodes as sn
+use Rattle.syntax_trees.specs.SyntaxNodes as sn
 use Rattle.mesa_types.specs.declared.faces.ItemKind.TheVariants as item
 use Rattle.mesa_types.specs.Operators as words
 use Rattle.check_rules.specs.Typed as t

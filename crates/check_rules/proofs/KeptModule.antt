@@ -7,18 +7,18 @@ use Rattle.std.proofs.Common.{refl, arith, ap}
 use Rattle.mesa_base.specs.declared.limits.TheConstants.{OPERAND_WORDS, SIGNAL_WORDS, LOCAL_WORDS}
 use Rattle.mesa_base.specs.declared.place.Place.{Place}
 use Rattle.mesa_base.specs.declared.identifier.Identifier.{Identifier}
-use Rattle.mesa_types.specs.Syntax as s
+use Rattle.syntax_trees.specs.Syntax as s
 use Rattle.mesa_types.specs.Shapes.{words_in_all}
 use Rattle.mesa_types.specs.Nodes as tn
-use Rattle.mesa_types.specs.SyntaxNodes as sn
+use Rattle.syntax_trees.specs.SyntaxNodes as sn
 use Rattle.mesa_types.specs.declared.faces.Pair.{Pair}
 use Rattle.mesa_types.specs.declared.faces.ItemKind.{ItemKind}
 use Rattle.mesa_types.specs.declared.faces.ItemKind.TheVariants as item
 use Rattle.mesa_types.specs.declared.types.FieldType.{FieldType}
 use Rattle.mesa_types.specs.declared.types.TypeTree.TheFolds.{fold-FieldType, fold-roll-FieldType}
-use Rattle.mesa_types.specs.declared.syntax.Access.{Access}
-use Rattle.mesa_types.specs.declared.syntax.Access.TheVariants.{Public, Private}
-use Rattle.mesa_types.specs.declared.syntax.DirectoryItem.{DirectoryItem}
+use Rattle.syntax_trees.specs.declared.syntax.Access.{Access}
+use Rattle.syntax_trees.specs.declared.syntax.Access.TheVariants.{Public, Private}
+use Rattle.syntax_trees.specs.declared.syntax.DirectoryItem.{DirectoryItem}
 use Rattle.interface_records.specs.declared.interface.Interface.{Interface}
 use Rattle.check_rules.specs.Typed as t
 use Rattle.check_rules.specs.PlainTypes.{PlainType, PlainField, PlainItem, PlainInterface, item_of, field_of, plain_interface, words_of_fields}

@@ -4,13 +4,13 @@ use Rattle.std.proofs.Common.{refl, arith}
 use Rattle.mesa_base.specs.declared.limits.TheConstants.{GREATEST_NUMBER}
 use Rattle.mesa_base.specs.declared.place.Place.{Place}
 use Rattle.mesa_base.specs.declared.identifier.Identifier.{Identifier}
-use Rattle.mesa_types.specs.Syntax as s
+use Rattle.syntax_trees.specs.Syntax as s
 use Rattle.mesa_types.specs.Nodes as tn
 use Rattle.mesa_types.specs.declared.faces.ItemKind.{ItemKind}
-use Rattle.mesa_types.specs.declared.syntax.Operator.{Operator}
-use Rattle.mesa_types.specs.declared.syntax.Operator.TheVariants.{Or, And, Add, Subtract, Multiply, Divide, Modulo}
-use Rattle.mesa_types.specs.declared.syntax.Sign.{Sign}
-use Rattle.mesa_types.specs.declared.syntax.Sign.TheVariants.{Positive, Negative}
+use Rattle.syntax_trees.specs.declared.syntax.Operator.{Operator}
+use Rattle.syntax_trees.specs.declared.syntax.Operator.TheVariants.{Or, And, Add, Subtract, Multiply, Divide, Modulo}
+use Rattle.syntax_trees.specs.declared.syntax.Sign.{Sign}
+use Rattle.syntax_trees.specs.declared.syntax.Sign.TheVariants.{Positive, Negative}
 use Rattle.check_rules.specs.Typed as t
 use Rattle.check_rules.specs.Typed.{Base, Signed, Unsigned, Range, Every, From, Relation, Home}
 use Rattle.check_rules.specs.PlainTypes as v

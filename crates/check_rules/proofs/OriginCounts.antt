@@ -1,8 +1,8 @@
 -- At most one record or enumeration begins at each node of a syntax tree.
 use Rattle.std.specs.Prelude.{ℕ, ◌≡◌, ◌+◌, ◌≤◌, Option, Some, None, List, [], ◌∷◌, ◌++◌, length}
 use Rattle.std.proofs.Common.{arith}
-use Rattle.mesa_types.specs.Syntax as s
-use Rattle.mesa_types.specs.SyntaxNodes.{type_nodes, field_list_nodes, named_fields_nodes, types_nodes, interval_nodes, expr_nodes, operations_nodes, left_nodes, suffixes_nodes, brackets_nodes, items_nodes, exprs_nodes, keyed_exprs_nodes, raise_nodes, maybe_brackets_nodes, phrase_nodes, arms_nodes, statement_nodes, maybe_statement_nodes, maybe_items_nodes, targets_nodes, lefts_nodes, keyed_lefts_nodes, statements_nodes, control_nodes, count_nodes, condition_nodes, cases_nodes, tests_nodes, block_nodes, locals_nodes, plain_item_nodes, exits_nodes, repeats_nodes, maybe_fields_nodes, head_nodes, declared_nodes, declaration_nodes, declarations_nodes, inner_nodes, defined_nodes, definition_nodes, definitions_nodes, kind_nodes}
+use Rattle.syntax_trees.specs.Syntax as s
+use Rattle.syntax_trees.specs.SyntaxNodes.{type_nodes, field_list_nodes, named_fields_nodes, types_nodes, interval_nodes, expr_nodes, operations_nodes, left_nodes, suffixes_nodes, brackets_nodes, items_nodes, exprs_nodes, keyed_exprs_nodes, raise_nodes, maybe_brackets_nodes, phrase_nodes, arms_nodes, statement_nodes, maybe_statement_nodes, maybe_items_nodes, targets_nodes, lefts_nodes, keyed_lefts_nodes, statements_nodes, control_nodes, count_nodes, condition_nodes, cases_nodes, tests_nodes, block_nodes, locals_nodes, plain_item_nodes, exits_nodes, repeats_nodes, maybe_fields_nodes, head_nodes, declared_nodes, declaration_nodes, declarations_nodes, inner_nodes, defined_nodes, definition_nodes, definitions_nodes, kind_nodes}
 use Rattle.check_rules.specs.Mentions.{Mention, Text, Made, origins, of_type, of_fields, of_named, of_types, of_interval, of_expr, of_steps, of_left, of_suffixes, of_brackets, of_items, of_exprs, of_keyed, of_raise, of_maybe, of_phrase, of_arms, of_stmt, of_other, of_values, of_targets, of_lefts, of_keyed_lefts, of_stmts, of_control, of_count, of_condition, of_cases, of_tests, of_block, of_locals, of_plain, of_exits, of_repeats, of_maybe_fields, of_head, of_declared, of_declarations, of_defined, of_definitions, of_kind}
 
 abbrev many : List Mention → ℕ

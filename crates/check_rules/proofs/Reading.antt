@@ -1,23 +1,23 @@
 -- A small reader of texts for the examples: the plain syntax tree of a text that is one of the grammar.
 use Rattle.std.specs.Prelude.{ℕ, zero, suc, Bool, true, false, not, ◌&&◌, ◌||◌, List, [], ◌∷◌, Option, Some, None, bytes_eq, codes}
 use Rattle.mesa_base.specs.declared.place.Place.{Place}
-use Rattle.mesa_types.specs.Syntax as s
+use Rattle.syntax_trees.specs.Syntax as s
 use Rattle.mesa_base.specs.declared.identifier.Identifier.{Identifier}
-use Rattle.mesa_types.specs.declared.syntax.QualifiedName.{QualifiedName}
-use Rattle.mesa_types.specs.declared.syntax.DirectoryItem.{DirectoryItem}
-use Rattle.mesa_types.specs.declared.syntax.Labels.{Labels}
-use Rattle.mesa_types.specs.declared.syntax.Labels.TheVariants.{Any, Unwind, Signals}
-use Rattle.mesa_types.specs.declared.syntax.RepeatLabels.{RepeatLabels}
-use Rattle.mesa_types.specs.declared.syntax.RepeatLabels.TheVariants as repeat
-use Rattle.mesa_types.specs.declared.syntax.TypeBase.{TypeBase}
-use Rattle.mesa_types.specs.declared.syntax.TypeBase.TheVariants as base
-use Rattle.mesa_types.specs.declared.syntax.Operator.{Operator}
-use Rattle.mesa_types.specs.declared.syntax.Operator.TheVariants as op
-use Rattle.mesa_types.specs.declared.syntax.Sign.TheVariants.{Positive, Negative}
-use Rattle.mesa_types.specs.declared.syntax.Access.{Access}
-use Rattle.mesa_types.specs.declared.syntax.Access.TheVariants.{Public, Private}
-use Rattle.mesa_types.specs.declared.relation.Relation.{Relation}
-use Rattle.mesa_types.specs.declared.relation.Relation.TheVariants.{Equal, NotEqual, Less, AtMost, Greater, AtLeast}
+use Rattle.syntax_trees.specs.declared.syntax.QualifiedName.{QualifiedName}
+use Rattle.syntax_trees.specs.declared.syntax.DirectoryItem.{DirectoryItem}
+use Rattle.syntax_trees.specs.declared.syntax.Labels.{Labels}
+use Rattle.syntax_trees.specs.declared.syntax.Labels.TheVariants.{Any, Unwind, Signals}
+use Rattle.syntax_trees.specs.declared.syntax.RepeatLabels.{RepeatLabels}
+use Rattle.syntax_trees.specs.declared.syntax.RepeatLabels.TheVariants as repeat
+use Rattle.syntax_trees.specs.declared.syntax.TypeBase.{TypeBase}
+use Rattle.syntax_trees.specs.declared.syntax.TypeBase.TheVariants as base
+use Rattle.syntax_trees.specs.declared.syntax.Operator.{Operator}
+use Rattle.syntax_trees.specs.declared.syntax.Operator.TheVariants as op
+use Rattle.syntax_trees.specs.declared.syntax.Sign.TheVariants.{Positive, Negative}
+use Rattle.syntax_trees.specs.declared.syntax.Access.{Access}
+use Rattle.syntax_trees.specs.declared.syntax.Access.TheVariants.{Public, Private}
+use Rattle.mesa_base.specs.declared.relation.Relation.{Relation}
+use Rattle.mesa_base.specs.declared.relation.Relation.TheVariants.{Equal, NotEqual, Less, AtMost, Greater, AtLeast}
 use Rattle.check_rules.proofs.Lexing.{Token, Kind, Word, Number, Letter, Text, tokens}
 
 abbrev pub Read : Type 0 → Type 0

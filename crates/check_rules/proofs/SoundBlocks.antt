@@ -3,8 +3,8 @@ use Rattle.std.proofs.Common.{◌≡◌, ℕ, suc, ◌+◌, List, [], ◌∷◌,
 use Rattle.std.specs.Prelude.{◌≤◌, ◌<◌, ◌≢◌, Bool, true, false, Option, Some, None, Ok, IfOk, All, map, slice_index_or}
 use Rattle.mesa_base.specs.declared.place.Place.{Place}
 use Rattle.mesa_base.specs.declared.identifier.Identifier.{Identifier}
-use Rattle.mesa_types.specs.declared.syntax.Labels.{Labels}
-use Rattle.mesa_types.specs.Syntax as s
+use Rattle.syntax_trees.specs.declared.syntax.Labels.{Labels}
+use Rattle.syntax_trees.specs.Syntax as s
 use Rattle.mesa_types.specs.Sound as sound
 use Rattle.mesa_types.specs.Typed as points
 use Rattle.mesa_types.specs.Constants.{constant}

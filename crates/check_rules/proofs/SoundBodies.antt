@@ -1,5 +1,5 @@
 -- What checking gives of each part of a text is sound: one induction over the syntax, a line for each form.
-use Rattle.mesa_types.specs.Syntax as s
+use Rattle.syntax_trees.specs.Syntax as s
 use Rattle.check_rules.proofs.SoundSteps.{World}
 use Rattle.check_rules.proofs.SoundnessStatements.{Checks, ChecksSums, ChecksTruths, ChecksInterval}
 use Rattle.check_rules.proofs.SoundExpressions as e

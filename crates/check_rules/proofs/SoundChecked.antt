@@ -8,8 +8,8 @@ use Rattle.mesa_types.specs.declared.faces.Item.{Item}
 use Rattle.mesa_types.specs.declared.faces.ItemKind.{ItemKind}
 use Rattle.mesa_types.specs.declared.faces.ItemKind.TheVariants as item
 use Rattle.mesa_types.specs.declared.faces.Export.{Export}
-use Rattle.mesa_types.specs.declared.syntax.DirectoryItem.{DirectoryItem}
-use Rattle.mesa_types.specs.Syntax as s
+use Rattle.syntax_trees.specs.declared.syntax.DirectoryItem.{DirectoryItem}
+use Rattle.syntax_trees.specs.Syntax as s
 use Rattle.mesa_types.specs.Sound as sound
 use Rattle.mesa_types.specs.Links as links
 use Rattle.mesa_types.specs.Shapes.{join, words_in_all, AllHaveWords}

@@ -9,8 +9,8 @@ use Rattle.mesa_base.specs.declared.limits.TheConstants.{LOCAL_WORDS, OPERAND_WO
 use Rattle.mesa_types.specs.declared.faces.Item.{Item}
 use Rattle.mesa_types.specs.declared.faces.ItemKind.{ItemKind}
 use Rattle.mesa_types.specs.declared.faces.ItemKind.TheVariants as item
-use Rattle.mesa_types.specs.declared.syntax.Access.{Access}
-use Rattle.mesa_types.specs.Syntax as s
+use Rattle.syntax_trees.specs.declared.syntax.Access.{Access}
+use Rattle.syntax_trees.specs.Syntax as s
 use Rattle.mesa_types.specs.Shapes.{words_in_all}
 use Rattle.check_rules.specs.Typed as t
 use Rattle.check_rules.specs.PlainTypes.{PlainItem, item_of, words_of_fields}

@@ -10,8 +10,8 @@ use Rattle.mesa_base.specs.declared.limits.TheConstants.{SIGNAL_WORDS}
 use Rattle.mesa_types.specs.declared.faces.Item.{Item}
 use Rattle.mesa_types.specs.declared.faces.ItemKind.{ItemKind}
 use Rattle.mesa_types.specs.declared.faces.ItemKind.TheVariants as item
-use Rattle.mesa_types.specs.declared.syntax.Access.{Access}
-use Rattle.mesa_types.specs.Syntax as s
+use Rattle.syntax_trees.specs.declared.syntax.Access.{Access}
+use Rattle.syntax_trees.specs.Syntax as s
 use Rattle.check_rules.specs.Typed as t
 use Rattle.check_rules.specs.PlainTypes.{PlainItem, item_of, words_of_fields}
 use Rattle.check_rules.specs.Meanings as m

@@ -5,7 +5,7 @@ use Rattle.std.specs.Prelude.{T}
 use Rattle.std.proofs.Math.Dec.{eqb_refl}
 use Rattle.mesa_base.specs.declared.place.Place.{Place}
 use Rattle.mesa_base.specs.declared.identifier.Identifier.{Identifier}
-use Rattle.mesa_types.specs.declared.syntax.DirectoryItem.{DirectoryItem}
+use Rattle.syntax_trees.specs.declared.syntax.DirectoryItem.{DirectoryItem}
 use Rattle.check_rules.specs.Scopes.{has}
 use Rattle.check_rules.specs.Parts.{names_of}
 use Rattle.check_rules.specs.PlainTypes.{PlainInterface}

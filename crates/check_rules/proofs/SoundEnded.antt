@@ -4,7 +4,7 @@ use Rattle.std.proofs.Common.{◌≡◌, List, [], length, refl, sym, ◌∙◌,
 use Rattle.std.specs.Prelude.{◌≤◌, Bool, true, false, Ok, Err, IfOk, All, map}
 use Rattle.mesa_base.specs.declared.place.Place.{Place}
 use Rattle.mesa_base.specs.declared.limits.TheConstants.{GLOBAL_WORDS}
-use Rattle.mesa_types.specs.Syntax as s
+use Rattle.syntax_trees.specs.Syntax as s
 use Rattle.mesa_types.specs.Sound as sound
 use Rattle.mesa_types.specs.Counts.{hidden}
 use Rattle.mesa_types.specs.Shapes.{words_in_all, AllHaveWords}

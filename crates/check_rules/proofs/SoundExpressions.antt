@@ -2,15 +2,15 @@
 use Rattle.std.proofs.Common.{◌≡◌, ℕ, ◌+◌, List, refl, arith}
 use Rattle.std.specs.Prelude.{◌<◌, Bool, true, false, Some, IfOk}
 use Rattle.mesa_base.specs.declared.place.Place.{Place}
-use Rattle.mesa_types.specs.Syntax as s
+use Rattle.syntax_trees.specs.Syntax as s
 use Rattle.mesa_types.specs.Sound as sound
 use Rattle.mesa_types.specs.Operators as words
 use Rattle.mesa_types.specs.Counts.{operands, operands_of, operands_of_run, hidden_expr, hidden_exprs, hidden_operations}
 use Rattle.mesa_types.specs.Nodes.{count_of}
-use Rattle.mesa_types.specs.declared.syntax.Operator.{Operator}
-use Rattle.mesa_types.specs.declared.syntax.Operator.TheVariants.{Or, And, Add, Subtract, Multiply, Divide, Modulo}
-use Rattle.mesa_types.specs.declared.syntax.Sign.{Sign}
-use Rattle.mesa_types.specs.declared.relation.Relation.{Relation}
+use Rattle.syntax_trees.specs.declared.syntax.Operator.{Operator}
+use Rattle.syntax_trees.specs.declared.syntax.Operator.TheVariants.{Or, And, Add, Subtract, Multiply, Divide, Modulo}
+use Rattle.syntax_trees.specs.declared.syntax.Sign.{Sign}
+use Rattle.mesa_base.specs.declared.relation.Relation.{Relation}
 use Rattle.check_rules.specs.Typed as t
 use Rattle.check_rules.specs.PlainTypes as v
 use Rattle.check_rules.specs.PlainTypes.{PlainType}

@@ -3,7 +3,7 @@ use Rattle.std.proofs.Common.{◌≡◌, ℕ, zero, suc, ◌+◌, List, [], ◌�
 use Rattle.std.specs.Prelude.{◌≤◌, ◌<◌, Bool, true, false, not, ◌||◌, Option, Some, None, IfOk, is_some, nat_eq, bytes_eq, slice_index_or, Contains}
 use Rattle.mesa_base.specs.declared.place.Place.{Place}
 use Rattle.mesa_base.specs.declared.identifier.Identifier.{Identifier}
-use Rattle.mesa_types.specs.Syntax as s
+use Rattle.syntax_trees.specs.Syntax as s
 use Rattle.mesa_types.specs.Sound as sound
 use Rattle.mesa_types.specs.Counts.{operands, operands_of_stmt, operands_of_targets, hidden, hidden_expr, hidden_targets}
 use Rattle.mesa_types.specs.Shapes.{one, join, count_in, words_in, KindAt, words_before}

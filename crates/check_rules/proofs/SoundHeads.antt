@@ -2,7 +2,7 @@
 use Rattle.std.proofs.Common.{◌≡◌, ℕ, List, [], ◌∷◌, ◌++◌, refl, sym, ◌∙◌, ap, subst}
 use Rattle.std.specs.Prelude.{Bool, true, false, Option, Some, None, Ok, Err, IfOk}
 use Rattle.mesa_base.specs.declared.identifier.Identifier.{Identifier}
-use Rattle.mesa_types.specs.Syntax as s
+use Rattle.syntax_trees.specs.Syntax as s
 use Rattle.mesa_types.specs.Shapes.{join, count_in}
 use Rattle.check_rules.specs.Typed as t
 use Rattle.check_rules.specs.PlainTypes.{PlainField, kind_of, kinds_of}

@@ -4,11 +4,11 @@ use Rattle.std.specs.Prelude.{◌≤◌, ◌<◌, ◌≢◌, Bool, true, false, 
 use Rattle.std.proofs.lemmas.List.Elements.{All-cons}
 use Rattle.mesa_base.specs.declared.place.Place.{Place}
 use Rattle.mesa_base.specs.declared.identifier.Identifier.{Identifier}
-use Rattle.mesa_types.specs.Syntax as s
+use Rattle.syntax_trees.specs.Syntax as s
 use Rattle.mesa_types.specs.Sound as sound
-use Rattle.mesa_types.specs.declared.relation.Relation.{Relation}
-use Rattle.mesa_types.specs.declared.syntax.RepeatLabels.{RepeatLabels}
-use Rattle.mesa_types.specs.declared.syntax.RepeatLabels.TheVariants as repeat
+use Rattle.mesa_base.specs.declared.relation.Relation.{Relation}
+use Rattle.syntax_trees.specs.declared.syntax.RepeatLabels.{RepeatLabels}
+use Rattle.syntax_trees.specs.declared.syntax.RepeatLabels.TheVariants as repeat
 use Rattle.mesa_types.specs.Counts.{operands_of_stmt, operands_of_tests, operands_of_cases, operands_of_interval, operands_of_condition, operands_of_loop, hidden, hidden_tests, hidden_cases, hidden_interval, hidden_condition, hidden_loop, hidden_exits, hidden_finish, hidden_stmts, hidden_phrase}
 use Rattle.check_rules.specs.Typed as t
 use Rattle.check_rules.specs.PlainTypes as v

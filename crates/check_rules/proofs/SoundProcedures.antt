@@ -8,7 +8,7 @@ use Rattle.mesa_base.specs.declared.limits.TheConstants.{LOCAL_WORDS, OPERAND_WO
 use Rattle.mesa_types.specs.Sound as sound
 use Rattle.mesa_types.specs.declared.faces.ItemKind.TheVariants as item
 use Rattle.mesa_types.specs.Typed as points
-use Rattle.mesa_types.specs.Syntax as s
+use Rattle.syntax_trees.specs.Syntax as s
 use Rattle.mesa_types.specs.Counts.{hidden}
 use Rattle.mesa_types.specs.Shapes.{join, words_in_all, AllHaveWords}
 use Rattle.check_rules.specs.Typed as t

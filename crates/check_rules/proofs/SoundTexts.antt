@@ -3,7 +3,7 @@ use Rattle.std.proofs.Common.{◌≡◌, ℕ, zero, suc, List, [], ◌∷◌, �
 use Rattle.std.specs.Prelude.{◌≤◌, Bool, true, false, ◌||◌, Option, Some, None, All, Contains, bytes_eq, take, if◌then◌else◌}
 use Rattle.std.proofs.lemmas.List.Elements.{All-nil, All-cons, All-take, All-head, All-tail}
 use Rattle.mesa_base.specs.declared.limits.TheConstants.{DISTINCT_STRINGS, STRING_BYTES}
-use Rattle.mesa_types.specs.Syntax as s
+use Rattle.syntax_trees.specs.Syntax as s
 use Rattle.mesa_types.specs.Sound as sound
 use Rattle.check_rules.specs.Scopes.{has}
 use Rattle.check_rules.specs.Mentions.{Mention, Text, Made, of_type, of_fields, of_named, of_types, of_interval, of_expr, of_steps, of_left, of_suffixes, of_brackets, of_items, of_exprs, of_keyed, of_raise, of_maybe, of_phrase, of_arms, of_stmt, of_other, of_values, of_targets, of_lefts, of_keyed_lefts, of_stmts, of_control, of_count, of_condition, of_cases, of_tests, of_block, of_locals, of_plain, of_exits, of_repeats, of_maybe_fields, of_head, of_declared, of_declarations, texts}

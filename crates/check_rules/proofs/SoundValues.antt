@@ -7,10 +7,10 @@ use Rattle.mesa_types.specs.Sound as sound
 use Rattle.mesa_types.specs.Operators as words
 use Rattle.mesa_types.specs.Counts.{operands, operands_of_interval, hidden_expr, hidden_interval}
 use Rattle.mesa_types.specs.Shapes.{one}
-use Rattle.mesa_types.specs.declared.syntax.Operator.{Operator}
-use Rattle.mesa_types.specs.declared.syntax.Sign.{Sign}
-use Rattle.mesa_types.specs.declared.syntax.Sign.TheVariants.{Positive, Negative}
-use Rattle.mesa_types.specs.declared.relation.Relation.{Relation}
+use Rattle.syntax_trees.specs.declared.syntax.Operator.{Operator}
+use Rattle.syntax_trees.specs.declared.syntax.Sign.{Sign}
+use Rattle.syntax_trees.specs.declared.syntax.Sign.TheVariants.{Positive, Negative}
+use Rattle.mesa_base.specs.declared.relation.Relation.{Relation}
 use Rattle.mesa_types.specs.declared.typed_parts.Range.{Range}
 use Rattle.mesa_types.specs.declared.typed_parts.Range.TheVariants.{Every, From}
 use Rattle.check_rules.specs.Typed as t

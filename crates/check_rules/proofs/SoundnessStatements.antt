@@ -18,7 +18,7 @@ use Rattle.mesa_types.specs.Links.{IsUsed}
 use Rattle.mesa_types.specs.Counts.{operands, operands_of, operands_in, operands_of_run, unnamed, hidden_expr, hidden_exprs, hidden_suffixes, hidden_operations}
 use Rattle.mesa_types.specs.Shapes.{one, KindAt, words_before}
 use Rattle.mesa_types.specs.Nodes.{count_of}
-use Rattle.mesa_types.specs.Syntax as s
+use Rattle.syntax_trees.specs.Syntax as s
 use Rattle.check_rules.specs.Typed as t
 use Rattle.check_rules.specs.PlainTypes.{PlainType, Array, PlainField, kind_of, kinds_of, fields, words_of}
 use Rattle.check_rules.specs.Scopes.{Scope}

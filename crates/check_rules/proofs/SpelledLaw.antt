@@ -5,8 +5,8 @@ use Rattle.std.proofs.Common.{refl, sym, subst, ap, arith, ◌∙◌}
 use Rattle.std.proofs.lemmas.List.Elements.{All-nil, All-head, All-tail}
 use Rattle.mesa_base.specs.Name.{IsName}
 use Rattle.mesa_base.specs.declared.place.Place.{Place}
-use Rattle.mesa_types.specs.Syntax as s
-use Rattle.mesa_types.specs.SyntaxNodes.{module_nodes, kind_nodes, definitions_nodes}
+use Rattle.syntax_trees.specs.Syntax as s
+use Rattle.syntax_trees.specs.SyntaxNodes.{module_nodes, kind_nodes, definitions_nodes}
 use Rattle.mesa_types.specs.declared.faces.Item.{Item}
 use Rattle.mesa_types.specs.declared.faces.ItemKind.{ItemKind}
 use Rattle.mesa_types.specs.declared.faces.ItemKind.TheVariants as item

@@ -7,16 +7,16 @@ use Rattle.mesa_base.specs.Name.{IsName}
 use Rattle.mesa_base.specs.declared.limits.TheConstants.{SIGNAL_WORDS}
 use Rattle.mesa_base.specs.declared.place.Place.{Place}
 use Rattle.mesa_base.specs.declared.identifier.Identifier.{Identifier}
-use Rattle.mesa_types.specs.Syntax as s
-use Rattle.mesa_types.specs.SyntaxNodes.{head_nodes, declared_nodes, declaration_nodes, declarations_nodes, inner_nodes, kind_nodes, module_nodes}
+use Rattle.syntax_trees.specs.Syntax as s
+use Rattle.syntax_trees.specs.SyntaxNodes.{head_nodes, declared_nodes, declaration_nodes, declarations_nodes, inner_nodes, kind_nodes, module_nodes}
 use Rattle.mesa_types.specs.declared.faces.Export.{Export}
 use Rattle.mesa_types.specs.declared.faces.Face.{Face}
 use Rattle.mesa_types.specs.declared.faces.Import.{Import}
 use Rattle.mesa_types.specs.declared.faces.ItemKind.{ItemKind}
 use Rattle.mesa_types.specs.declared.faces.ItemKind.TheVariants as item
 use Rattle.mesa_types.specs.declared.faces.Pair.{Pair}
-use Rattle.mesa_types.specs.declared.syntax.Access.{Access}
-use Rattle.mesa_types.specs.declared.syntax.DirectoryItem.{DirectoryItem}
+use Rattle.syntax_trees.specs.declared.syntax.Access.{Access}
+use Rattle.syntax_trees.specs.declared.syntax.DirectoryItem.{DirectoryItem}
 use Rattle.interface_records.specs.declared.interface.Interface.{Interface}
 use Rattle.check_rules.specs.Typed as t
 use Rattle.check_rules.specs.PlainTypes.{PlainInterface, PlainItem, face_of, plain_interface, plain_item, words_of_fields}

@@ -1,7 +1,7 @@
 -- What texts come to: checked, or refused with a cause at the place that a `^` in the text marks.
 use Rattle.std.specs.Prelude.{ℕ, ◌+◌, Bool, true, false, ◌&&◌, List, [], ◌∷◌, ◌++◌, Option, Some, None, Ok, Err, codes, nat_eq, if◌then◌else◌}
 use Rattle.check_rules.specs.PlainTypes.{PlainInterface}
-use Rattle.mesa_types.specs.Syntax as s
+use Rattle.syntax_trees.specs.Syntax as s
 use Rattle.check_rules.specs.Steps.{Checked}
 use Rattle.check_rules.specs.CheckedModule.{program_by, interface_by}
 use Rattle.check_rules.specs.declared.fault.Cause.{Cause}

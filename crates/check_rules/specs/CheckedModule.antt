@@ -3,7 +3,7 @@
 use Rattle.std.specs.Prelude.{ℕ, Bool, true, false, List, [], ◌∷◌, map, take, Option, Some, None, Ok}
 use Rattle.mesa_base.specs.declared.limits.TheConstants.{DISTINCT_STRINGS}
 use Rattle.check_rules.specs.Typed.{NoKinds}
-use Rattle.mesa_types.specs.Syntax as s
+use Rattle.syntax_trees.specs.Syntax as s
 use Rattle.check_rules.specs.Typed as t
 use Rattle.mesa_base.specs.declared.identifier.Identifier.{Identifier}
 use Rattle.interface_records.specs.declared.interface.Interface.{Interface}

@@ -1,7 +1,7 @@
 -- Checking: each part of a text in the order of checking, with its first fault (Language Manual, chapters 2 to 8). Operands
 -- come before their operator, from left to right; the heads of a block's declarations before all else in it.
 use Rattle.std.specs.Prelude.{ℕ, ◌+◌, Bool, true, false, ◌||◌, List, [], ◌∷◌, ◌++◌, length, map, Option, None, nat_eq, not}
-use Rattle.mesa_types.specs.Syntax as s
+use Rattle.syntax_trees.specs.Syntax as s
 use Rattle.mesa_types.specs.Operators as words
 use Rattle.mesa_base.specs.declared.place.Place.{Place}
 use Rattle.check_rules.specs.Typed as t

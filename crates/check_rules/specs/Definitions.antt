@@ -1,6 +1,6 @@
 -- An interface: its items, types and constants in text order (Language Manual, chapter 7).
 use Rattle.std.specs.Prelude.{◌++◌, List, [], ◌∷◌, map, None}
-use Rattle.mesa_types.specs.Syntax as s
+use Rattle.syntax_trees.specs.Syntax as s
 use Rattle.check_rules.specs.Typed as t
 use Rattle.mesa_types.specs.declared.faces.ItemKind.{ItemKind}
 use Rattle.mesa_types.specs.declared.faces.ItemKind.TheVariants as item

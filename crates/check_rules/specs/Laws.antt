@@ -2,9 +2,9 @@
 use Rattle.std.specs.Prelude.{◌≡◌, ℕ, ◌*◌, ◌≤◌, ◌⊎◌, true, false, is_some, List, [], ◌∷◌, ◌++◌, length, map, Ok, Err, IfOk, IfErr}
 use Rattle.std.specs.List.{All, Contains}
 use Rattle.mesa_base.specs.declared.limits.TheConstants.{TEXT_BYTES}
-use Rattle.mesa_types.specs.Syntax as s
+use Rattle.syntax_trees.specs.Syntax as s
 use Rattle.mesa_types.specs.Nodes.{nodes}
-use Rattle.mesa_types.specs.SyntaxNodes.{module_nodes}
+use Rattle.syntax_trees.specs.SyntaxNodes.{module_nodes}
 use Rattle.mesa_types.specs.declared.faces.Import.{Import}
 use Rattle.mesa_types.specs.declared.faces.Export.{Export}
 use Rattle.mesa_types.specs.declared.faces.Face.{Face}

@@ -4,8 +4,8 @@ use Rattle.std.specs.Prelude.{Bool, true, false, Option, Some, None, ifâ—Œthenâ—
 use Rattle.check_rules.specs.Typed as t
 use Rattle.check_rules.specs.Typed.{Base, Signed, Unsigned, Range, Every, Relation}
 use Rattle.check_rules.specs.PlainTypes as v
-use Rattle.mesa_types.specs.declared.syntax.Operator.{Operator}
-use Rattle.mesa_types.specs.declared.syntax.Operator.TheVariants.{Or, And, Add, Subtract, Multiply, Divide, Modulo}
+use Rattle.syntax_trees.specs.declared.syntax.Operator.{Operator}
+use Rattle.syntax_trees.specs.declared.syntax.Operator.TheVariants.{Or, And, Add, Subtract, Multiply, Divide, Modulo}
 use Rattle.check_rules.specs.Ranges.{in_common}
 -- what operators see of a type: its base
 use Rattle.check_rules.specs.PlainTypes.{PlainType, base_of, same}

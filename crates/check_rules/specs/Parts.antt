@@ -1,13 +1,13 @@
 -- First tokens, fields by name, lists of names, and typed lists.
 use Rattle.std.specs.Prelude.{ℕ, ◌+◌, Bool, true, false, ◌&&◌, not, List, [], ◌∷◌, ◌++◌, length, map, Option, Some, None, Ok, if◌then◌else◌, bytes_eq, is_some, nat_eq}
-use Rattle.mesa_types.specs.Syntax as s
+use Rattle.syntax_trees.specs.Syntax as s
 use Rattle.mesa_base.specs.declared.place.Place.{Place}
 use Rattle.check_rules.specs.Typed as t
 use Rattle.check_rules.specs.PlainTypes as v
 use Rattle.mesa_base.specs.declared.identifier.Identifier.{Identifier}
-use Rattle.mesa_types.specs.declared.syntax.QualifiedName.{QualifiedName}
-use Rattle.mesa_types.specs.declared.syntax.TypeBase.{TypeBase}
-use Rattle.mesa_types.specs.declared.syntax.TypeBase.TheVariants.{Unsaid, OfInteger, OfCardinal, OfCharacter, OfName}
+use Rattle.syntax_trees.specs.declared.syntax.QualifiedName.{QualifiedName}
+use Rattle.syntax_trees.specs.declared.syntax.TypeBase.{TypeBase}
+use Rattle.syntax_trees.specs.declared.syntax.TypeBase.TheVariants.{Unsaid, OfInteger, OfCardinal, OfCharacter, OfName}
 use Rattle.check_rules.specs.Scopes.{has}
 use Rattle.check_rules.specs.Steps.{Checked, and_then, only}
 use Rattle.check_rules.specs.declared.fault.Cause.TheVariants.{TwiceDeclared}

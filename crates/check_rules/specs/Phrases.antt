@@ -1,7 +1,7 @@
 -- Whether a catch phrase of a call or raise stands in a part of a text, outside of the statements in it: the statement or
 -- declaration that holds it has a number (rule of this project).
 use Rattle.std.specs.Prelude.{Bool, true, false, ◌||◌}
-use Rattle.mesa_types.specs.Syntax.{Expr, Run, Not, Compare, Within, Signed, Parenthesis, Reference, Constructor, Raised, Operations, NoOperation, AndOperation, Left, LeftOf, Suffixes, NoSuffix, Field, Applied, Brackets, BracketsOf, Items, Nothing, InOrder, ByKey, Exprs, NoExprs, AndExpr, KeyedExprs, NoKeyedExprs, AndKeyedExpr, Raise, SignalRaise, ErrorRaise, UnnamedError, MaybeBrackets, NoBrackets, WithBrackets, Phrase, NoPhrase, Catch, Interval, Between, Targets, NoTarget, TargetsInOrder, TargetsByKey, Lefts, NoLefts, AndLeft, KeyedLefts, NoKeyedLefts, AndKeyedLeft, Cases, NoCases, AndCase, Tests, NoTests, Value, Compared, Inside, MaybeItems, NoItems, WithItems}
+use Rattle.syntax_trees.specs.Syntax.{Expr, Run, Not, Compare, Within, Signed, Parenthesis, Reference, Constructor, Raised, Operations, NoOperation, AndOperation, Left, LeftOf, Suffixes, NoSuffix, Field, Applied, Brackets, BracketsOf, Items, Nothing, InOrder, ByKey, Exprs, NoExprs, AndExpr, KeyedExprs, NoKeyedExprs, AndKeyedExpr, Raise, SignalRaise, ErrorRaise, UnnamedError, MaybeBrackets, NoBrackets, WithBrackets, Phrase, NoPhrase, Catch, Interval, Between, Targets, NoTarget, TargetsInOrder, TargetsByKey, Lefts, NoLefts, AndLeft, KeyedLefts, NoKeyedLefts, AndKeyedLeft, Cases, NoCases, AndCase, Tests, NoTests, Value, Compared, Inside, MaybeItems, NoItems, WithItems}
 
 abbrev pub is_catch : Phrase → Bool
 is_catch NoPhrase = false

@@ -5,7 +5,7 @@ use Rattle.mesa_base.specs.declared.limits.TheConstants.{OPERAND_WORDS, SIGNAL_W
 use Rattle.mesa_base.specs.declared.place.Place.{Place}
 use Rattle.mesa_types.specs.Shapes.{words_in_all}
 use Rattle.check_rules.specs.Typed.{NoKinds}
-use Rattle.mesa_types.specs.Syntax as s
+use Rattle.syntax_trees.specs.Syntax as s
 use Rattle.check_rules.specs.Typed as t
 use Rattle.mesa_types.specs.declared.faces.Pair.{Pair}
 use Rattle.mesa_types.specs.declared.faces.Export.{Export}
@@ -13,8 +13,8 @@ use Rattle.mesa_types.specs.declared.faces.Import.{Import}
 use Rattle.mesa_types.specs.declared.faces.ItemKind.{ItemKind}
 use Rattle.mesa_types.specs.declared.faces.ItemKind.TheVariants as item
 use Rattle.mesa_base.specs.declared.identifier.Identifier.{Identifier}
-use Rattle.mesa_types.specs.declared.syntax.Access.{Access}
-use Rattle.mesa_types.specs.declared.syntax.Access.TheVariants.{Public, Private}
+use Rattle.syntax_trees.specs.declared.syntax.Access.{Access}
+use Rattle.syntax_trees.specs.declared.syntax.Access.TheVariants.{Public, Private}
 use Rattle.check_rules.specs.Scopes.{Scope, nothing, over, has, innermost}
 use Rattle.check_rules.specs.Meanings.{Meaning, Procedure, Signal, Later, Headless}
 use Rattle.check_rules.specs.Steps.{State, Fault, Check, Checked, and_then, ◌>>=◌, pure, only, ensure, in_scope, measured, with_top, within_operands}

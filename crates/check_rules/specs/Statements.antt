@@ -3,12 +3,12 @@ use Rattle.std.specs.Prelude.{ℕ, ◌+◌, Bool, true, false, ◌&&◌, not, Li
 use Rattle.mesa_base.specs.declared.limits.TheConstants.{GLOBAL_WORDS}
 use Rattle.mesa_base.specs.declared.place.Place.{Place}
 use Rattle.mesa_types.specs.Shapes.{join, one, count_in, words_in_all}
-use Rattle.mesa_types.specs.Syntax as s
+use Rattle.syntax_trees.specs.Syntax as s
 use Rattle.check_rules.specs.Typed as t
 use Rattle.check_rules.specs.Typed.{Home, Global, Local, Base, Given, Relation}
 use Rattle.mesa_base.specs.declared.identifier.Identifier.{Identifier}
-use Rattle.mesa_types.specs.declared.syntax.RepeatLabels.{RepeatLabels}
-use Rattle.mesa_types.specs.declared.syntax.RepeatLabels.TheVariants as repeat
+use Rattle.syntax_trees.specs.declared.syntax.RepeatLabels.{RepeatLabels}
+use Rattle.syntax_trees.specs.declared.syntax.RepeatLabels.TheVariants as repeat
 use Rattle.mesa_types.specs.Constants.{constant}
 use Rattle.check_rules.specs.Operators.{Meeting, related, number_type, turned, Sort, Number, sort_of}
 use Rattle.check_rules.specs.Ranges.{Typed, checked, range_for, Arguments}

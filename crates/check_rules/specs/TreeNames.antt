@@ -4,15 +4,15 @@ use Rattle.std.specs.Prelude.{List, Option, Some, None}
 use Rattle.std.specs.List.{All}
 use Rattle.mesa_base.specs.Name.{IsName}
 use Rattle.mesa_base.specs.declared.identifier.Identifier.{Identifier}
-use Rattle.mesa_types.specs.declared.syntax.QualifiedName.{QualifiedName}
-use Rattle.mesa_types.specs.declared.syntax.Labels.{Labels}
-use Rattle.mesa_types.specs.declared.syntax.Labels.TheVariants.{Any, Unwind, Signals}
-use Rattle.mesa_types.specs.declared.syntax.RepeatLabels.{RepeatLabels}
-use Rattle.mesa_types.specs.declared.syntax.RepeatLabels.TheVariants as repeat
-use Rattle.mesa_types.specs.declared.syntax.TypeBase.{TypeBase}
-use Rattle.mesa_types.specs.declared.syntax.TypeBase.TheVariants.{Unsaid, OfInteger, OfCardinal, OfCharacter, OfName}
-use Rattle.mesa_types.specs.declared.syntax.DirectoryItem.{DirectoryItem}
-use Rattle.mesa_types.specs.Syntax as s
+use Rattle.syntax_trees.specs.declared.syntax.QualifiedName.{QualifiedName}
+use Rattle.syntax_trees.specs.declared.syntax.Labels.{Labels}
+use Rattle.syntax_trees.specs.declared.syntax.Labels.TheVariants.{Any, Unwind, Signals}
+use Rattle.syntax_trees.specs.declared.syntax.RepeatLabels.{RepeatLabels}
+use Rattle.syntax_trees.specs.declared.syntax.RepeatLabels.TheVariants as repeat
+use Rattle.syntax_trees.specs.declared.syntax.TypeBase.{TypeBase}
+use Rattle.syntax_trees.specs.declared.syntax.TypeBase.TheVariants.{Unsaid, OfInteger, OfCardinal, OfCharacter, OfName}
+use Rattle.syntax_trees.specs.declared.syntax.DirectoryItem.{DirectoryItem}
+use Rattle.syntax_trees.specs.Syntax as s
 
 abbrev pub Named : Identifier → Type 0
 Named x = IsName x.name

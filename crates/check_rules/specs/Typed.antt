@@ -10,8 +10,8 @@ pub use Rattle.mesa_types.specs.declared.typed_parts.Range.{Range}
 pub use Rattle.mesa_types.specs.declared.typed_parts.Range.TheVariants.{Every, From}
 pub use Rattle.mesa_types.specs.declared.typed_parts.Operator.{Operator}
 pub use Rattle.mesa_types.specs.declared.typed_parts.Operator.TheVariants.{Add, Subtract, Multiply, Divide, Modulo, AddToCharacter, SubtractFromCharacter}
-pub use Rattle.mesa_types.specs.declared.relation.Relation.{Relation}
-pub use Rattle.mesa_types.specs.declared.relation.Relation.TheVariants.{Equal, NotEqual, Less, AtMost, Greater, AtLeast}
+pub use Rattle.mesa_base.specs.declared.relation.Relation.{Relation}
+pub use Rattle.mesa_base.specs.declared.relation.Relation.TheVariants.{Equal, NotEqual, Less, AtMost, Greater, AtLeast}
 pub use Rattle.mesa_types.specs.declared.typed_parts.Goal.{Goal}
 pub use Rattle.mesa_types.specs.declared.typed_parts.Goal.TheVariants.{PastStatement, ToLabel, ToReturn}
 pub use Rattle.mesa_types.specs.declared.typed_parts.Callee.{Callee}

@@ -1,6 +1,6 @@
 -- Values: literals, NOT, signs, relations, runs of operators, constructors, raises (Language Manual, chapters 2, 3 and 8).
 use Rattle.std.specs.Prelude.{ℕ, suc, Bool, true, false, ◌&&◌, List, [], ◌∷◌, Option, Some, None, Ok, if◌then◌else◌, nat_eq, nat_le, bytes_eq, min}
-use Rattle.mesa_types.specs.Syntax as s
+use Rattle.syntax_trees.specs.Syntax as s
 use Rattle.mesa_base.specs.declared.limits.TheConstants.{GREATEST_NUMBER, GREATEST_CHARACTER, DISTINCT_STRINGS}
 use Rattle.mesa_base.specs.declared.place.Place.{Place}
 use Rattle.check_rules.specs.Typed as t
@@ -9,10 +9,10 @@ use Rattle.check_rules.specs.PlainTypes as v
 use Rattle.mesa_types.specs.declared.faces.ItemKind.{ItemKind}
 use Rattle.mesa_types.specs.declared.faces.ItemKind.TheVariants as item
 use Rattle.mesa_base.specs.declared.identifier.Identifier.{Identifier}
-use Rattle.mesa_types.specs.declared.syntax.Operator.{Operator}
-use Rattle.mesa_types.specs.declared.syntax.Operator.TheVariants.{Or, And}
-use Rattle.mesa_types.specs.declared.syntax.Sign.{Sign}
-use Rattle.mesa_types.specs.declared.syntax.Sign.TheVariants.{Positive, Negative}
+use Rattle.syntax_trees.specs.declared.syntax.Operator.{Operator}
+use Rattle.syntax_trees.specs.declared.syntax.Operator.TheVariants.{Or, And}
+use Rattle.syntax_trees.specs.declared.syntax.Sign.{Sign}
+use Rattle.syntax_trees.specs.declared.syntax.Sign.TheVariants.{Positive, Negative}
 use Rattle.check_rules.specs.Meanings.{Meaning}
 use Rattle.check_rules.specs.Meanings as m
 use Rattle.check_rules.specs.Operators.{Sort, Number, Truth, Meeting, Applied, sort_of, operation, related, turned, number_type}

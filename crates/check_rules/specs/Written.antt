@@ -2,11 +2,11 @@
 -- their limit (Language Manual, appendix on syntax; the limit is a rule of this project). Each tree of a text is so.
 use Rattle.std.specs.Prelude.{◌≢◌, ◌≤◌, [], length, Option, Some, None, All}
 use Rattle.mesa_base.specs.declared.limits.TheConstants.{STRING_BYTES}
-use Rattle.mesa_types.specs.declared.syntax.Labels.{Labels}
-use Rattle.mesa_types.specs.declared.syntax.Labels.TheVariants.{Any, Unwind, Signals}
-use Rattle.mesa_types.specs.declared.syntax.RepeatLabels.{RepeatLabels}
-use Rattle.mesa_types.specs.declared.syntax.RepeatLabels.TheVariants as repeat
-use Rattle.mesa_types.specs.Syntax as s
+use Rattle.syntax_trees.specs.declared.syntax.Labels.{Labels}
+use Rattle.syntax_trees.specs.declared.syntax.Labels.TheVariants.{Any, Unwind, Signals}
+use Rattle.syntax_trees.specs.declared.syntax.RepeatLabels.{RepeatLabels}
+use Rattle.syntax_trees.specs.declared.syntax.RepeatLabels.TheVariants as repeat
+use Rattle.syntax_trees.specs.Syntax as s
 
 unfoldable pub LabelsWritten : Labels → Type 0
 LabelsWritten (Any p) = Unit {0}

@@ -1,6 +1,6 @@
 -- What the code's values stand for.
 use Rattle.std.specs.Prelude.{List, [], ◌∷◌, map, Option, Some, None}
-use Rattle.mesa_types.specs.Chain.{chain}
+use Rattle.mesa_base.specs.Chain.{chain}
 use Rattle.mesa_types.specs.Plain.{expr, suffix}
 use Rattle.mesa_types.specs.Typed as t
 use Rattle.mesa_types.specs.declared.faces.Item.{Item}

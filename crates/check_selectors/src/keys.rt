@@ -1,7 +1,7 @@
 //! Lists in which each value has the name of a field as its key.
 ghost use Rattle.std.specs.Prelude.{◌≡◌, ◌++◌, ◌∷◌, [], map, true, IfOk, OnOk};
 ghost use Rattle.mesa_base.specs.declared.identifier.Identifier.{Identifier};
-ghost use Rattle.mesa_types.specs.declared.syntax.Keyed.{Keyed};
+ghost use Rattle.syntax_trees.specs.declared.syntax.Keyed.{Keyed};
 ghost use Rattle.check_rules.specs.PlainTypes.{plain_field};
 ghost use Rattle.check_scopes.specs.Scopes.{over, with_name};
 ghost use Rattle.check_scopes.specs.Shows.{means};
@@ -11,8 +11,8 @@ use check_scopes::Names;
 use check_state::next;
 use mesa_base::{Identifier, List, Name, Numbers, OutOfMemory};
 use mesa_types::FieldType;
-use mesa_types::syntax::Keyed;
 use std::alloc::Global;
+use syntax_trees::syntax::Keyed;
 
 fn and_field(
     alloc: Global,

@@ -3,7 +3,7 @@ use Rattle.std.proofs.Common.{◌≡◌, ◌≢◌, Bool, true, false, List, [],
 use Rattle.std.specs.Prelude.{◌||◌, nat_eq}
 use Rattle.mesa_base.specs.declared.identifier.Identifier.{Identifier}
 use Rattle.mesa_base.specs.declared.place.Place.{Place}
-use Rattle.mesa_types.specs.Syntax as s
+use Rattle.syntax_trees.specs.Syntax as s
 use Rattle.mesa_types.specs.declared.types.FieldType.{FieldType}
 use Rattle.check_rules.specs.Typed as t
 use Rattle.check_rules.specs.Around.{Around, return, resumed}

@@ -3,15 +3,15 @@ use Rattle.std.proofs.Common.{◌≡◌, ◌<◌, ◌≤◌, ◌+◌, ℕ, Bool,
 use Rattle.std.specs.Prelude.{◌||◌}
 use Rattle.std.proofs.lemmas.List.{drop_all}
 use Rattle.mesa_base.specs.declared.place.Place.{Place}
-use Rattle.mesa_types.specs.PlainSyntax as plain
-use Rattle.mesa_types.specs.Syntax as s
-use Rattle.mesa_types.specs.declared.syntax.Case.{Case, out-Case}
-use Rattle.mesa_types.specs.declared.syntax.Keyed.{Keyed}
-use Rattle.mesa_types.specs.declared.syntax.Left.{Left}
-use Rattle.mesa_types.specs.declared.syntax.Interval.{Interval}
-use Rattle.mesa_types.specs.declared.syntax.Test.{Test}
-use Rattle.mesa_types.specs.declared.syntax.Test.TheVariants.{Inside}
-use Rattle.mesa_types.proofs.PlainForms.{of_inside, parts_of_case}
+use Rattle.syntax_trees.specs.PlainSyntax as plain
+use Rattle.syntax_trees.specs.Syntax as s
+use Rattle.syntax_trees.specs.declared.syntax.Case.{Case, out-Case}
+use Rattle.syntax_trees.specs.declared.syntax.Keyed.{Keyed}
+use Rattle.syntax_trees.specs.declared.syntax.Left.{Left}
+use Rattle.syntax_trees.specs.declared.syntax.Interval.{Interval}
+use Rattle.syntax_trees.specs.declared.syntax.Test.{Test}
+use Rattle.syntax_trees.specs.declared.syntax.Test.TheVariants.{Inside}
+use Rattle.syntax_trees.proofs.PlainForms.{of_inside, parts_of_case}
 use Rattle.check_rules.specs.Phrases.{in_cases, in_interval, in_keyed_lefts, in_left, in_lefts, in_tests}
 use Rattle.check_jumps.proofs.Tests.{at_drop}
 

@@ -5,10 +5,10 @@ use Rattle.std.proofs.lemmas.List.{drop_all, length-map, map-append, reverse-app
 use Rattle.mesa_base.specs.declared.identifier.Identifier.{Identifier}
 use Rattle.mesa_base.specs.declared.place.Place.{Place}
 use Rattle.mesa_types.specs.Plain.{chain, target}
-use Rattle.mesa_types.specs.PlainSyntax as plain
-use Rattle.mesa_types.specs.Syntax as s
-use Rattle.mesa_types.specs.declared.syntax.Keyed.{Keyed}
-use Rattle.mesa_types.specs.declared.syntax.Left.{Left}
+use Rattle.syntax_trees.specs.PlainSyntax as plain
+use Rattle.syntax_trees.specs.Syntax as s
+use Rattle.syntax_trees.specs.declared.syntax.Keyed.{Keyed}
+use Rattle.syntax_trees.specs.declared.syntax.Left.{Left}
 use Rattle.mesa_types.specs.declared.typed_tree.Target.{Target as TypedTarget}
 use Rattle.mesa_types.specs.declared.types.FieldType.{FieldType}
 use Rattle.check_rules.specs.Typed as t

@@ -2,7 +2,7 @@
 ghost use Rattle.std.specs.Prelude.{◌≡◌, IfOk};
 ghost use Rattle.mesa_types.specs.Plain.{expr, stmt};
 ghost use Rattle.mesa_types.specs.Plain as tree;
-ghost use Rattle.mesa_types.specs.PlainSyntax as plain;
+ghost use Rattle.syntax_trees.specs.PlainSyntax as plain;
 ghost use Rattle.mesa_types.specs.Typed as t;
 ghost use Rattle.check_rules.specs.Checking as spec;
 ghost use Rattle.check_rules.specs.Statements as rule;
@@ -19,9 +19,9 @@ use check_rules::CheckFault;
 use check_state::{Aim, Around, State, named};
 use held_trees::{LetGo, both, boxed};
 use mesa_base::{Boxed, Identifier, OutOfMemory, Place};
-use mesa_types::syntax::{self, Control, Count, Expr, Interval};
 use mesa_types::{Base, Condition, Given, Loop, TypeTree, TypedExpr, TypedStmt};
 use std::alloc::Global;
+use syntax_trees::syntax::{self, Control, Count, Expr, Interval};
 
 /// How a loop counts: to what it gives its numbers, whether downward, and its bounds.
 pub enum Counted {
@@ -88,7 +88,7 @@ fn always() -> Condition
 }
 
 /// WHILE or UNTIL, or none of both.
-#[tactic(auto, using(mesa_types::proofs::PlainForms::condition_forms, crate::proofs::Clauses::condition_none, crate::proofs::Clauses::condition_while, crate::proofs::Clauses::condition_until))]
+#[tactic(auto, using(syntax_trees::proofs::PlainForms::condition_forms, crate::proofs::Clauses::condition_none, crate::proofs::Clauses::condition_while, crate::proofs::Clauses::condition_until))]
 fn condition<P: Phrases>(
     checker: &Checker<P>,
     of: &Option<syntax::Condition>,
@@ -159,7 +159,7 @@ fn counted_for<P: Phrases>(
 }
 
 /// FOR or THROUGH, or none of both.
-#[tactic(auto, using(mesa_types::proofs::PlainForms::count_forms, crate::proofs::Clauses::counted_none, crate::proofs::Clauses::counted_through, crate::proofs::Clauses::counted_by))]
+#[tactic(auto, using(syntax_trees::proofs::PlainForms::count_forms, crate::proofs::Clauses::counted_none, crate::proofs::Clauses::counted_through, crate::proofs::Clauses::counted_by))]
 fn count_of<P: Phrases>(
     checker: &Checker<P>,
     of: &Option<Count>,
@@ -188,7 +188,7 @@ fn count_of<P: Phrases>(
 }
 
 /// What stands before a DO.
-#[tactic(auto, using(mesa_types::proofs::PlainForms::parts, crate::proofs::Clauses::control_is))]
+#[tactic(auto, using(syntax_trees::proofs::PlainForms::parts, crate::proofs::Clauses::control_is))]
 pub fn control<P: Phrases>(
     checker: &Checker<P>,
     control: &Control,

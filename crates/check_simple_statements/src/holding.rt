@@ -1,11 +1,11 @@
 //! Whether a catch phrase stands in targets or tests.
 ghost use Rattle.std.specs.Prelude.{◌≡◌, ◌||◌};
-ghost use Rattle.mesa_types.specs.PlainSyntax as plain;
-ghost use Rattle.mesa_types.specs.Syntax as s;
+ghost use Rattle.syntax_trees.specs.PlainSyntax as plain;
+ghost use Rattle.syntax_trees.specs.Syntax as s;
 ghost use Rattle.check_rules.specs.Phrases as spec;
 
 use check_phrases::{holds, interval_holds, left_holds};
-use mesa_types::syntax::{Case, Entries, Keyed, Left, Test};
+use syntax_trees::syntax::{Case, Entries, Keyed, Left, Test};
 
 fn lefts_hold(all: &[Left]) -> bool
     ensures { result ≡ spec.in_lefts (plain.lefts all.now) }
@@ -41,7 +41,7 @@ pub(crate) fn targets_hold(all: &Entries<Left>) -> bool
     }
 }
 
-#[tactic(auto, using(mesa_types::proofs::PlainForms::test_forms), unfolding(check_rules::specs::Phrases::in_tests))]
+#[tactic(auto, using(syntax_trees::proofs::PlainForms::test_forms), unfolding(check_rules::specs::Phrases::in_tests))]
 fn test_holds(test: &Test) -> bool
     ensures { (rest : s.Tests) → spec.in_tests (plain.test test.now rest) ≡ (result || spec.in_tests rest) }
 {

@@ -1,7 +1,7 @@
 //! What statements that hold no statement are, inside of what counts their operands.
 ghost use Rattle.std.specs.Prelude.{◌≡◌, IfOk};
 ghost use Rattle.mesa_types.specs.Plain.{expr, stmt};
-ghost use Rattle.mesa_types.specs.PlainSyntax as plain;
+ghost use Rattle.syntax_trees.specs.PlainSyntax as plain;
 ghost use Rattle.mesa_types.specs.Typed as t;
 ghost use Rattle.check_rules.specs.Statements as rule;
 ghost use Rattle.check_state.specs.Gives.{Gives, GivesOnly};
@@ -22,9 +22,9 @@ use check_selectors::{Target, Use, led_to, performed};
 use check_state::{Aim, Around, State, named, narrower};
 use held_trees::{LetGo, both};
 use mesa_base::{OutOfMemory, Place};
-use mesa_types::syntax::{Entries, Expr, Left, ListExpr, Raise};
 use mesa_types::{Targets, TypedExpr, TypedStmt};
 use std::alloc::Global;
+use syntax_trees::syntax::{Entries, Expr, Left, ListExpr, Raise};
 
 #[tactic(auto, unfolding(check_selectors::specs::Views::suffixes))]
 fn store(to: Target, value: TypedExpr) -> TypedStmt
@@ -99,7 +99,7 @@ fn perform(value: TypedExpr) -> TypedStmt
 }
 
 /// What is called.
-#[tactic(auto, using(mesa_types::proofs::PlainForms::parts), unfolding(crate::specs::Rules::called))]
+#[tactic(auto, using(syntax_trees::proofs::PlainForms::parts), unfolding(crate::specs::Rules::called))]
 pub(crate) fn called<P: Phrases>(
     checker: &Checker<P>,
     left: &Left,

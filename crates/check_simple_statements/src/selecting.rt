@@ -1,7 +1,7 @@
 //! The tests of a SELECT's arm.
 ghost use Rattle.mesa_types.specs.Plain as tree;
-ghost use Rattle.mesa_types.specs.PlainSyntax as plain;
-ghost use Rattle.mesa_types.specs.Syntax as s;
+ghost use Rattle.syntax_trees.specs.PlainSyntax as plain;
+ghost use Rattle.syntax_trees.specs.Syntax as s;
 ghost use Rattle.check_rules.specs.Checking as spec;
 ghost use Rattle.check_state.specs.Gives.{Gives};
 ghost use Rattle.check_state.specs.Views as words;
@@ -14,12 +14,12 @@ use check_operands::first;
 use check_rules::CheckFault;
 use check_state::{Aim, Around, State, Typed};
 use held_trees::{both, pushed};
-use mesa_base::List;
-use mesa_types::syntax::Test;
-use mesa_types::{Relation, Test as TypedTest, Tests};
+use mesa_base::{List, Relation};
+use mesa_types::{Test as TypedTest, Tests};
+use syntax_trees::syntax::Test;
 
 /// One test of the selector.
-#[tactic(auto, using(mesa_types::proofs::PlainForms::test_forms), unfolding(crate::specs::Rules::first_test))]
+#[tactic(auto, using(syntax_trees::proofs::PlainForms::test_forms), unfolding(crate::specs::Rules::first_test))]
 fn one_test<P: Phrases>(
     checker: &Checker<P>,
     one: &Test,

@@ -1,8 +1,8 @@
 //! Statements that hold no statement, each whole: with its operands counted and its number.
 ghost use Rattle.std.specs.Prelude.{◌≡◌, ◌||◌};
 ghost use Rattle.mesa_types.specs.Plain.{stmt};
-ghost use Rattle.mesa_types.specs.PlainSyntax as plain;
-ghost use Rattle.mesa_types.specs.Syntax as s;
+ghost use Rattle.syntax_trees.specs.PlainSyntax as plain;
+ghost use Rattle.syntax_trees.specs.Syntax as s;
 ghost use Rattle.check_rules.specs.Checking as spec;
 ghost use Rattle.check_rules.specs.Phrases as phrases;
 ghost use Rattle.check_state.specs.Gives.{Gives};
@@ -18,16 +18,16 @@ use check_rules::CheckFault;
 use check_state::{Around, State};
 use mesa_base::Place;
 use mesa_types::TypedStmt;
-use mesa_types::syntax::{Entries, Expr, Left, ListExpr, Raise};
+use syntax_trees::syntax::{Entries, Expr, Left, ListExpr, Raise};
 
-#[tactic(auto, using(mesa_types::proofs::PlainForms::parts))]
+#[tactic(auto, using(syntax_trees::proofs::PlainForms::parts))]
 fn start_of(left: &Left) -> Place
     ensures { result ≡ s.left_place (plain.left left.now) }
 {
     left.name.place
 }
 
-#[tactic(auto, using(mesa_types::proofs::PlainForms::raise_forms))]
+#[tactic(auto, using(syntax_trees::proofs::PlainForms::raise_forms))]
 fn start_of_raise(of: &Raise) -> Place
     ensures { result ≡ s.raise_place (plain.raise of.now) }
 {

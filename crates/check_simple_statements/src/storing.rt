@@ -1,7 +1,7 @@
 //! Variables into which is stored, one or several.
 ghost use Rattle.std.specs.Prelude.{◌≡◌, [], length, nat_eq, not, true, is_some, OnOk};
 ghost use Rattle.mesa_types.specs.Plain as tree;
-ghost use Rattle.mesa_types.specs.PlainSyntax as plain;
+ghost use Rattle.syntax_trees.specs.PlainSyntax as plain;
 ghost use Rattle.mesa_types.specs.Typed as t;
 ghost use Rattle.check_scopes.specs.Scopes.{with_name};
 ghost use Rattle.check_scopes.specs.Shows.{means};
@@ -28,12 +28,12 @@ use check_state::{Around, State, conforms, named, narrow, size};
 use check_values::range_for;
 use held_trees::{LetGo, both, pushed};
 use mesa_base::{Identifier, List, Place};
-use mesa_types::syntax::{Entries, Keyed, Left};
 use mesa_types::{FieldType, Home, Part, Range, Suffixes, Target as TypedTarget, Targets};
 use std::alloc::Global;
+use syntax_trees::syntax::{Entries, Keyed, Left};
 
 /// A variable into which is stored.
-#[tactic(auto, using(mesa_types::proofs::PlainForms::parts, crate::proofs::Clauses::target_is))]
+#[tactic(auto, using(syntax_trees::proofs::PlainForms::parts, crate::proofs::Clauses::target_is))]
 pub fn target<P: Phrases>(
     checker: &Checker<P>,
     left: &Left,

@@ -16,8 +16,8 @@ use check_rules::{Cause, CheckFault};
 use check_scopes::Names;
 use mesa_base::{Identifier, OutOfMemory, Place};
 use mesa_types::TypeTree;
-use mesa_types::syntax::{QualifiedName, TypeBase};
 use std::alloc::Global;
+use syntax_trees::syntax::{QualifiedName, TypeBase};
 
 fn shared(alloc: Global, found: Option<&Meaning>) -> Result<Option<Meaning>, OutOfMemory>
     ensures { IfOk result (λ copy. copy ≡ option_copied found.entry) }

@@ -11,7 +11,7 @@ use mesa_types::{Base, FieldType, TypeTree};
 pub fn same(a: &TypeTree, b: &TypeTree) -> bool
     ensures { result ≡ spec.same (plain a.now) (plain b.now) }
 {
-    mesa_types::same_type(a, b)
+    typed_answers::same_type(a, b)
 }
 
 #[tactic(auto, using(crate::proofs::TypeForms::type_forms))]
@@ -124,7 +124,7 @@ pub fn fields(t: &TypeTree) -> Option<&[FieldType]>
 pub fn base_of(t: &TypeTree) -> Option<&TypeTree>
     ensures { option_map plain (option_copied result) ≡ spec.base_of (plain t.now) }
 {
-    mesa_types::base(t)
+    typed_answers::base(t)
 }
 
 fn is_number(t: &TypeTree) -> bool
@@ -174,7 +174,7 @@ pub fn sign_of(t: &TypeTree) -> Base
 pub fn elements_of(t: &TypeTree) -> usize
     ensures { result ≡ spec.elements_of (plain t.now) }
 {
-    mesa_types::elements(t)
+    typed_answers::elements(t)
 }
 
 /// The size of a type in words, or 4,294,967,295 where it is greater.
@@ -182,7 +182,7 @@ pub fn elements_of(t: &TypeTree) -> usize
 pub fn words_of(t: &TypeTree) -> u32
     ensures { result ≡ min (spec.words_of (plain t.now)) 4294967295 }
 {
-    mesa_types::size_words(t)
+    typed_answers::size_words(t)
 }
 
 /// The size of fields, parameters or results together, or 4,294,967,295 where it is greater.
@@ -190,7 +190,7 @@ pub fn words_of(t: &TypeTree) -> u32
 pub fn words_of_fields(fields: &[FieldType]) -> u32
     ensures { result ≡ min (spec.words_of_fields (map plain_field fields.now)) 4294967295 }
 {
-    mesa_types::fields_words(fields)
+    typed_answers::fields_words(fields)
 }
 
 /// The size of a type in words, which each type of a module has.

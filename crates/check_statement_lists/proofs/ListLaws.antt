@@ -2,17 +2,17 @@
 use Rattle.std.proofs.Common.{◌≡◌, ◌+◌, ℕ, Bool, ◌||◌, List, [], ◌∷◌, ◌++◌, map, length, Ok, Err, Some, None, refl, sym, ap, ◌∙◌}
 use Rattle.mesa_base.specs.declared.identifier.Identifier.{Identifier}
 use Rattle.mesa_types.specs.Plain as tree
-use Rattle.mesa_types.specs.PlainSyntax as plain
-use Rattle.mesa_types.specs.Syntax as s
-use Rattle.mesa_types.specs.declared.syntax.Arm.{Arm, out-Arm}
-use Rattle.mesa_types.specs.declared.syntax.Labeled.{Labeled}
-use Rattle.mesa_types.specs.declared.syntax.RepeatLabels.{RepeatLabels}
-use Rattle.mesa_types.specs.declared.syntax.Statement.{Statement}
+use Rattle.syntax_trees.specs.PlainSyntax as plain
+use Rattle.syntax_trees.specs.Syntax as s
+use Rattle.syntax_trees.specs.declared.syntax.Arm.{Arm, out-Arm}
+use Rattle.syntax_trees.specs.declared.syntax.Labeled.{Labeled}
+use Rattle.syntax_trees.specs.declared.syntax.RepeatLabels.{RepeatLabels}
+use Rattle.syntax_trees.specs.declared.syntax.Statement.{Statement}
 use Rattle.mesa_base.specs.declared.place.Place.{Place}
 use Rattle.mesa_types.specs.declared.typed_tree.Exit.{Exit}
 use Rattle.mesa_types.specs.declared.typed_tree.TypedStmt.{TypedStmt}
 use Rattle.check_statement_lists.specs.declared.endings.Left.{Left as LeftHere}
-use Rattle.mesa_types.proofs.PlainForms.{parts_of_arm}
+use Rattle.syntax_trees.proofs.PlainForms.{parts_of_arm}
 use Rattle.check_rules.specs.Typed as t
 use Rattle.check_rules.specs.Around.{Around, in_arm, label_of}
 use Rattle.check_rules.specs.Checking as spec

@@ -3,8 +3,8 @@ use Rattle.std.specs.Prelude.{ℕ, Result}
 use Rattle.std.specs.declared.alloc.Global.{Global}
 use denote.Ref.{Bor, MutBor}
 use Rattle.mesa_types.specs.Plain.{stmt}
-use Rattle.mesa_types.specs.PlainSyntax as plain
-use Rattle.mesa_types.specs.declared.syntax.Statement.{Statement}
+use Rattle.syntax_trees.specs.PlainSyntax as plain
+use Rattle.syntax_trees.specs.declared.syntax.Statement.{Statement}
 use Rattle.mesa_types.specs.declared.typed_tree.TypedStmt.{TypedStmt}
 use Rattle.check_rules.specs.Checking as spec
 use Rattle.check_rules.specs.declared.fault.CheckFault.{CheckFault}

@@ -1,7 +1,7 @@
 //! The statements of an EXITS or a REPEAT, with the numbers of their labels.
 ghost use Rattle.std.specs.Prelude.{◌≡◌, ◌+◌, ◌++◌, ◌||◌, [], ℕ, List, false, true, length, is_some, IfOk, OnOk};
 ghost use Rattle.mesa_types.specs.Plain as tree;
-ghost use Rattle.mesa_types.specs.PlainSyntax as plain;
+ghost use Rattle.syntax_trees.specs.PlainSyntax as plain;
 ghost use Rattle.mesa_types.specs.Typed as t;
 ghost use Rattle.check_rules.specs.Checking as spec;
 ghost use Rattle.check_rules.specs.Parts.{names_of};
@@ -21,9 +21,9 @@ use check_scopes::Names;
 use check_state::{Around, State};
 use held_trees::{LetGo, both, pushed};
 use mesa_base::{Identifier, List, OutOfMemory};
-use mesa_types::syntax::{self, Repeat, RepeatLabels};
 use mesa_types::{Exit, Exits, TypedStmt};
 use std::alloc::Global;
+use syntax_trees::syntax::{self, Repeat, RepeatLabels};
 
 /// The labels so far: their names, and the number of the next.
 #[derive(Drop)]

@@ -1,6 +1,6 @@
 //! Statements, one after the other.
 ghost use Rattle.mesa_types.specs.Plain.{stmt};
-ghost use Rattle.mesa_types.specs.PlainSyntax as plain;
+ghost use Rattle.syntax_trees.specs.PlainSyntax as plain;
 ghost use Rattle.check_state.specs.Gives.{Gives};
 ghost use Rattle.check_state.specs.Views as view;
 ghost use Rattle.check_rules.specs.Checking as spec;
@@ -14,7 +14,7 @@ use check_state::{Around, State};
 use held_trees::{both, pushed};
 use mesa_base::List;
 use mesa_types::Stmts;
-use mesa_types::syntax::Statement;
+use syntax_trees::syntax::Statement;
 
 impl<N: Nested> NestedChecker<N> {
     /// Statements, one after the other, behind others that are checked.

@@ -1,6 +1,6 @@
 //! Statements that stand inside one another.
 ghost use Rattle.mesa_types.specs.Plain.{stmt};
-ghost use Rattle.mesa_types.specs.PlainSyntax as plain;
+ghost use Rattle.syntax_trees.specs.PlainSyntax as plain;
 ghost use Rattle.check_rules.specs.Checking as spec;
 ghost use Rattle.check_state.specs.Gives.{Gives};
 ghost use Rattle.check_state.specs.Views as view;
@@ -9,8 +9,8 @@ ghost use Rattle.check_statement_lists.specs.Asks.{Asks};
 use check_rules::CheckFault;
 use check_state::{Around, State};
 use mesa_types::TypedStmt;
-use mesa_types::syntax::Statement;
 use std::alloc::Global;
+use syntax_trees::syntax::Statement;
 
 /// What checks statements that stand in statements.
 pub trait Nested {

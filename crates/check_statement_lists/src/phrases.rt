@@ -1,7 +1,7 @@
 //! Catch phrases and their arms.
 ghost use Rattle.std.specs.Prelude.{◌≡◌};
 ghost use Rattle.mesa_types.specs.Plain as tree;
-ghost use Rattle.mesa_types.specs.PlainSyntax as plain;
+ghost use Rattle.syntax_trees.specs.PlainSyntax as plain;
 ghost use Rattle.mesa_types.specs.Typed as t;
 ghost use Rattle.check_rules.specs.Checking as spec;
 ghost use Rattle.check_rules.specs.Steps.{in_scope};
@@ -18,9 +18,9 @@ use check_scopes::Names;
 use check_state::{Around, Meaning, State};
 use held_trees::{both, pushed};
 use mesa_base::List;
-use mesa_types::syntax::{self, Statement};
 use mesa_types::{Arm, Arms, Phrase, TypedStmt};
 use std::alloc::Global;
+use syntax_trees::syntax::{self, Statement};
 
 /// What checks lists of statements, over what checks one of them.
 #[derive(Clone, Copy)]

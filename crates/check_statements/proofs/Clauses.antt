@@ -2,7 +2,7 @@
 use Rattle.std.proofs.Common.{◌≡◌, Bool, true, false, [], Ok, refl, ap, ◌∙◌}
 use Rattle.std.specs.Prelude.{◌||◌}
 use Rattle.mesa_base.specs.declared.place.Place.{Place}
-use Rattle.mesa_types.specs.Syntax as s
+use Rattle.syntax_trees.specs.Syntax as s
 use Rattle.check_rules.specs.Typed as t
 use Rattle.check_rules.specs.Around.{Around, in_round, inside, with_labels}
 use Rattle.check_rules.specs.Checking as spec

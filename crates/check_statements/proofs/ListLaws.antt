@@ -4,13 +4,13 @@ use Rattle.std.specs.Prelude.{option_map}
 use Rattle.std.proofs.lemmas.List.{map-append}
 use Rattle.mesa_base.specs.declared.identifier.Identifier.{Identifier}
 use Rattle.mesa_types.specs.Plain as tree
-use Rattle.mesa_types.specs.PlainSyntax as plain
-use Rattle.mesa_types.specs.declared.syntax.Case.{Case, out-Case}
-use Rattle.mesa_types.specs.declared.syntax.Labeled.{Labeled}
-use Rattle.mesa_types.specs.declared.syntax.PlainItem.{PlainItem}
+use Rattle.syntax_trees.specs.PlainSyntax as plain
+use Rattle.syntax_trees.specs.declared.syntax.Case.{Case, out-Case}
+use Rattle.syntax_trees.specs.declared.syntax.Labeled.{Labeled}
+use Rattle.syntax_trees.specs.declared.syntax.PlainItem.{PlainItem}
 use Rattle.mesa_types.specs.declared.typed_tree.Case.{Case as CaseHere}
 use Rattle.mesa_types.specs.declared.typed_tree.TypedStmt.{TypedStmt}
-use Rattle.mesa_types.proofs.PlainForms.{parts_of_case}
+use Rattle.syntax_trees.proofs.PlainForms.{parts_of_case}
 use Rattle.check_rules.specs.Typed as t
 use Rattle.check_rules.specs.Around.{Around}
 use Rattle.check_rules.specs.Checking as spec

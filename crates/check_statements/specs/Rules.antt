@@ -1,6 +1,6 @@
 -- Parts of the rules of statements, as the code takes them one by one.
 use Rattle.std.specs.Prelude.{ℕ, Bool, true, false, []}
-use Rattle.mesa_types.specs.Syntax as s
+use Rattle.syntax_trees.specs.Syntax as s
 use Rattle.check_rules.specs.Typed as t
 use Rattle.check_rules.specs.Around.{Around, in_round, in_statement, inside, with_labels}
 use Rattle.check_rules.specs.Checking as spec

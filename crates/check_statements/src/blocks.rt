@@ -1,7 +1,7 @@
 //! Blocks.
 ghost use Rattle.std.specs.Prelude.{◌≡◌};
 ghost use Rattle.mesa_types.specs.Plain as tree;
-ghost use Rattle.mesa_types.specs.PlainSyntax as plain;
+ghost use Rattle.syntax_trees.specs.PlainSyntax as plain;
 ghost use Rattle.check_rules.specs.Checking as spec;
 ghost use Rattle.check_rules.specs.Phrases as phrases;
 ghost use Rattle.check_rules.specs.Scopes.{nothing};
@@ -20,9 +20,9 @@ use check_scopes::Names;
 use check_state::{Around, Meaning, State};
 use check_statement_lists::Nested;
 use held_trees::{LetGo, both, boxed};
-use mesa_types::syntax::Block;
 use mesa_types::{Phrase, Stmts, TypedStmt};
 use std::alloc::Global;
+use syntax_trees::syntax::Block;
 
 /// What a block holds under its names.
 pub struct Held {
@@ -46,7 +46,7 @@ fn no_names(alloc: Global) -> Names<Meaning>
 }
 
 /// Whether the block has an ENABLE.
-#[tactic(auto, using(mesa_types::proofs::PlainForms::parts_of_block))]
+#[tactic(auto, using(syntax_trees::proofs::PlainForms::parts_of_block))]
 fn has_enable(one: &Block) -> bool
     ensures { result ≡ phrases.is_catch (rules.enable_of (plain.block one.now)) }
 {
@@ -58,7 +58,7 @@ fn has_enable(one: &Block) -> bool
 
 impl<N: Nested> StatementChecker<N> {
     /// A block's declarations, ENABLE and statements.
-    #[tactic(auto, using(mesa_types::proofs::PlainForms::parts_of_block), unfolding(crate::specs::Rules::block_inside))]
+    #[tactic(auto, using(syntax_trees::proofs::PlainForms::parts_of_block), unfolding(crate::specs::Rules::block_inside))]
     fn block_inside(
         &self,
         one: &Block,
@@ -119,7 +119,7 @@ impl<N: Nested> StatementChecker<N> {
     }
 
     /// A block with its EXITS.
-    #[tactic(auto, using(mesa_types::proofs::PlainForms::parts_of_block), unfolding(crate::specs::Rules::block_numbered))]
+    #[tactic(auto, using(syntax_trees::proofs::PlainForms::parts_of_block), unfolding(crate::specs::Rules::block_numbered))]
     fn block_numbered(
         &self,
         one: &Block,

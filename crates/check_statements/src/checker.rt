@@ -1,7 +1,7 @@
 //! What checks statements, over what checks those that stand in them.
 ghost use Rattle.std.specs.Prelude.{◌≡◌};
 ghost use Rattle.mesa_types.specs.Plain.{phrase as plain_phrase, stmt};
-ghost use Rattle.mesa_types.specs.PlainSyntax as plain;
+ghost use Rattle.syntax_trees.specs.PlainSyntax as plain;
 ghost use Rattle.check_rules.specs.Checking as spec;
 ghost use Rattle.check_state.specs.Gives.{Gives};
 ghost use Rattle.check_state.specs.Views as view;
@@ -10,9 +10,9 @@ use check_expressions::{Checker, Phrases};
 use check_rules::CheckFault;
 use check_state::{Around, State};
 use check_statement_lists::{Nested, NestedChecker};
-use mesa_types::syntax::{self, Statement};
 use mesa_types::{Phrase, TypedStmt};
 use std::alloc::Global;
+use syntax_trees::syntax::{self, Statement};
 
 /// The checker of one level of nesting; its expressions ask it for their phrases.
 pub struct StatementChecker<N> {

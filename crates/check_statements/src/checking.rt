@@ -1,7 +1,7 @@
 //! The cycle that ties the levels of nesting, and the calls from outside.
 ghost use Rattle.std.specs.Prelude.{[], Ok};
 ghost use Rattle.mesa_types.specs.Plain as tree;
-ghost use Rattle.mesa_types.specs.PlainSyntax as plain;
+ghost use Rattle.syntax_trees.specs.PlainSyntax as plain;
 ghost use Rattle.check_rules.specs.Checking as spec;
 ghost use Rattle.check_rules.specs.Parts.{join_stmts};
 ghost use Rattle.check_rules.specs.Steps.{and_then};
@@ -14,9 +14,9 @@ use check_rules::CheckFault;
 use check_state::{Around, State};
 use check_statement_lists::StatementFunction;
 use mesa_base::limits::NESTING;
-use mesa_types::syntax::{self, Block, Exit, Statement};
 use mesa_types::{Exits, Phrase, Stmts, TypedStmt};
 use std::alloc::Global;
+use syntax_trees::syntax::{self, Block, Exit, Statement};
 
 /// A statement, where so many may stand inside one another, itself counted; a deeper one wants memory. The parsers refuse a text that
 /// has more than `NESTING`.

@@ -1,6 +1,6 @@
 //! Statements, by their form.
 ghost use Rattle.mesa_types.specs.Plain.{stmt};
-ghost use Rattle.mesa_types.specs.PlainSyntax as plain;
+ghost use Rattle.syntax_trees.specs.PlainSyntax as plain;
 ghost use Rattle.check_rules.specs.Checking as spec;
 ghost use Rattle.check_state.specs.Gives.{Gives};
 ghost use Rattle.check_state.specs.Views as view;
@@ -15,11 +15,11 @@ use check_simple_statements::{
 use check_state::{Around, State};
 use check_statement_lists::Nested;
 use mesa_types::TypedStmt;
-use mesa_types::syntax::Statement;
+use syntax_trees::syntax::Statement;
 
 impl<N: Nested> StatementChecker<N> {
     /// A statement.
-    #[tactic(auto, using(mesa_types::proofs::PlainForms::statement_forms, check_simple_statements::proofs::JumpClauses::jump_clauses, crate::proofs::Clauses::nested_is))]
+    #[tactic(auto, using(syntax_trees::proofs::PlainForms::statement_forms, check_simple_statements::proofs::JumpClauses::jump_clauses, crate::proofs::Clauses::nested_is))]
     pub fn statement(
         &self,
         one: &Statement,

@@ -1,6 +1,6 @@
 //! The declarations of a block: their heads before all else in it, and then what they do when they are reached.
 ghost use Rattle.std.specs.Prelude.{◌≡◌, [], ◌∷◌, ◌++◌, MatchOption, Option, IfOk};
-ghost use Rattle.mesa_types.specs.PlainSyntax as plain;
+ghost use Rattle.syntax_trees.specs.PlainSyntax as plain;
 ghost use Rattle.check_rules.specs.Checking as spec;
 ghost use Rattle.check_rules.specs.Parts.{join_stmts};
 ghost use Rattle.check_locals.specs.Views as local;
@@ -17,10 +17,10 @@ use check_state::{Around, State};
 use check_statement_lists::Nested;
 use held_trees::{LetGo, both, pushed};
 use mesa_base::{List, OutOfMemory};
-use mesa_types::syntax::Local;
 use mesa_types::{Stmts, TypedStmt};
 use std::alloc::{AllocFailed, Global};
 use std::collections::VecDeque;
+use syntax_trees::syntax::Local;
 
 /// The heads of declarations, which are taken out one by one.
 pub struct Heads {

@@ -1,8 +1,8 @@
 //! Loops.
 ghost use Rattle.std.specs.Prelude.{◌≡◌};
 ghost use Rattle.mesa_types.specs.Plain as tree;
-ghost use Rattle.mesa_types.specs.PlainSyntax as plain;
-ghost use Rattle.mesa_types.specs.Syntax as s;
+ghost use Rattle.syntax_trees.specs.PlainSyntax as plain;
+ghost use Rattle.syntax_trees.specs.Syntax as s;
 ghost use Rattle.check_rules.specs.Checking as spec;
 ghost use Rattle.check_state.specs.Gives.{Gives};
 ghost use Rattle.check_state.specs.Views as view;
@@ -18,9 +18,9 @@ use check_statement_lists::Nested;
 use held_trees::{both, boxed};
 use mesa_base::Place;
 use mesa_types::TypedStmt;
-use mesa_types::syntax::{self, Condition, Control, Count, Repeat, Statement};
+use syntax_trees::syntax::{self, Condition, Control, Count, Repeat, Statement};
 
-#[tactic(auto, using(mesa_types::proofs::PlainForms::condition_forms))]
+#[tactic(auto, using(syntax_trees::proofs::PlainForms::condition_forms))]
 fn condition_place(condition: &Option<Condition>, at_do: Place) -> Place
     ensures { result ≡ s.condition_place (plain.maybe_condition condition.now) at_do }
 {
@@ -31,7 +31,7 @@ fn condition_place(condition: &Option<Condition>, at_do: Place) -> Place
 }
 
 /// The place of a loop's first token, whose DO is here.
-#[tactic(auto, using(mesa_types::proofs::PlainForms::parts, mesa_types::proofs::PlainForms::count_forms))]
+#[tactic(auto, using(syntax_trees::proofs::PlainForms::parts, syntax_trees::proofs::PlainForms::count_forms))]
 fn control_place(control: &Control, at_do: Place) -> Place
     ensures { result ≡ s.control_place (plain.control control.now) at_do }
 {

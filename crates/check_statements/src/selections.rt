@@ -1,8 +1,8 @@
 //! IF and SELECT.
 ghost use Rattle.std.specs.Prelude.{◌≡◌, ◌||◌};
 ghost use Rattle.mesa_types.specs.Plain as tree;
-ghost use Rattle.mesa_types.specs.PlainSyntax as plain;
-ghost use Rattle.mesa_types.specs.Syntax as s;
+ghost use Rattle.syntax_trees.specs.PlainSyntax as plain;
+ghost use Rattle.syntax_trees.specs.Syntax as s;
 ghost use Rattle.check_rules.specs.Checking as spec;
 ghost use Rattle.check_rules.specs.Phrases as phrases;
 ghost use Rattle.check_state.specs.Gives.{Gives};
@@ -20,8 +20,8 @@ use check_state::{Aim, Around, State, Typed};
 use check_statement_lists::Nested;
 use held_trees::{both, boxed, boxed_pair, pushed};
 use mesa_base::{Boxed, List, Place};
-use mesa_types::syntax::{self, Expr, Statement};
 use mesa_types::{Case, Cases, TypedStmt};
+use syntax_trees::syntax::{self, Expr, Statement};
 
 /// Whether a catch phrase stands in a SELECT, outside of its statements.
 fn select_holds(selector: &Expr, cases: &[syntax::Case]) -> bool

@@ -14,8 +14,9 @@ use check_state::{Typed, base_of, is_text, same, sign_of};
 use check_values::{Sort, sort_of};
 use held_trees::{LetGo, shared};
 use mesa_base::{OutOfMemory, Place};
-use mesa_types::{Base, TypeTree, TypedExpr, constant, truth};
+use mesa_types::{Base, TypeTree, TypedExpr};
 use std::alloc::Global;
+use typed_answers::{constant, truth};
 
 fn literal_word(is_text: bool, value: &TypedExpr) -> Option<u16>
     ensures { result ≡ spec.literal_word is_text (expr value.now) }

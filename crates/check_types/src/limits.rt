@@ -11,7 +11,8 @@ use check_state::{base_of, bounds};
 use check_values::{Sort, sort_of};
 use mesa_base::Place;
 use mesa_base::limits::{TYPE_DEPTH, TYPE_WORDS};
-use mesa_types::{TypeTree, depth, size_words};
+use mesa_types::TypeTree;
+use typed_answers::{depth, size_words};
 
 #[tactic(auto, using(crate::proofs::DepthLaws::few_words_by))]
 fn has_few_words(kind: &TypeTree) -> bool

@@ -7,7 +7,9 @@ ghost use Rattle.check_rules.specs.Ranges.{in_common};
 ghost use Rattle.check_values.specs.Views as view;
 
 use check_state::{base_of, same};
-use mesa_types::{Base, Operator, Range, Relation, TypeTree, syntax};
+use mesa_base::Relation;
+use mesa_types::{Base, Operator, Range, TypeTree};
+use syntax_trees::syntax;
 
 /// What operators see of a type.
 #[derive(Clone, Copy)]

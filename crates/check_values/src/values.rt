@@ -16,9 +16,10 @@ use crate::targets::checked;
 use check_rules::{Cause, CheckFault};
 use check_state::{Gave, Strings, Typed, of_kind, sign_of};
 use held_trees::{LetGo, both, boxed, boxed_pair};
-use mesa_base::{Boxed, OutOfMemory, Place};
-use mesa_types::{Base, Bases, Interval, Operator, Range, Relation, TypeTree, TypedExpr, syntax};
+use mesa_base::{Boxed, OutOfMemory, Place, Relation};
+use mesa_types::{Base, Bases, Interval, Operator, Range, TypeTree, TypedExpr};
 use std::alloc::Global;
+use syntax_trees::syntax;
 
 /// The expression of a word.
 fn word(n: u16) -> TypedExpr

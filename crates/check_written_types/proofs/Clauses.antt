@@ -3,9 +3,9 @@ use Rattle.std.proofs.Common.{◌≡◌, Bool, List, [], Ok, refl, sym}
 use Rattle.std.specs.Prelude.{Option}
 use Rattle.mesa_base.specs.declared.identifier.Identifier.{Identifier}
 use Rattle.mesa_base.specs.declared.place.Place.{Place}
-use Rattle.mesa_types.specs.Syntax as s
-use Rattle.mesa_types.specs.declared.syntax.QualifiedName.{QualifiedName}
-use Rattle.mesa_types.specs.declared.syntax.TypeBase.{TypeBase}
+use Rattle.syntax_trees.specs.Syntax as s
+use Rattle.syntax_trees.specs.declared.syntax.QualifiedName.{QualifiedName}
+use Rattle.syntax_trees.specs.declared.syntax.TypeBase.{TypeBase}
 use Rattle.check_rules.specs.Around.{Around, in_constant}
 use Rattle.check_rules.specs.Checking as spec
 use Rattle.check_rules.specs.Names.{type_named}

@@ -2,10 +2,10 @@
 use Rattle.std.proofs.Common.{◌≡◌, ◌<◌, ◌≤◌, ◌+◌, ℕ, List, [], ◌∷◌, ◌++◌, map, take, drop, length, get_or, Some, None, Ok, Err, refl, sym, ap, ◌∙◌, append_assoc}
 use Rattle.std.proofs.lemmas.List.{drop_all, take_more, map-append}
 use Rattle.mesa_base.specs.declared.identifier.Identifier.{Identifier}
-use Rattle.mesa_types.specs.PlainSyntax as plain
-use Rattle.mesa_types.specs.Syntax as s
-use Rattle.mesa_types.specs.declared.syntax.Labeled.{Labeled}
-use Rattle.mesa_types.specs.declared.syntax.TypeExp.{TypeExp}
+use Rattle.syntax_trees.specs.PlainSyntax as plain
+use Rattle.syntax_trees.specs.Syntax as s
+use Rattle.syntax_trees.specs.declared.syntax.Labeled.{Labeled}
+use Rattle.syntax_trees.specs.declared.syntax.TypeExp.{TypeExp}
 use Rattle.mesa_types.specs.declared.types.FieldType.{FieldType}
 use Rattle.check_rules.specs.Around.{Around}
 use Rattle.check_rules.specs.Checking as spec

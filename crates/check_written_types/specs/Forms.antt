@@ -2,8 +2,8 @@
 use Rattle.std.specs.Prelude.{List}
 use Rattle.mesa_base.specs.declared.identifier.Identifier.{Identifier}
 use Rattle.mesa_base.specs.declared.place.Place.{Place}
-use Rattle.mesa_types.specs.Syntax as s
-use Rattle.mesa_types.specs.declared.syntax.TypeBase.{TypeBase}
+use Rattle.syntax_trees.specs.Syntax as s
+use Rattle.syntax_trees.specs.declared.syntax.TypeBase.{TypeBase}
 use Rattle.check_types.specs.Elements.{all_elements}
 use Rattle.check_rules.specs.Around.{Around}
 use Rattle.check_rules.specs.Checking.{of_interval}

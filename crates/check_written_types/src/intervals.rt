@@ -1,7 +1,7 @@
 //! Intervals as types, and where types begin.
 ghost use Rattle.std.specs.Prelude.{◌≡◌, option_map};
 ghost use Rattle.std.specs.Option.{option_copied};
-ghost use Rattle.mesa_types.specs.PlainSyntax as syntax;
+ghost use Rattle.syntax_trees.specs.PlainSyntax as syntax;
 ghost use Rattle.check_rules.specs.Checking as spec;
 ghost use Rattle.check_rules.specs.Parts as parts;
 ghost use Rattle.check_rules.specs.PlainTypes.{plain};
@@ -17,7 +17,7 @@ use check_types::{bound, interval_base, subrange};
 use held_trees::{LetGo, both};
 use mesa_base::Place;
 use mesa_types::TypeTree;
-use mesa_types::syntax::{Interval, TypeBase, TypeExp};
+use syntax_trees::syntax::{Interval, TypeBase, TypeExp};
 
 fn first_of_base(base: &TypeBase, interval: &Interval) -> Place
     ensures { result ≡ parts.first_of_base base.now (syntax.interval interval.now) }
@@ -32,7 +32,7 @@ fn first_of_base(base: &TypeBase, interval: &Interval) -> Place
 }
 
 /// The place of a type's first token.
-#[tactic(auto, using(mesa_types::proofs::PlainForms::type_exp_forms))]
+#[tactic(auto, using(syntax_trees::proofs::PlainForms::type_exp_forms))]
 pub fn first_of_type(e: &TypeExp) -> Place
     ensures { result ≡ parts.first_of_type (syntax.type_exp e.now) }
 {
@@ -52,7 +52,7 @@ pub fn first_of_type(e: &TypeExp) -> Place
 
 /// The type of an interval whose bounds are of this type, if one is said. Bounds are constants; they have one base, which is
 /// that of the type that is said, and leave one value at least.
-#[tactic(auto, using(mesa_types::proofs::PlainForms::parts, crate::proofs::Clauses::interval_is))]
+#[tactic(auto, using(syntax_trees::proofs::PlainForms::parts, crate::proofs::Clauses::interval_is))]
 pub fn of_interval<P: Phrases>(
     interval: &Interval,
     checker: &Checker<P>,

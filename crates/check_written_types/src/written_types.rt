@@ -1,6 +1,6 @@
 //! Types as they are written, part by part.
 ghost use Rattle.std.specs.Prelude.{[]};
-ghost use Rattle.mesa_types.specs.PlainSyntax as syntax;
+ghost use Rattle.syntax_trees.specs.PlainSyntax as syntax;
 ghost use Rattle.check_rules.specs.Checking as spec;
 ghost use Rattle.check_rules.specs.PlainTypes.{plain};
 ghost use Rattle.check_state.specs.Gives.{Gives};
@@ -17,12 +17,12 @@ use check_state::{Around, State, type_named};
 use check_types::{is_index, limited};
 use held_trees::{LetGo, both, pushed};
 use mesa_base::{Identifiers, List};
-use mesa_types::syntax::{FieldList, Labeled, TypeExp};
 use mesa_types::{Fields, TypeTree};
+use syntax_trees::syntax::{FieldList, Labeled, TypeExp};
 
 /// The type that is written.
 #[cycle(types)]
-#[tactic(auto, using(mesa_types::proofs::PlainForms::type_exp_forms, check_state::proofs::TypeForms::type_forms, crate::proofs::Clauses::clauses))]
+#[tactic(auto, using(syntax_trees::proofs::PlainForms::type_exp_forms, check_state::proofs::TypeForms::type_forms, crate::proofs::Clauses::clauses))]
 pub fn type_exp<P: Phrases>(
     e: &TypeExp,
     checker: &Checker<P>,
@@ -61,7 +61,7 @@ pub fn type_exp<P: Phrases>(
 
 /// The fields of a record. No name stands twice.
 #[cycle(types)]
-#[tactic(auto, using(mesa_types::proofs::PlainForms::field_list_forms, crate::proofs::Clauses::named_is, crate::proofs::Clauses::unnamed_is))]
+#[tactic(auto, using(syntax_trees::proofs::PlainForms::field_list_forms, crate::proofs::Clauses::named_is, crate::proofs::Clauses::unnamed_is))]
 pub fn fields_of<P: Phrases>(
     fields: &FieldList,
     checker: &Checker<P>,

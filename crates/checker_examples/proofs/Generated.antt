@@ -6,7 +6,7 @@ use Rattle.std.proofs.lemmas.Slice.Eq.{bytes_eq-Decides}
 use Rattle.mesa_base.specs.declared.limits.TheConstants.{DISTINCT_STRINGS, ENUMERATION_ELEMENTS}
 use Rattle.mesa_base.specs.declared.place.Place.{Place}
 use Rattle.mesa_base.specs.declared.identifier.Identifier.{Identifier}
-use Rattle.mesa_types.specs.Syntax as syntax
+use Rattle.syntax_trees.specs.Syntax as syntax
 use Rattle.check_rules.specs.PlainTypes as v
 use Rattle.check_rules.specs.PlainTypes.{PlainType, PlainInterface}
 use Rattle.check_rules.specs.Scopes.{innermost, nothing}

@@ -3,9 +3,9 @@ use Rattle.std.specs.Prelude.{◌≡◌, ℕ, zero, suc, true, false, List, [], 
 use Rattle.std.proofs.Common.{refl}
 use Rattle.mesa_base.specs.declared.place.Place.{Place}
 use Rattle.mesa_base.specs.declared.identifier.Identifier.{Identifier}
-use Rattle.mesa_types.specs.declared.syntax.Operator.TheVariants as op
-use Rattle.mesa_types.specs.declared.syntax.TypeBase.TheVariants as base
-use Rattle.mesa_types.specs.Syntax as s
+use Rattle.syntax_trees.specs.declared.syntax.Operator.TheVariants as op
+use Rattle.syntax_trees.specs.declared.syntax.TypeBase.TheVariants as base
+use Rattle.syntax_trees.specs.Syntax as s
 use Rattle.check_rules.specs.CheckedModule.{program_by}
 use Rattle.check_rules.specs.declared.fault.Cause.TheVariants.{UnknownName, TypeMismatch, FrameTooLarge}
 use Rattle.check_rules.proofs.Texts.{Answer, Fine, Refused, answer_of}

@@ -2,7 +2,7 @@
 use Rattle.std.specs.Prelude.{◌≡◌, ℕ, List, [], ◌∷◌, Option, Some, None, Ok, Err, codes}
 use Rattle.std.proofs.Common.{refl}
 use Rattle.mesa_types.specs.declared.faces.Import.{Import}
-use Rattle.mesa_types.specs.Syntax as s
+use Rattle.syntax_trees.specs.Syntax as s
 use Rattle.check_rules.specs.Typed as t
 use Rattle.check_rules.specs.Steps.{Checked}
 use Rattle.check_rules.specs.CheckedModule.{program_by}

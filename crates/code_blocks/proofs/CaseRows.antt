@@ -3,7 +3,7 @@ use Rattle.std.proofs.Common.{◌≡◌, refl, ap, ◌∙◌, ℕ, ◌+◌, ◌-
 use Rattle.mesa_types.specs.declared.typed_parts.Base.{Base}
 use Rattle.mesa_types.specs.declared.typed_parts.Bases.{Bases}
 use Rattle.mesa_types.specs.declared.typed_parts.Range.{Range}
-use Rattle.mesa_types.specs.declared.relation.Relation.{Relation}
+use Rattle.mesa_base.specs.declared.relation.Relation.{Relation}
 use Rattle.mesa_types.specs.Typed.{Kinds, Expr, Interval, Between, Stmt, Select, Cases, Otherwise, AndCase, Tests, NoTests, IfRelated, IfWithin}
 use Rattle.mesa_types.specs.Operators.{differ}
 use Rattle.mesa_types.specs.Counts.{hidden, hidden_expr, hidden_interval, hidden_tests, words_of}

@@ -1,7 +1,7 @@
 -- The rows of conditions, and of AND and OR as values.
 use Rattle.std.proofs.Common.{◌≡◌, refl, sym, subst, ℕ, suc, ◌+◌, List, [], ◌∷◌, ◌++◌, Bool, true, false, not, arith}
 use Rattle.mesa_types.specs.declared.typed_parts.Base.{Base}
-use Rattle.mesa_types.specs.declared.relation.Relation.{Relation}
+use Rattle.mesa_base.specs.declared.relation.Relation.{Relation}
 use Rattle.mesa_types.specs.Typed.{Kinds, Expr, Relate, Not, AllOf, SomeOf, Exprs, NoExprs, AndExpr}
 use Rattle.mesa_types.specs.Operators.{differ}
 use Rattle.mesa_types.specs.Counts.{hidden_expr}

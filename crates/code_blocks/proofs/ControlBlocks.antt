@@ -5,7 +5,7 @@ use Rattle.mesa_types.specs.Counts.{hidden, hidden_arms, hidden_cases, hidden_co
 use Rattle.mesa_types.specs.Operators.{differ}
 use Rattle.mesa_types.specs.Shapes.{join, words_before, words_in, words_in_all}
 use Rattle.mesa_types.specs.Typed.{Always, AndCase, AndExit, Assign, Between, Block, Endless, Finished, For, If, IfRelated, IfWithin, Jump, LoopOf, Marked, NoExits, NoFinish, NoPhrase, NoSuffix, NoTests, Null, Number, Ordinal, Otherwise, Relate, Repeat, Select, Texts, Until, Variable, While, point_of}
-use Rattle.mesa_types.specs.declared.relation.Relation.TheVariants.{Equal, Less, NotEqual}
+use Rattle.mesa_base.specs.declared.relation.Relation.TheVariants.{Equal, Less, NotEqual}
 use Rattle.mesa_types.specs.declared.typed_parts.Base.TheVariants.{Signed, Unsigned}
 use Rattle.mesa_types.specs.declared.typed_parts.Given.TheVariants.{GivenTo, NoVariable}
 use Rattle.mesa_types.specs.declared.typed_parts.Goal.TheVariants.{PastStatement, ToLabel}

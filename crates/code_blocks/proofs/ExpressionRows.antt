@@ -7,7 +7,7 @@ use Rattle.mesa_types.specs.declared.typed_parts.Home.TheVariants.{Global, Local
 use Rattle.mesa_types.specs.declared.typed_parts.Operator.{Operator}
 use Rattle.mesa_types.specs.declared.typed_parts.Part.{Part}
 use Rattle.mesa_types.specs.declared.typed_parts.Range.{Range}
-use Rattle.mesa_types.specs.declared.relation.Relation.{Relation}
+use Rattle.mesa_base.specs.declared.relation.Relation.{Relation}
 use Rattle.mesa_types.specs.Typed.{Kind, Kinds, Expr, Number, Literal, Variable, FieldOf, LengthOf, ByteOf, Checked, Operate, Negate, Relate, Within, Not, Construct, Exprs, NoExprs, AndExpr, Suffixes, NoSuffix, Field, Index, Operations, NoOperation, Then, Between, Texts}
 use Rattle.mesa_types.specs.Counts.{hidden_expr, words_of, words_given, last_words}
 use Rattle.mesa_types.specs.Shapes.{one}

@@ -5,7 +5,7 @@ use Rattle.mesa_types.specs.Counts.{hidden, hidden_arms, hidden_cases, hidden_co
 use Rattle.mesa_types.specs.Operators.{differ}
 use Rattle.mesa_types.specs.Shapes.{join, words_before, words_in, words_in_all}
 use Rattle.mesa_types.specs.Typed.{AllOf, AndTarget, Array, Assign, Between, ByteOf, Call, Checked, Construct, Declare, DeclareAs, Extract, Field, FieldOf, If, Index, LengthOf, Literal, Negate, NoOperation, NoPhrase, NoSuffix, NoTargets, Not, Null, Number, Operate, Ordinal, Perform, Record, Relate, SomeOf, Texts, Then, Variable, Within, point_of}
-use Rattle.mesa_types.specs.declared.relation.Relation.TheVariants.{AtMost, NotEqual}
+use Rattle.mesa_base.specs.declared.relation.Relation.TheVariants.{AtMost, NotEqual}
 use Rattle.mesa_types.specs.declared.typed_parts.Base.TheVariants.{Signed, Unsigned}
 use Rattle.mesa_types.specs.declared.typed_parts.Callee.TheVariants.{OwnProcedure}
 use Rattle.mesa_types.specs.declared.typed_parts.Home.TheVariants.{Global, Local}

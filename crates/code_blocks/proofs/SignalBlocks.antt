@@ -5,7 +5,7 @@ use Rattle.mesa_types.specs.Counts.{hidden, hidden_arms, hidden_cases, hidden_co
 use Rattle.mesa_types.specs.Operators.{differ}
 use Rattle.mesa_types.specs.Shapes.{join, words_before, words_in, words_in_all}
 use Rattle.mesa_types.specs.Typed.{Always, AndArm, AndCase, AndExit, Assign, Block, Call, Catch, Continue, Endless, IfRelated, Jump, Literal, LoopOf, Marked, NoArms, NoExits, NoExprs, NoFinish, NoPhrase, NoSuffix, NoTests, Null, Number, Ordinal, Otherwise, Perform, Raise, Reject, Repeat, Resume, Retry, ReturnWith, Select, Texts, point_of}
-use Rattle.mesa_types.specs.declared.relation.Relation.TheVariants.{Equal}
+use Rattle.mesa_base.specs.declared.relation.Relation.TheVariants.{Equal}
 use Rattle.mesa_types.specs.declared.typed_parts.Base.TheVariants.{Signed}
 use Rattle.mesa_types.specs.declared.typed_parts.Callee.TheVariants.{LinkedProcedure, OwnProcedure}
 use Rattle.mesa_types.specs.declared.typed_parts.Goal.TheVariants.{PastStatement, ToLabel, ToReturn}

@@ -1,7 +1,7 @@
 -- A phrase's arms one by one: the first, one more, the last.
 use Rattle.std.proofs.Common.{◌≡◌, sym, ap, ◌∙◌, ℕ, ◌+◌, ◌≤◌, List, [], length, drop, map, arith}
 use Rattle.std.proofs.lemmas.List.{drop_all}
-use Rattle.mesa_types.specs.Chain.{chain}
+use Rattle.mesa_base.specs.Chain.{chain}
 use Rattle.mesa_types.specs.Counts.{hidden, hidden_arms}
 use Rattle.mesa_types.specs.Plain.{arm}
 use Rattle.mesa_types.specs.Typed as t

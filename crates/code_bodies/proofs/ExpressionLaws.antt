@@ -1,6 +1,6 @@
 -- The blocks of variables, calls and raises by those of their parts, where each part begins with its hidden words behind those before it.
 use Rattle.std.proofs.Common.{◌≡◌, refl, sym, ap, ◌∙◌, ℕ, ◌+◌, List, map}
-use Rattle.mesa_types.specs.Chain.{chain}
+use Rattle.mesa_base.specs.Chain.{chain}
 use Rattle.mesa_types.specs.Counts.{hidden_expr, hidden_exprs, hidden_suffixes, words_given, words_of}
 use Rattle.mesa_types.specs.Plain.{expr, exprs, phrase, suffix}
 use Rattle.mesa_types.specs.Typed as t

@@ -1,6 +1,6 @@
 -- The element of a list that is walked next: where the rest of the list has room and fits, so does it.
 use Rattle.std.proofs.Common.{◌≡◌, ℕ, ◌+◌, ◌<◌, ◌≤◌, List, length, get_or, drop, map, Bool, arith}
-use Rattle.mesa_types.specs.Chain.{chain}
+use Rattle.mesa_base.specs.Chain.{chain}
 use Rattle.mesa_types.specs.Counts.{hidden_expr, hidden_exprs, hidden_operations, hidden_suffixes}
 use Rattle.mesa_types.specs.Plain.{expr, exprs, operation, suffix}
 use Rattle.mesa_types.specs.Typed as t

@@ -1,7 +1,7 @@
 -- What is done behind the rounds of a loop, and the statements of labels.
 use Rattle.std.proofs.Common.{◌≡◌, refl, sym, ap, ◌∙◌, ℕ, ◌+◌, List, [], ◌∷◌, length, map, Bool, not, arith}
 use Rattle.std.specs.Prelude.{Option, Some, None, option_map, nat_eq}
-use Rattle.mesa_types.specs.Chain.{chain}
+use Rattle.mesa_base.specs.Chain.{chain}
 use Rattle.mesa_types.specs.Counts.{hidden, hidden_condition, hidden_exits, hidden_finish, hidden_phrase, hidden_stmts}
 use Rattle.mesa_types.specs.Plain.{condition, exit, loop, phrase, stmt, stmts}
 use Rattle.mesa_types.specs.Plain as twin

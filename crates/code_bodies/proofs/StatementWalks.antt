@@ -1,7 +1,7 @@
 -- The block of each form of a statement by what was made of its parts, and that the numbers in the blocks of its parts fit.
 use Rattle.std.proofs.Common.{◌≡◌, refl, sym, ap, ◌∙◌, ℕ, ◌+◌, ◌≤◌, List, [], ◌∷◌, ◌++◌, map, Bool, true, false, not, arith}
 use Rattle.std.specs.Prelude.{Result, Ok, IfOk}
-use Rattle.mesa_types.specs.Chain.{chain}
+use Rattle.mesa_base.specs.Chain.{chain}
 use Rattle.mesa_types.specs.Counts.{hidden, hidden_cases, hidden_expr, hidden_loop, words_of}
 use Rattle.mesa_types.specs.Plain.{case, expr, loop, stmt}
 use Rattle.mesa_types.specs.Typed as t

@@ -2,14 +2,14 @@
 use Rattle.std.proofs.Common.{◌≡◌, refl, sym, ap, ◌∙◌, ℕ, ◌+◌, ◌-◌, ◌<◌, ◌≤◌, List, [], ◌∷◌, ◌++◌, length, get_or, drop, map, Bool, true, false, arith}
 use Rattle.std.specs.Prelude.{nat_eq, not}
 use Rattle.std.proofs.lemmas.List.{drop_all}
-use Rattle.mesa_types.specs.Chain.{chain}
+use Rattle.mesa_base.specs.Chain.{chain}
 use Rattle.mesa_types.specs.Counts.{hidden_expr, hidden_interval, hidden_tests}
 use Rattle.mesa_types.specs.Plain.{expr, interval, test}
 use Rattle.mesa_types.specs.Typed as t
 use Rattle.mesa_types.specs.declared.typed_parts.Base.{Base}
 use Rattle.mesa_types.specs.declared.typed_parts.Bases.{Bases}
 use Rattle.mesa_types.specs.declared.typed_parts.Range.{Range}
-use Rattle.mesa_types.specs.declared.relation.Relation.{Relation}
+use Rattle.mesa_base.specs.declared.relation.Relation.{Relation}
 use Rattle.mesa_types.specs.declared.typed_tree.Interval.{Interval}
 use Rattle.mesa_types.specs.declared.typed_tree.Test.{Test}
 use Rattle.mesa_types.specs.declared.typed_tree.Test.TheVariants as v

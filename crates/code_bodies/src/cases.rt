@@ -1,6 +1,6 @@
 //! Blocks of cases and their tests.
 ghost use Rattle.std.specs.Prelude.{◌≡◌, ◌+◌, ◌≤◌, drop, map, IfOk, OnOk};
-ghost use Rattle.mesa_types.specs.Chain.{chain};
+ghost use Rattle.mesa_base.specs.Chain.{chain};
 ghost use Rattle.mesa_types.specs.Counts.{hidden, hidden_cases, hidden_tests};
 ghost use Rattle.mesa_types.specs.Plain.{case, stmt, test};
 ghost use Rattle.mesa_types.specs.Typed as t;

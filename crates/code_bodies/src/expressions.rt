@@ -1,6 +1,6 @@
 //! Blocks of expressions, by value and as conditions.
 ghost use Rattle.std.specs.Prelude.{◌≡◌, ◌+◌, ◌≤◌, map, IfOk, OnOk};
-ghost use Rattle.mesa_types.specs.Chain.{chain};
+ghost use Rattle.mesa_base.specs.Chain.{chain};
 ghost use Rattle.mesa_types.specs.Counts.{hidden_expr, hidden_exprs, hidden_interval, hidden_operations, hidden_suffixes};
 ghost use Rattle.mesa_types.specs.Plain.{expr, exprs, interval, operation, suffix};
 ghost use Rattle.mesa_types.specs.Typed as t;

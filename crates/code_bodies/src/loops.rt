@@ -1,6 +1,6 @@
 //! Blocks of loops, and of the statements of labels.
 ghost use Rattle.std.specs.Prelude.{◌≡◌, ◌+◌, ◌≤◌, length, map, IfOk, OnOk};
-ghost use Rattle.mesa_types.specs.Chain.{chain};
+ghost use Rattle.mesa_base.specs.Chain.{chain};
 ghost use Rattle.mesa_types.specs.Counts.{hidden, hidden_condition, hidden_exits, hidden_loop};
 ghost use Rattle.mesa_types.specs.Plain.{condition, exit, loop, stmt};
 ghost use Rattle.mesa_types.specs.Typed as t;

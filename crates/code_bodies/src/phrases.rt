@@ -1,6 +1,6 @@
 //! Blocks of catch phrases.
 ghost use Rattle.std.specs.Prelude.{◌≡◌, ◌+◌, ◌≤◌, map, IfOk, OnOk};
-ghost use Rattle.mesa_types.specs.Chain.{chain};
+ghost use Rattle.mesa_base.specs.Chain.{chain};
 ghost use Rattle.mesa_types.specs.Counts.{hidden_arms, hidden_phrase};
 ghost use Rattle.mesa_types.specs.Plain.{arm, phrase};
 ghost use Rattle.mesa_types.specs.Typed as t;

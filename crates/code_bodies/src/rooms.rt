@@ -1,6 +1,6 @@
 //! What is known of a part, said just before the walk goes down into it: that the part is smaller is then all that is left to see.
 ghost use Rattle.std.specs.Prelude.{◌≡◌, ◌+◌, ◌≤◌, [], map};
-ghost use Rattle.mesa_types.specs.Chain.{chain};
+ghost use Rattle.mesa_base.specs.Chain.{chain};
 ghost use Rattle.mesa_types.specs.Counts.{hidden, hidden_arms, hidden_cases, hidden_condition, hidden_exits, hidden_expr, hidden_exprs, hidden_interval, hidden_phrase, hidden_stmts, hidden_suffixes, hidden_targets, hidden_tests};
 ghost use Rattle.mesa_types.specs.Plain.{arm, case, condition, exit, expr, exprs, interval, phrase, stmt, stmts, suffix, target, test};
 ghost use Rattle.mesa_types.specs.Typed as t;

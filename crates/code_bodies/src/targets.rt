@@ -1,6 +1,6 @@
 //! Blocks of the targets of an extractor.
 ghost use Rattle.std.specs.Prelude.{◌≡◌, ◌+◌, ◌≤◌, [], map, IfOk, OnOk};
-ghost use Rattle.mesa_types.specs.Chain.{chain};
+ghost use Rattle.mesa_base.specs.Chain.{chain};
 ghost use Rattle.mesa_types.specs.Counts.{hidden_targets};
 ghost use Rattle.mesa_types.specs.Plain.{target};
 ghost use Rattle.mesa_types.specs.Typed as t;

@@ -1,6 +1,6 @@
 //! What one part of a list adds to the blocks before it, and the block that reads a variable.
 ghost use Rattle.std.specs.Prelude.{◌≡◌, ◌+◌, ◌≤◌, [], ◌∷◌, ◌++◌, map, IfOk};
-ghost use Rattle.mesa_types.specs.Chain.{chain};
+ghost use Rattle.mesa_base.specs.Chain.{chain};
 ghost use Rattle.mesa_types.specs.Plain.{suffix};
 ghost use Rattle.mesa_types.specs.Typed as t;
 ghost use Rattle.code_rules.specs.Links as coding;

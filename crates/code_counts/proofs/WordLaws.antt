@@ -1,7 +1,7 @@
 -- What is counted so far and what is still to come are all; the last of some parts; the hidden words of the cases of a SELECT.
 use Rattle.std.proofs.Common.{◌≡◌, refl, sym, ap, ◌∙◌, ℕ, suc, ◌+◌, ◌-◌, ◌≤◌, ◌<◌, List, [], ◌∷◌, length, get_or, map, arith}
 use Rattle.std.specs.Prelude.{min}
-use Rattle.mesa_types.specs.Chain.{chain}
+use Rattle.mesa_base.specs.Chain.{chain}
 use Rattle.mesa_types.specs.Counts.{hidden, hidden_cases, hidden_expr, hidden_tests, last_words}
 use Rattle.mesa_types.specs.Plain.{case, expr, stmt, test}
 use Rattle.mesa_types.specs.Typed as t

@@ -1,6 +1,6 @@
 //! The hidden words of a statement.
 ghost use Rattle.std.specs.Prelude.{◌≡◌, map, min};
-ghost use Rattle.mesa_types.specs.Chain.{chain};
+ghost use Rattle.mesa_base.specs.Chain.{chain};
 ghost use Rattle.mesa_types.specs.Counts.{hidden, hidden_arms, hidden_cases, hidden_condition, hidden_exits, hidden_expr, hidden_exprs, hidden_interval, hidden_loop, hidden_operations, hidden_phrase, hidden_stmts, hidden_suffixes, hidden_targets, hidden_tests};
 ghost use Rattle.mesa_types.specs.Plain.{arm, case, condition, exit, expr, exprs, interval, loop, operation, phrase, stmt, stmts, suffix, target, test};
 ghost use Rattle.mesa_types.specs.Typed as t;

@@ -6,7 +6,7 @@ use Rattle.mesa_types.specs.declared.typed_parts.Goal.TheVariants.{ToReturn}
 use Rattle.mesa_types.specs.declared.typed_parts.Home.TheVariants.{Local}
 use Rattle.mesa_types.specs.declared.typed_parts.Label.TheVariants.{OnAny, OnBounds}
 use Rattle.mesa_types.specs.declared.typed_parts.Range.TheVariants.{Every, From}
-use Rattle.mesa_types.specs.declared.relation.Relation.TheVariants.{Equal}
+use Rattle.mesa_base.specs.declared.relation.Relation.TheVariants.{Equal}
 use Rattle.mesa_types.specs.Typed.{Ordinal, Texts, Number, Literal, Checked, Construct, Call, Phrase, Catch, NoArms, AndArm, NoSuffix, Null, Assign, Perform, Select, Block, Repeat, Endless, Jump, Otherwise, AndCase, NoTests, IfRelated, NoExits, AndExit, LoopOf, NoFinish, While, point_of}
 use Rattle.mesa_types.specs.Shapes.{words_in, words_in_all, words_before}
 use Rattle.mesa_types.specs.Counts.{hidden_expr, hidden_exprs, hidden_suffixes, words_of, words_given}

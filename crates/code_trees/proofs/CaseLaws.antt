@@ -1,13 +1,13 @@
 -- IF and SELECT: the block of a list of tests or cases by the blocks of each.
 use Rattle.std.proofs.Common.{◌≡◌, refl, sym, ap, ◌∙◌, ℕ, zero, suc, ◌+◌, ◌≤◌, ◌<◌, List, [], ◌∷◌, ◌++◌, length, map, Bool, true, false, not, arith}
-use Rattle.mesa_types.specs.Chain.{chain}
+use Rattle.mesa_base.specs.Chain.{chain}
 use Rattle.mesa_types.specs.Counts.{hidden, hidden_cases, hidden_expr, hidden_interval, hidden_tests}
 use Rattle.mesa_types.specs.Plain.{Layer, case, expr, interval, stmt, test, test_step}
 use Rattle.mesa_types.specs.Typed as t
 use Rattle.mesa_types.specs.declared.typed_parts.Base.{Base}
 use Rattle.mesa_types.specs.declared.typed_parts.Bases.{Bases}
 use Rattle.mesa_types.specs.declared.typed_parts.Range.{Range}
-use Rattle.mesa_types.specs.declared.relation.Relation.{Relation}
+use Rattle.mesa_base.specs.declared.relation.Relation.{Relation}
 use Rattle.mesa_types.specs.declared.typed_tree.Case.{Case}
 use Rattle.mesa_types.specs.declared.typed_tree.Interval.{Interval}
 use Rattle.mesa_types.specs.declared.typed_tree.Test.{Test}

@@ -2,7 +2,7 @@
 -- those before it.
 use Rattle.std.proofs.Common.{◌≡◌, refl, sym, ap, ◌∙◌, ℕ, suc, ◌+◌, ◌≤◌, List, [], ◌∷◌, ◌++◌, map, Bool, true, false, arith}
 use Rattle.std.specs.Prelude.{option_map}
-use Rattle.mesa_types.specs.Chain.{chain}
+use Rattle.mesa_base.specs.Chain.{chain}
 use Rattle.mesa_types.specs.Counts.{hidden, hidden_condition, hidden_exits, hidden_exprs, hidden_finish, hidden_interval, hidden_loop, hidden_phrase, hidden_stmts, words_given, words_of}
 use Rattle.mesa_types.specs.Plain.{condition, exit, expr, exprs, interval, loop, phrase, stmt, stmts}
 use Rattle.mesa_types.specs.Plain as twin

@@ -1,7 +1,7 @@
 -- Lists of a typed tree, one element at a time.
 use Rattle.std.proofs.Common.{◌≡◌, refl, sym, ap, ◌∙◌, ℕ, zero, suc, ◌+◌, ◌<◌, ◌≤◌, List, [], ◌∷◌, length, get_or, drop, drop-cons, add-one, map, Bool, true, false, arith}
 use Rattle.std.proofs.lemmas.List.{drop_all}
-use Rattle.mesa_types.specs.Chain.{chain}
+use Rattle.mesa_base.specs.Chain.{chain}
 use Rattle.mesa_types.specs.Counts.{hidden_suffixes}
 use Rattle.mesa_types.specs.Plain.{arm, expr, exprs, operation, stmt, suffix}
 use Rattle.mesa_types.specs.Typed as t

@@ -1,6 +1,6 @@
 -- What each form of a statement of the code is in the plain twin.
 use Rattle.std.proofs.Common.{◌≡◌, refl, sym, ap, ◌∙◌, ℕ, List, map, Bool}
-use Rattle.mesa_types.specs.Chain.{chain}
+use Rattle.mesa_base.specs.Chain.{chain}
 use Rattle.mesa_types.specs.Plain.{case, exit, expr, exprs, interval, kind_of, loop, phrase, stmt, stmts, suffix, target}
 use Rattle.mesa_types.specs.Typed as t
 use Rattle.mesa_types.specs.declared.typed_parts.Base.{Base}

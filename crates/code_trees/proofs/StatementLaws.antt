@@ -1,6 +1,6 @@
 -- The block of each form of a statement by those of its parts, where each part begins with its hidden words behind those before it.
 use Rattle.std.proofs.Common.{◌≡◌, refl, sym, ap, ◌∙◌, ℕ, suc, ◌+◌, ◌≤◌, List, [], ◌∷◌, ◌++◌, map, Bool, true, false, not, if◌then◌else◌, arith}
-use Rattle.mesa_types.specs.Chain.{chain}
+use Rattle.mesa_base.specs.Chain.{chain}
 use Rattle.mesa_types.specs.Counts.{hidden, hidden_cases, hidden_expr, hidden_suffixes, hidden_targets, words_of}
 use Rattle.mesa_types.specs.Plain.{case, expr, kind_of, stmt, suffix, target}
 use Rattle.mesa_types.specs.Plain as twin

@@ -5,7 +5,7 @@ use Rattle.mesa_types.specs.declared.typed_parts.Bases.{Bases}
 use Rattle.mesa_types.specs.declared.typed_parts.Home.{Home}
 use Rattle.mesa_types.specs.declared.typed_parts.Part.{Part}
 use Rattle.mesa_types.specs.declared.typed_parts.Range.{Range}
-use Rattle.mesa_types.specs.declared.relation.Relation.{Relation}
+use Rattle.mesa_base.specs.declared.relation.Relation.{Relation}
 use Rattle.mesa_types.specs.Typed as t
 use Rattle.mesa_types.specs.Operators.{differ}
 use Rattle.mesa_types.specs.Counts.{hidden, hidden_expr, hidden_interval, hidden_tests}

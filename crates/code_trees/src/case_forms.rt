@@ -23,8 +23,8 @@ use crate::routine::Routine;
 use crate::stack_code::put_pop;
 use code_forms::Instruction;
 use held_trees::{LetGo, both};
-use mesa_base::{List, OutOfMemory};
-use mesa_types::{Base, Bases, Interval, Range, Relation, TypedStmt};
+use mesa_base::{List, OutOfMemory, Relation};
+use mesa_types::{Base, Bases, Interval, Range, TypedStmt};
 use std::alloc::Global;
 
 pub fn is_null(s: &TypedStmt) -> bool

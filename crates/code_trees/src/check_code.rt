@@ -5,8 +5,8 @@ ghost use Rattle.code_trees.specs.Excess.{excess_in};
 
 use crate::block::Code;
 use code_forms::Instruction;
-use mesa_base::OutOfMemory;
-use mesa_types::{Base, Extent, Range, Relation};
+use mesa_base::{OutOfMemory, Relation};
+use mesa_types::{Base, Extent, Range};
 
 pub fn put_check(code: &mut Code, range: Range) -> Result<(), OutOfMemory>
     ensures { OnOk result (code.new ≡ code.old ++ own.check_code range) }

@@ -14,8 +14,8 @@ use crate::making::{does, ends, out, pair};
 use crate::part::Part;
 use code_forms::Instruction;
 use held_trees::both;
-use mesa_base::{List, OutOfMemory};
-use mesa_types::{Base, Relation};
+use mesa_base::{List, OutOfMemory, Relation};
+use mesa_types::Base;
 use std::alloc::Global;
 
 /// Out to the end of a part where a relation holds, or where it does not.

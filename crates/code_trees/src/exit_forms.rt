@@ -1,6 +1,6 @@
 //! What stands before the statements of labels, with these behind it.
 ghost use Rattle.std.specs.Prelude.{◌≡◌, ◌+◌, ◌≤◌, [], ◌∷◌, ◌++◌, map, length, not, IfOk};
-ghost use Rattle.mesa_types.specs.Chain.{chain};
+ghost use Rattle.mesa_base.specs.Chain.{chain};
 ghost use Rattle.mesa_types.specs.Plain.{exit};
 ghost use Rattle.mesa_types.specs.Typed as t;
 ghost use Rattle.code_blocks.specs.Blocks as tree;

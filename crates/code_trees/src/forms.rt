@@ -19,8 +19,8 @@ use crate::routine::Routine;
 use crate::sums::words_of_last;
 use code_forms::Instruction;
 use held_trees::both;
-use mesa_base::{List, OutOfMemory};
-use mesa_types::{Base, Bases, Range, Relation};
+use mesa_base::{List, OutOfMemory, Relation};
+use mesa_types::{Base, Bases, Range};
 use std::alloc::Global;
 
 /// One instruction.

@@ -8,8 +8,9 @@ ghost use Rattle.code_trees.specs.Starts.{ends_from};
 
 use crate::layout::Layout;
 use mesa_base::{List, Numbers, OutOfMemory};
-use mesa_types::{FieldType, size_words};
+use mesa_types::FieldType;
 use std::alloc::Global;
+use typed_answers::size_words;
 
 /// Puts where each variable ends, the first of which lies behind so many words; tells where the last one ends.
 #[tactic(auto, unfolding(crate::specs::Starts::ends_from, mesa_types::specs::Shapes::words_in_all), using(crate::proofs::VariableStarts::ends_with, crate::proofs::VariableStarts::words_with))]

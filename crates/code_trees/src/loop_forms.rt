@@ -1,6 +1,6 @@
 //! Loops by what their parts are.
 ghost use Rattle.std.specs.Prelude.{◌≡◌, ◌+◌, ◌≤◌, length, map, IfOk};
-ghost use Rattle.mesa_types.specs.Chain.{chain};
+ghost use Rattle.mesa_base.specs.Chain.{chain};
 ghost use Rattle.mesa_types.specs.Plain.{condition, exit, interval};
 ghost use Rattle.mesa_types.specs.Typed as t;
 ghost use Rattle.code_rules.specs.Loops.{step_code};

@@ -12,8 +12,8 @@ use crate::operator_code::{put_operator, put_within};
 use crate::routine::Routine;
 use crate::stack_code::put_field;
 use crate::sums::{together, words_before};
-use mesa_base::{List, OutOfMemory};
-use mesa_types::{Base, Bases, Extent, Operator, Part, Range, Relation};
+use mesa_base::{List, OutOfMemory, Relation};
+use mesa_types::{Base, Bases, Extent, Operator, Part, Range};
 use std::alloc::Global;
 
 pub fn check(alloc: Global, range: Range) -> Result<Code, OutOfMemory>

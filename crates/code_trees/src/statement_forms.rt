@@ -1,6 +1,6 @@
 //! Declarations, assignments, returns and jumps by what their parts are.
 ghost use Rattle.std.specs.Prelude.{◌≡◌, ◌+◌, ◌≤◌, [], ◌∷◌, ◌++◌, map, IfOk};
-ghost use Rattle.mesa_types.specs.Chain.{chain};
+ghost use Rattle.mesa_base.specs.Chain.{chain};
 ghost use Rattle.mesa_types.specs.Plain.{kind_of, suffix};
 ghost use Rattle.mesa_types.specs.Shapes.{words_in};
 ghost use Rattle.mesa_types.specs.Typed as t;
@@ -26,8 +26,9 @@ use crate::sums::total;
 use code_forms::Instruction;
 use held_trees::{LetGo, both};
 use mesa_base::{List, OutOfMemory};
-use mesa_types::{Goal, Home, Suffix, TypeTree, size_words};
+use mesa_types::{Goal, Home, Suffix, TypeTree};
 use std::alloc::Global;
+use typed_answers::size_words;
 
 #[tactic(auto, unfolding(crate::specs::Excess::excess_in), using(crate::proofs::Widths::zeros_same, mesa_types::proofs::KindWords::kind_words))]
 fn zeros(

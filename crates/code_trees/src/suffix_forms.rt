@@ -1,6 +1,6 @@
 //! The names of parts of variables.
 ghost use Rattle.std.specs.Prelude.{◌≡◌, ◌+◌, ◌≤◌, [], ◌∷◌, ◌++◌, map, IfOk};
-ghost use Rattle.mesa_types.specs.Chain.{chain};
+ghost use Rattle.mesa_base.specs.Chain.{chain};
 ghost use Rattle.mesa_types.specs.Plain.{suffix};
 ghost use Rattle.mesa_types.specs.Typed as t;
 ghost use Rattle.code_rules.specs.OwnCode as own;

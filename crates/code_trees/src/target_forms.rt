@@ -1,6 +1,6 @@
 //! The targets of an extractor by what the paths to them are.
 ghost use Rattle.std.specs.Prelude.{◌≡◌, ◌+◌, ◌-◌, ◌≤◌, [], ◌∷◌, ◌++◌, map, reverse, suc, IfOk, OnOk};
-ghost use Rattle.mesa_types.specs.Chain.{chain};
+ghost use Rattle.mesa_base.specs.Chain.{chain};
 ghost use Rattle.mesa_types.specs.Plain.{suffix};
 ghost use Rattle.mesa_types.specs.Typed as t;
 ghost use Rattle.code_forms.specs.declared.instruction.Instruction.TheVariants as i;

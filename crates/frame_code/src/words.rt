@@ -4,7 +4,8 @@ ghost use Rattle.mesa_types.specs.Types.{IsWithinLimits, types_in};
 ghost use Rattle.code_rules.specs.Modules.{words_of_fields};
 
 use mesa_base::OutOfMemory;
-use mesa_types::{FieldType, fields_words, size_words};
+use mesa_types::FieldType;
+use typed_answers::{fields_words, size_words};
 
 /// The words of parameters or results that fit 16 bits.
 #[tactic(auto, using(crate::proofs::FieldWords::fields_have))]

@@ -8,7 +8,7 @@ use Rattle.mesa_lexer.specs.declared.mark.Mark.TheVariants.{Colon, Comma}
 use Rattle.token_cursor.specs.Parsing.{Out, Got, Stop, Parser, ◌>>=◌, and_then, pure, exactly, found, a_name, picked, choose, option, Turned, Again, Done, go_on, repeat, many_turn}
 use Rattle.token_cursor.proofs.Loops.{Eats, unroll}
 use Rattle.mesa_base.specs.declared.identifier.Identifier.{Identifier}
-use Rattle.mesa_types.specs.declared.syntax.FieldList.{FieldList}
+use Rattle.syntax_trees.specs.declared.syntax.FieldList.{FieldList}
 use Rattle.grammar_rules.specs.ReadNested.{Nested, identifier, comma}
 use Rattle.grammar_rules.specs.ReadExpressions as x
 use Rattle.grammar_rules.specs.ReadExpressions.{Undecided, all_names}

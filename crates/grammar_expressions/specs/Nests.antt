@@ -3,9 +3,9 @@ use Rattle.std.specs.Prelude.{ℕ, Result, Option}
 use Rattle.std.specs.declared.alloc.Global.{Global}
 use denote.Ref.{MutBor}
 use Rattle.mesa_base.specs.declared.identifier.Identifier.{Identifier}
-use Rattle.mesa_types.specs.declared.syntax.Statement.{Statement}
-use Rattle.mesa_types.specs.declared.syntax.Expr.{Expr}
-use Rattle.mesa_types.specs.declared.syntax.TypeExp.{TypeExp}
+use Rattle.syntax_trees.specs.declared.syntax.Statement.{Statement}
+use Rattle.syntax_trees.specs.declared.syntax.Expr.{Expr}
+use Rattle.syntax_trees.specs.declared.syntax.TypeExp.{TypeExp}
 use Rattle.grammar_rules.specs.declared.begun.Begun.{Begun}
 use Rattle.token_cursor.specs.declared.cursor.Cursor.{Cursor}
 use Rattle.token_cursor.specs.declared.fault.Stopped.{Stopped}

@@ -7,18 +7,18 @@ use Rattle.mesa_lexer.specs.declared.word.Word.TheVariants.{ArrayWord, BooleanWo
 use Rattle.mesa_lexer.specs.declared.word.Word.TheVariants as w
 use Rattle.token_cursor.specs.Parsing.{Parser, ◌>>=◌, pure, a_name, choose, option}
 use Rattle.mesa_base.specs.declared.identifier.Identifier.{Identifier}
-use Rattle.mesa_types.specs.declared.syntax.TypeBase.TheVariants.{Unsaid}
-use Rattle.mesa_types.specs.declared.syntax.TypeBase.TheVariants as b
-use Rattle.mesa_types.specs.declared.syntax.TypeExp.{TypeExp}
-use Rattle.mesa_types.specs.declared.syntax.TypeExp.TheVariants as t
-use Rattle.mesa_types.specs.declared.syntax.FieldList.{FieldList}
-use Rattle.mesa_types.specs.declared.relation.Relation.{Relation}
-use Rattle.mesa_types.specs.declared.syntax.Sign.{Sign}
-use Rattle.mesa_types.specs.declared.syntax.Suffix.{Suffix}
-use Rattle.mesa_types.specs.declared.syntax.Statement.{Statement}
-use Rattle.mesa_types.specs.declared.syntax.Statement.TheVariants as s
-use Rattle.mesa_types.specs.declared.syntax.Expr.{Expr}
-use Rattle.mesa_types.specs.declared.syntax.Expr.TheVariants as e
+use Rattle.syntax_trees.specs.declared.syntax.TypeBase.TheVariants.{Unsaid}
+use Rattle.syntax_trees.specs.declared.syntax.TypeBase.TheVariants as b
+use Rattle.syntax_trees.specs.declared.syntax.TypeExp.{TypeExp}
+use Rattle.syntax_trees.specs.declared.syntax.TypeExp.TheVariants as t
+use Rattle.syntax_trees.specs.declared.syntax.FieldList.{FieldList}
+use Rattle.mesa_base.specs.declared.relation.Relation.{Relation}
+use Rattle.syntax_trees.specs.declared.syntax.Sign.{Sign}
+use Rattle.syntax_trees.specs.declared.syntax.Suffix.{Suffix}
+use Rattle.syntax_trees.specs.declared.syntax.Statement.{Statement}
+use Rattle.syntax_trees.specs.declared.syntax.Statement.TheVariants as s
+use Rattle.syntax_trees.specs.declared.syntax.Expr.{Expr}
+use Rattle.syntax_trees.specs.declared.syntax.Expr.TheVariants as e
 use Rattle.grammar_rules.specs.ReadNested.{Nested, identifier}
 use Rattle.grammar_rules.specs.declared.begun.Begun.TheVariants.{Fresh}
 use Rattle.grammar_rules.specs.Grammar.{left, qualified}

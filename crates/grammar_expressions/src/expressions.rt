@@ -5,16 +5,16 @@ ghost use Rattle.grammar_rules.specs.ReadExpressions as spec;
 ghost use Rattle.token_cursor.specs.Running.{Reads};
 ghost use Rattle.grammar_rules.specs.ReadStatements.{nested};
 ghost use Rattle.grammar_expressions.specs.Tails as tails;
-ghost use Rattle.mesa_types.specs.declared.syntax.Expr.TheVariants as e;
+ghost use Rattle.syntax_trees.specs.declared.syntax.Expr.TheVariants as e;
 
 use crate::nesting::{Level, NestedParsers};
 use crate::operators::{Ands, Ors, Products, Sums};
 use grammar_rules::Begun;
 use grammar_tokens::words_and_marks::{takes_negating, takes_relating, takes_signing};
 use held_trees::{LetGo, both, boxed, boxed_pair};
-use mesa_base::{Identifier, Place};
+use mesa_base::{Identifier, Place, Relation};
 use mesa_lexer::{Mark, Word};
-use mesa_types::syntax::{Expr, Left, Relation, Sign};
+use syntax_trees::syntax::{Expr, Left, Sign};
 use token_cursor::{Cursor, Stopped};
 
 impl<N: NestedParsers> Level<N> {

@@ -17,11 +17,11 @@ use grammar_tokens::words_and_marks::{takes_closing, takes_opening, takes_suffix
 use held_trees::{both, boxed_pair, pushed};
 use mesa_base::{Identifier, List, OutOfMemory, Place, Placed};
 use mesa_lexer::{Mark, Word};
-use mesa_types::syntax::{
+use std::alloc::Global;
+use syntax_trees::syntax::{
     Arm, Arms, Brackets, Entries, Expr, Exprs, Interval, Keyed, ListExpr, Phrase, Raise, Suffix,
     Suffixes,
 };
-use std::alloc::Global;
 use token_cursor::naming::named;
 use token_cursor::{Cursor, Stopped};
 

@@ -6,8 +6,8 @@ ghost use Rattle.grammar_rules.specs.ReadStatements.{nested};
 
 use grammar_rules::Begun;
 use mesa_base::Identifier;
-use mesa_types::syntax::{Expr, Statement, TypeExp};
 use std::alloc::Global;
+use syntax_trees::syntax::{Expr, Statement, TypeExp};
 use token_cursor::{Cursor, Stopped};
 
 /// The parsers of what stands one level deeper.

@@ -4,8 +4,8 @@ ghost use Rattle.grammar_expressions.specs.Runs.{operations, run_behind};
 ghost use Rattle.token_cursor.proofs.Loops.{Eats};
 ghost use Rattle.token_cursor.specs.Parsing.{Parser, many, many_turn};
 ghost use Rattle.mesa_lexer.specs.declared.token.Kind.{Kind};
-ghost use Rattle.mesa_types.specs.declared.syntax.Expr.{Expr};
-ghost use Rattle.mesa_types.specs.declared.syntax.Operator.{Operator};
+ghost use Rattle.syntax_trees.specs.declared.syntax.Expr.{Expr};
+ghost use Rattle.syntax_trees.specs.declared.syntax.Operator.{Operator};
 ghost use Rattle.grammar_rules.proofs.Parts.{ands_eats, ors_eats, products_eats, sums_eats};
 ghost use Rattle.grammar_rules.specs.ReadExpressions as spec;
 ghost use Rattle.grammar_rules.specs.Grammar as g;
@@ -21,8 +21,8 @@ use grammar_tokens::words_and_marks::{
 };
 use held_trees::{LetGo, both, boxed, pushed};
 use mesa_base::{List, OutOfMemory, Place};
-use mesa_types::syntax::{Expr, Operation, Operations, Operator};
 use std::alloc::Global;
+use syntax_trees::syntax::{Expr, Operation, Operations, Operator};
 use token_cursor::{Cursor, Stopped};
 
 /// The operators of one rank, and the operands behind them.

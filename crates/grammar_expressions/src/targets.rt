@@ -13,7 +13,7 @@ use grammar_rules::Begun;
 use held_trees::{both, pushed};
 use mesa_base::{Identifier, List, Place};
 use mesa_lexer::Mark;
-use mesa_types::syntax::{Entries, Keyed, Left, Statement, Suffixes};
+use syntax_trees::syntax::{Entries, Keyed, Left, Statement, Suffixes};
 use token_cursor::naming::named;
 use token_cursor::{Cursor, Stopped};
 

@@ -13,8 +13,8 @@ use grammar_tokens::naming::qname_from;
 use held_trees::{LetGo, both, boxed_pair, pushed};
 use mesa_base::{Identifier, Identifiers, List, OutOfMemory, Place};
 use mesa_lexer::{Mark, Word};
-use mesa_types::syntax::{FieldList, Labeled, QualifiedName, TypeBase, TypeExp, TypeExps};
 use std::alloc::Global;
+use syntax_trees::syntax::{FieldList, Labeled, QualifiedName, TypeBase, TypeExp, TypeExps};
 use token_cursor::naming::names;
 use token_cursor::{Cursor, Stopped};
 

@@ -10,45 +10,45 @@ use Rattle.token_cursor.specs.Parsing.{token, word, mark, Out, and_then, â—Œ>>=â
 use Rattle.token_cursor.specs.Parsing.{Turned}
 use Rattle.token_cursor.specs.Parsing as w
 use Rattle.mesa_base.specs.declared.identifier.Identifier.{Identifier}
-use Rattle.mesa_types.specs.declared.syntax.QualifiedName.{QualifiedName}
+use Rattle.syntax_trees.specs.declared.syntax.QualifiedName.{QualifiedName}
 use Rattle.mesa_base.specs.declared.placed.Placed.{Placed}
-use Rattle.mesa_types.specs.declared.syntax.Keyed.{Keyed}
-use Rattle.mesa_types.specs.declared.syntax.Labeled.{Labeled}
-use Rattle.mesa_types.specs.declared.syntax.Entries.{Entries}
-use Rattle.mesa_types.specs.declared.syntax.Entries.TheVariants.{Nothing, InOrder, ByKey}
-use Rattle.mesa_types.specs.declared.syntax.Labels.{Labels}
-use Rattle.mesa_types.specs.declared.syntax.RepeatLabels.{RepeatLabels}
-use Rattle.mesa_types.specs.declared.syntax.TypeBase.{TypeBase}
-use Rattle.mesa_types.specs.declared.syntax.Operator.{Operator}
-use Rattle.mesa_types.specs.declared.relation.Relation.{Relation}
-use Rattle.mesa_types.specs.declared.syntax.Sign.{Sign}
-use Rattle.mesa_types.specs.declared.syntax.TypeExp.{TypeExp}
-use Rattle.mesa_types.specs.declared.syntax.TypeExp.TheVariants as t
-use Rattle.mesa_types.specs.declared.syntax.FieldList.{FieldList}
-use Rattle.mesa_types.specs.declared.syntax.FieldList.TheVariants.{WithNames, Unnamed}
-use Rattle.mesa_types.specs.declared.syntax.Interval.{Interval}
-use Rattle.mesa_types.specs.declared.syntax.Expr.{Expr}
-use Rattle.mesa_types.specs.declared.syntax.Expr.TheVariants as ev
-use Rattle.mesa_types.specs.declared.syntax.Operation.{Operation}
-use Rattle.mesa_types.specs.declared.syntax.Left.{Left}
-use Rattle.mesa_types.specs.declared.syntax.Suffix.{Suffix}
-use Rattle.mesa_types.specs.declared.syntax.Suffix.TheVariants.{Field, Applied}
-use Rattle.mesa_types.specs.declared.syntax.Brackets.{Brackets}
-use Rattle.mesa_types.specs.declared.syntax.Raise.{Raise}
-use Rattle.mesa_types.specs.declared.syntax.Raise.TheVariants.{SignalRaise, ErrorRaise, UnnamedError}
-use Rattle.mesa_types.specs.declared.syntax.Arm.{Arm}
-use Rattle.mesa_types.specs.declared.syntax.Statement.{Statement}
-use Rattle.mesa_types.specs.declared.syntax.Statement.TheVariants as s
-use Rattle.mesa_types.specs.declared.syntax.Control.{Control}
-use Rattle.mesa_types.specs.declared.syntax.Count.{Count}
-use Rattle.mesa_types.specs.declared.syntax.Count.TheVariants.{For, Through}
-use Rattle.mesa_types.specs.declared.syntax.Condition.{Condition}
-use Rattle.mesa_types.specs.declared.syntax.Condition.TheVariants.{While, Until}
-use Rattle.mesa_types.specs.declared.syntax.Case.{Case}
-use Rattle.mesa_types.specs.declared.syntax.Test.{Test}
-use Rattle.mesa_types.specs.declared.syntax.Test.TheVariants.{Value, Compared, Inside}
-use Rattle.mesa_types.specs.declared.syntax.PlainItem.{PlainItem}
-use Rattle.mesa_types.specs.declared.syntax.PlainItem.TheVariants.{TypeIs, Variable, Initial, Constant}
+use Rattle.syntax_trees.specs.declared.syntax.Keyed.{Keyed}
+use Rattle.syntax_trees.specs.declared.syntax.Labeled.{Labeled}
+use Rattle.syntax_trees.specs.declared.syntax.Entries.{Entries}
+use Rattle.syntax_trees.specs.declared.syntax.Entries.TheVariants.{Nothing, InOrder, ByKey}
+use Rattle.syntax_trees.specs.declared.syntax.Labels.{Labels}
+use Rattle.syntax_trees.specs.declared.syntax.RepeatLabels.{RepeatLabels}
+use Rattle.syntax_trees.specs.declared.syntax.TypeBase.{TypeBase}
+use Rattle.syntax_trees.specs.declared.syntax.Operator.{Operator}
+use Rattle.mesa_base.specs.declared.relation.Relation.{Relation}
+use Rattle.syntax_trees.specs.declared.syntax.Sign.{Sign}
+use Rattle.syntax_trees.specs.declared.syntax.TypeExp.{TypeExp}
+use Rattle.syntax_trees.specs.declared.syntax.TypeExp.TheVariants as t
+use Rattle.syntax_trees.specs.declared.syntax.FieldList.{FieldList}
+use Rattle.syntax_trees.specs.declared.syntax.FieldList.TheVariants.{WithNames, Unnamed}
+use Rattle.syntax_trees.specs.declared.syntax.Interval.{Interval}
+use Rattle.syntax_trees.specs.declared.syntax.Expr.{Expr}
+use Rattle.syntax_trees.specs.declared.syntax.Expr.TheVariants as ev
+use Rattle.syntax_trees.specs.declared.syntax.Operation.{Operation}
+use Rattle.syntax_trees.specs.declared.syntax.Left.{Left}
+use Rattle.syntax_trees.specs.declared.syntax.Suffix.{Suffix}
+use Rattle.syntax_trees.specs.declared.syntax.Suffix.TheVariants.{Field, Applied}
+use Rattle.syntax_trees.specs.declared.syntax.Brackets.{Brackets}
+use Rattle.syntax_trees.specs.declared.syntax.Raise.{Raise}
+use Rattle.syntax_trees.specs.declared.syntax.Raise.TheVariants.{SignalRaise, ErrorRaise, UnnamedError}
+use Rattle.syntax_trees.specs.declared.syntax.Arm.{Arm}
+use Rattle.syntax_trees.specs.declared.syntax.Statement.{Statement}
+use Rattle.syntax_trees.specs.declared.syntax.Statement.TheVariants as s
+use Rattle.syntax_trees.specs.declared.syntax.Control.{Control}
+use Rattle.syntax_trees.specs.declared.syntax.Count.{Count}
+use Rattle.syntax_trees.specs.declared.syntax.Count.TheVariants.{For, Through}
+use Rattle.syntax_trees.specs.declared.syntax.Condition.{Condition}
+use Rattle.syntax_trees.specs.declared.syntax.Condition.TheVariants.{While, Until}
+use Rattle.syntax_trees.specs.declared.syntax.Case.{Case}
+use Rattle.syntax_trees.specs.declared.syntax.Test.{Test}
+use Rattle.syntax_trees.specs.declared.syntax.Test.TheVariants.{Value, Compared, Inside}
+use Rattle.syntax_trees.specs.declared.syntax.PlainItem.{PlainItem}
+use Rattle.syntax_trees.specs.declared.syntax.PlainItem.TheVariants.{TypeIs, Variable, Initial, Constant}
 use Rattle.grammar_rules.specs.WordsAndMarks.{spelled, disjoining, conjoining, adding, multiplying, signing, relating, negating, opening, closing}
 use Rattle.grammar_rules.specs.Grammar as g
 use Rattle.grammar_rules.specs.Grammar.{run, step, interval, left, brackets, keyed, labeled, arm, case, control, block, NoElse, IsNames, IsQName, IsLabels, IsRepeatLabels, IsBase, IsNot, IsDecreasing, IsType, IsFields, IsTypes, IsGroups, IsInterval, IsExpr, IsOrs, IsConj, IsAnds, IsNeg, IsRel, IsSum, IsSums, IsProduct, IsProducts, IsFactor, IsPrimary, IsListOption, IsLeft, IsBracketsOption, IsExprs, IsKeys, IsArmList, IsArms, IsArm, IsRaise, IsStmt, IsTargets, IsLefts, IsKeyLefts, IsOtherwise, IsCaseList, IsCases, IsCase, IsTests, IsTest, IsControl, IsCount, IsCondition, IsBody, IsStmts, IsRepeatPart, IsRepeats, IsRepeat, IsExits, IsExit, IsEnabling}

@@ -9,7 +9,7 @@ use Rattle.mesa_lexer.specs.declared.mark.Mark.TheVariants.{Arrow, Bang, Colon, 
 use Rattle.token_cursor.specs.Parsing.{token, word, mark, Got}
 use Rattle.token_cursor.specs.Parsing as w
 use Rattle.token_cursor.proofs.Branches.{somewhere}
-use Rattle.mesa_types.specs.declared.syntax.Module.{Module}
+use Rattle.syntax_trees.specs.declared.syntax.Module.{Module}
 use Rattle.grammar_rules.specs.ReadNested as nr
 use Rattle.grammar_rules.specs.ReadExpressions as ex
 use Rattle.grammar_rules.specs.ReadStatements as st

@@ -11,11 +11,11 @@ use Rattle.token_cursor.proofs.Branches.{passed}
 use Rattle.token_cursor.proofs.Loops.{Eats, unroll}
 use Rattle.token_cursor.proofs.Leading.{Leads, stand, finish, onto, under, comp, last, ahead, via, placed, turn_leads, many_more, many_end, Begins, stops_deep, done_on}
 use Rattle.mesa_base.specs.declared.identifier.Identifier.{Identifier}
-use Rattle.mesa_types.specs.declared.syntax.FieldList.{FieldList}
-use Rattle.mesa_types.specs.declared.syntax.FieldList.TheVariants.{Unnamed}
-use Rattle.mesa_types.specs.declared.syntax.TypeExp.{TypeExp}
-use Rattle.mesa_types.specs.declared.syntax.TypeExp.TheVariants as t
-use Rattle.mesa_types.specs.declared.syntax.TypeBase.TheVariants.{OfName}
+use Rattle.syntax_trees.specs.declared.syntax.FieldList.{FieldList}
+use Rattle.syntax_trees.specs.declared.syntax.FieldList.TheVariants.{Unnamed}
+use Rattle.syntax_trees.specs.declared.syntax.TypeExp.{TypeExp}
+use Rattle.syntax_trees.specs.declared.syntax.TypeExp.TheVariants as t
+use Rattle.syntax_trees.specs.declared.syntax.TypeBase.TheVariants.{OfName}
 use Rattle.grammar_rules.specs.WordsAndMarks.{spelled, opening}
 use Rattle.grammar_rules.specs.Grammar as g
 use Rattle.grammar_rules.specs.Grammar.{qualified}

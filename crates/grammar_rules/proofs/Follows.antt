@@ -11,27 +11,27 @@ use Rattle.token_cursor.proofs.Exact.{Test, Free}
 use Rattle.token_cursor.proofs.Branches.{Every, or_true, or_false, among_every, named_every}
 use Rattle.token_cursor.proofs.Leading.{Begins}
 use Rattle.mesa_base.specs.declared.identifier.Identifier.{Identifier}
-use Rattle.mesa_types.specs.declared.syntax.QualifiedName.{QualifiedName}
+use Rattle.syntax_trees.specs.declared.syntax.QualifiedName.{QualifiedName}
 use Rattle.mesa_base.specs.declared.placed.Placed.{Placed}
-use Rattle.mesa_types.specs.declared.syntax.Labeled.{Labeled}
-use Rattle.mesa_types.specs.declared.syntax.Entries.{Entries}
-use Rattle.mesa_types.specs.declared.syntax.RepeatLabels.{RepeatLabels}
-use Rattle.mesa_types.specs.declared.syntax.Operator.{Operator}
-use Rattle.mesa_types.specs.declared.relation.Relation.{Relation}
-use Rattle.mesa_types.specs.declared.syntax.Sign.{Sign}
-use Rattle.mesa_types.specs.declared.syntax.TypeExp.{TypeExp}
-use Rattle.mesa_types.specs.declared.syntax.Interval.{Interval}
-use Rattle.mesa_types.specs.declared.syntax.Expr.{Expr}
-use Rattle.mesa_types.specs.declared.syntax.Operation.{Operation}
-use Rattle.mesa_types.specs.declared.syntax.Suffix.{Suffix}
-use Rattle.mesa_types.specs.declared.syntax.Raise.{Raise}
-use Rattle.mesa_types.specs.declared.syntax.Arm.{Arm}
-use Rattle.mesa_types.specs.declared.syntax.Statement.{Statement}
-use Rattle.mesa_types.specs.declared.syntax.Control.{Control}
-use Rattle.mesa_types.specs.declared.syntax.Case.{Case}
-use Rattle.mesa_types.specs.declared.syntax.Test.{Test as TestTree}
-use Rattle.mesa_types.specs.declared.syntax.Block.{Block}
-use Rattle.mesa_types.specs.declared.syntax.PlainItem.{PlainItem}
+use Rattle.syntax_trees.specs.declared.syntax.Labeled.{Labeled}
+use Rattle.syntax_trees.specs.declared.syntax.Entries.{Entries}
+use Rattle.syntax_trees.specs.declared.syntax.RepeatLabels.{RepeatLabels}
+use Rattle.syntax_trees.specs.declared.syntax.Operator.{Operator}
+use Rattle.mesa_base.specs.declared.relation.Relation.{Relation}
+use Rattle.syntax_trees.specs.declared.syntax.Sign.{Sign}
+use Rattle.syntax_trees.specs.declared.syntax.TypeExp.{TypeExp}
+use Rattle.syntax_trees.specs.declared.syntax.Interval.{Interval}
+use Rattle.syntax_trees.specs.declared.syntax.Expr.{Expr}
+use Rattle.syntax_trees.specs.declared.syntax.Operation.{Operation}
+use Rattle.syntax_trees.specs.declared.syntax.Suffix.{Suffix}
+use Rattle.syntax_trees.specs.declared.syntax.Raise.{Raise}
+use Rattle.syntax_trees.specs.declared.syntax.Arm.{Arm}
+use Rattle.syntax_trees.specs.declared.syntax.Statement.{Statement}
+use Rattle.syntax_trees.specs.declared.syntax.Control.{Control}
+use Rattle.syntax_trees.specs.declared.syntax.Case.{Case}
+use Rattle.syntax_trees.specs.declared.syntax.Test.{Test as TestTree}
+use Rattle.syntax_trees.specs.declared.syntax.Block.{Block}
+use Rattle.syntax_trees.specs.declared.syntax.PlainItem.{PlainItem}
 use Rattle.grammar_rules.specs.WordsAndMarks.{spelled, disjoining, conjoining, adding, multiplying, signing, relating, negating, opening, closing}
 use Rattle.grammar_rules.specs.Grammar as g
 use Rattle.grammar_rules.specs.ReadNested.{loop_starts, raise_starts, begins_type, begins_expr, stmt_starts, begins_stmt, begins_arm, begins_test, begins_repeat}

@@ -13,19 +13,19 @@ use Rattle.token_cursor.proofs.Exact.{Rel, first_none, first_assoc, Sample, Keep
 use Rattle.token_cursor.proofs.Branches.{name_is, choose_or, choose_must, option_or, option_must, word, when_keeps, of_kind}
 use Rattle.token_cursor.proofs.Loops.{Steps, Eats, growing, many_eats, many_keeps, eats_by, less_done, less_choose, less_either, no_more_done, no_more_goes, no_more_when}
 use Rattle.mesa_base.specs.declared.identifier.Identifier.{Identifier}
-use Rattle.mesa_types.specs.declared.syntax.Labeled.{Labeled}
-use Rattle.mesa_types.specs.declared.syntax.FieldList.{FieldList}
-use Rattle.mesa_types.specs.declared.syntax.Head.{Head}
-use Rattle.mesa_types.specs.declared.syntax.Declared.{Declared}
-use Rattle.mesa_types.specs.declared.syntax.Declared.TheVariants.{Procedure, Signal, Error, Data}
-use Rattle.mesa_types.specs.declared.syntax.Declaration.{Declaration}
-use Rattle.mesa_types.specs.declared.syntax.Inner.{Inner}
-use Rattle.mesa_types.specs.declared.syntax.Defined.{Defined}
-use Rattle.mesa_types.specs.declared.syntax.Defined.TheVariants.{ProcedureItem, SignalItem, ErrorItem, TypeItem, ConstantItem}
-use Rattle.mesa_types.specs.declared.syntax.ModuleKind.{ModuleKind}
-use Rattle.mesa_types.specs.declared.syntax.ModuleKind.TheVariants.{Program, Interface}
-use Rattle.mesa_types.specs.declared.syntax.DirectoryItem.{DirectoryItem}
-use Rattle.mesa_types.specs.declared.syntax.Module.{Module}
+use Rattle.syntax_trees.specs.declared.syntax.Labeled.{Labeled}
+use Rattle.syntax_trees.specs.declared.syntax.FieldList.{FieldList}
+use Rattle.syntax_trees.specs.declared.syntax.Head.{Head}
+use Rattle.syntax_trees.specs.declared.syntax.Declared.{Declared}
+use Rattle.syntax_trees.specs.declared.syntax.Declared.TheVariants.{Procedure, Signal, Error, Data}
+use Rattle.syntax_trees.specs.declared.syntax.Declaration.{Declaration}
+use Rattle.syntax_trees.specs.declared.syntax.Inner.{Inner}
+use Rattle.syntax_trees.specs.declared.syntax.Defined.{Defined}
+use Rattle.syntax_trees.specs.declared.syntax.Defined.TheVariants.{ProcedureItem, SignalItem, ErrorItem, TypeItem, ConstantItem}
+use Rattle.syntax_trees.specs.declared.syntax.ModuleKind.{ModuleKind}
+use Rattle.syntax_trees.specs.declared.syntax.ModuleKind.TheVariants.{Program, Interface}
+use Rattle.syntax_trees.specs.declared.syntax.DirectoryItem.{DirectoryItem}
+use Rattle.syntax_trees.specs.declared.syntax.Module.{Module}
 use Rattle.grammar_rules.specs.WordsAndMarks.{spelled, procedure_word}
 use Rattle.grammar_rules.specs.Grammar as g
 use Rattle.grammar_rules.specs.Grammar.{labeled}

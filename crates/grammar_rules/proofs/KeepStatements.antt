@@ -13,21 +13,21 @@ use Rattle.token_cursor.proofs.Branches.{somewhere, choose_or, option_or, option
 use Rattle.token_cursor.proofs.Loops.{Steps, Eats, growing, many_eats, many_keeps, ended_eats, ended_keeps, listed, series, eats_by, less_done, less_choose, less_either, no_more_done, no_more_goes, no_more_when}
 use Rattle.mesa_base.specs.declared.identifier.Identifier.{Identifier}
 use Rattle.mesa_base.specs.declared.placed.Placed.{Placed}
-use Rattle.mesa_types.specs.declared.syntax.Keyed.{Keyed}
-use Rattle.mesa_types.specs.declared.syntax.Entries.TheVariants.{Nothing, InOrder, ByKey}
-use Rattle.mesa_types.specs.declared.syntax.TypeExp.{TypeExp}
-use Rattle.mesa_types.specs.declared.syntax.Expr.{Expr}
-use Rattle.mesa_types.specs.declared.syntax.Left.{Left}
-use Rattle.mesa_types.specs.declared.syntax.Arm.{Arm}
-use Rattle.mesa_types.specs.declared.syntax.Statement.{Statement}
-use Rattle.mesa_types.specs.declared.syntax.Statement.TheVariants as s
-use Rattle.mesa_types.specs.declared.syntax.Count.TheVariants.{For, Through}
-use Rattle.mesa_types.specs.declared.syntax.Condition.TheVariants.{While, Until}
-use Rattle.mesa_types.specs.declared.syntax.Case.{Case}
-use Rattle.mesa_types.specs.declared.syntax.Test.{Test as TestTree}
-use Rattle.mesa_types.specs.declared.syntax.Test.TheVariants.{Value, Compared, Inside}
-use Rattle.mesa_types.specs.declared.syntax.Block.{Block}
-use Rattle.mesa_types.specs.declared.syntax.PlainItem.TheVariants.{TypeIs, Variable, Initial, Constant}
+use Rattle.syntax_trees.specs.declared.syntax.Keyed.{Keyed}
+use Rattle.syntax_trees.specs.declared.syntax.Entries.TheVariants.{Nothing, InOrder, ByKey}
+use Rattle.syntax_trees.specs.declared.syntax.TypeExp.{TypeExp}
+use Rattle.syntax_trees.specs.declared.syntax.Expr.{Expr}
+use Rattle.syntax_trees.specs.declared.syntax.Left.{Left}
+use Rattle.syntax_trees.specs.declared.syntax.Arm.{Arm}
+use Rattle.syntax_trees.specs.declared.syntax.Statement.{Statement}
+use Rattle.syntax_trees.specs.declared.syntax.Statement.TheVariants as s
+use Rattle.syntax_trees.specs.declared.syntax.Count.TheVariants.{For, Through}
+use Rattle.syntax_trees.specs.declared.syntax.Condition.TheVariants.{While, Until}
+use Rattle.syntax_trees.specs.declared.syntax.Case.{Case}
+use Rattle.syntax_trees.specs.declared.syntax.Test.{Test as TestTree}
+use Rattle.syntax_trees.specs.declared.syntax.Test.TheVariants.{Value, Compared, Inside}
+use Rattle.syntax_trees.specs.declared.syntax.Block.{Block}
+use Rattle.syntax_trees.specs.declared.syntax.PlainItem.TheVariants.{TypeIs, Variable, Initial, Constant}
 use Rattle.grammar_rules.specs.WordsAndMarks.{spelled, negating}
 use Rattle.grammar_rules.specs.Grammar as g
 use Rattle.grammar_rules.specs.Grammar.{NoElse, placed, keyed, labeled}

@@ -12,14 +12,14 @@ use Rattle.token_cursor.proofs.Exact.{Rel, first_none, first_assoc, Sample, Keep
 use Rattle.token_cursor.proofs.Branches.{option_or, word, when_keeps, of_kind}
 use Rattle.token_cursor.proofs.Loops.{Steps, Eats, growing, many_eats, many_keeps, stopping, eats_by, less_done, no_more_done, no_more_pure, less_choose, no_more_choose}
 use Rattle.mesa_base.specs.declared.identifier.Identifier.{Identifier}
-use Rattle.mesa_types.specs.declared.syntax.Labeled.{Labeled}
-use Rattle.mesa_types.specs.declared.syntax.TypeBase.{TypeBase}
-use Rattle.mesa_types.specs.declared.syntax.TypeBase.TheVariants.{Unsaid, OfInteger, OfCardinal, OfCharacter, OfName}
-use Rattle.mesa_types.specs.declared.syntax.Interval.{Interval}
-use Rattle.mesa_types.specs.declared.syntax.TypeExp.{TypeExp}
-use Rattle.mesa_types.specs.declared.syntax.TypeExp.TheVariants as t
-use Rattle.mesa_types.specs.declared.syntax.FieldList.{FieldList}
-use Rattle.mesa_types.specs.declared.syntax.FieldList.TheVariants.{WithNames, Unnamed}
+use Rattle.syntax_trees.specs.declared.syntax.Labeled.{Labeled}
+use Rattle.syntax_trees.specs.declared.syntax.TypeBase.{TypeBase}
+use Rattle.syntax_trees.specs.declared.syntax.TypeBase.TheVariants.{Unsaid, OfInteger, OfCardinal, OfCharacter, OfName}
+use Rattle.syntax_trees.specs.declared.syntax.Interval.{Interval}
+use Rattle.syntax_trees.specs.declared.syntax.TypeExp.{TypeExp}
+use Rattle.syntax_trees.specs.declared.syntax.TypeExp.TheVariants as t
+use Rattle.syntax_trees.specs.declared.syntax.FieldList.{FieldList}
+use Rattle.syntax_trees.specs.declared.syntax.FieldList.TheVariants.{WithNames, Unnamed}
 use Rattle.grammar_rules.specs.WordsAndMarks.{spelled, opening}
 use Rattle.grammar_rules.specs.Grammar as g
 use Rattle.grammar_rules.specs.Grammar.{labeled, qualified}

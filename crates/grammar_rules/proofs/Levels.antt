@@ -11,19 +11,19 @@ use Rattle.mesa_lexer.specs.declared.mark.Mark.TheVariants.{Arrow, DotDot, LeftB
 use Rattle.token_cursor.specs.Parsing.{token, word, mark, found, finds, a_name, among}
 use Rattle.token_cursor.proofs.Branches.{somewhere, Deep, deep_keeps, Every, or_true, among_every, named_every}
 use Rattle.mesa_base.specs.declared.identifier.Identifier.{Identifier}
-use Rattle.mesa_types.specs.declared.syntax.Entries.TheVariants.{Nothing}
-use Rattle.mesa_types.specs.declared.syntax.TypeBase.TheVariants.{Unsaid}
-use Rattle.mesa_types.specs.declared.syntax.Sign.TheVariants.{Positive, Negative}
-use Rattle.mesa_types.specs.declared.syntax.TypeExp.TheVariants as t
-use Rattle.mesa_types.specs.declared.syntax.FieldList.TheVariants.{Unnamed}
-use Rattle.mesa_types.specs.declared.syntax.Interval.{Interval}
-use Rattle.mesa_types.specs.declared.syntax.Control.{Control}
-use Rattle.mesa_types.specs.declared.syntax.Expr.{Expr}
-use Rattle.mesa_types.specs.declared.syntax.Expr.TheVariants as e
-use Rattle.mesa_types.specs.declared.syntax.Raise.TheVariants.{SignalRaise, UnnamedError}
-use Rattle.mesa_types.specs.declared.syntax.Statement.TheVariants as s
-use Rattle.mesa_types.specs.declared.syntax.Count.TheVariants.{For, Through}
-use Rattle.mesa_types.specs.declared.syntax.Condition.TheVariants.{While, Until}
+use Rattle.syntax_trees.specs.declared.syntax.Entries.TheVariants.{Nothing}
+use Rattle.syntax_trees.specs.declared.syntax.TypeBase.TheVariants.{Unsaid}
+use Rattle.syntax_trees.specs.declared.syntax.Sign.TheVariants.{Positive, Negative}
+use Rattle.syntax_trees.specs.declared.syntax.TypeExp.TheVariants as t
+use Rattle.syntax_trees.specs.declared.syntax.FieldList.TheVariants.{Unnamed}
+use Rattle.syntax_trees.specs.declared.syntax.Interval.{Interval}
+use Rattle.syntax_trees.specs.declared.syntax.Control.{Control}
+use Rattle.syntax_trees.specs.declared.syntax.Expr.{Expr}
+use Rattle.syntax_trees.specs.declared.syntax.Expr.TheVariants as e
+use Rattle.syntax_trees.specs.declared.syntax.Raise.TheVariants.{SignalRaise, UnnamedError}
+use Rattle.syntax_trees.specs.declared.syntax.Statement.TheVariants as s
+use Rattle.syntax_trees.specs.declared.syntax.Count.TheVariants.{For, Through}
+use Rattle.syntax_trees.specs.declared.syntax.Condition.TheVariants.{While, Until}
 use Rattle.grammar_rules.specs.WordsAndMarks.{spelled, opening}
 use Rattle.grammar_rules.specs.Grammar as g
 use Rattle.grammar_rules.specs.Grammar.{placed, qualified}

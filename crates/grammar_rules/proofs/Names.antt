@@ -10,9 +10,9 @@ use Rattle.token_cursor.proofs.Exact.{Rel, first_none, Keeps, Took, Then, done, 
 use Rattle.token_cursor.proofs.Branches.{option_or, of_kind}
 use Rattle.token_cursor.proofs.Loops.{Eats, many_eats, many_keeps, listed}
 use Rattle.mesa_base.specs.declared.identifier.Identifier.{Identifier}
-use Rattle.mesa_types.specs.declared.syntax.QualifiedName.{QualifiedName}
-use Rattle.mesa_types.specs.declared.syntax.Labels.TheVariants.{Any, Unwind, Signals}
-use Rattle.mesa_types.specs.declared.syntax.RepeatLabels.TheVariants.{Named, Finished}
+use Rattle.syntax_trees.specs.declared.syntax.QualifiedName.{QualifiedName}
+use Rattle.syntax_trees.specs.declared.syntax.Labels.TheVariants.{Any, Unwind, Signals}
+use Rattle.syntax_trees.specs.declared.syntax.RepeatLabels.TheVariants.{Named, Finished}
 use Rattle.grammar_rules.specs.WordsAndMarks.{spelled}
 pub use Rattle.token_cursor.proofs.Names.{name_or, name_must, NameIs, names_eats}
 use Rattle.token_cursor.proofs.Names as n

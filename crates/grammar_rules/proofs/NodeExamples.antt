@@ -9,11 +9,11 @@ use Rattle.mesa_lexer.specs.declared.mark.Mark.TheVariants.{Arrow, Colon, Comma,
 use Rattle.token_cursor.specs.Parsing.{token, word, mark, Got}
 use Rattle.token_cursor.specs.Parsing as w
 use Rattle.token_cursor.proofs.Branches.{somewhere}
-use Rattle.mesa_types.specs.declared.syntax.Module.{Module}
-use Rattle.mesa_types.specs.SyntaxNodes as plain
-use Rattle.mesa_types.proofs.LayerNodes.{head_nodes, declared_nodes, declaration_nodes, inner_nodes, defined_nodes, kind_nodes, directory_item_nodes, nodes}
-use Rattle.mesa_types.proofs.NodesAgree.{nodes_agree}
-use Rattle.mesa_types.proofs.SyntaxForms as of
+use Rattle.syntax_trees.specs.declared.syntax.Module.{Module}
+use Rattle.syntax_trees.specs.SyntaxNodes as plain
+use Rattle.syntax_trees.proofs.LayerNodes.{head_nodes, declared_nodes, declaration_nodes, inner_nodes, defined_nodes, kind_nodes, directory_item_nodes, nodes}
+use Rattle.syntax_trees.proofs.NodesAgree.{nodes_agree}
+use Rattle.syntax_trees.proofs.SyntaxForms as of
 use Rattle.grammar_rules.specs.ReadNested as nr
 use Rattle.grammar_rules.specs.ReadExpressions as ex
 use Rattle.grammar_rules.specs.ReadStatements as st

@@ -1,8 +1,8 @@
 -- An operand with its steps, by whether there are steps.
 use Rattle.std.proofs.Common.{◌≡◌, List, [], ◌∷◌, refl, ap}
-use Rattle.mesa_types.specs.declared.syntax.Expr.{Expr}
-use Rattle.mesa_types.specs.declared.syntax.Expr.TheVariants as e
-use Rattle.mesa_types.specs.declared.syntax.Operation.{Operation}
+use Rattle.syntax_trees.specs.declared.syntax.Expr.{Expr}
+use Rattle.syntax_trees.specs.declared.syntax.Expr.TheVariants as e
+use Rattle.syntax_trees.specs.declared.syntax.Operation.{Operation}
 use Rattle.grammar_rules.specs.Grammar.{run}
 
 pub run_none : (x : Expr) (ss : List Operation) → ss ≡ [] → run x ss ≡ x

@@ -12,17 +12,17 @@ use Rattle.mesa_lexer.specs.declared.word.Word.TheVariants.{BeginWord, EndWord, 
 use Rattle.mesa_lexer.specs.declared.mark.Mark.TheVariants.{Arrow, Colon, Dot, Equal, Semicolon}
 use Rattle.token_cursor.specs.Grammars.{token}
 use Rattle.token_cursor.specs.Parsing.{Out, Got}
-use Rattle.mesa_types.specs.declared.syntax.TypeExp.{TypeExp}
-use Rattle.mesa_types.specs.declared.syntax.TypeExp.TheVariants as t
-use Rattle.mesa_types.specs.declared.syntax.Expr.{Expr}
-use Rattle.mesa_types.specs.declared.syntax.Expr.TheVariants as e
-use Rattle.mesa_types.specs.declared.syntax.Statement.{Statement}
-use Rattle.mesa_types.specs.declared.syntax.Statement.TheVariants as s
-use Rattle.mesa_types.specs.declared.syntax.PlainItem.TheVariants.{Variable}
-use Rattle.mesa_types.specs.declared.syntax.Declared.TheVariants as d
-use Rattle.mesa_types.specs.declared.syntax.Declaration.{Declaration}
-use Rattle.mesa_types.specs.declared.syntax.ModuleKind.TheVariants.{Program}
-use Rattle.mesa_types.specs.declared.syntax.Module.{Module}
+use Rattle.syntax_trees.specs.declared.syntax.TypeExp.{TypeExp}
+use Rattle.syntax_trees.specs.declared.syntax.TypeExp.TheVariants as t
+use Rattle.syntax_trees.specs.declared.syntax.Expr.{Expr}
+use Rattle.syntax_trees.specs.declared.syntax.Expr.TheVariants as e
+use Rattle.syntax_trees.specs.declared.syntax.Statement.{Statement}
+use Rattle.syntax_trees.specs.declared.syntax.Statement.TheVariants as s
+use Rattle.syntax_trees.specs.declared.syntax.PlainItem.TheVariants.{Variable}
+use Rattle.syntax_trees.specs.declared.syntax.Declared.TheVariants as d
+use Rattle.syntax_trees.specs.declared.syntax.Declaration.{Declaration}
+use Rattle.syntax_trees.specs.declared.syntax.ModuleKind.TheVariants.{Program}
+use Rattle.syntax_trees.specs.declared.syntax.Module.{Module}
 use Rattle.grammar_rules.specs.Grammar as g
 use Rattle.grammar_rules.specs.Modules as m
 use Rattle.grammar_rules.specs.Answer.{Parses}

@@ -5,18 +5,18 @@ use Rattle.mesa_lexer.specs.declared.token.Kind.TheVariants as k
 use Rattle.mesa_lexer.specs.declared.word.Word.TheVariants.{AndWord, AnyWord, ArrayWord, BooleanWord, CardinalWord, CharacterWord, ErrorWord, ExitWord, FalseWord, InWord, IntegerWord, LoopWord, ModWord, NotWord, NullWord, OfWord, OrWord, RecordWord, SignalWord, StringWord, TrueWord, UnwindWord}
 use Rattle.mesa_lexer.specs.declared.mark.Mark.TheVariants.{AtLeast, AtMost, Bang, Colon, Comma, Dot, DotDot, DoubleArrow, Equal, Greater, LeftBrace, LeftBracket, LeftParenthesis, Less, Minus, Plus, RightBrace, RightBracket, RightParenthesis, Semicolon, Sharp, Slash, Star, Tilde}
 use Rattle.token_cursor.specs.Parsing as w
-use Rattle.mesa_types.specs.declared.syntax.Entries.TheVariants.{Nothing, InOrder, ByKey}
-use Rattle.mesa_types.specs.declared.syntax.Labels.TheVariants as l
-use Rattle.mesa_types.specs.declared.syntax.TypeBase.TheVariants as b
-use Rattle.mesa_types.specs.declared.syntax.Operator.TheVariants as o
-use Rattle.mesa_types.specs.declared.relation.Relation.TheVariants as v
-use Rattle.mesa_types.specs.declared.syntax.Sign.TheVariants.{Positive, Negative}
-use Rattle.mesa_types.specs.declared.syntax.TypeExp.TheVariants as t
-use Rattle.mesa_types.specs.declared.syntax.FieldList.TheVariants.{WithNames, Unnamed}
-use Rattle.mesa_types.specs.declared.syntax.Expr.TheVariants as e
-use Rattle.mesa_types.specs.declared.syntax.Suffix.TheVariants.{Field, Applied}
-use Rattle.mesa_types.specs.declared.syntax.Raise.TheVariants.{SignalRaise, ErrorRaise, UnnamedError}
-use Rattle.mesa_types.specs.declared.syntax.Statement.TheVariants as s
+use Rattle.syntax_trees.specs.declared.syntax.Entries.TheVariants.{Nothing, InOrder, ByKey}
+use Rattle.syntax_trees.specs.declared.syntax.Labels.TheVariants as l
+use Rattle.syntax_trees.specs.declared.syntax.TypeBase.TheVariants as b
+use Rattle.syntax_trees.specs.declared.syntax.Operator.TheVariants as o
+use Rattle.mesa_base.specs.declared.relation.Relation.TheVariants as v
+use Rattle.syntax_trees.specs.declared.syntax.Sign.TheVariants.{Positive, Negative}
+use Rattle.syntax_trees.specs.declared.syntax.TypeExp.TheVariants as t
+use Rattle.syntax_trees.specs.declared.syntax.FieldList.TheVariants.{WithNames, Unnamed}
+use Rattle.syntax_trees.specs.declared.syntax.Expr.TheVariants as e
+use Rattle.syntax_trees.specs.declared.syntax.Suffix.TheVariants.{Field, Applied}
+use Rattle.syntax_trees.specs.declared.syntax.Raise.TheVariants.{SignalRaise, ErrorRaise, UnnamedError}
+use Rattle.syntax_trees.specs.declared.syntax.Statement.TheVariants as s
 use Rattle.grammar_rules.specs.Grammar as g
 use Rattle.grammar_rules.specs.ReadNested as nr
 use Rattle.grammar_rules.specs.ReadExpressions as ex

@@ -5,15 +5,15 @@ use Rattle.mesa_lexer.specs.declared.token.Kind.TheVariants as k
 use Rattle.mesa_lexer.specs.declared.word.Word.TheVariants.{AnyWord, BeginWord, CodeWord, DefinitionsWord, DirectoryWord, EnableWord, EndWord, ErrorWord, ExitWord, ExitsWord, ExportsWord, FromWord, ImportsWord, LoopWord, NullWord, OpenWord, PrivateWord, ProcWord, ProcedureWord, ProgramWord, PublicWord, ReturnsWord, SignalWord, TypeWord, UnwindWord, UsingWord}
 use Rattle.mesa_lexer.specs.declared.mark.Mark.TheVariants.{Arrow, Colon, Comma, Dot, DoubleArrow, Equal, LeftBrace, LeftBracket, RightBrace, RightBracket, Semicolon}
 use Rattle.token_cursor.specs.Parsing as w
-use Rattle.mesa_types.specs.declared.syntax.Labels.TheVariants as l
-use Rattle.mesa_types.specs.declared.syntax.Access.TheVariants.{Public, Private}
-use Rattle.mesa_types.specs.declared.syntax.FieldList.TheVariants.{WithNames, Unnamed}
-use Rattle.mesa_types.specs.declared.syntax.Expr.TheVariants as e
-use Rattle.mesa_types.specs.declared.syntax.Statement.TheVariants as s
-use Rattle.mesa_types.specs.declared.syntax.PlainItem.TheVariants.{TypeIs, Variable, Initial, Constant}
-use Rattle.mesa_types.specs.declared.syntax.Declared.TheVariants as d
-use Rattle.mesa_types.specs.declared.syntax.Defined.TheVariants.{ProcedureItem, SignalItem, ErrorItem, TypeItem, ConstantItem}
-use Rattle.mesa_types.specs.declared.syntax.ModuleKind.TheVariants.{Program, Interface}
+use Rattle.syntax_trees.specs.declared.syntax.Labels.TheVariants as l
+use Rattle.syntax_trees.specs.declared.syntax.Access.TheVariants.{Public, Private}
+use Rattle.syntax_trees.specs.declared.syntax.FieldList.TheVariants.{WithNames, Unnamed}
+use Rattle.syntax_trees.specs.declared.syntax.Expr.TheVariants as e
+use Rattle.syntax_trees.specs.declared.syntax.Statement.TheVariants as s
+use Rattle.syntax_trees.specs.declared.syntax.PlainItem.TheVariants.{TypeIs, Variable, Initial, Constant}
+use Rattle.syntax_trees.specs.declared.syntax.Declared.TheVariants as d
+use Rattle.syntax_trees.specs.declared.syntax.Defined.TheVariants.{ProcedureItem, SignalItem, ErrorItem, TypeItem, ConstantItem}
+use Rattle.syntax_trees.specs.declared.syntax.ModuleKind.TheVariants.{Program, Interface}
 use Rattle.grammar_rules.specs.Grammar as g
 use Rattle.grammar_rules.specs.Modules as m
 use Rattle.grammar_rules.specs.ReadNested as nr

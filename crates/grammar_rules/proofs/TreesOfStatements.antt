@@ -4,18 +4,18 @@ use Rattle.mesa_lexer.specs.declared.token.Kind.TheVariants as k
 use Rattle.mesa_lexer.specs.declared.word.Word.TheVariants.{AnyWord, ContinueWord, DecreasingWord, DoWord, ElseWord, EnableWord, EndcaseWord, EndloopWord, ErrorWord, ExitWord, FinishedWord, ForWord, FromWord, GoWord, GotoWord, IfWord, InWord, LoopWord, NotWord, NullWord, RejectWord, RepeatWord, ResumeWord, RetryWord, ReturnWord, SelectWord, ThenWord, ThroughWord, ToWord, UntilWord, WhileWord}
 use Rattle.mesa_lexer.specs.declared.mark.Mark.TheVariants.{Arrow, Colon, Comma, Dot, DotDot, DoubleArrow, LeftBracket, LeftParenthesis, Less, Plus, RightBracket, RightParenthesis, Semicolon, Sharp, Tilde}
 use Rattle.token_cursor.specs.Parsing as w
-use Rattle.mesa_types.specs.declared.syntax.Entries.TheVariants.{Nothing, InOrder, ByKey}
-use Rattle.mesa_types.specs.declared.syntax.Labels.TheVariants as l
-use Rattle.mesa_types.specs.declared.syntax.RepeatLabels.TheVariants as rl
-use Rattle.mesa_types.specs.declared.syntax.Operator.TheVariants as o
-use Rattle.mesa_types.specs.declared.relation.Relation.TheVariants as v
-use Rattle.mesa_types.specs.declared.syntax.Expr.TheVariants as e
-use Rattle.mesa_types.specs.declared.syntax.Suffix.TheVariants.{Field, Applied}
-use Rattle.mesa_types.specs.declared.syntax.Raise.TheVariants.{ErrorRaise}
-use Rattle.mesa_types.specs.declared.syntax.Statement.TheVariants as s
-use Rattle.mesa_types.specs.declared.syntax.Count.TheVariants.{For, Through}
-use Rattle.mesa_types.specs.declared.syntax.Condition.TheVariants.{While, Until}
-use Rattle.mesa_types.specs.declared.syntax.Test.TheVariants.{Value, Compared, Inside}
+use Rattle.syntax_trees.specs.declared.syntax.Entries.TheVariants.{Nothing, InOrder, ByKey}
+use Rattle.syntax_trees.specs.declared.syntax.Labels.TheVariants as l
+use Rattle.syntax_trees.specs.declared.syntax.RepeatLabels.TheVariants as rl
+use Rattle.syntax_trees.specs.declared.syntax.Operator.TheVariants as o
+use Rattle.mesa_base.specs.declared.relation.Relation.TheVariants as v
+use Rattle.syntax_trees.specs.declared.syntax.Expr.TheVariants as e
+use Rattle.syntax_trees.specs.declared.syntax.Suffix.TheVariants.{Field, Applied}
+use Rattle.syntax_trees.specs.declared.syntax.Raise.TheVariants.{ErrorRaise}
+use Rattle.syntax_trees.specs.declared.syntax.Statement.TheVariants as s
+use Rattle.syntax_trees.specs.declared.syntax.Count.TheVariants.{For, Through}
+use Rattle.syntax_trees.specs.declared.syntax.Condition.TheVariants.{While, Until}
+use Rattle.syntax_trees.specs.declared.syntax.Test.TheVariants.{Value, Compared, Inside}
 use Rattle.grammar_rules.specs.Grammar as g
 use Rattle.grammar_rules.specs.ReadNested as nr
 use Rattle.grammar_rules.specs.ReadExpressions as ex

@@ -10,12 +10,12 @@ use Rattle.token_cursor.proofs.Exact.{Free}
 use Rattle.token_cursor.proofs.Branches.{chosen, passed, when_false}
 use Rattle.token_cursor.proofs.Leading.{Leads, stand, onto, comp, last, ahead, via, many_more, many_end, Begins, when_begins}
 use Rattle.mesa_base.specs.declared.identifier.Identifier.{Identifier}
-use Rattle.mesa_types.specs.declared.syntax.QualifiedName.{QualifiedName}
-use Rattle.mesa_types.specs.declared.syntax.Entries.TheVariants.{Nothing, InOrder}
-use Rattle.mesa_types.specs.declared.syntax.Labels.{Labels}
-use Rattle.mesa_types.specs.declared.syntax.Labels.TheVariants.{Signals}
-use Rattle.mesa_types.specs.declared.syntax.RepeatLabels.{RepeatLabels}
-use Rattle.mesa_types.specs.declared.syntax.RepeatLabels.TheVariants.{Named as WithLabels}
+use Rattle.syntax_trees.specs.declared.syntax.QualifiedName.{QualifiedName}
+use Rattle.syntax_trees.specs.declared.syntax.Entries.TheVariants.{Nothing, InOrder}
+use Rattle.syntax_trees.specs.declared.syntax.Labels.{Labels}
+use Rattle.syntax_trees.specs.declared.syntax.Labels.TheVariants.{Signals}
+use Rattle.syntax_trees.specs.declared.syntax.RepeatLabels.{RepeatLabels}
+use Rattle.syntax_trees.specs.declared.syntax.RepeatLabels.TheVariants.{Named as WithLabels}
 use Rattle.grammar_rules.specs.WordsAndMarks.{spelled, disjoining, conjoining, negating}
 use Rattle.grammar_rules.specs.Grammar as g
 use Rattle.grammar_rules.specs.Grammar.{qualified}

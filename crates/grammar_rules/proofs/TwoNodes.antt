@@ -3,46 +3,46 @@ use Rattle.std.proofs.Common.{◌≡◌, ◌≤◌, ◌+◌, ◌*◌, ℕ, Bool,
 use Rattle.mesa_lexer.specs.declared.token.Token.{Token}
 use Rattle.mesa_lexer.specs.declared.word.Word.{Word}
 use Rattle.mesa_base.specs.declared.identifier.Identifier.{Identifier}
-use Rattle.mesa_types.specs.declared.syntax.QualifiedName.{QualifiedName}
+use Rattle.syntax_trees.specs.declared.syntax.QualifiedName.{QualifiedName}
 use Rattle.mesa_base.specs.declared.placed.Placed.{Placed}
-use Rattle.mesa_types.specs.declared.syntax.Keyed.{Keyed}
-use Rattle.mesa_types.specs.declared.syntax.Labeled.{Labeled}
-use Rattle.mesa_types.specs.declared.syntax.Entries.{Entries}
-use Rattle.mesa_types.specs.declared.syntax.Labels.{Labels}
-use Rattle.mesa_types.specs.declared.syntax.RepeatLabels.{RepeatLabels}
-use Rattle.mesa_types.specs.declared.syntax.TypeBase.{TypeBase}
-use Rattle.mesa_types.specs.declared.syntax.TypeExp.{TypeExp}
-use Rattle.mesa_types.specs.declared.syntax.FieldList.{FieldList}
-use Rattle.mesa_types.specs.declared.syntax.Interval.{Interval}
-use Rattle.mesa_types.specs.declared.syntax.Expr.{Expr}
-use Rattle.mesa_types.specs.declared.syntax.Operation.{Operation}
-use Rattle.mesa_types.specs.declared.syntax.Left.{Left}
-use Rattle.mesa_types.specs.declared.syntax.Suffix.{Suffix}
-use Rattle.mesa_types.specs.declared.syntax.Suffix.TheVariants.{Field, Applied}
-use Rattle.mesa_types.specs.declared.syntax.Brackets.{Brackets}
-use Rattle.mesa_types.specs.declared.syntax.Raise.{Raise}
-use Rattle.mesa_types.specs.declared.syntax.Arm.{Arm}
-use Rattle.mesa_types.specs.declared.syntax.Statement.{Statement}
-use Rattle.mesa_types.specs.declared.syntax.Control.{Control}
-use Rattle.mesa_types.specs.declared.syntax.Count.{Count}
-use Rattle.mesa_types.specs.declared.syntax.Condition.{Condition}
-use Rattle.mesa_types.specs.declared.syntax.Case.{Case}
-use Rattle.mesa_types.specs.declared.syntax.Test.{Test}
-use Rattle.mesa_types.specs.declared.syntax.Block.{Block}
-use Rattle.mesa_types.specs.declared.syntax.PlainItem.{PlainItem}
-use Rattle.mesa_types.specs.declared.syntax.Head.{Head}
-use Rattle.mesa_types.specs.declared.syntax.Access.{Access}
-use Rattle.mesa_types.specs.declared.syntax.Declared.{Declared}
-use Rattle.mesa_types.specs.declared.syntax.Declaration.{Declaration}
-use Rattle.mesa_types.specs.declared.syntax.Inner.{Inner}
-use Rattle.mesa_types.specs.declared.syntax.Defined.{Defined}
-use Rattle.mesa_types.specs.declared.syntax.ModuleKind.{ModuleKind}
-use Rattle.mesa_types.specs.declared.syntax.DirectoryItem.{DirectoryItem}
-use Rattle.mesa_types.specs.declared.syntax.Module.{Module}
-use Rattle.mesa_types.proofs.LayerNodes.{total, optional, named, keyed, entries, phrase, values, labels, repeat_labels, repeated, base, negation, condition_nodes, count_nodes, expr_nodes, field_list_nodes, plain_nodes, raise_nodes, statement_nodes, suffix_nodes, test_nodes, type_nodes, arm_nodes, block_nodes, brackets_nodes, case_nodes, control_nodes, interval_nodes, left_nodes, operation_nodes, head_nodes, declared_nodes, declaration_nodes, inner_nodes, defined_nodes, kind_nodes, directory_item_nodes, nodes}
-use Rattle.mesa_types.proofs.SyntaxForms as of
-use Rattle.mesa_types.proofs.NodesAgree.{nodes_agree}
-use Rattle.mesa_types.specs.SyntaxNodes as plain
+use Rattle.syntax_trees.specs.declared.syntax.Keyed.{Keyed}
+use Rattle.syntax_trees.specs.declared.syntax.Labeled.{Labeled}
+use Rattle.syntax_trees.specs.declared.syntax.Entries.{Entries}
+use Rattle.syntax_trees.specs.declared.syntax.Labels.{Labels}
+use Rattle.syntax_trees.specs.declared.syntax.RepeatLabels.{RepeatLabels}
+use Rattle.syntax_trees.specs.declared.syntax.TypeBase.{TypeBase}
+use Rattle.syntax_trees.specs.declared.syntax.TypeExp.{TypeExp}
+use Rattle.syntax_trees.specs.declared.syntax.FieldList.{FieldList}
+use Rattle.syntax_trees.specs.declared.syntax.Interval.{Interval}
+use Rattle.syntax_trees.specs.declared.syntax.Expr.{Expr}
+use Rattle.syntax_trees.specs.declared.syntax.Operation.{Operation}
+use Rattle.syntax_trees.specs.declared.syntax.Left.{Left}
+use Rattle.syntax_trees.specs.declared.syntax.Suffix.{Suffix}
+use Rattle.syntax_trees.specs.declared.syntax.Suffix.TheVariants.{Field, Applied}
+use Rattle.syntax_trees.specs.declared.syntax.Brackets.{Brackets}
+use Rattle.syntax_trees.specs.declared.syntax.Raise.{Raise}
+use Rattle.syntax_trees.specs.declared.syntax.Arm.{Arm}
+use Rattle.syntax_trees.specs.declared.syntax.Statement.{Statement}
+use Rattle.syntax_trees.specs.declared.syntax.Control.{Control}
+use Rattle.syntax_trees.specs.declared.syntax.Count.{Count}
+use Rattle.syntax_trees.specs.declared.syntax.Condition.{Condition}
+use Rattle.syntax_trees.specs.declared.syntax.Case.{Case}
+use Rattle.syntax_trees.specs.declared.syntax.Test.{Test}
+use Rattle.syntax_trees.specs.declared.syntax.Block.{Block}
+use Rattle.syntax_trees.specs.declared.syntax.PlainItem.{PlainItem}
+use Rattle.syntax_trees.specs.declared.syntax.Head.{Head}
+use Rattle.syntax_trees.specs.declared.syntax.Access.{Access}
+use Rattle.syntax_trees.specs.declared.syntax.Declared.{Declared}
+use Rattle.syntax_trees.specs.declared.syntax.Declaration.{Declaration}
+use Rattle.syntax_trees.specs.declared.syntax.Inner.{Inner}
+use Rattle.syntax_trees.specs.declared.syntax.Defined.{Defined}
+use Rattle.syntax_trees.specs.declared.syntax.ModuleKind.{ModuleKind}
+use Rattle.syntax_trees.specs.declared.syntax.DirectoryItem.{DirectoryItem}
+use Rattle.syntax_trees.specs.declared.syntax.Module.{Module}
+use Rattle.syntax_trees.proofs.LayerNodes.{total, optional, named, keyed, entries, phrase, values, labels, repeat_labels, repeated, base, negation, condition_nodes, count_nodes, expr_nodes, field_list_nodes, plain_nodes, raise_nodes, statement_nodes, suffix_nodes, test_nodes, type_nodes, arm_nodes, block_nodes, brackets_nodes, case_nodes, control_nodes, interval_nodes, left_nodes, operation_nodes, head_nodes, declared_nodes, declaration_nodes, inner_nodes, defined_nodes, kind_nodes, directory_item_nodes, nodes}
+use Rattle.syntax_trees.proofs.SyntaxForms as of
+use Rattle.syntax_trees.proofs.NodesAgree.{nodes_agree}
+use Rattle.syntax_trees.specs.SyntaxNodes as plain
 use Rattle.grammar_rules.specs.Grammar.{run, step, left, keyed as key_of, labeled}
 use Rattle.grammar_rules.specs.Grammar as g
 use Rattle.grammar_rules.specs.Modules as m

@@ -5,7 +5,7 @@ use Rattle.mesa_lexer.specs.declared.token.Token.{Token}
 use Rattle.mesa_lexer.specs.declared.fault.SyntaxFault.{SyntaxFault}
 use Rattle.mesa_lexer.specs.declared.fault.SyntaxFault.TheVariants as f
 use Rattle.token_cursor.specs.Grammars.{Why, Unexpected, TooDeep}
-use Rattle.mesa_types.specs.declared.syntax.Module.{Module}
+use Rattle.syntax_trees.specs.declared.syntax.Module.{Module}
 use Rattle.grammar_rules.specs.Modules.{IsModule, deep_module}
 use Rattle.grammar_rules.specs.Depth.{limit}
 

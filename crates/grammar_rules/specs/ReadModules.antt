@@ -9,22 +9,22 @@ use Rattle.mesa_lexer.specs.declared.mark.Mark.TheVariants.{Colon, Dot, LeftBrac
 use Rattle.token_cursor.specs.Parsing.{Parser, Got, Stop, Unexpected, ◌>>=◌, ◌>>◌, pure, refuse, a_name, choose, option, need, when, Turned, Again, Done, repeat}
 use Rattle.token_cursor.specs.Parsing.{many}
 use Rattle.mesa_base.specs.declared.identifier.Identifier.{Identifier}
-use Rattle.mesa_types.specs.declared.syntax.Labeled.{Labeled}
-use Rattle.mesa_types.specs.declared.syntax.FieldList.{FieldList}
-use Rattle.mesa_types.specs.declared.syntax.Statement.{Statement}
-use Rattle.mesa_types.specs.declared.syntax.Block.{Block}
-use Rattle.mesa_types.specs.declared.syntax.Access.{Access}
-use Rattle.mesa_types.specs.declared.syntax.Head.{Head}
-use Rattle.mesa_types.specs.declared.syntax.Declared.{Declared}
-use Rattle.mesa_types.specs.declared.syntax.Declared.TheVariants.{Procedure, Signal, Error, Data}
-use Rattle.mesa_types.specs.declared.syntax.Declaration.{Declaration}
-use Rattle.mesa_types.specs.declared.syntax.Inner.{Inner}
-use Rattle.mesa_types.specs.declared.syntax.Defined.{Defined}
-use Rattle.mesa_types.specs.declared.syntax.Defined.TheVariants.{ProcedureItem, SignalItem, ErrorItem, TypeItem, ConstantItem}
-use Rattle.mesa_types.specs.declared.syntax.ModuleKind.{ModuleKind}
-use Rattle.mesa_types.specs.declared.syntax.ModuleKind.TheVariants.{Program, Interface}
-use Rattle.mesa_types.specs.declared.syntax.DirectoryItem.{DirectoryItem}
-use Rattle.mesa_types.specs.declared.syntax.Module.{Module}
+use Rattle.syntax_trees.specs.declared.syntax.Labeled.{Labeled}
+use Rattle.syntax_trees.specs.declared.syntax.FieldList.{FieldList}
+use Rattle.syntax_trees.specs.declared.syntax.Statement.{Statement}
+use Rattle.syntax_trees.specs.declared.syntax.Block.{Block}
+use Rattle.syntax_trees.specs.declared.syntax.Access.{Access}
+use Rattle.syntax_trees.specs.declared.syntax.Head.{Head}
+use Rattle.syntax_trees.specs.declared.syntax.Declared.{Declared}
+use Rattle.syntax_trees.specs.declared.syntax.Declared.TheVariants.{Procedure, Signal, Error, Data}
+use Rattle.syntax_trees.specs.declared.syntax.Declaration.{Declaration}
+use Rattle.syntax_trees.specs.declared.syntax.Inner.{Inner}
+use Rattle.syntax_trees.specs.declared.syntax.Defined.{Defined}
+use Rattle.syntax_trees.specs.declared.syntax.Defined.TheVariants.{ProcedureItem, SignalItem, ErrorItem, TypeItem, ConstantItem}
+use Rattle.syntax_trees.specs.declared.syntax.ModuleKind.{ModuleKind}
+use Rattle.syntax_trees.specs.declared.syntax.ModuleKind.TheVariants.{Program, Interface}
+use Rattle.syntax_trees.specs.declared.syntax.DirectoryItem.{DirectoryItem}
+use Rattle.syntax_trees.specs.declared.syntax.Module.{Module}
 use Rattle.grammar_rules.specs.WordsAndMarks.{procedure_word, accessing}
 unfoldable pub use Rattle.grammar_rules.specs.Depth.{limit}
 use Rattle.grammar_rules.specs.Grammar.{labeled}

@@ -14,14 +14,14 @@ pub use Rattle.token_cursor.specs.Parsing.{a_number, a_char, a_text}
 pub use Rattle.token_cursor.specs.ReadNames.{identifier, comma, names_step}
 unfoldable pub use Rattle.token_cursor.specs.ReadNames.{named, names_from, names}
 use Rattle.mesa_base.specs.declared.identifier.Identifier.{Identifier}
-use Rattle.mesa_types.specs.declared.syntax.QualifiedName.{QualifiedName}
-use Rattle.mesa_types.specs.declared.syntax.Labels.{Labels}
-use Rattle.mesa_types.specs.declared.syntax.Labels.TheVariants.{Any, Unwind, Signals}
-use Rattle.mesa_types.specs.declared.syntax.RepeatLabels.{RepeatLabels}
-use Rattle.mesa_types.specs.declared.syntax.RepeatLabels.TheVariants.{Named, Finished}
-use Rattle.mesa_types.specs.declared.syntax.TypeExp.{TypeExp}
-use Rattle.mesa_types.specs.declared.syntax.Expr.{Expr}
-use Rattle.mesa_types.specs.declared.syntax.Statement.{Statement}
+use Rattle.syntax_trees.specs.declared.syntax.QualifiedName.{QualifiedName}
+use Rattle.syntax_trees.specs.declared.syntax.Labels.{Labels}
+use Rattle.syntax_trees.specs.declared.syntax.Labels.TheVariants.{Any, Unwind, Signals}
+use Rattle.syntax_trees.specs.declared.syntax.RepeatLabels.{RepeatLabels}
+use Rattle.syntax_trees.specs.declared.syntax.RepeatLabels.TheVariants.{Named, Finished}
+use Rattle.syntax_trees.specs.declared.syntax.TypeExp.{TypeExp}
+use Rattle.syntax_trees.specs.declared.syntax.Expr.{Expr}
+use Rattle.syntax_trees.specs.declared.syntax.Statement.{Statement}
 pub use Rattle.grammar_rules.specs.declared.begun.Begun.{Begun}
 pub use Rattle.grammar_rules.specs.declared.begun.Begun.TheVariants.{Fresh, AtName, AtNot}
 use Rattle.grammar_rules.specs.WordsAndMarks.{relating}

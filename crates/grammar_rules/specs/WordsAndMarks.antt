@@ -5,14 +5,14 @@ use Rattle.mesa_lexer.specs.declared.token.Kind.TheVariants as k
 use Rattle.mesa_lexer.specs.declared.word.Word.TheVariants.{AndWord, ModWord, NotWord, OrWord, ProcWord, ProcedureWord, PublicWord, PrivateWord}
 use Rattle.mesa_lexer.specs.declared.mark.Mark.TheVariants as m
 pub use Rattle.token_cursor.specs.Grammars.{spelled}
-use Rattle.mesa_types.specs.declared.syntax.Operator.{Operator}
-use Rattle.mesa_types.specs.declared.syntax.Operator.TheVariants as o
-use Rattle.mesa_types.specs.declared.relation.Relation.{Relation}
-use Rattle.mesa_types.specs.declared.relation.Relation.TheVariants as r
-use Rattle.mesa_types.specs.declared.syntax.Sign.{Sign}
-use Rattle.mesa_types.specs.declared.syntax.Sign.TheVariants.{Positive, Negative}
-use Rattle.mesa_types.specs.declared.syntax.Access.{Access}
-use Rattle.mesa_types.specs.declared.syntax.Access.TheVariants.{Public, Private}
+use Rattle.syntax_trees.specs.declared.syntax.Operator.{Operator}
+use Rattle.syntax_trees.specs.declared.syntax.Operator.TheVariants as o
+use Rattle.mesa_base.specs.declared.relation.Relation.{Relation}
+use Rattle.mesa_base.specs.declared.relation.Relation.TheVariants as r
+use Rattle.syntax_trees.specs.declared.syntax.Sign.{Sign}
+use Rattle.syntax_trees.specs.declared.syntax.Sign.TheVariants.{Positive, Negative}
+use Rattle.syntax_trees.specs.declared.syntax.Access.{Access}
+use Rattle.syntax_trees.specs.declared.syntax.Access.TheVariants.{Public, Private}
 
 abbrev pub disjoining : Kind → Option Operator
 disjoining (k.Word OrWord) = Some o.Or

@@ -1,7 +1,7 @@
 ghost use Rattle.std.specs.Prelude.{◌*◌, ◌≤◌, length};
 ghost use Rattle.grammar_rules.specs.Answer.{OneAnswer, Parses};
-ghost use Rattle.mesa_types.specs.SyntaxNodes.{nodes};
-ghost use Rattle.mesa_types.specs.declared.syntax.Module.{Module};
+ghost use Rattle.syntax_trees.specs.SyntaxNodes.{nodes};
+ghost use Rattle.syntax_trees.specs.declared.syntax.Module.{Module};
 
 use mesa_lexer::Token;
 

@@ -10,8 +10,8 @@ use Rattle.mesa_lexer.specs.declared.mark.Mark.{Mark}
 use Rattle.mesa_lexer.specs.declared.mark.Mark.TheVariants.{Arrow, RightBrace}
 use Rattle.token_cursor.specs.Parsing.{Stop, Unexpected, Parser, ◌>>=◌, pure, refuse, choose, need, when}
 use Rattle.token_cursor.specs.Running.{next, skip}
-use Rattle.mesa_types.specs.declared.syntax.Statement.{Statement}
-use Rattle.mesa_types.specs.declared.syntax.Statement.TheVariants as s
+use Rattle.syntax_trees.specs.declared.syntax.Statement.{Statement}
+use Rattle.syntax_trees.specs.declared.syntax.Statement.TheVariants as s
 use Rattle.grammar_rules.specs.ReadNested.{Nested, named}
 use Rattle.grammar_rules.specs.ReadExpressions as x
 use Rattle.grammar_rules.specs.ReadStatements as st

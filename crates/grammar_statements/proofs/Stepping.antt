@@ -6,8 +6,8 @@ use Rattle.mesa_lexer.specs.declared.token.Kind.TheVariants as k
 use Rattle.mesa_lexer.specs.declared.word.Word.TheVariants.{InWord, DoWord, EndloopWord}
 use Rattle.token_cursor.specs.Parsing.{◌>>=◌, ◌>>◌, pure, a_name, need, choose}
 use Rattle.mesa_base.specs.declared.identifier.Identifier.{Identifier}
-use Rattle.mesa_types.specs.declared.syntax.Statement.TheVariants as s
-use Rattle.mesa_types.specs.declared.syntax.Count.TheVariants.{For}
+use Rattle.syntax_trees.specs.declared.syntax.Statement.TheVariants as s
+use Rattle.syntax_trees.specs.declared.syntax.Count.TheVariants.{For}
 use Rattle.grammar_rules.specs.WordsAndMarks.{negating}
 use Rattle.grammar_rules.specs.ReadNested.{identifier, named}
 use Rattle.grammar_rules.specs.ReadExpressions as x

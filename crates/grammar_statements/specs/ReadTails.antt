@@ -6,12 +6,12 @@ use Rattle.mesa_lexer.specs.declared.token.Kind.TheVariants as k
 use Rattle.mesa_lexer.specs.declared.word.Word.TheVariants.{EndWord}
 use Rattle.mesa_lexer.specs.declared.mark.Mark.TheVariants.{RightBrace}
 use Rattle.token_cursor.specs.Parsing.{Parser, ◌>>=◌, pure}
-use Rattle.mesa_types.specs.declared.syntax.Expr.{Expr}
-use Rattle.mesa_types.specs.declared.syntax.PlainItem.{PlainItem}
-use Rattle.mesa_types.specs.declared.syntax.PlainItem.TheVariants.{Initial, Constant}
-use Rattle.mesa_types.specs.declared.syntax.Statement.{Statement}
-use Rattle.mesa_types.specs.declared.syntax.Statement.TheVariants as s
-use Rattle.mesa_types.specs.declared.syntax.TypeExp.{TypeExp}
+use Rattle.syntax_trees.specs.declared.syntax.Expr.{Expr}
+use Rattle.syntax_trees.specs.declared.syntax.PlainItem.{PlainItem}
+use Rattle.syntax_trees.specs.declared.syntax.PlainItem.TheVariants.{Initial, Constant}
+use Rattle.syntax_trees.specs.declared.syntax.Statement.{Statement}
+use Rattle.syntax_trees.specs.declared.syntax.Statement.TheVariants as s
+use Rattle.syntax_trees.specs.declared.syntax.TypeExp.{TypeExp}
 use Rattle.grammar_statements.specs.declared.blocks.BlockEnd.{BlockEnd}
 use Rattle.grammar_statements.specs.declared.blocks.BlockEnd.TheVariants.{ByWord, ByBrace}
 use Rattle.grammar_rules.specs.declared.begun.Begun.TheVariants.{Fresh}

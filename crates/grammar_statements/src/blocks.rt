@@ -5,7 +5,7 @@ ghost use Rattle.token_cursor.specs.Running.{Reads, skip};
 ghost use Rattle.token_cursor.specs.Parsing.{and_then, need, pure, repeat};
 ghost use Rattle.grammar_rules.specs.ReadStatements.{nested};
 ghost use Rattle.grammar_rules.specs.ReadStatements as spec;
-ghost use Rattle.mesa_types.specs.declared.syntax.Statement.TheVariants as s;
+ghost use Rattle.syntax_trees.specs.declared.syntax.Statement.TheVariants as s;
 ghost use Rattle.grammar_statements.specs.ReadTails.{last_of};
 ghost use Rattle.grammar_statements.specs.ReadTails as tails;
 ghost use Rattle.grammar_statements.specs.ReadTurns.{ReadsTurn};
@@ -18,7 +18,7 @@ use grammar_tokens::begins::declares;
 use held_trees::{LetGo, both, pushed};
 use mesa_base::{Identifier, List, Place};
 use mesa_lexer::{Mark, Word};
-use mesa_types::syntax::{
+use syntax_trees::syntax::{
     Block, Labeled, Local, Locals, PlainItem, Statement, Statements, TypeExp,
 };
 use token_cursor::naming::names_from;

@@ -14,7 +14,7 @@ use grammar_tokens::naming::repeat_labels;
 use held_trees::{both, pushed};
 use mesa_base::{List, Place, Placed};
 use mesa_lexer::{Mark, Word};
-use mesa_types::syntax::{Exit, Exits, Labeled, Phrase, Repeat, Repeats};
+use syntax_trees::syntax::{Exit, Exits, Labeled, Phrase, Repeat, Repeats};
 use token_cursor::naming::names;
 use token_cursor::{Cursor, Stopped};
 

@@ -11,7 +11,7 @@ use grammar_rules::Begun;
 use held_trees::{both, boxed};
 use mesa_base::Place;
 use mesa_lexer::Word;
-use mesa_types::syntax::{Condition, Control, Count, Statement};
+use syntax_trees::syntax::{Condition, Control, Count, Statement};
 use token_cursor::naming::named;
 use token_cursor::{Cursor, Stopped};
 

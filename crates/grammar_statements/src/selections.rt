@@ -15,7 +15,7 @@ use grammar_tokens::words_and_marks::{takes_negating, takes_relating};
 use held_trees::{both, boxed, pushed};
 use mesa_base::{Boxed, List, Place};
 use mesa_lexer::{Mark, Word};
-use mesa_types::syntax::{Case, Cases, Statement, Test, Tests};
+use syntax_trees::syntax::{Case, Cases, Statement, Test, Tests};
 use token_cursor::{Cursor, Stopped};
 
 impl<N: NestedParsers> StatementParser<N> {

@@ -3,7 +3,7 @@
 ghost use Rattle.std.specs.Prelude.{◌≡◌};
 ghost use Rattle.token_cursor.specs.Running.{Reads, skip};
 ghost use Rattle.token_cursor.specs.Parsing.{and_then, ended, pure};
-ghost use Rattle.mesa_types.specs.declared.syntax.Statement.TheVariants as s;
+ghost use Rattle.syntax_trees.specs.declared.syntax.Statement.TheVariants as s;
 ghost use Rattle.grammar_rules.specs.ReadNested.{begins_stmt};
 ghost use Rattle.grammar_rules.specs.ReadNested as names;
 ghost use Rattle.grammar_rules.specs.ReadExpressions as x;
@@ -20,7 +20,7 @@ use grammar_tokens::begins::begins_stmt;
 use held_trees::{both, boxed, pushed};
 use mesa_base::{Boxed, Identifier, List, Place};
 use mesa_lexer::{Mark, Word};
-use mesa_types::syntax::{Expr, Statement, Statements};
+use syntax_trees::syntax::{Expr, Statement, Statements};
 use token_cursor::naming::named;
 use token_cursor::{Cursor, Stopped};
 

@@ -1,7 +1,7 @@
 //! A turn of a loop over declarations.
 
 use mesa_base::List;
-use mesa_types::syntax::Statements;
+use syntax_trees::syntax::Statements;
 
 /// What a turn came to.
 pub enum Turn<D> {

@@ -6,8 +6,8 @@ ghost use Rattle.grammar_rules.specs.ReadNested as spec;
 
 use mesa_base::{Identifier, List};
 use mesa_lexer::{Mark, Word};
-use mesa_types::syntax::{Labels, QualifiedName, RepeatLabels};
 use std::alloc::Global;
+use syntax_trees::syntax::{Labels, QualifiedName, RepeatLabels};
 use token_cursor::naming::{named, names};
 use token_cursor::{Cursor, Stopped};
 

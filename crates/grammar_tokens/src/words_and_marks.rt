@@ -4,9 +4,9 @@ ghost use Rattle.grammar_rules.specs.ReadExpressions.{suffixing};
 ghost use Rattle.token_cursor.specs.Running.{alone, behind, taken};
 ghost use Rattle.grammar_rules.specs.WordsAndMarks as spec;
 
-use mesa_base::Place;
+use mesa_base::{Place, Relation};
 use mesa_lexer::{Kind, Mark, Word};
-use mesa_types::syntax::{Access, Operator, Relation, Sign};
+use syntax_trees::syntax::{Access, Operator, Sign};
 use token_cursor::Cursor;
 
 /// Takes OR.

@@ -1,7 +1,7 @@
 //! What may be let go.
 ghost use Rattle.std.specs.Prelude.{◌≡◌, IfOk};
 
-use mesa_base::{Boxed, List, OutOfMemory, Shared};
+use mesa_base::{Boxed, List, OutOfMemory, Placed, Shared};
 use std::alloc::Global;
 
 /// What may be let go by a call.
@@ -32,6 +32,32 @@ pub trait InShared: LetGo {
     fn let_shared_go(part: Shared<Self>);
 }
 
+/// What lists with several owners are made of.
+pub trait InSharedList: InList {
+    fn shared_list(alloc: Global, list: List<Self>) -> Result<Shared<List<Self>>, OutOfMemory>
+        ensures { IfOk result (λ made. made ≡ list) };
+
+    /// One more owner.
+    fn share_list(list: &Shared<List<Self>>) -> Result<Shared<List<Self>>, OutOfMemory>
+        ensures { IfOk result (λ made. made ≡ list.now) };
+
+    fn let_shared_list_go(list: Shared<List<Self>>);
+}
+
+impl<T: InSharedList> InShared for List<T> {
+    fn shared(alloc: Global, part: List<T>) -> Result<Shared<List<T>>, OutOfMemory> {
+        T::shared_list(alloc, part)
+    }
+
+    fn share(part: &Shared<List<T>>) -> Result<Shared<List<T>>, OutOfMemory> {
+        T::share_list(part)
+    }
+
+    fn let_shared_go(part: Shared<List<T>>) {
+        T::let_shared_list_go(part);
+    }
+}
+
 impl<T: InList> LetGo for List<T> {
     fn let_go(self) {
         T::let_list_go(self);
@@ -47,6 +73,13 @@ impl<T: LetGo> LetGo for Boxed<T> {
 impl<T: InShared> LetGo for Shared<T> {
     fn let_go(self) {
         T::let_shared_go(self);
+    }
+}
+
+impl<T: LetGo> LetGo for Placed<T> {
+    fn let_go(self) {
+        let Placed { place: _, item } = self;
+        item.let_go();
     }
 }
 

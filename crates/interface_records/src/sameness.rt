@@ -1,7 +1,8 @@
 ghost use Rattle.std.specs.Prelude.{◌≡◌, ◌↔◌, IsTrue};
 ghost use Rattle.interface_records.specs.Faces.{SameFace, SameSignature};
 
-use mesa_types::{Face, Item, same_fields, same_name, same_types};
+use mesa_types::{Face, Item};
+use typed_answers::{same_fields, same_name, same_types};
 
 fn same_item(a: &Item, b: &Item) -> bool
     ensures { IsTrue result ↔ (a.now ≡ b.now) }

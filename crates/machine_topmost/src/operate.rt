@@ -4,7 +4,7 @@ ghost use Rattle.std.specs.Prelude.{◌≡◌, ℕ, List, ◌+◌, ◌*◌, ◌<
 ghost use Rattle.mesa_types.specs.declared.typed_parts.Range.TheVariants.{From};
 ghost use Rattle.mesa_types.specs.Operators.{wrap, quotient, remainder, related, fits, by_divisor, byte_at};
 ghost use Rattle.mesa_types.specs.Operators as spec;
-ghost use Rattle.mesa_types.specs.declared.relation.Relation.TheVariants.{Less};
+ghost use Rattle.mesa_base.specs.declared.relation.Relation.TheVariants.{Less};
 ghost use Rattle.machine_rules.specs.LookUps.{text_of};
 ghost use Rattle.machine_topmost.specs.Flat.{FlowsInRegion, behind, operand, over, over_tried, in_bounds, leaves};
 ghost use Rattle.machine_topmost.specs.Fits.{Holds};
@@ -12,8 +12,10 @@ ghost use Rattle.machine_topmost.specs.Fits.{Holds};
 use crate::region::{leave, operand};
 use crate::registers::{Registers, Why};
 use crate::texts::text;
-use mesa_types::{Base, Range, Relation, fits, opposite, quotient, related, remainder, truth};
+use mesa_base::Relation;
+use mesa_types::{Base, Range};
 use object_files::Image;
+use typed_answers::{fits, opposite, quotient, related, remainder, truth};
 
 /// The topmost operand, and the one under it.
 #[inline(always)]

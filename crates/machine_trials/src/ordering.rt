@@ -15,8 +15,9 @@ ghost use Rattle.machine_trials.specs.Fitting.{IsOfCode, LinksFit, TableFits, Ta
 use code_forms::{CodeKind, CodeLink, ModuleCode};
 use interface_records::Wanted;
 use mesa_base::limits::INSTANCES;
-use mesa_types::{Item, ItemKind, fields_words};
+use mesa_types::{Item, ItemKind};
 use object_files::{Image, Instance, Link};
+use typed_answers::fields_words;
 
 fn is_like(link: CodeLink, kind: CodeKind, args: u64, results: u64) -> bool
     ensures { IsTrue result → IsLike link kind args results }

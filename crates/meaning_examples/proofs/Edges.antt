@@ -6,8 +6,8 @@ use Rattle.mesa_types.specs.declared.typed_parts.Range.{Range}
 use Rattle.mesa_types.specs.declared.typed_parts.Range.TheVariants.{Every, From}
 use Rattle.mesa_types.specs.declared.typed_parts.Operator.{Operator}
 use Rattle.mesa_types.specs.declared.typed_parts.Operator.TheVariants.{Add, Subtract, Multiply, Divide, Modulo, AddToCharacter, SubtractFromCharacter}
-use Rattle.mesa_types.specs.declared.relation.Relation.{Relation}
-use Rattle.mesa_types.specs.declared.relation.Relation.TheVariants.{Equal, NotEqual, Less, AtMost, Greater, AtLeast}
+use Rattle.mesa_base.specs.declared.relation.Relation.{Relation}
+use Rattle.mesa_base.specs.declared.relation.Relation.TheVariants.{Equal, NotEqual, Less, AtMost, Greater, AtLeast}
 use Rattle.mesa_types.specs.Operators.{wrap, shifted, opposite, is_negative, magnitude_if, magnitude, with_sign, differ, quotient, remainder, related, past, first_of, beyond, lies_in, fits, fine_if, checked, by_divisor, character, tried, element, indexed, fine_or, byte_at, OutOfBounds, DividedByZero, Tried, Fine, Faulty}
 
 of : Operator → ℕ → ℕ → Tried

@@ -5,7 +5,7 @@ use Rattle.mesa_types.specs.declared.typed_parts.Home.TheVariants.{Global}
 use Rattle.mesa_types.specs.declared.typed_parts.Base.{Base}
 use Rattle.mesa_types.specs.declared.typed_parts.Base.TheVariants.{Signed, Unsigned}
 use Rattle.mesa_types.specs.declared.typed_parts.Range.TheVariants.{Every, From}
-use Rattle.mesa_types.specs.declared.relation.Relation.TheVariants.{Equal, Less}
+use Rattle.mesa_base.specs.declared.relation.Relation.TheVariants.{Equal, Less}
 use Rattle.mesa_types.specs.declared.typed_parts.Goal.TheVariants.{PastStatement, ToLabel}
 use Rattle.mesa_types.specs.declared.typed_parts.Raised.TheVariants.{OwnSignal}
 use Rattle.mesa_types.specs.declared.typed_parts.Label.TheVariants.{OnOwn}

@@ -6,7 +6,7 @@ use Rattle.mesa_types.specs.declared.typed_parts.Home.TheVariants.{Global, Local
 use Rattle.mesa_types.specs.declared.typed_parts.Base.TheVariants.{Signed}
 use Rattle.mesa_types.specs.declared.typed_parts.Part.{Part}
 use Rattle.mesa_types.specs.declared.typed_parts.Range.TheVariants.{Every, From}
-use Rattle.mesa_types.specs.declared.relation.Relation.TheVariants.{Less}
+use Rattle.mesa_base.specs.declared.relation.Relation.TheVariants.{Less}
 use Rattle.mesa_types.specs.declared.typed_parts.Callee.TheVariants.{OwnProcedure}
 use Rattle.mesa_types.specs.declared.typed_parts.Label.TheVariants.{OnBounds}
 use Rattle.source_meaning.specs.Program.{BoundsFault, Program, single}

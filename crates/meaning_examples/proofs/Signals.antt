@@ -5,7 +5,7 @@ use Rattle.mesa_types.specs.declared.typed_parts.Home.TheVariants.{Local, Global
 use Rattle.mesa_types.specs.declared.typed_parts.Base.TheVariants.{Signed}
 use Rattle.mesa_types.specs.declared.typed_parts.Range.TheVariants.{Every}
 use Rattle.mesa_types.specs.declared.typed_parts.Operator.TheVariants.{Divide}
-use Rattle.mesa_types.specs.declared.relation.Relation.TheVariants.{Less}
+use Rattle.mesa_base.specs.declared.relation.Relation.TheVariants.{Less}
 use Rattle.mesa_types.specs.declared.typed_parts.Goal.TheVariants.{PastStatement, ToLabel}
 use Rattle.mesa_types.specs.declared.typed_parts.Raised.TheVariants.{OwnSignal, TheUnnamed}
 use Rattle.mesa_types.specs.declared.typed_parts.Label.TheVariants.{OnAny, OnUnwind, OnOwn, OnBounds, OnZero, OnLinked}

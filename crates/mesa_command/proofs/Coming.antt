@@ -4,7 +4,7 @@ use Rattle.std.proofs.lemmas.List.{length-take, take_min}
 use Rattle.std.proofs.Math.Seq.{take-length}
 use Rattle.mesa_base.specs.Outside.{Files, Reads as FileReads}
 use Rattle.mesa_types.specs.Typed.{Module}
-use Rattle.mesa_types.specs.declared.syntax.Module as syntax
+use Rattle.syntax_trees.specs.declared.syntax.Module as syntax
 use Rattle.mesa_lexer.specs.Tokens.{HasLexFault, text_too_long, no_token, not_in_text, open_text, too_large, too_long}
 use Rattle.mesa_lexer.specs.declared.fault.SyntaxFault.{SyntaxFault}
 use Rattle.mesa_lexer.specs.declared.fault.LexFault.{LexFault}

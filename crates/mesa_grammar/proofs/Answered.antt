@@ -6,7 +6,7 @@ use Rattle.mesa_lexer.specs.declared.token.Token.{Token}
 use Rattle.mesa_lexer.specs.declared.fault.SyntaxFault.{SyntaxFault}
 use Rattle.mesa_lexer.specs.declared.fault.SyntaxFault.TheVariants as f
 use Rattle.token_cursor.specs.Parsing.{Why, Unexpected, TooDeep, Got, Stop}
-use Rattle.mesa_types.specs.declared.syntax.Module.{Module}
+use Rattle.syntax_trees.specs.declared.syntax.Module.{Module}
 use Rattle.grammar_rules.specs.ReadModules as r
 use Rattle.token_cursor.specs.declared.fault.Stopped.{Stopped}
 use Rattle.token_cursor.specs.declared.fault.Stopped.TheVariants as h

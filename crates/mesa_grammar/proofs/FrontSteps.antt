@@ -5,9 +5,9 @@ use Rattle.mesa_base.specs.declared.identifier.Identifier.{Identifier}
 use Rattle.mesa_lexer.specs.declared.token.Token.{Token}
 use Rattle.mesa_lexer.specs.declared.token.Kind.TheVariants as k
 use Rattle.mesa_lexer.specs.declared.mark.Mark.TheVariants.{Colon}
-use Rattle.mesa_types.specs.declared.syntax.Declaration.{Declaration}
-use Rattle.mesa_types.specs.declared.syntax.Defined.{Defined}
-use Rattle.mesa_types.specs.declared.syntax.Labeled.{Labeled}
+use Rattle.syntax_trees.specs.declared.syntax.Declaration.{Declaration}
+use Rattle.syntax_trees.specs.declared.syntax.Defined.{Defined}
+use Rattle.syntax_trees.specs.declared.syntax.Labeled.{Labeled}
 use Rattle.token_cursor.specs.Parsing.{Out, Got, Stop, Parser, ◌>>=◌, ◌>>◌, and_then, pure, a_name, need, choose, many_turn}
 use Rattle.token_cursor.specs.ReadNames.{names_from}
 use Rattle.grammar_rules.specs.Grammar.{labeled}

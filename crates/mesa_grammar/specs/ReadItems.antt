@@ -3,8 +3,8 @@ use Rattle.std.specs.Prelude.{List}
 use Rattle.mesa_base.specs.declared.identifier.Identifier.{Identifier}
 use Rattle.mesa_lexer.specs.declared.token.Kind.TheVariants as k
 use Rattle.mesa_lexer.specs.declared.mark.Mark.TheVariants.{Colon}
-use Rattle.mesa_types.specs.declared.syntax.Labeled.{Labeled}
-use Rattle.mesa_types.specs.declared.syntax.Defined.{Defined}
+use Rattle.syntax_trees.specs.declared.syntax.Labeled.{Labeled}
+use Rattle.syntax_trees.specs.declared.syntax.Defined.{Defined}
 use Rattle.token_cursor.specs.Parsing.{Parser, ◌>>=◌, ◌>>◌, pure, need}
 use Rattle.token_cursor.specs.ReadNames.{names_from}
 use Rattle.grammar_rules.specs.Grammar.{labeled}

@@ -15,7 +15,7 @@ use grammar_tokens::words_and_marks::takes_accessing;
 use held_trees::{LetGo, both, pushed};
 use mesa_base::{Identifier, List};
 use mesa_lexer::Mark;
-use mesa_types::syntax::{Access, Declaration, Declarations, Inner, Statements};
+use syntax_trees::syntax::{Access, Declaration, Declarations, Inner, Statements};
 use token_cursor::naming::names_from;
 use token_cursor::{Cursor, Stopped};
 

@@ -9,8 +9,8 @@ ghost use Rattle.grammar_rules.specs.ReadModules as spec;
 use held_trees::{both, pushed};
 use mesa_base::{Identifiers, List, Placed};
 use mesa_lexer::{Mark, Word};
-use mesa_types::syntax::{Directory, DirectoryItem};
 use std::alloc::Global;
+use syntax_trees::syntax::{Directory, DirectoryItem};
 use token_cursor::naming::{named, names};
 use token_cursor::{Cursor, Stopped};
 

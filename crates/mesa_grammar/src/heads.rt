@@ -11,7 +11,7 @@ use grammar_statements::BlockEnd;
 use grammar_tokens::words_and_marks::takes_procedure_word;
 use held_trees::both;
 use mesa_lexer::{Mark, Word};
-use mesa_types::syntax::{Block, Declared, FieldList, Head};
+use syntax_trees::syntax::{Block, Declared, FieldList, Head};
 use token_cursor::{Cursor, Stopped};
 
 impl<N: NestedParsers> Grammar<N> {

@@ -13,7 +13,7 @@ use grammar_tokens::words_and_marks::takes_procedure_word;
 use held_trees::{LetGo, both, pushed};
 use mesa_base::{Identifier, Identifiers, List};
 use mesa_lexer::{Mark, Word};
-use mesa_types::syntax::{Defined, Definitions, Labeled};
+use syntax_trees::syntax::{Defined, Definitions, Labeled};
 use token_cursor::naming::names_from;
 use token_cursor::{Cursor, Stopped};
 

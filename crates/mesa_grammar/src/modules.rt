@@ -11,7 +11,7 @@ use grammar_expressions::NestedParsers;
 use held_trees::both;
 use mesa_base::Place;
 use mesa_lexer::{Mark, Word};
-use mesa_types::syntax::{Module, ModuleKind};
+use syntax_trees::syntax::{Module, ModuleKind};
 use token_cursor::naming::named;
 use token_cursor::{Cursor, Stopped};
 

@@ -1,7 +1,7 @@
 //! The reader of modules.
 ghost use Rattle.std.specs.Prelude.{◌≡◌, ◌≢◌, if◌then◌else◌, IfErr, IfOk, MatchResult};
 ghost use Rattle.mesa_lexer.specs.declared.fault.SyntaxFault.{SyntaxFault};
-ghost use Rattle.mesa_types.specs.declared.syntax.Module.{Module};
+ghost use Rattle.syntax_trees.specs.declared.syntax.Module.{Module};
 ghost use Rattle.grammar_rules.specs.Answer.{HasSyntaxFault, Parses, place_at};
 ghost use Rattle.token_cursor.specs.Running.{Reads, fault_of};
 ghost use Rattle.grammar_rules.specs.ReadStatements.{nested};
@@ -16,9 +16,9 @@ use held_trees::LetGo;
 use mesa_base::limits::NESTING;
 use mesa_base::{Identifier, Place};
 use mesa_lexer::{SyntaxFault, Tokens};
-use mesa_types::Module;
-use mesa_types::syntax::{Expr, Statement, TypeExp};
 use std::alloc::Global;
+use syntax_trees::Module;
+use syntax_trees::syntax::{Expr, Statement, TypeExp};
 use token_cursor::{Cursor, Stopped};
 
 /// Why a parser stops at the level where nothing more may nest.

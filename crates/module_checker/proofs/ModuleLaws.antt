@@ -2,12 +2,12 @@
 use Rattle.std.proofs.Common.{◌≡◌, ℕ, List, map, Ok, Err, refl, ap, ◌∙◌}
 use Rattle.mesa_base.specs.declared.identifier.Identifier.{Identifier}
 use Rattle.mesa_base.specs.declared.place.Place.{Place}
-use Rattle.mesa_types.specs.PlainSyntax as plain
-use Rattle.mesa_types.specs.Syntax as s
-use Rattle.mesa_types.specs.declared.syntax.Inner.{Inner}
-use Rattle.mesa_types.specs.declared.syntax.Module.{Module}
-use Rattle.mesa_types.specs.declared.syntax.ModuleKind.{ModuleKind}
-use Rattle.mesa_types.specs.declared.syntax.ModuleKind.TheVariants.{Program}
+use Rattle.syntax_trees.specs.PlainSyntax as plain
+use Rattle.syntax_trees.specs.Syntax as s
+use Rattle.syntax_trees.specs.declared.syntax.Inner.{Inner}
+use Rattle.syntax_trees.specs.declared.syntax.Module.{Module}
+use Rattle.syntax_trees.specs.declared.syntax.ModuleKind.{ModuleKind}
+use Rattle.syntax_trees.specs.declared.syntax.ModuleKind.TheVariants.{Program}
 use Rattle.interface_records.specs.declared.interface.Interface.{Interface}
 use Rattle.check_rules.specs.Typed as t
 use Rattle.check_rules.specs.CheckedModule as spec

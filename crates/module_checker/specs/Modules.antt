@@ -2,7 +2,7 @@
 use Rattle.std.specs.Prelude.{ℕ, Bool, List, [], map, take, Ok}
 use Rattle.mesa_base.specs.declared.identifier.Identifier.{Identifier}
 use Rattle.mesa_base.specs.declared.limits.TheConstants.{DISTINCT_STRINGS}
-use Rattle.mesa_types.specs.Syntax as s
+use Rattle.syntax_trees.specs.Syntax as s
 use Rattle.mesa_types.specs.declared.faces.Export.{Export}
 use Rattle.mesa_types.specs.declared.faces.Import.{Import}
 use Rattle.check_rules.specs.Typed as t

@@ -1,7 +1,7 @@
 -- The states in which the checking of a program and of an interface begins.
 use Rattle.std.specs.Prelude.{ℕ, Bool, false, true, List, [], ◌∷◌, Some, None}
 use Rattle.mesa_base.specs.declared.identifier.Identifier.{Identifier}
-use Rattle.mesa_types.specs.Syntax as s
+use Rattle.syntax_trees.specs.Syntax as s
 use Rattle.check_rules.specs.CheckedModule.{known_of, start}
 use Rattle.check_rules.specs.Definitions as d
 use Rattle.check_rules.specs.Directory.{directory_scope, offered, opened, predeclared, those_of}

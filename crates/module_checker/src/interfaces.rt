@@ -5,7 +5,7 @@ ghost use Rattle.check_state.specs.Gives.{GivesOnly};
 ghost use Rattle.check_rules.specs.CheckedModule as spec;
 ghost use Rattle.check_rules.specs.PlainTypes.{interface_of, plain_interface};
 ghost use Rattle.check_rules.specs.Steps.{and_then};
-ghost use Rattle.mesa_types.specs.PlainSyntax as plain;
+ghost use Rattle.syntax_trees.specs.PlainSyntax as plain;
 
 use crate::starting::InterfaceStart;
 use check_directory::all_listed;
@@ -17,9 +17,10 @@ use check_rules::{Cause, CheckFault};
 use check_state::Around;
 use interface_records::Interface;
 use mesa_base::{Identifier, Identifiers, OutOfMemory, Stamp};
-use mesa_types::syntax::{Defined, Labeled, ModuleKind};
-use mesa_types::{Face, Module};
+use mesa_types::Face;
 use std::alloc::Global;
+use syntax_trees::Module;
+use syntax_trees::syntax::{Defined, Labeled, ModuleKind};
 
 /// The interface in which these are defined.
 fn interface_with(

@@ -6,7 +6,7 @@ ghost use Rattle.check_state.specs.Gives.{GivesOnly};
 ghost use Rattle.check_rules.specs.CheckedModule as spec;
 ghost use Rattle.check_rules.specs.PlainTypes.{plain_interface};
 ghost use Rattle.mesa_types.specs.Plain.{plain as plain_module};
-ghost use Rattle.mesa_types.specs.PlainSyntax as plain;
+ghost use Rattle.syntax_trees.specs.PlainSyntax as plain;
 ghost use Rattle.module_checker.specs.Modules as step;
 
 use crate::starting::ProgramStart;
@@ -20,9 +20,10 @@ use check_state::Known;
 use held_trees::both;
 use interface_records::Interface;
 use mesa_base::{Identifier, List, OutOfMemory, Shared, Texts};
-use mesa_types::syntax::{Inner, ModuleKind};
-use mesa_types::{Exports, Imports, Item, Items, Module, TypedModule};
+use mesa_types::{Exports, Imports, Item, Items, TypedModule};
 use std::alloc::Global;
+use syntax_trees::Module;
+use syntax_trees::syntax::{Inner, ModuleKind};
 
 /// Copies of these heads.
 fn copied(heads: &[Shared<Item>], alloc: Global) -> Result<Items, OutOfMemory>

@@ -3,7 +3,7 @@
 ghost use Rattle.std.specs.Prelude.{◌≡◌, [], map, IfOk};
 ghost use Rattle.check_state.specs.Views as words;
 ghost use Rattle.check_rules.specs.PlainTypes.{plain_interface};
-ghost use Rattle.mesa_types.specs.PlainSyntax as plain;
+ghost use Rattle.syntax_trees.specs.PlainSyntax as plain;
 ghost use Rattle.module_checker.specs.Starting as step;
 
 use check_directory::{directory_scope, opened, predeclared, those_of};
@@ -13,9 +13,9 @@ use check_scopes::{Marks, Names, Scopes};
 use check_state::{Frame, Meaning, State};
 use interface_records::Interface;
 use mesa_base::{Identifier, Identifiers, OutOfMemory, Stamp};
-use mesa_types::Module;
-use mesa_types::syntax::{Defined, Inner, Labeled};
 use std::alloc::Global;
+use syntax_trees::Module;
+use syntax_trees::syntax::{Defined, Inner, Labeled};
 
 /// The scopes around the names of a module.
 #[tactic(auto, unfolding(check_state::specs::Views::scopes, check_state::specs::Views::names))]

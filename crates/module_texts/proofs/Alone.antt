@@ -1,7 +1,7 @@
 -- The module of a text, from the law of checked texts.
 use Rattle.std.proofs.Common.{length, subst}
 use Rattle.std.specs.Prelude.{IfOk}
-use Rattle.mesa_types.specs.PlainSyntax.{syntax}
+use Rattle.syntax_trees.specs.PlainSyntax.{syntax}
 use Rattle.mesa_types.specs.Typed as t
 use Rattle.check_rules.specs.Steps.{Checked}
 use Rattle.written_trees.specs.Alone.{CheckedTextsStandAlone, StandsAlone}

@@ -8,8 +8,8 @@ use Rattle.mesa_lexer.specs.declared.fault.LexFault.{LexFault}
 use Rattle.mesa_lexer.specs.declared.fault.LexFault.TheVariants as lex
 use Rattle.mesa_lexer.specs.declared.fault.SyntaxFault.{SyntaxFault}
 use Rattle.mesa_lexer.specs.declared.fault.SyntaxFault.TheVariants as syntax_fault
-use Rattle.mesa_types.specs.declared.syntax.DirectoryItem.{DirectoryItem}
-use Rattle.mesa_types.specs.declared.syntax.Module.{Module}
+use Rattle.syntax_trees.specs.declared.syntax.DirectoryItem.{DirectoryItem}
+use Rattle.syntax_trees.specs.declared.syntax.Module.{Module}
 use Rattle.grammar_rules.specs.Answer as grammar
 use Rattle.interface_records.specs.Faces.{iodefs}
 use Rattle.check_rules.specs.declared.fault.CheckFault.{CheckFault}

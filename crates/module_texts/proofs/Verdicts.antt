@@ -9,7 +9,7 @@ use Rattle.mesa_lexer.specs.declared.fault.SyntaxFault.TheVariants as s
 use Rattle.mesa_lexer.specs.declared.fault.LexFault.{LexFault}
 use Rattle.mesa_lexer.proofs.Walks as w
 use Rattle.mesa_types.specs.Typed as t
-use Rattle.mesa_types.specs.declared.syntax.Module.{Module}
+use Rattle.syntax_trees.specs.declared.syntax.Module.{Module}
 use Rattle.grammar_rules.specs.Answer.{IsFault, HasSyntaxFault, unexpected as unexpected_token, too_deep as too_deep_token, place_of, Answer, Tree, Fault as Stops, Answers}
 use Rattle.grammar_rules.proofs.Whole as g
 use Rattle.check_rules.specs.Steps.{Checked}

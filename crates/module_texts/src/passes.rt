@@ -15,10 +15,11 @@ use interface_records::{Interface, iodefs};
 use mesa_base::{Boxed, OutOfMemory};
 use mesa_grammar::module;
 use mesa_lexer::tokens;
-use mesa_types::syntax::DirectoryItem;
-use mesa_types::{Module, TypedModule};
+use mesa_types::TypedModule;
 use module_checker::check;
 use std::alloc::Global;
+use syntax_trees::Module;
+use syntax_trees::syntax::DirectoryItem;
 
 fn is_built_in(item: &DirectoryItem) -> bool
     ensures { result ≡ bytes_eq item.now.name.name the_built_in.face.name }

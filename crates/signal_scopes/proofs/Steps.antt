@@ -4,7 +4,7 @@ use Rattle.std.specs.Prelude.{Bool, slice_set, IfOk, Result}
 use Rattle.std.proofs.lemmas.Result.{IfOk-equal}
 use Rattle.std.proofs.Math.Seq.{set-append_seam}
 use Rattle.std.proofs.lemmas.List.{map-set, map-append, length-map}
-use Rattle.mesa_types.specs.Chain.{chain}
+use Rattle.mesa_base.specs.Chain.{chain}
 use Rattle.mesa_types.specs.Plain.{arm, case, exit, expr, exprs, interval, loop, phrase, stmt, stmts, condition_step, phrase_step, suffix_step, test_step, expr_step, stmt_step, arm_step, case_step, exit_step, interval_step, loop_step, operation_step, target_step}
 use Rattle.mesa_types.specs.Typed as t
 use Rattle.mesa_types.specs.declared.typed_parts.Base.{Base}

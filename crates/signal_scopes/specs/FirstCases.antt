@@ -1,6 +1,6 @@
 -- What the cases of a SELECT tell but the last, which has no test.
 use Rattle.std.specs.Prelude.{List, map}
-use Rattle.mesa_types.specs.Chain.{chain}
+use Rattle.mesa_base.specs.Chain.{chain}
 use Rattle.mesa_types.specs.Plain.{case}
 use Rattle.mesa_types.specs.Typed.{Null, Otherwise}
 use Rattle.mesa_types.specs.declared.typed_tree.Case.{Case}

@@ -1,5 +1,5 @@
 ghost use Rattle.std.specs.Prelude.{◌≡◌, [], ◌∷◌, ◌++◌, map, option_map, IfOk, OnOk};
-ghost use Rattle.mesa_types.specs.Chain.{chain};
+ghost use Rattle.mesa_base.specs.Chain.{chain};
 ghost use Rattle.mesa_types.specs.Plain.{arm, case, condition, exit, expr, exprs, finish, interval, loop, operation, phrase, plain_body, stmt, stmts, suffix, target, test};
 ghost use Rattle.mesa_types.specs.Typed as t;
 ghost use Rattle.code_rules.specs.Scopes as spec;

@@ -3,7 +3,7 @@
 use Rattle.std.specs.Prelude.{◌≡◌, refl, ℕ, List, [], ◌∷◌, map, codes, false}
 use Rattle.mesa_types.specs.Typed.{Number, Perform, Call, If, For, Between, Relate, Resume, Retry, Continue, Jump, ReturnWith, NoExprs, NoPhrase, Catch, NoExits, LoopOf, NoFinish, Finished, Always, Null, Marked, Stmt, While, Procedure, Module}
 use Rattle.mesa_types.specs.declared.typed_parts.Base.TheVariants.{Signed}
-use Rattle.mesa_types.specs.declared.relation.Relation.TheVariants.{Less, Greater}
+use Rattle.mesa_base.specs.declared.relation.Relation.TheVariants.{Less, Greater}
 use Rattle.mesa_types.specs.declared.typed_parts.Goal.TheVariants.{PastStatement}
 use Rattle.mesa_types.specs.declared.typed_parts.Callee.TheVariants.{LinkedProcedure}
 use Rattle.mesa_types.specs.declared.typed_parts.Raised.TheVariants.{OwnSignal}

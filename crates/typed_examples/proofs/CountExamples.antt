@@ -5,7 +5,7 @@ use Rattle.mesa_types.specs.Typed.{Endless, Expr, Number, Literal, Variable, Fie
 use Rattle.mesa_types.specs.declared.typed_parts.Home.TheVariants.{Global}
 use Rattle.mesa_types.specs.declared.typed_parts.Range.TheVariants.{Every, From}
 use Rattle.mesa_types.specs.declared.typed_parts.Base.TheVariants.{Signed}
-use Rattle.mesa_types.specs.declared.relation.Relation.TheVariants.{Equal}
+use Rattle.mesa_base.specs.declared.relation.Relation.TheVariants.{Equal}
 use Rattle.mesa_types.specs.declared.typed_parts.Given.TheVariants.{GivenTo}
 use Rattle.mesa_types.specs.declared.typed_parts.Callee.TheVariants.{OwnProcedure}
 use Rattle.mesa_types.specs.declared.typed_parts.Label.TheVariants.{OnAny}

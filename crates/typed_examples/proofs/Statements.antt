@@ -6,7 +6,7 @@ use Rattle.mesa_types.specs.declared.typed_parts.Home.TheVariants.{Global, Local
 use Rattle.mesa_types.specs.declared.typed_parts.Range.TheVariants.{Every, From}
 use Rattle.mesa_types.specs.declared.typed_parts.Base.TheVariants.{Signed}
 use Rattle.mesa_types.specs.declared.typed_parts.Given.TheVariants.{NoVariable, GivenTo}
-use Rattle.mesa_types.specs.declared.relation.Relation.TheVariants.{Equal}
+use Rattle.mesa_base.specs.declared.relation.Relation.TheVariants.{Equal}
 use Rattle.mesa_types.specs.declared.typed_parts.Part.{Part}
 use Rattle.mesa_types.specs.declared.typed_parts.Goal.TheVariants.{PastStatement, ToLabel}
 use Rattle.mesa_types.specs.Counts.{operands, operands_of, operands_in, operands_of_targets, operands_of_cases, operands_of_tests, operands_of_loop, operands_of_condition, operands_of_stmt}

@@ -1,12 +1,12 @@
 use held_trees::{LetGo, both, boxed, boxed_pair, pushed, shared};
-use mesa_base::{Boxed, Bytes, List, Name, Texts};
+use mesa_base::{Boxed, Bytes, List, Name, Relation, Texts};
 use mesa_types::{
-    Base, Exprs, Home, Operation, Operator, Range, Relation, TypedBody, TypedExpr, TypedModule,
-    TypedStmt, constant,
+    Base, Exprs, Home, Operation, Operator, Range, TypedBody, TypedExpr, TypedModule, TypedStmt,
 };
 use std::alloc::Global;
 use std::process::Abort;
 use std::test::Fail;
+use typed_answers::constant;
 
 fn run(alloc: Global, left: u16, operator: Operator, right: u16) -> Result<TypedExpr, Fail> {
     let operation = Operation {

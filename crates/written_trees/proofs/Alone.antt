@@ -6,7 +6,7 @@ use Rattle.std.specs.List.{All, Contains}
 use Rattle.mesa_types.specs.declared.faces.Face.{Face}
 use Rattle.mesa_types.specs.declared.faces.Import.{Import}
 use Rattle.mesa_types.specs.Nodes.{nodes}
-use Rattle.mesa_types.specs.PlainSyntax.{syntax}
+use Rattle.syntax_trees.specs.PlainSyntax.{syntax}
 use Rattle.mesa_types.specs.Sound.{Sound}
 use Rattle.interface_records.specs.declared.interface.Interface.{Interface}
 use Rattle.interface_records.specs.Faces.{iodefs}

@@ -5,34 +5,34 @@ use Rattle.mesa_lexer.specs.declared.token.Token.{Token}
 use Rattle.mesa_base.specs.declared.place.Place.{Place}
 use Rattle.mesa_base.specs.declared.identifier.Identifier.{Identifier}
 use Rattle.mesa_base.specs.declared.placed.Placed.{Placed}
-use Rattle.mesa_types.specs.Chain.{chain}
-use Rattle.mesa_types.specs.declared.syntax.Keyed.{Keyed}
-use Rattle.mesa_types.specs.declared.syntax.Labeled.{Labeled}
-use Rattle.mesa_types.specs.declared.syntax.Entries.{Entries}
-use Rattle.mesa_types.specs.declared.syntax.Operator.{Operator}
-use Rattle.mesa_types.specs.declared.syntax.RepeatLabels.{RepeatLabels}
-use Rattle.mesa_types.specs.declared.syntax.TypeExp.{TypeExp}
-use Rattle.mesa_types.specs.declared.syntax.FieldList.{FieldList}
-use Rattle.mesa_types.specs.declared.syntax.Interval.{Interval}
-use Rattle.mesa_types.specs.declared.syntax.Expr.{Expr}
-use Rattle.mesa_types.specs.declared.syntax.Operation.{Operation}
-use Rattle.mesa_types.specs.declared.syntax.Left.{Left}
-use Rattle.mesa_types.specs.declared.syntax.Suffix.{Suffix}
-use Rattle.mesa_types.specs.declared.syntax.Suffix.TheVariants.{Field, Applied}
-use Rattle.mesa_types.specs.declared.syntax.Brackets.{Brackets}
-use Rattle.mesa_types.specs.declared.syntax.Raise.{Raise}
-use Rattle.mesa_types.specs.declared.syntax.Arm.{Arm}
-use Rattle.mesa_types.specs.declared.syntax.Statement.{Statement}
-use Rattle.mesa_types.specs.declared.syntax.Control.{Control}
-use Rattle.mesa_types.specs.declared.syntax.Count.{Count}
-use Rattle.mesa_types.specs.declared.syntax.Condition.{Condition}
-use Rattle.mesa_types.specs.declared.syntax.Case.{Case}
-use Rattle.mesa_types.specs.declared.syntax.Test.{Test}
-use Rattle.mesa_types.specs.declared.syntax.Block.{Block}
-use Rattle.mesa_types.specs.declared.syntax.PlainItem.{PlainItem}
-use Rattle.mesa_types.specs.Syntax as s
-use Rattle.mesa_types.specs.PlainSyntax as plain
-use Rattle.mesa_types.proofs.PlainForms as of
+use Rattle.mesa_base.specs.Chain.{chain}
+use Rattle.syntax_trees.specs.declared.syntax.Keyed.{Keyed}
+use Rattle.syntax_trees.specs.declared.syntax.Labeled.{Labeled}
+use Rattle.syntax_trees.specs.declared.syntax.Entries.{Entries}
+use Rattle.syntax_trees.specs.declared.syntax.Operator.{Operator}
+use Rattle.syntax_trees.specs.declared.syntax.RepeatLabels.{RepeatLabels}
+use Rattle.syntax_trees.specs.declared.syntax.TypeExp.{TypeExp}
+use Rattle.syntax_trees.specs.declared.syntax.FieldList.{FieldList}
+use Rattle.syntax_trees.specs.declared.syntax.Interval.{Interval}
+use Rattle.syntax_trees.specs.declared.syntax.Expr.{Expr}
+use Rattle.syntax_trees.specs.declared.syntax.Operation.{Operation}
+use Rattle.syntax_trees.specs.declared.syntax.Left.{Left}
+use Rattle.syntax_trees.specs.declared.syntax.Suffix.{Suffix}
+use Rattle.syntax_trees.specs.declared.syntax.Suffix.TheVariants.{Field, Applied}
+use Rattle.syntax_trees.specs.declared.syntax.Brackets.{Brackets}
+use Rattle.syntax_trees.specs.declared.syntax.Raise.{Raise}
+use Rattle.syntax_trees.specs.declared.syntax.Arm.{Arm}
+use Rattle.syntax_trees.specs.declared.syntax.Statement.{Statement}
+use Rattle.syntax_trees.specs.declared.syntax.Control.{Control}
+use Rattle.syntax_trees.specs.declared.syntax.Count.{Count}
+use Rattle.syntax_trees.specs.declared.syntax.Condition.{Condition}
+use Rattle.syntax_trees.specs.declared.syntax.Case.{Case}
+use Rattle.syntax_trees.specs.declared.syntax.Test.{Test}
+use Rattle.syntax_trees.specs.declared.syntax.Block.{Block}
+use Rattle.syntax_trees.specs.declared.syntax.PlainItem.{PlainItem}
+use Rattle.syntax_trees.specs.Syntax as s
+use Rattle.syntax_trees.specs.PlainSyntax as plain
+use Rattle.syntax_trees.proofs.PlainForms as of
 use Rattle.grammar_rules.specs.Grammar as g
 use Rattle.check_rules.specs.Written as w
 use Rattle.written_trees.specs.Limits.{AreWithin}

@@ -3,12 +3,12 @@ use Rattle.std.specs.Prelude.{List, [], ◌∷◌, Option, Some, None, false, co
 use Rattle.std.proofs.lemmas.List.Elements.{All-head}
 use Rattle.mesa_base.specs.declared.place.Place.{Place}
 use Rattle.mesa_base.specs.declared.identifier.Identifier.{Identifier}
-use Rattle.mesa_types.specs.declared.syntax.QualifiedName.{QualifiedName}
-use Rattle.mesa_types.specs.declared.syntax.Labels.TheVariants.{Signals}
-use Rattle.mesa_types.specs.declared.syntax.RepeatLabels.TheVariants as repeat
-use Rattle.mesa_types.specs.declared.syntax.TypeBase.TheVariants.{OfName}
-use Rattle.mesa_types.specs.declared.syntax.DirectoryItem.{DirectoryItem}
-use Rattle.mesa_types.specs.Syntax as s
+use Rattle.syntax_trees.specs.declared.syntax.QualifiedName.{QualifiedName}
+use Rattle.syntax_trees.specs.declared.syntax.Labels.TheVariants.{Signals}
+use Rattle.syntax_trees.specs.declared.syntax.RepeatLabels.TheVariants as repeat
+use Rattle.syntax_trees.specs.declared.syntax.TypeBase.TheVariants.{OfName}
+use Rattle.syntax_trees.specs.declared.syntax.DirectoryItem.{DirectoryItem}
+use Rattle.syntax_trees.specs.Syntax as s
 use Rattle.check_rules.specs.TreeNames.{Named, QualifiedNamed, LabelsNamed, RepeatNamed, BaseNamed, DirectoryItemNamed, DeclarationNamed, DefinitionNamed, StatementNamed, InnerNamed, KindNamed, HasNames}
 
 -- ---- small trees

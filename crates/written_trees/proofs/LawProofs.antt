@@ -1,6 +1,6 @@
 -- The laws from their parts.
 use Rattle.std.specs.Prelude.{[], ◌∷◌}
-use Rattle.mesa_types.specs.PlainSyntax.{syntax}
+use Rattle.syntax_trees.specs.PlainSyntax.{syntax}
 use Rattle.interface_records.specs.Faces.{iodefs}
 use Rattle.check_rules.proofs.SoundLaw.{checked_modules_are_sound}
 use Rattle.check_rules.proofs.OrderKept.{interfaces_in_order}

@@ -2,17 +2,17 @@
 -- Each fact stands beside one that is kept as it is, `R`: of the tokens behind the tree.
 use Rattle.std.proofs.Common.{◌≡◌, ◌≢◌, List, [], ◌∷◌, ◌++◌, All, map, refl, sym, ap, subst}
 use Rattle.mesa_base.specs.declared.identifier.Identifier.{Identifier}
-use Rattle.mesa_types.specs.Chain.{chain}
-use Rattle.mesa_types.specs.declared.syntax.Keyed.{Keyed}
-use Rattle.mesa_types.specs.declared.syntax.Labeled.{Labeled}
-use Rattle.mesa_types.specs.declared.syntax.RepeatLabels.{RepeatLabels}
-use Rattle.mesa_types.specs.declared.syntax.TypeExp.{TypeExp}
-use Rattle.mesa_types.specs.declared.syntax.Expr.{Expr}
-use Rattle.mesa_types.specs.declared.syntax.Left.{Left}
-use Rattle.mesa_types.specs.declared.syntax.Statement.{Statement}
-use Rattle.mesa_types.specs.declared.syntax.PlainItem.{PlainItem}
-use Rattle.mesa_types.specs.Syntax as s
-use Rattle.mesa_types.specs.PlainSyntax as plain
+use Rattle.mesa_base.specs.Chain.{chain}
+use Rattle.syntax_trees.specs.declared.syntax.Keyed.{Keyed}
+use Rattle.syntax_trees.specs.declared.syntax.Labeled.{Labeled}
+use Rattle.syntax_trees.specs.declared.syntax.RepeatLabels.{RepeatLabels}
+use Rattle.syntax_trees.specs.declared.syntax.TypeExp.{TypeExp}
+use Rattle.syntax_trees.specs.declared.syntax.Expr.{Expr}
+use Rattle.syntax_trees.specs.declared.syntax.Left.{Left}
+use Rattle.syntax_trees.specs.declared.syntax.Statement.{Statement}
+use Rattle.syntax_trees.specs.declared.syntax.PlainItem.{PlainItem}
+use Rattle.syntax_trees.specs.Syntax as s
+use Rattle.syntax_trees.specs.PlainSyntax as plain
 use Rattle.check_rules.specs.Written.{RepeatWritten, HasField, TypeWritten, NamedWritten, TypesWritten, ExprWritten, ExprsWritten, KeyedWritten, LeftWritten, LeftsWritten, KeyedLeftsWritten, StatementWritten, StatementsWritten, ItemWritten, LocalsWritten, ExitsWritten, RepeatsWritten}
 use Rattle.check_rules.specs.TreeNames.{Named, RepeatNamed, TypeNamed, LabeledNamed, TypesNamed, ExprNamed, ExprsNamed, KeyedNamed, LeftNamed, LeftsNamed, KeyedLeftsNamed, StatementNamed, StatementsNamed, ItemNamed, LocalsNamed, ExitsNamed, RepeatsNamed}
 

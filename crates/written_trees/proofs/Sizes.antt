@@ -6,9 +6,9 @@ use Rattle.mesa_lexer.specs.Forms.{Whole}
 use Rattle.mesa_lexer.specs.Tokens.{Reaches, start, gap, token, place_in}
 use Rattle.mesa_lexer.specs.declared.token.Token.{Token}
 use Rattle.mesa_lexer.proofs.Same.{token_some}
-use Rattle.mesa_types.specs.declared.syntax.Module.{Module}
-use Rattle.mesa_types.specs.PlainSyntax.{syntax}
-use Rattle.mesa_types.specs.SyntaxNodes.{module_nodes, nodes}
+use Rattle.syntax_trees.specs.declared.syntax.Module.{Module}
+use Rattle.syntax_trees.specs.PlainSyntax.{syntax}
+use Rattle.syntax_trees.specs.SyntaxNodes.{module_nodes, nodes}
 use Rattle.grammar_rules.proofs.TwoNodes.{module_fits}
 use Rattle.check_rules.specs.Laws.{IsOfTextSize}
 use Rattle.written_trees.specs.Laws.{IsTreeOf}

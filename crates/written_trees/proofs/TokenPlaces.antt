@@ -4,7 +4,7 @@ use Rattle.std.specs.List.{All, Contains}
 use Rattle.std.proofs.lemmas.List.Elements.{All-nil, All-cons, All-head, All-tail, All-contains, All-contains_itself}
 use Rattle.mesa_base.specs.declared.place.Place.{Place}
 use Rattle.mesa_lexer.specs.declared.token.Token.{Token}
-use Rattle.mesa_types.specs.PlainSyntax.{syntax}
+use Rattle.syntax_trees.specs.PlainSyntax.{syntax}
 use Rattle.check_rules.specs.Places.{places_in}
 use Rattle.check_rules.specs.Steps.{Checked, Fault}
 use Rattle.check_rules.specs.CheckedModule.{checked, checked_definitions}

@@ -2,9 +2,9 @@
 use Rattle.std.specs.Prelude.{◌≡◌, ℕ, ◌≤◌, List, replicate, IfOk}
 use Rattle.std.specs.List.{All}
 use Rattle.mesa_types.specs.declared.faces.Import.{Import}
-use Rattle.mesa_types.specs.declared.syntax.Module.{Module}
+use Rattle.syntax_trees.specs.declared.syntax.Module.{Module}
 use Rattle.mesa_types.specs.Nodes.{nodes}
-use Rattle.mesa_types.specs.PlainSyntax.{syntax}
+use Rattle.syntax_trees.specs.PlainSyntax.{syntax}
 use Rattle.mesa_types.specs.Sound.{Sound}
 use Rattle.interface_records.specs.declared.interface.Interface.{Interface}
 use Rattle.interface_records.specs.Faces.{SameFace, iodefs}

@@ -1,5 +1,5 @@
 use Rattle.std.proofs.Common.{◌≡◌, drop}
-use Rattle.mesa_types.specs.PlainSyntax.{named_fields, types}
+use Rattle.syntax_trees.specs.PlainSyntax.{named_fields, types}
 use Rattle.check_scopes.specs.Scopes.{over}
 use Rattle.check_rules.specs.Programs.{elements_in_named, elements_in_types}
 use Rattle.check_state.specs.Views.{names}

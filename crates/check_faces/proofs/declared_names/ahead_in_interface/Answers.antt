@@ -1,5 +1,5 @@
 use Rattle.std.proofs.Common.{rules, sym, ap, map}
-use Rattle.mesa_types.specs.PlainSyntax.{definition}
+use Rattle.syntax_trees.specs.PlainSyntax.{definition}
 use Rattle.check_scopes.specs.Scopes.{over}
 use Rattle.check_rules.specs.Definitions.{ahead}
 use Rattle.check_state.specs.Views.{names}

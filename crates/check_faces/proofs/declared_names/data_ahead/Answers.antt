@@ -1,5 +1,5 @@
 use Rattle.std.proofs.Common.{◌≡◌, rules, sym, ap, ◌∙◌}
-use Rattle.mesa_types.specs.PlainSyntax.{type_exp}
+use Rattle.syntax_trees.specs.PlainSyntax.{type_exp}
 use Rattle.check_scopes.specs.Scopes.{over}
 use Rattle.check_rules.specs.Programs.{elements_of}
 use Rattle.check_state.specs.Views.{names}

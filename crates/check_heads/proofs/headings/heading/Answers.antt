@@ -1,5 +1,5 @@
 use Rattle.std.proofs.Common.{rules}
-use Rattle.mesa_types.specs.PlainSyntax as plain
+use Rattle.syntax_trees.specs.PlainSyntax as plain
 use Rattle.check_jumps.proofs.ArmVariables.{names_nothing}
 use Rattle.check_state.specs.Views as words
 use Rattle.check_heads.specs.Views as view

@@ -1,5 +1,5 @@
 use Rattle.std.proofs.Common.{map, rules}
-use Rattle.mesa_types.specs.PlainSyntax as plain
+use Rattle.syntax_trees.specs.PlainSyntax as plain
 use Rattle.check_rules.specs.PlainTypes.{plain_field}
 use Rattle.check_state.specs.Views as words
 use Rattle.check_heads.proofs.HeadingLaws.{parameters_at, parameters_end, parameters_first}

@@ -1,5 +1,5 @@
 use Rattle.std.proofs.Common.{map, rules, sym, ap, ◌+◌, ◌∙◌}
-use Rattle.mesa_types.specs.PlainSyntax as plain
+use Rattle.syntax_trees.specs.PlainSyntax as plain
 use Rattle.check_rules.specs.Definitions.{definition, nothing_defined}
 use Rattle.check_state.specs.Gives.{fault}
 use Rattle.check_state.specs.Views as words

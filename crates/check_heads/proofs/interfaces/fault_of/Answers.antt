@@ -1,6 +1,6 @@
 use Rattle.std.proofs.Common.{map}
-use Rattle.mesa_types.specs.PlainSyntax as plain
-use Rattle.mesa_types.specs.Syntax as s
+use Rattle.syntax_trees.specs.PlainSyntax as plain
+use Rattle.syntax_trees.specs.Syntax as s
 use Rattle.check_rules.specs.Definitions.{definition}
 use Rattle.check_state.specs.Gives.{fault}
 use Rattle.check_state.specs.Views as words

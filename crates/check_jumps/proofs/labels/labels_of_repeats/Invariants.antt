@@ -1,5 +1,5 @@
 use Rattle.std.proofs.Common.{◌≡◌, ◌+◌, drop, length}
-use Rattle.mesa_types.specs.PlainSyntax.{repeats}
+use Rattle.syntax_trees.specs.PlainSyntax.{repeats}
 use Rattle.check_scopes.specs.Scopes.{nothing}
 use Rattle.check_scopes.specs.Shows.{means}
 use Rattle.check_rules.specs.Around.{label_scope}

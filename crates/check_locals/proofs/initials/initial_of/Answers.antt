@@ -1,5 +1,5 @@
 use Rattle.std.proofs.Common.{refl}
-use Rattle.mesa_types.proofs.PlainForms.{of_constant, of_type_is}
+use Rattle.syntax_trees.proofs.PlainForms.{of_constant, of_type_is}
 use Rattle.check_locals.proofs.HeadClauses.{initial_constant, initial_type}
 use Rattle.check_locals.proofs.initials.initial_of.Goals as goal
 

@@ -1,4 +1,4 @@
-use Rattle.mesa_types.specs.PlainSyntax as plain
+use Rattle.syntax_trees.specs.PlainSyntax as plain
 use Rattle.check_rules.specs.Mentions.{of_kind}
 use Rattle.check_mentions.proofs.GatherLaws.{origins_whole, texts_whole}
 use Rattle.check_mentions.proofs.modules.mentions_of.Goals as goal

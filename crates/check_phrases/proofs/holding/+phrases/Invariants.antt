@@ -1,5 +1,5 @@
 use Rattle.std.proofs.Common.{◌≡◌, drop}
-use Rattle.mesa_types.specs.PlainSyntax.{exprs, keyed_exprs, operations, suffixes}
+use Rattle.syntax_trees.specs.PlainSyntax.{exprs, keyed_exprs, operations, suffixes}
 use Rattle.check_rules.specs.Phrases.{in_steps, in_suffixes, in_exprs, in_keyed}
 use Rattle.check_phrases.proofs.holding.+phrases.Given as goal
 

@@ -1,5 +1,5 @@
 use Rattle.std.proofs.Common.{rules, map, sym, ap, ◌∙◌}
-use Rattle.mesa_types.specs.PlainSyntax as plain
+use Rattle.syntax_trees.specs.PlainSyntax as plain
 use Rattle.check_state.specs.Views.{around, state}
 use Rattle.check_programs.specs.Views as view
 use Rattle.check_programs.proofs.CodeLoops.{value_at, value_split, values_out, values_short}

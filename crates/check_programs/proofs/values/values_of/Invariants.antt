@@ -1,5 +1,5 @@
 use Rattle.std.proofs.Common.{◌≡◌, drop, map}
-use Rattle.mesa_types.specs.PlainSyntax as plain
+use Rattle.syntax_trees.specs.PlainSyntax as plain
 use Rattle.check_state.specs.Views.{around, state}
 use Rattle.check_programs.specs.Turns.{values_by}
 use Rattle.check_programs.specs.Views as view

@@ -1,4 +1,4 @@
-use Rattle.mesa_types.specs.PlainSyntax as plain
+use Rattle.syntax_trees.specs.PlainSyntax as plain
 use Rattle.check_state.specs.Views.{around, state}
 use Rattle.check_programs.proofs.Endings.{giving}
 use Rattle.check_statement_lists.specs.Views.{stmts}

@@ -1,5 +1,5 @@
 use Rattle.std.proofs.Common.{◌≡◌, drop}
-use Rattle.mesa_types.specs.PlainSyntax.{cases}
+use Rattle.syntax_trees.specs.PlainSyntax.{cases}
 use Rattle.check_rules.specs.Phrases.{in_cases}
 use Rattle.check_simple_statements.proofs.holding.cases_hold.Given as goal
 

@@ -1,5 +1,5 @@
 use Rattle.std.proofs.Common.{◌≡◌, drop}
-use Rattle.mesa_types.specs.PlainSyntax.{keyed_lefts}
+use Rattle.syntax_trees.specs.PlainSyntax.{keyed_lefts}
 use Rattle.check_rules.specs.Phrases.{in_keyed_lefts}
 use Rattle.check_simple_statements.proofs.holding.keyed_hold.Given as goal
 

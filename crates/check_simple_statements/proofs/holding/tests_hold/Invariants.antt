@@ -1,5 +1,5 @@
 use Rattle.std.proofs.Common.{◌≡◌, drop}
-use Rattle.mesa_types.specs.PlainSyntax.{tests}
+use Rattle.syntax_trees.specs.PlainSyntax.{tests}
 use Rattle.check_rules.specs.Phrases.{in_tests}
 use Rattle.check_simple_statements.proofs.holding.tests_hold.Given as goal
 

@@ -1,6 +1,6 @@
 use Rattle.std.proofs.Common.{◌≡◌, drop, map}
 use Rattle.mesa_types.specs.Plain.{test}
-use Rattle.mesa_types.specs.PlainSyntax as plain
+use Rattle.syntax_trees.specs.PlainSyntax as plain
 use Rattle.check_rules.specs.Checking as spec
 use Rattle.check_state.specs.Views as words
 use Rattle.check_simple_statements.proofs.Chains.{onto}

@@ -1,5 +1,5 @@
 use Rattle.std.proofs.Common.{◌≡◌, drop}
-use Rattle.mesa_types.specs.PlainSyntax as plain
+use Rattle.syntax_trees.specs.PlainSyntax as plain
 use Rattle.check_rules.specs.Parts.{are_fields, keys_of_lefts}
 use Rattle.check_state.specs.Views as words
 use Rattle.check_simple_statements.proofs.storing.are_fields.Given as goal

@@ -1,6 +1,6 @@
 use Rattle.std.proofs.Common.{◌≡◌, drop, map}
 use Rattle.mesa_types.specs.Plain.{target}
-use Rattle.mesa_types.specs.PlainSyntax as plain
+use Rattle.syntax_trees.specs.PlainSyntax as plain
 use Rattle.check_rules.specs.Checking as spec
 use Rattle.check_rules.specs.PlainTypes.{plain_field}
 use Rattle.check_state.specs.Views as words

@@ -1,6 +1,6 @@
 use Rattle.std.proofs.Common.{[], map, take, rules, sym, ap, ◌∙◌}
 use Rattle.std.specs.Prelude.{is_some}
-use Rattle.mesa_types.specs.PlainSyntax as plain
+use Rattle.syntax_trees.specs.PlainSyntax as plain
 use Rattle.check_rules.specs.PlainTypes.{plain as plain_type, plain_field}
 use Rattle.check_scopes.specs.Scopes.{has}
 use Rattle.check_state.specs.Views as words

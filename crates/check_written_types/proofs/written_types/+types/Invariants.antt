@@ -1,6 +1,6 @@
 -- What is still to come, behind the fields that are done.
 use Rattle.std.proofs.Common.{◌≡◌, [], map, take, drop}
-use Rattle.mesa_types.specs.PlainSyntax as plain
+use Rattle.syntax_trees.specs.PlainSyntax as plain
 use Rattle.check_rules.specs.PlainTypes.{plain_field}
 use Rattle.check_state.specs.Views as words
 use Rattle.check_declared.specs.Naming.{HasNames}

@@ -1,6 +1,6 @@
 -- The answers of values and of the lists in them.
 use Rattle.std.proofs.Common.{[], ap, arith, drop, map, refl, sym, ◌+◌, ◌∙◌, ◌∷◌}
-use Rattle.mesa_types.specs.Chain.{chain}
+use Rattle.mesa_base.specs.Chain.{chain}
 use Rattle.mesa_types.specs.Plain.{expr, exprs, operation, suffix}
 use Rattle.mesa_types.specs.Typed as t
 use Rattle.code_rules.specs.OwnCode.{check_code, index_code, operator_code}

@@ -1,7 +1,7 @@
 -- The answers of lists of statements, cases, tests, targets and arms.
 use Rattle.std.proofs.Common.{List, ap, arith, drop, map, refl, sym, ℕ, ◌+◌, ◌∙◌, ◌≡◌}
 use Rattle.std.specs.Prelude.{IfOk, Ok, OnOk, Result, not}
-use Rattle.mesa_types.specs.Chain.{chain}
+use Rattle.mesa_base.specs.Chain.{chain}
 use Rattle.mesa_types.specs.Counts.{hidden_suffixes, hidden_tests}
 use Rattle.mesa_types.specs.Plain.{case, stmt, suffix, test}
 use Rattle.mesa_types.specs.Typed as t

@@ -2,7 +2,7 @@
 use Rattle.std.proofs.Common.{List, ap, arith, map, refl, subst, sym, ◌+◌, ◌∙◌, ◌≡◌}
 use Rattle.std.specs.Prelude.{OnOk, not}
 use Rattle.std.proofs.lemmas.Bool.{false≢true}
-use Rattle.mesa_types.specs.Chain.{chain}
+use Rattle.mesa_base.specs.Chain.{chain}
 use Rattle.mesa_types.specs.Plain.{case, suffix}
 use Rattle.mesa_types.specs.Typed as t
 use Rattle.code_rules.specs.OwnCode.{pop_code}

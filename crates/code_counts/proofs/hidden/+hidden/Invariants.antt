@@ -1,5 +1,5 @@
 use Rattle.std.proofs.Common.{map, drop}
-use Rattle.mesa_types.specs.Chain.{chain}
+use Rattle.mesa_base.specs.Chain.{chain}
 use Rattle.mesa_types.specs.Counts.{hidden_arms, hidden_cases, hidden_exits, hidden_exprs, hidden_operations, hidden_stmts, hidden_suffixes, hidden_targets, hidden_tests}
 use Rattle.mesa_types.specs.Plain.{arm, case, exit, expr, exprs, operation, stmt, stmts, suffix, target, test}
 use Rattle.mesa_types.specs.Typed as t

@@ -1,7 +1,7 @@
 use Rattle.std.proofs.Common.{◌≡◌, ◌∙◌, ◌-◌, ◌+◌, ◌∷◌, ap, sym, length, drop, map, arith}
 use Rattle.std.specs.Prelude.{Result, Ok, IfOk, not, nat_eq}
 use Rattle.std.proofs.lemmas.List.{drop_all}
-use Rattle.mesa_types.specs.Chain.{chain}
+use Rattle.mesa_base.specs.Chain.{chain}
 use Rattle.mesa_types.specs.Plain.{exit, stmt}
 use Rattle.mesa_types.specs.Typed as t
 use Rattle.code_blocks.specs.Blocks as tree

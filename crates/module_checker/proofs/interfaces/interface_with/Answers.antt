@@ -1,5 +1,5 @@
 use Rattle.std.proofs.Common.{rules}
-use Rattle.mesa_types.specs.PlainSyntax.{syntax}
+use Rattle.syntax_trees.specs.PlainSyntax.{syntax}
 use Rattle.module_checker.proofs.InterfaceLaws.{interface_is}
 use Rattle.module_checker.proofs.interfaces.interface_with.Goals as goal
 

@@ -1,5 +1,5 @@
 use Rattle.std.proofs.Common.{◌≡◌, ◌++◌, map, drop}
-use Rattle.mesa_types.specs.Chain.{chain}
+use Rattle.mesa_base.specs.Chain.{chain}
 use Rattle.mesa_types.specs.Plain.{arm, case, exit, expr, exprs, operation, stmt, stmts, suffix, target, test}
 use Rattle.mesa_types.specs.Typed as t
 use Rattle.code_rules.specs.Told.{told_arms, told_cases, told_exits, told_exprs, told_operations, told_stmts, told_suffixes, told_targets, told_tests}

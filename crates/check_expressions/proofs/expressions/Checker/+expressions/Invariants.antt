@@ -1,8 +1,8 @@
 use Rattle.std.proofs.Common.{◌≡◌, [], ◌∷◌, drop, map}
 use Rattle.mesa_types.specs.Plain.{expr}
-use Rattle.mesa_types.specs.PlainSyntax as plain
-use Rattle.mesa_types.specs.declared.syntax.Expr.{Expr}
-use Rattle.mesa_types.specs.declared.syntax.Keyed.{Keyed}
+use Rattle.syntax_trees.specs.PlainSyntax as plain
+use Rattle.syntax_trees.specs.declared.syntax.Expr.{Expr}
+use Rattle.syntax_trees.specs.declared.syntax.Keyed.{Keyed}
 use Rattle.check_rules.specs.Values.{is_truth}
 use Rattle.check_state.specs.Views as words
 use Rattle.check_selectors.specs.Views as reaching

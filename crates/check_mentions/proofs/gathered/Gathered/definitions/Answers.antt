@@ -1,5 +1,5 @@
 use Rattle.std.proofs.Common.{[], ◌+◌, drop, map, refl, rules}
-use Rattle.mesa_types.specs.PlainSyntax as plain
+use Rattle.syntax_trees.specs.PlainSyntax as plain
 use Rattle.check_rules.specs.Mentions.{of_definitions, of_defined}
 use Rattle.check_mentions.proofs.GatherLaws.{left_is, same_left}
 use Rattle.check_mentions.proofs.ModuleForms.{definitions_at, definitions_out, turn}

@@ -1,5 +1,5 @@
 use Rattle.std.proofs.Common.{[], OnOk, map, subst}
-use Rattle.mesa_types.specs.PlainSyntax as plain
+use Rattle.syntax_trees.specs.PlainSyntax as plain
 use Rattle.check_rules.specs.Mentions.{of_definitions}
 use Rattle.check_mentions.specs.Gathering.{Leaves}
 use Rattle.check_mentions.proofs.ModuleForms.{Definitions, of_program, of_interface}

@@ -1,6 +1,6 @@
 use Rattle.std.proofs.Common.{List, [], ◌++◌, map, subst}
-use Rattle.mesa_types.specs.PlainSyntax as plain
-use Rattle.mesa_types.specs.declared.syntax.Declaration.{Declaration}
+use Rattle.syntax_trees.specs.PlainSyntax as plain
+use Rattle.syntax_trees.specs.declared.syntax.Declaration.{Declaration}
 use Rattle.check_scopes.proofs.Innermost.{ok_also}
 use Rattle.check_rules.specs.Mentions.{of_phrase, of_stmts, of_exits, of_declarations}
 use Rattle.check_mentions.specs.Gathering.{Leaves}

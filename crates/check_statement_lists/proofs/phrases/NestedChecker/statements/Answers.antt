@@ -1,5 +1,5 @@
 use Rattle.std.proofs.Common.{subst, sym}
-use Rattle.mesa_types.specs.PlainSyntax as plain
+use Rattle.syntax_trees.specs.PlainSyntax as plain
 use Rattle.check_state.specs.Gives.{Gives}
 use Rattle.check_state.specs.Views as view
 use Rattle.check_statement_lists.specs.Turns as turns

@@ -1,6 +1,6 @@
 use Rattle.std.proofs.Common.{subst, sym, ap, ◌∙◌}
-use Rattle.mesa_types.specs.PlainSyntax as plain
-use Rattle.mesa_types.proofs.PlainForms.{parts_of_block}
+use Rattle.syntax_trees.specs.PlainSyntax as plain
+use Rattle.syntax_trees.proofs.PlainForms.{parts_of_block}
 use Rattle.check_rules.specs.Around.{inside}
 use Rattle.check_rules.specs.Scopes.{nothing}
 use Rattle.check_rules.specs.Statements.{labels_of_exits}

@@ -1,0 +1,4 @@
+pub mod LayerNodes
+pub mod NodesAgree
+pub mod PlainForms
+pub mod SyntaxForms

@@ -1,0 +1,3 @@
+pub mod PlainSyntax
+pub mod Syntax
+pub mod SyntaxNodes

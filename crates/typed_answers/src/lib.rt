@@ -1,0 +1,12 @@
+//! What is asked of types, of words and of constant expressions.
+#![tactic(auto)]
+
+mod constants;
+mod operators;
+mod sameness;
+mod sizes;
+
+pub use constants::constant;
+pub use operators::{fits, opposite, quotient, related, remainder, truth};
+pub use sameness::{base, conforms, same_fields, same_name, same_type, same_types};
+pub use sizes::{depth, elements, fields_words, is_within_limits, longest_enumeration, size_words};
