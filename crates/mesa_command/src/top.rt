@@ -1,6 +1,7 @@
 //! The call, its cases, and the run of a module.
 
-ghost use Rattle.std.specs.Prelude.{◌≡◌, IfOk};
+ghost use Rattle.std.specs.Prelude.{◌≡◌, ℕ, List, IfOk};
+ghost use Rattle.mesa_base.specs.Outside.{Called};
 ghost use Rattle.mesa_types.specs.Plain.{plain};
 ghost use Rattle.source_meaning.specs.Program.{single};
 ghost use Rattle.written_trees.specs.Alone.{StandsAlone};
@@ -9,6 +10,7 @@ ghost use Rattle.mesa_command.specs.Case.{Case, IsBeforeRun};
 ghost use Rattle.mesa_command.specs.Comes.{Comes};
 ghost use Rattle.mesa_command.specs.Complete.{Answered, Tells};
 ghost use Rattle.mesa_command.specs.Ends.{Ends};
+ghost use Rattle.mesa_command.specs.Forms.{IsGo, file_of};
 ghost use Rattle.mesa_command.specs.Outputs.{stream};
 ghost use Rattle.mesa_command.specs.Reply.{called, reply_case, case_of_run};
 ghost use Rattle.mesa_command.specs.Shown.{shown, case_of_end, signal_of};
@@ -53,7 +55,9 @@ pub fn mesa<F: Folder, S: Source, K: Sink, E: Sink, L: Ledger>(
     ensures before_run_input { IsBeforeRun result → input.new ≡ input.old }
     ensures before_run_output { IsBeforeRun result → out.new ≡ out.old }
     ensures before_run_steps { IsBeforeRun result → steps.new ≡ steps.old }
-    // No file is asked for where the words have no form, and none is changed.
+    // The folder is asked once where the words are `go`, for the file that they name, and not at all where they have no form. No file is
+    // changed.
+    ensures one_read { (base : List ℕ) (turns : ℕ) → IsGo words.now base turns → Called (file_of base) (F.calls folder.old) (F.calls folder.new) }
     ensures usage_folder { result ≡ Status.Usage → folder.new ≡ folder.old }
     ensures files { F.files folder.new ≡ F.files folder.old }
 {
@@ -81,6 +85,7 @@ fn answer<F: Folder, S: Source, K: Sink, E: Sink, L: Ledger>(
     ensures before_run_input { IsBeforeRun result → input.new ≡ input.old }
     ensures before_run_output { IsBeforeRun result → out.new ≡ out.old }
     ensures before_run_steps { IsBeforeRun result → steps.new ≡ steps.old }
+    ensures one_read { (base : List ℕ) (turns : ℕ) → IsGo words.now base turns → Called (file_of base) (F.calls folder.old) (F.calls folder.new) }
     ensures usage_folder { result ≡ Status.Usage → folder.new ≡ folder.old }
     ensures files { F.files folder.new ≡ F.files folder.old }
 {
