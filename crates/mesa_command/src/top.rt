@@ -1,6 +1,7 @@
 //! The call, its cases, and the run of a module.
 
 ghost use Rattle.std.specs.Prelude.{◌≡◌, ℕ, List, IfOk};
+ghost use Rattle.mesa_base.specs.Asked.{AskedOnce};
 ghost use Rattle.mesa_base.specs.Outside.{Called};
 ghost use Rattle.mesa_types.specs.Plain.{plain};
 ghost use Rattle.source_meaning.specs.Program.{single};
@@ -51,6 +52,8 @@ pub fn mesa<F: Folder, S: Source, K: Sink, E: Sink, L: Ledger>(
         (scene (feed (S.left input.new) (S.faults input.new)) (stream (K.written out.new) (K.faults out.new)) steps.new)
         (stream (E.written err.new) (E.faults err.new)))
         result }
+    // The input was asked once for each byte that it gave, and at most once more: where it was at its end, or failed.
+    ensures asked { AskedOnce (S.left input.old) (S.left input.new) (S.calls input.old) (S.calls input.new) }
     // Nothing was read, written or counted where nothing was run.
     ensures before_run_input { IsBeforeRun result → input.new ≡ input.old }
     ensures before_run_output { IsBeforeRun result → out.new ≡ out.old }
@@ -68,6 +71,7 @@ pub fn mesa<F: Folder, S: Source, K: Sink, E: Sink, L: Ledger>(
 }
 
 /// The words, the module, and its run.
+#[tactic(auto, using(mesa_base::proofs::Asked::not_asked))]
 fn answer<F: Folder, S: Source, K: Sink, E: Sink, L: Ledger>(
     alloc: Global,
     words: &Words,
@@ -82,6 +86,7 @@ fn answer<F: Folder, S: Source, K: Sink, E: Sink, L: Ledger>(
         (scene (feed (S.left input.old) (S.faults input.old)) (stream (K.written out.old) (K.faults out.old)) steps.old)
         (scene (feed (S.left input.new) (S.faults input.new)) (stream (K.written out.new) (K.faults out.new)) steps.new) case
         × Tells case (stream (E.written err.old) (E.faults err.old)) (stream (E.written err.new) (E.faults err.new)) result }
+    ensures asked { AskedOnce (S.left input.old) (S.left input.new) (S.calls input.old) (S.calls input.new) }
     ensures before_run_input { IsBeforeRun result → input.new ≡ input.old }
     ensures before_run_output { IsBeforeRun result → out.new ≡ out.old }
     ensures before_run_steps { IsBeforeRun result → steps.new ≡ steps.old }
@@ -114,6 +119,7 @@ fn run<S: Source, K: Sink, E: Sink, L: Ledger>(
         (scene (feed (S.left input.old) (S.faults input.old)) (stream (K.written out.old) (K.faults out.old)) steps.old)
         (scene (feed (S.left input.new) (S.faults input.new)) (stream (K.written out.new) (K.faults out.new)) steps.new) case
         × Tells case (stream (E.written err.old) (E.faults err.old)) (stream (E.written err.new) (E.faults err.new)) result }
+    ensures asked { AskedOnce (S.left input.old) (S.left input.new) (S.calls input.old) (S.calls input.new) }
     ensures before_run_input { IsBeforeRun result → input.new ≡ input.old }
     ensures before_run_output { IsBeforeRun result → out.new ≡ out.old }
     ensures before_run_steps { IsBeforeRun result → steps.new ≡ steps.old }
