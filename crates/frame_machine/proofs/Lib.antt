@@ -1,3 +1,4 @@
+pub mod Asks
 pub mod Cleared
 pub mod Faults
 pub mod FirstRow

@@ -9,7 +9,7 @@ use Rattle.machine_activations.specs.declared.calling.Turn.{Turn}
 use Rattle.machine_activations.specs.declared.calling.Turn.TheVariants.{Goes, Empty, Pending, Ends}
 use Rattle.machine_calls.specs.declared.ahead.Coming.{Coming}
 use Rattle.machine_calls.specs.declared.reading.ReadTurn.{ReadTurn}
-use Rattle.machine_calls.specs.Hosting.{ReadLeads}
+use Rattle.machine_calls.specs.Hosting.{ReadLeads, vain_by}
 use Rattle.machine_ready.specs.declared.prepared.Prepared.{Prepared}
 use Rattle.frame_machine.specs.declared.outcome.RunFault.{RunFault}
 use Rattle.frame_machine.specs.declared.outcome.RunFault.TheVariants.{ReadFault, WriteFault}
@@ -89,3 +89,12 @@ pub record CountsFaults {A : Type 0} (result : Result A RunFault) (read read' wr
   pub of_sink : IsErrOf result WriteFault → Rose written written'
   pub source_stays : read ≤ read'
   pub sink_stays : written ≤ written'
+
+-- how often the source was asked in vain by then: once where it failed, which it does only where its end is not known
+abbrev pub vain_of : RunFault → (ahead : Option Coming) → ℕ
+vain_of ReadFault ahead = 1
+vain_of WriteFault ahead = vain_by ahead
+
+abbrev pub vain_then : {A : Type 0} → Result A RunFault → (ahead : Option Coming) → ℕ
+vain_then (Ok x) ahead = vain_by ahead
+vain_then (Err fault) ahead = vain_of fault ahead

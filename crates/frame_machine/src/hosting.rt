@@ -9,10 +9,10 @@ ghost use Rattle.machine_ready.specs.Ready.{IsReady};
 ghost use Rattle.machine_calls.specs.declared.ahead.Coming.{Coming};
 ghost use Rattle.machine_calls.specs.declared.host.HostProcedure.TheVariants.{Read, Write};
 ghost use Rattle.machine_calls.specs.declared.host.Reading.{Reading};
-ghost use Rattle.machine_calls.specs.Hosting.{GoesBehind, ReadLeads, behind_call};
+ghost use Rattle.machine_calls.specs.Hosting.{AsksOn, GoesBehind, ReadLeads, behind_call, vain_by};
 ghost use Rattle.machine_calls.specs.Hosts.{CallsHost, host_is};
 ghost use Rattle.machine_signals.specs.Raising.{ArmsHold};
-ghost use Rattle.frame_machine.specs.Onward.{CanGoOn, CountsFaults, Follows, HasRead, onward_or, waits};
+ghost use Rattle.frame_machine.specs.Onward.{CanGoOn, CountsFaults, Follows, HasRead, onward_or, vain_then, waits};
 ghost use Rattle.frame_machine.specs.SoFar.{AtHost, Carries, SoFar, Then};
 
 use crate::outcome::RunFault;
@@ -43,6 +43,7 @@ fn write_out<K: Sink>(
         → SoFar image.now bound parts.now control turns begun ahead told left held (K.written out.old) (AtHost image.now parts.now r.old (Write writing))
         → Then image.now bound parts.now control turns begun ahead told left held (K.written out.new) (onward_or result r.new) }
     ensures faults { (read : ℕ) → CountsFaults (onward_or result r.new) read read (K.faults out.old) (K.faults out.new) }
+    ensures asks_not { (ahead : Option Coming) → vain_then (onward_or result r.new) ahead ≡ vain_by ahead }
 {
     match write(writing, image, parts.region.as_slice(), *r, out) {
         Ok(after) => {
@@ -103,6 +104,7 @@ fn read_in<S: Source>(
         → Follows image.now parts.old parts.new turns.old turns.new 0 ahead.old ahead.new (S.left input.old) (S.left input.new) holds holds
         (AtHost image.now parts.old r (Read reading)) result }
     ensures faults { (written : ℕ) → CountsFaults result (S.faults input.old) (S.faults input.new) written written }
+    ensures asks { AsksOn ahead.old (S.left input.old) (S.left input.new) (S.calls input.old) (S.calls input.new) (vain_then result ahead.new) }
 {
     match read(reading, parts.region.as_mut_slice(), r, ahead, input) {
         Ok(turn) => Ok(read_then(turn, image, parts, r, turns)),
@@ -150,6 +152,7 @@ fn read_settled<S: Source>(
         → Follows image.now parts.old parts.new turns.old turns.new 0 ahead.old ahead.new (S.left input.old) (S.left input.new) holds holds
         (AtHost image.now parts.old r.old (Read reading)) (onward_or result r.new) }
     ensures faults { (written : ℕ) → CountsFaults (onward_or result r.new) (S.faults input.old) (S.faults input.new) written written }
+    ensures asks { AsksOn ahead.old (S.left input.old) (S.left input.new) (S.calls input.old) (S.calls input.new) (vain_then (onward_or result r.new) ahead.new) }
 {
     let told = read_in(reading, image, parts, *r, ahead, turns, input);
     settle_told(told, r)
@@ -178,6 +181,7 @@ pub(crate) fn call_host<S: Source, K: Sink>(
     ensures follows { Follows image.now parts.old parts.new turns.old turns.new 0 ahead.old ahead.new (S.left input.old) (S.left input.new)
         (K.written out.old) (K.written out.new) (AtHost image.now parts.old r.old host) (onward_or result r.new) }
     ensures faults { CountsFaults (onward_or result r.new) (S.faults input.old) (S.faults input.new) (K.faults out.old) (K.faults out.new) }
+    ensures asks { AsksOn ahead.old (S.left input.old) (S.left input.new) (S.calls input.old) (S.calls input.new) (vain_then (onward_or result r.new) ahead.new) }
 {
     match host {
         HostProcedure::Write(writing) => write_out(writing, image, parts, r, out),

@@ -1,6 +1,7 @@
 //! The run of a machine.
 
 ghost use Rattle.std.specs.Prelude.{◌≡◌, ◌-◌, ◌<◌, ◌≤◌, IfOk, IsErrOf};
+ghost use Rattle.mesa_base.specs.Asked.{AskedOnce};
 ghost use Rattle.mesa_base.specs.Outside.{Rose};
 ghost use Rattle.frame_machine.specs.Running.{BreaksAtInput, BreaksAtOutput, Completes, CutsOff, EndIsInRange};
 
@@ -14,7 +15,7 @@ use std::sync::ledger::Ledger;
 /// Runs the instances of CONTROL in their order with this many turns, and gives the end and the turns that are left. One
 /// step is counted for each instruction begun, that in which the run ended included. A machine can be run again, also after
 /// a fault: globals are zero and nothing is started when a run begins. It takes no memory. It answers `ReadFault` where the
-/// source failed; the sink has then received the output up to there. It answers `WriteFault` where the sink failed, in a
+/// source failed, which is not asked again; the sink has then received the output up to there. It answers `WriteFault` where the sink failed, in a
 /// call that writes a piece: it has received the output up to there and a prefix of the piece.
 pub fn run<S: Source, K: Sink, L: Ledger>(
     machine: &mut Machine,
@@ -33,6 +34,7 @@ pub fn run<S: Source, K: Sink, L: Ledger>(
         × CutsOff machine.old turns (S.left input.old) (S.left input.new) (K.written out.old) (K.written out.new) }
     ensures read_fault { IsErrOf result RunFault.ReadFault → Rose (S.faults input.old) (S.faults input.new) }
     ensures write_fault { IsErrOf result RunFault.WriteFault → Rose (K.faults out.old) (K.faults out.new) }
+    ensures asked { AskedOnce (S.left input.old) (S.left input.new) (S.calls input.old) (S.calls input.new) }
     ensures machine_stays { machine.new ≡ machine.old }
     ensures input_faults_stay { S.faults input.old ≤ S.faults input.new }
     ensures output_faults_stay { K.faults out.old ≤ K.faults out.new }

@@ -3,7 +3,8 @@
 ghost use Rattle.std.specs.Prelude.{◌≡◌, ◌-◌, ◌<◌, ◌≤◌, IfOk};
 ghost use Rattle.machine_activations.specs.declared.calling.Turn.TheVariants.{Goes, Pending};
 ghost use Rattle.machine_ready.specs.Ready.{IsReady};
-ghost use Rattle.frame_machine.specs.Onward.{Advances, BeginsFew, CanGoOn, CountsFaults, Follows, onward_or, waits};
+ghost use Rattle.machine_calls.specs.Hosting.{AsksOn};
+ghost use Rattle.frame_machine.specs.Onward.{Advances, BeginsFew, CanGoOn, CountsFaults, Follows, onward_or, vain_then, waits};
 ghost use Rattle.frame_machine.specs.SoFar.{At, Carries};
 
 use crate::calls::call_pending;
@@ -55,6 +56,7 @@ fn go_on<S: Source, K: Sink, L: Ledger>(
     ensures few { BeginsFew image.now parts.old turns.old (steps.new - steps.old) ahead.old (S.left input.old) (K.written out.old)
         (At image.now parts.old (Goes r.old)) }
     ensures faults { CountsFaults result (S.faults input.old) (S.faults input.new) (K.faults out.old) (K.faults out.new) }
+    ensures asks { AsksOn ahead.old (S.left input.old) (S.left input.new) (S.calls input.old) (S.calls input.new) (vain_then result ahead.new) }
 {
     let pause = match run_top(image, parts, *r, *turns, out, steps) {
         Ok(pause) => pause,
@@ -96,6 +98,7 @@ fn run_frames<S: Source, K: Sink, L: Ledger>(
     ensures few { BeginsFew image.now parts.old turns.old (steps.new - steps.old) ahead.old (S.left input.old) (K.written out.old)
         (At image.now parts.old (Goes first)) }
     ensures faults { CountsFaults result (S.faults input.old) (S.faults input.new) (K.faults out.old) (K.faults out.new) }
+    ensures asks { AsksOn ahead.old (S.left input.old) (S.left input.new) (S.calls input.old) (S.calls input.new) (vain_then result ahead.new) }
 {
     let mut r = first;
     let mut left = *turns;
@@ -134,6 +137,7 @@ fn call_then<S: Source, K: Sink>(
         (K.written out.old) (K.written out.new) (At image.now parts.old (Pending r)) result }
     ensures waits_not { IfOk result (λ turn. waits turn ≡ 0) }
     ensures faults { CountsFaults result (S.faults input.old) (S.faults input.new) (K.faults out.old) (K.faults out.new) }
+    ensures asks { AsksOn ahead.old (S.left input.old) (S.left input.new) (S.calls input.old) (S.calls input.new) (vain_then result ahead.new) }
 {
     match call_pending(image, parts, r, turns) {
         LinkTurn::Done(turn) => Ok(turn),
@@ -165,6 +169,7 @@ pub(crate) fn advance<S: Source, K: Sink, L: Ledger>(
     ensures counted { steps.old ≤ steps.new }
     ensures advances { Advances image.now parts.old turns.old ahead.old (S.left input.old) (K.written out.old) turn steps.old steps.new result }
     ensures faults { CountsFaults result (S.faults input.old) (S.faults input.new) (K.faults out.old) (K.faults out.new) }
+    ensures asks { AsksOn ahead.old (S.left input.old) (S.left input.new) (S.calls input.old) (S.calls input.new) (vain_then result ahead.new) }
 {
     match turn {
         Turn::Goes(r) => run_frames(r, image, parts, ahead, turns, input, out, steps),

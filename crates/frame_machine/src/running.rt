@@ -1,14 +1,16 @@
 //! The run of the instances of CONTROL.
 
 ghost use Rattle.std.specs.Prelude.{◌≡◌, ℕ, ◌+◌, ◌-◌, ◌<◌, ◌≤◌, List, ◌∷◌, length, Option, false, Some, suc, IfOk, IsErrOf, slice_get};
+ghost use Rattle.mesa_base.specs.Asked.{AskedOnce};
 ghost use Rattle.machine_rules.specs.LookUps.{code_of};
 ghost use Rattle.machine_rules.specs.Steps.{globals_in};
 ghost use Rattle.machine_rules.specs.Words.{zeros};
 ghost use Rattle.machine_activations.specs.declared.calling.Turn.TheVariants.{Empty};
 ghost use Rattle.machine_calls.specs.declared.ahead.Coming.{Coming};
+ghost use Rattle.machine_calls.specs.Hosting.{AsksOn};
 ghost use Rattle.machine_calls.specs.Started.{ShowsStarted};
 ghost use Rattle.machine_ready.specs.Ready.{IsReady};
-ghost use Rattle.frame_machine.specs.Onward.{CanGoOn, CanStart, CountsFaults, Follows, last_turn};
+ghost use Rattle.frame_machine.specs.Onward.{CanGoOn, CanStart, CountsFaults, Follows, last_turn, vain_then};
 ghost use Rattle.frame_machine.specs.Running.{BreaksAtInput, BreaksAtOutput, Completes, CutsOff, EndIsInRange};
 ghost use Rattle.frame_machine.specs.SoFar.{At, Carries, ShowsGlobals, SoFar, Then};
 
@@ -41,6 +43,7 @@ fn run_on<S: Source, K: Sink, L: Ledger>(
         (S.left input.old) (S.left input.new) (K.written out.old) (K.written out.new) (At image.now parts.old first) (last_turn result) }
     ensures counted { steps.old ≤ steps.new }
     ensures faults { CountsFaults result (S.faults input.old) (S.faults input.new) (K.faults out.old) (K.faults out.new) }
+    ensures asks { AsksOn ahead.old (S.left input.old) (S.left input.new) (S.calls input.old) (S.calls input.new) (vain_then result ahead.new) }
 {
     let mut turn = first;
     'running: loop {
@@ -97,6 +100,7 @@ fn run_instance<S: Source, K: Sink, L: Ledger>(
         → Then image.now bound parts.new control turns.new begun' ahead.new told (S.left input.new) held (K.written out.new) (last_turn result) }
     ensures counted { steps.old ≤ steps.new }
     ensures faults { CountsFaults result (S.faults input.old) (S.faults input.new) (K.faults out.old) (K.faults out.new) }
+    ensures asks { AsksOn ahead.old (S.left input.old) (S.left input.new) (S.calls input.old) (S.calls input.new) (vain_then result ahead.new) }
 {
     if parts.started[instance as usize] {
         return Ok(None);
@@ -128,6 +132,7 @@ pub(crate) fn run_control<S: Source, K: Sink, L: Ledger>(
         × CutsOff image.now turns (S.left input.old) (S.left input.new) (K.written out.old) (K.written out.new) }
     ensures counted { steps.old ≤ steps.new }
     ensures faults { CountsFaults result (S.faults input.old) (S.faults input.new) (K.faults out.old) (K.faults out.new) }
+    ensures asked { AskedOnce (S.left input.old) (S.left input.new) (S.calls input.old) (S.calls input.new) }
 {
     let mut ahead = None;
     let mut left = turns;

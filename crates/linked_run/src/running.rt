@@ -1,4 +1,5 @@
 ghost use Rattle.std.specs.Prelude.{◌≡◌, ◌-◌, ◌≤◌, IfOk, IfSome, IsErrOf};
+ghost use Rattle.mesa_base.specs.Asked.{AskedOnce};
 ghost use Rattle.mesa_base.specs.Outside.{Rose};
 ghost use Rattle.source_meaning.specs.Program.{Program};
 ghost use Rattle.frame_machine.specs.Running.{AreBytes, BreaksAtInput, BreaksAtOutput, Completes, EndIsInRange};
@@ -36,6 +37,7 @@ pub fn run_image<S: Source, K: Sink, L: Ledger>(
         → BreaksAtOutput machine.old turns (steps.new - steps.old) (S.left input.old) (S.left input.new) (K.written out.old) (K.written out.new) }
     ensures read_fault { IsErrOf result RunFault.ReadFault → Rose (S.faults input.old) (S.faults input.new) }
     ensures write_fault { IsErrOf result RunFault.WriteFault → Rose (K.faults out.old) (K.faults out.new) }
+    ensures asked { AskedOnce (S.left input.old) (S.left input.new) (S.calls input.old) (S.calls input.new) }
     ensures machine_stays { machine.new ≡ machine.old }
     ensures input_faults_stay { S.faults input.old ≤ S.faults input.new }
     ensures output_faults_stay { K.faults out.old ≤ K.faults out.new }

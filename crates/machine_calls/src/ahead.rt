@@ -1,8 +1,8 @@
 //! What is known of the input that the program has not taken.
 
-ghost use Rattle.std.specs.Prelude.{◌≡◌, ◌≤◌, None, IfOk, OnErr};
+ghost use Rattle.std.specs.Prelude.{◌≡◌, ◌≤◌, None, Some, IfOk, OnErr};
 ghost use Rattle.mesa_base.specs.Outside.{Rose};
-ghost use Rattle.machine_calls.specs.Hosting.{Looks};
+ghost use Rattle.machine_calls.specs.Hosting.{AsksOn, Looks, vain_by};
 
 use mesa_base::{Failed, Source};
 
@@ -18,6 +18,8 @@ pub fn look<S: Source>(ahead: Option<Coming>, input: &mut S) -> Result<Coming, F
     ensures looks { IfOk result (λ coming. Looks ahead coming (S.left input.old) (S.left input.new)) }
     ensures kept { OnErr result (S.left input.new ≡ S.left input.old) }
     ensures unknown { OnErr result (ahead ≡ None) }
+    ensures asks { IfOk result (λ coming. AsksOn ahead (S.left input.old) (S.left input.new) (S.calls input.old) (S.calls input.new) (vain_by (Some coming))) }
+    ensures asks_in_vain { OnErr result (AsksOn ahead (S.left input.old) (S.left input.new) (S.calls input.old) (S.calls input.new) 1) }
     ensures fault { OnErr result (Rose (S.faults input.old) (S.faults input.new)) }
     ensures faults_stay { S.faults input.old ≤ S.faults input.new }
 {

@@ -1,10 +1,10 @@
 //! The procedures of the host that read.
 
-ghost use Rattle.std.specs.Prelude.{◌≡◌, ◌+◌, ◌<◌, ◌≤◌, length, None, IfOk, OnErr, slice_set};
+ghost use Rattle.std.specs.Prelude.{◌≡◌, ◌+◌, ◌<◌, ◌≤◌, length, None, IfOk, OnOk, OnErr, slice_set};
 ghost use Rattle.mesa_base.specs.Outside.{Rose};
 ghost use Rattle.machine_calls.specs.declared.host.HostProcedure.TheVariants.{Read};
 ghost use Rattle.machine_calls.specs.declared.reading.ReadTurn.TheVariants.{Goes};
-ghost use Rattle.machine_calls.specs.Hosting.{Breaks, CanCall, GoesBehind, Reads, ReadsOn};
+ghost use Rattle.machine_calls.specs.Hosting.{AsksOn, Breaks, CanCall, GoesBehind, Reads, ReadsOn, vain_by};
 
 use crate::ahead::{Coming, look};
 use crate::host::Reading;
@@ -69,6 +69,8 @@ pub fn read<S: Source>(
     ensures unknown { OnErr result (ahead.old ≡ None) }
     ensures ahead_stays { OnErr result (ahead.new ≡ ahead.old) }
     ensures region_stays { OnErr result (region.new ≡ region.old) }
+    ensures asks { OnOk result (AsksOn ahead.old (S.left input.old) (S.left input.new) (S.calls input.old) (S.calls input.new) (vain_by ahead.new)) }
+    ensures asks_in_vain { OnErr result (AsksOn ahead.old (S.left input.old) (S.left input.new) (S.calls input.old) (S.calls input.new) 1) }
     ensures breaks { Breaks region.old r reading }
     ensures fault { OnErr result (Rose (S.faults input.old) (S.faults input.new)) }
     ensures faults_stay { S.faults input.old ≤ S.faults input.new }

@@ -2,7 +2,7 @@
 
 ghost use Rattle.std.specs.Prelude.{◌≡◌, ◌≢◌, ◌≤◌, [], ◌++◌, Some, IfOk, IfSome, OnOk, OnErr};
 ghost use Rattle.mesa_base.specs.Decimal.{signed_word};
-ghost use Rattle.mesa_base.specs.Outside.{AppendsPrefix, Rose};
+ghost use Rattle.mesa_base.specs.Outside.{AppendsPrefix, Rose, with_put};
 ghost use Rattle.machine_calls.specs.declared.host.HostProcedure.TheVariants.{Write};
 ghost use Rattle.machine_calls.specs.Hosting.{CanCall, WritesOn, behind_call, text_written};
 
@@ -18,6 +18,7 @@ fn put_decimal<K: Sink>(word: u16, out: &mut K) -> Result<(), Failed>
     ensures wrote { OnOk result (IfSome (K.written out.old) (λ bytes. K.written out.new ≡ Some (bytes ++ signed_word word))) }
     ensures partly { OnErr result (IfSome (K.written out.old) (λ bytes. AppendsPrefix bytes (signed_word word) (K.written out.new))) }
     ensures some { OnErr result (signed_word word ≢ []) }
+    ensures one_put { K.puts out.new ≡ with_put (signed_word word) (K.puts out.old) }
     ensures fault { OnErr result (Rose (K.faults out.old) (K.faults out.new)) }
     ensures faults_stay { K.faults out.old ≤ K.faults out.new }
 {
@@ -39,6 +40,7 @@ fn put_operands<K: Sink>(
     ensures partly { OnErr result (IfSome (K.written out.old) (λ bytes.
         AppendsPrefix bytes (text_written image.now region.now r writing) (K.written out.new))) }
     ensures some { OnErr result (text_written image.now region.now r writing ≢ []) }
+    ensures one_put { K.puts out.new ≡ with_put (text_written image.now region.now r writing) (K.puts out.old) }
     ensures fault { OnErr result (Rose (K.faults out.old) (K.faults out.new)) }
     ensures faults_stay { K.faults out.old ≤ K.faults out.new }
 {
@@ -66,6 +68,7 @@ pub fn write<K: Sink>(
     ensures partly { OnErr result (IfSome (K.written out.old) (λ bytes.
         AppendsPrefix bytes (text_written image.now region.now r writing) (K.written out.new))) }
     ensures some { OnErr result (text_written image.now region.now r writing ≢ []) }
+    ensures one_put { K.puts out.new ≡ with_put (text_written image.now region.now r writing) (K.puts out.old) }
     ensures behind { IfOk result (λ after. after ≡ behind_call (Write writing) r) }
     ensures leads { WritesOn image.now region.now r writing (text_written image.now region.now r writing) (behind_call (Write writing) r) }
     ensures fault { OnErr result (Rose (K.faults out.old) (K.faults out.new)) }

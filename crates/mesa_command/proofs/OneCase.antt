@@ -45,7 +45,7 @@ record Has (words : List (List ℕ)) (files : Files) (text : List ℕ) (turns : 
   go : IsGo words base turns
   there : files (file_of base) ≡ Some text
 
-same-file : (words : List (List ℕ)) (b b' : List ℕ) (n n' : ℕ) → IsGo words b n → IsGo words b' n' → file_of b ≡ file_of b'
+pub same-file : (words : List (List ℕ)) (b b' : List ℕ) (n n' : ℕ) → IsGo words b n → IsGo words b' n' → file_of b ≡ file_of b'
 same-file words b b' n n' go go' = ap file_of (one-base words b b' n n' go go')
 
 same-there : (words : List (List ℕ)) (files : Files) (b b' : List ℕ) (n n' : ℕ) (t t' : Option (List ℕ)) → IsGo words b n →

@@ -1,6 +1,8 @@
 //! The call, its cases, and the run of a module.
 
-ghost use Rattle.std.specs.Prelude.{◌≡◌, IfOk};
+ghost use Rattle.std.specs.Prelude.{◌≡◌, ℕ, List, IfOk};
+ghost use Rattle.mesa_base.specs.Asked.{AskedOnce};
+ghost use Rattle.mesa_base.specs.Outside.{Called};
 ghost use Rattle.mesa_types.specs.Plain.{plain};
 ghost use Rattle.source_meaning.specs.Program.{single};
 ghost use Rattle.written_trees.specs.Alone.{StandsAlone};
@@ -9,6 +11,7 @@ ghost use Rattle.mesa_command.specs.Case.{Case, IsBeforeRun};
 ghost use Rattle.mesa_command.specs.Comes.{Comes};
 ghost use Rattle.mesa_command.specs.Complete.{Answered, Tells};
 ghost use Rattle.mesa_command.specs.Ends.{Ends};
+ghost use Rattle.mesa_command.specs.Forms.{IsGo, file_of};
 ghost use Rattle.mesa_command.specs.Outputs.{stream};
 ghost use Rattle.mesa_command.specs.Reply.{called, reply_case, case_of_run};
 ghost use Rattle.mesa_command.specs.Shown.{shown, case_of_end, signal_of};
@@ -49,11 +52,15 @@ pub fn mesa<F: Folder, S: Source, K: Sink, E: Sink, L: Ledger>(
         (scene (feed (S.left input.new) (S.faults input.new)) (stream (K.written out.new) (K.faults out.new)) steps.new)
         (stream (E.written err.new) (E.faults err.new)))
         result }
+    // The input was asked once for each byte that it gave, and at most once more: where it was at its end, or failed.
+    ensures asked { AskedOnce (S.left input.old) (S.left input.new) (S.calls input.old) (S.calls input.new) }
     // Nothing was read, written or counted where nothing was run.
     ensures before_run_input { IsBeforeRun result → input.new ≡ input.old }
     ensures before_run_output { IsBeforeRun result → out.new ≡ out.old }
     ensures before_run_steps { IsBeforeRun result → steps.new ≡ steps.old }
-    // No file is asked for where the words have no form, and none is changed.
+    // The folder is asked once where the words are `go`, for the file that they name, and not at all where they have no form. No file is
+    // changed.
+    ensures one_read { (base : List ℕ) (turns : ℕ) → IsGo words.now base turns → Called (file_of base) (F.calls folder.old) (F.calls folder.new) }
     ensures usage_folder { result ≡ Status.Usage → folder.new ≡ folder.old }
     ensures files { F.files folder.new ≡ F.files folder.old }
 {
@@ -64,6 +71,7 @@ pub fn mesa<F: Folder, S: Source, K: Sink, E: Sink, L: Ledger>(
 }
 
 /// The words, the module, and its run.
+#[tactic(auto, using(mesa_base::proofs::Asked::not_asked))]
 fn answer<F: Folder, S: Source, K: Sink, E: Sink, L: Ledger>(
     alloc: Global,
     words: &Words,
@@ -78,9 +86,11 @@ fn answer<F: Folder, S: Source, K: Sink, E: Sink, L: Ledger>(
         (scene (feed (S.left input.old) (S.faults input.old)) (stream (K.written out.old) (K.faults out.old)) steps.old)
         (scene (feed (S.left input.new) (S.faults input.new)) (stream (K.written out.new) (K.faults out.new)) steps.new) case
         × Tells case (stream (E.written err.old) (E.faults err.old)) (stream (E.written err.new) (E.faults err.new)) result }
+    ensures asked { AskedOnce (S.left input.old) (S.left input.new) (S.calls input.old) (S.calls input.new) }
     ensures before_run_input { IsBeforeRun result → input.new ≡ input.old }
     ensures before_run_output { IsBeforeRun result → out.new ≡ out.old }
     ensures before_run_steps { IsBeforeRun result → steps.new ≡ steps.old }
+    ensures one_read { (base : List ℕ) (turns : ℕ) → IsGo words.now base turns → Called (file_of base) (F.calls folder.old) (F.calls folder.new) }
     ensures usage_folder { result ≡ Status.Usage → folder.new ≡ folder.old }
     ensures files { F.files folder.new ≡ F.files folder.old }
 {
@@ -109,6 +119,7 @@ fn run<S: Source, K: Sink, E: Sink, L: Ledger>(
         (scene (feed (S.left input.old) (S.faults input.old)) (stream (K.written out.old) (K.faults out.old)) steps.old)
         (scene (feed (S.left input.new) (S.faults input.new)) (stream (K.written out.new) (K.faults out.new)) steps.new) case
         × Tells case (stream (E.written err.old) (E.faults err.old)) (stream (E.written err.new) (E.faults err.new)) result }
+    ensures asked { AskedOnce (S.left input.old) (S.left input.new) (S.calls input.old) (S.calls input.new) }
     ensures before_run_input { IsBeforeRun result → input.new ≡ input.old }
     ensures before_run_output { IsBeforeRun result → out.new ≡ out.old }
     ensures before_run_steps { IsBeforeRun result → steps.new ≡ steps.old }

@@ -1,4 +1,5 @@
 ghost use Rattle.std.specs.Prelude.{◌≡◌, ◌≤◌, ◌-◌, IfOk, IfSome, IsErrOf};
+ghost use Rattle.mesa_base.specs.Asked.{AskedOnce};
 ghost use Rattle.mesa_base.specs.Outside.{Rose};
 ghost use Rattle.mesa_types.specs.Nodes.{nodes};
 ghost use Rattle.mesa_types.specs.Plain.{plain};
@@ -47,6 +48,7 @@ fn machine_of(alloc: Global, module: &TypedModule, code: ValidCode) -> Result<Ma
 /// were taken and a fault after them; where the output failed, a prefix of what it means. An own signal that is uncaught is told by its
 /// number. It answers `Memory` where memory ran out before the run began, and has then neither read nor written. One step is counted for
 /// each instruction begun.
+#[tactic(auto, using(mesa_base::proofs::Asked::not_asked))]
 pub fn run_code<S: Source, K: Sink, L: Ledger>(
     alloc: Global,
     module: &TypedModule,
@@ -74,6 +76,7 @@ pub fn run_code<S: Source, K: Sink, L: Ledger>(
         (S.left input.old) (S.left input.new) (K.written out.old) (K.written out.new) }
     ensures read_fault { IsErrOf result ModuleFault.ReadFault → Rose (S.faults input.old) (S.faults input.new) }
     ensures write_fault { IsErrOf result ModuleFault.WriteFault → Rose (K.faults out.old) (K.faults out.new) }
+    ensures asked { AskedOnce (S.left input.old) (S.left input.new) (S.calls input.old) (S.calls input.new) }
     ensures no_memory_input { IsErrOf result ModuleFault.Memory → input.new ≡ input.old }
     ensures no_memory_output { IsErrOf result ModuleFault.Memory → out.new ≡ out.old }
     ensures no_memory_steps { IsErrOf result ModuleFault.Memory → steps.new ≡ steps.old }
@@ -94,6 +97,7 @@ pub fn run_code<S: Source, K: Sink, L: Ledger>(
 /// Translates and runs a sound module of at most 4,194,304 nodes that imports nothing but the built-in interface, with so many turns. What
 /// is told is what `run_code` tells of the code that is chosen for the module. It answers `Memory` where memory ran out in translating or
 /// before the run began, and has then neither read nor written, nor counted a step.
+#[tactic(auto, using(mesa_base::proofs::Asked::not_asked))]
 pub fn run_module<S: Source, K: Sink, L: Ledger>(
     alloc: Global,
     module: &TypedModule,
@@ -120,6 +124,7 @@ pub fn run_module<S: Source, K: Sink, L: Ledger>(
         (S.left input.old) (S.left input.new) (K.written out.old) (K.written out.new) }
     ensures read_fault { IsErrOf result ModuleFault.ReadFault → Rose (S.faults input.old) (S.faults input.new) }
     ensures write_fault { IsErrOf result ModuleFault.WriteFault → Rose (K.faults out.old) (K.faults out.new) }
+    ensures asked { AskedOnce (S.left input.old) (S.left input.new) (S.calls input.old) (S.calls input.new) }
     ensures no_memory_input { IsErrOf result ModuleFault.Memory → input.new ≡ input.old }
     ensures no_memory_output { IsErrOf result ModuleFault.Memory → out.new ≡ out.old }
     ensures no_memory_steps { IsErrOf result ModuleFault.Memory → steps.new ≡ steps.old }

@@ -6,6 +6,7 @@ use Rattle.machine_calls.specs.Hosts.{host_is, CallsHost}
 use Rattle.machine_ready.proofs.Running.{ready_can_run}
 use Rattle.frame_machine.specs.Onward.{CanGoOn, onward_or}
 use Rattle.frame_machine.specs.SoFar.{AtHost, SoFar}
+use Rattle.frame_machine.proofs.Asks.{asks_vainly}
 use Rattle.frame_machine.proofs.HostTurns.{writes_carry, writes_wait}
 use Rattle.frame_machine.proofs.Onwards.{calls_so, still}
 use Rattle.frame_machine.proofs.hosting.call_host.Goals as goal
@@ -51,3 +52,10 @@ returns-in-Read-clause-follows g c bound control begun begun' told held short e 
 
 pub returns-in-Read-clause-faults : goal.returns-in-Read-clause-faults
 returns-in-Read-clause-faults g c = c.read_settled.ensures.faults (g.K.Sink.faults c.args.out.now)
+
+pub returns-in-Write-clause-asks : goal.returns-in-Write-clause-asks
+returns-in-Write-clause-asks g c =
+    asks_vainly c.args.ahead.now (g.S.Source.left c.args.input.now) (g.S.Source.calls c.args.input.now) _ (c.write_out.ensures.asks_not c.args.ahead.now)
+
+pub returns-in-Read-clause-asks : goal.returns-in-Read-clause-asks
+returns-in-Read-clause-asks g c = c.read_settled.ensures.asks

@@ -65,3 +65,9 @@ returns-in-Err-clause-follows g c holds =
 
 pub returns-in-Err-clause-faults : goal.returns-in-Err-clause-faults
 returns-in-Err-clause-faults g c written = source_failed _ _ written c.in-Err.ensures.fault c.read.ensures.faults_stay
+
+pub returns-in-Ok-clause-asks : goal.returns-in-Ok-clause-asks
+returns-in-Ok-clause-asks g c = c.in-Ok.ensures.asks
+
+pub returns-in-Err-clause-asks : goal.returns-in-Err-clause-asks
+returns-in-Err-clause-asks g c = c.in-Err.ensures.asks_in_vain

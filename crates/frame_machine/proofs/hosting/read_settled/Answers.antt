@@ -2,8 +2,9 @@ use Rattle.std.proofs.Common.{◌≡◌, Result, subst, sym}
 use Rattle.std.specs.Prelude.{IfOk}
 use Rattle.machine_activations.specs.declared.calling.Turn.{Turn}
 use Rattle.machine_calls.specs.declared.host.HostProcedure.TheVariants.{Read}
+use Rattle.machine_calls.specs.Hosting.{AsksOn}
 use Rattle.frame_machine.specs.declared.outcome.RunFault.{RunFault}
-use Rattle.frame_machine.specs.Onward.{CountsFaults, Follows, waits}
+use Rattle.frame_machine.specs.Onward.{CountsFaults, Follows, vain_then, waits}
 use Rattle.frame_machine.specs.SoFar.{AtHost, Carries}
 use Rattle.frame_machine.proofs.hosting.read_settled.Goals as goal
 
@@ -24,3 +25,8 @@ pub returns-clause-faults : goal.returns-clause-faults
 returns-clause-faults g c written =
     subst (λ (q : Result Turn RunFault). CountsFaults q (g.S.Source.faults c.args.input.now) (g.S.Source.faults c.read_in-told.new.input) written written) (sym c.settle_told.ensures)
     (c.read_in-told.ensures.faults written)
+
+pub returns-clause-asks : goal.returns-clause-asks
+returns-clause-asks g c =
+    subst (λ (q : Result Turn RunFault). AsksOn c.args.ahead.now (g.S.Source.left c.args.input.now) (g.S.Source.left c.read_in-told.new.input)
+    (g.S.Source.calls c.args.input.now) (g.S.Source.calls c.read_in-told.new.input) (vain_then q c.read_in-told.new.ahead)) (sym c.settle_told.ensures) c.read_in-told.ensures.asks

@@ -1,4 +1,4 @@
-use Rattle.std.proofs.Common.{ℕ, List, [], sym, subst, arith}
+use Rattle.std.proofs.Common.{ℕ, List, [], refl, sym, subst, arith}
 use Rattle.std.specs.Prelude.{◌≢◌, IfSome}
 use Rattle.mesa_base.specs.Outside.{AppendsPrefix}
 use Rattle.machine_topmost.specs.declared.registers.Registers.{Registers}
@@ -45,3 +45,9 @@ returns-in-Ok-clause-faults g c read = none_failed _ read read _ _ (omega arith)
 
 pub returns-in-Err-clause-faults : goal.returns-in-Err-clause-faults
 returns-in-Err-clause-faults g c read = sink_failed read _ _ c.in-Err.ensures.fault c.in-Err.ensures.faults_stay
+
+pub returns-in-Ok-clause-asks_not : goal.returns-in-Ok-clause-asks_not
+returns-in-Ok-clause-asks_not g c ahead = refl
+
+pub returns-in-Err-clause-asks_not : goal.returns-in-Err-clause-asks_not
+returns-in-Err-clause-asks_not g c ahead = refl

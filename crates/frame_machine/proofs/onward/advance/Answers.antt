@@ -3,6 +3,7 @@ use Rattle.machine_activations.specs.declared.calling.Turn.{Turn}
 use Rattle.machine_activations.specs.declared.calling.Turn.TheVariants.{Goes, Empty, Pending, Ends}
 use Rattle.frame_machine.specs.Onward.{Advances, CanGoOn}
 use Rattle.frame_machine.specs.SoFar.{At, Carries}
+use Rattle.frame_machine.proofs.Asks.{asks_not}
 use Rattle.frame_machine.proofs.Faults.{none_failed}
 use Rattle.frame_machine.proofs.Onwards.{as_turn, stays}
 use Rattle.frame_machine.proofs.onward.advance.Goals as goal
@@ -72,3 +73,15 @@ returns-in-Ends-clause-advances g c =
 
 pub returns-in-Ends-clause-faults : goal.returns-in-Ends-clause-faults
 returns-in-Ends-clause-faults g c = none_failed (Ends c.in-Ends.end) _ _ _ _ (omega arith) (omega arith)
+
+pub returns-in-Goes-clause-asks : goal.returns-in-Goes-clause-asks
+returns-in-Goes-clause-asks g c = c.run_frames.ensures.asks
+
+pub returns-in-Pending-clause-asks : goal.returns-in-Pending-clause-asks
+returns-in-Pending-clause-asks g c = c.call_then.ensures.asks
+
+pub returns-in-Empty-clause-asks : goal.returns-in-Empty-clause-asks
+returns-in-Empty-clause-asks g c = asks_not c.args.ahead.now (g.S.Source.left c.args.input.now) (g.S.Source.calls c.args.input.now)
+
+pub returns-in-Ends-clause-asks : goal.returns-in-Ends-clause-asks
+returns-in-Ends-clause-asks g c = asks_not c.args.ahead.now (g.S.Source.left c.args.input.now) (g.S.Source.calls c.args.input.now)

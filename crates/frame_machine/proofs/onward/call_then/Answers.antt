@@ -4,12 +4,14 @@ use Rattle.machine_activations.specs.declared.calling.Turn.{Turn}
 use Rattle.machine_activations.specs.declared.calling.Turn.TheVariants.{Pending}
 use Rattle.machine_activations.specs.declared.row.Row.{Row}
 use Rattle.machine_calls.specs.declared.linking.LinkTurn.TheVariants.{Done, Host}
+use Rattle.machine_calls.specs.Hosting.{AsksOn}
 use Rattle.machine_calls.specs.Linking.{WaitsToCall}
 use Rattle.machine_signals.specs.Raising.{ArmsHold}
 use Rattle.machine_ready.proofs.Running.{ready_can_run}
 use Rattle.frame_machine.specs.declared.outcome.RunFault.{RunFault}
-use Rattle.frame_machine.specs.Onward.{CountsFaults, Follows, onward_or, waits}
+use Rattle.frame_machine.specs.Onward.{CountsFaults, Follows, onward_or, vain_then, waits}
 use Rattle.frame_machine.specs.SoFar.{At, Carries}
+use Rattle.frame_machine.proofs.Asks.{asks_not}
 use Rattle.frame_machine.proofs.Faults.{none_failed}
 use Rattle.frame_machine.proofs.Onwards.{AtLink, along, after, waits_so, pend_moves, done_there, top_low, added_waits}
 use Rattle.frame_machine.proofs.Touches.{arms_added}
@@ -82,3 +84,11 @@ returns-in-Host-clause-follows g c =
     (pend_moves c.args.image.now (ready_can_run c.args.image.now c.args.parts.now c.requires.carries.ready) c.args.parts.now c.call_pending.new.parts c.args.turns.now c.args.ahead.now
     (g.S.Source.left c.args.input.now) (g.K.Sink.written c.args.out.now) c.args.r c.call_pending.new.turns (Host c.in-Host.host) c.call_pending.ensures.globals c.in-Host.ensures.leads)
     c.call_host-other.ensures.follows (omega arith))
+
+pub returns-in-Done-clause-asks : goal.returns-in-Done-clause-asks
+returns-in-Done-clause-asks g c = asks_not c.args.ahead.now (g.S.Source.left c.args.input.now) (g.S.Source.calls c.args.input.now)
+
+pub returns-in-Host-clause-asks : goal.returns-in-Host-clause-asks
+returns-in-Host-clause-asks g c =
+    subst (λ (q : Result Turn RunFault). AsksOn c.args.ahead.now (g.S.Source.left c.args.input.now) (g.S.Source.left c.call_host-other.new.input)
+    (g.S.Source.calls c.args.input.now) (g.S.Source.calls c.call_host-other.new.input) (vain_then q c.call_host-other.new.ahead)) (sym c.told_of.ensures) c.call_host-other.ensures.asks

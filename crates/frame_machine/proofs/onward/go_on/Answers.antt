@@ -11,6 +11,7 @@ use Rattle.machine_ready.proofs.Running.{ready_can_run}
 use Rattle.frame_machine.specs.Happening.{HoldsOnLink, linked_or}
 use Rattle.frame_machine.specs.Onward.{onward_or}
 use Rattle.frame_machine.specs.SoFar.{At}
+use Rattle.frame_machine.proofs.Asks.{asks_not, asks_settled}
 use Rattle.frame_machine.proofs.Faults.{none_failed, later_counted, settled_faults, sink_failed}
 use Rattle.frame_machine.proofs.Onwards.{AtLink, Moves, along, after, stands_so, few_begun, pauses_then, links_then, done_there, write_fails}
 use Rattle.frame_machine.proofs.onward.go_on.Goals as goal
@@ -180,3 +181,17 @@ returns-in-Err-clause-few g c =
 
 pub returns-in-Err-clause-faults : goal.returns-in-Err-clause-faults
 returns-in-Err-clause-faults g c = sink_failed (g.S.Source.faults c.args.input.now) _ _ c.in-Err.ensures.fault c.in-Err.ensures.faults_stay
+
+pub returns-in-None-clause-asks : goal.returns-in-None-clause-asks
+returns-in-None-clause-asks g c = asks_not c.args.ahead.now (g.S.Source.left c.args.input.now) (g.S.Source.calls c.args.input.now)
+
+pub returns-in-Done-clause-asks : goal.returns-in-Done-clause-asks
+returns-in-Done-clause-asks g c = asks_not c.args.ahead.now (g.S.Source.left c.args.input.now) (g.S.Source.calls c.args.input.now)
+
+pub returns-in-Host-clause-asks : goal.returns-in-Host-clause-asks
+returns-in-Host-clause-asks g c =
+    asks_settled c.call_host.result c.call_host.new.r c.args.ahead.now c.call_host.new.ahead (g.S.Source.left c.args.input.now) (g.S.Source.left c.call_host.new.input)
+    (g.S.Source.calls c.args.input.now) (g.S.Source.calls c.call_host.new.input) c.call_host.ensures.asks
+
+pub returns-in-Err-clause-asks : goal.returns-in-Err-clause-asks
+returns-in-Err-clause-asks g c = asks_not c.args.ahead.now (g.S.Source.left c.args.input.now) (g.S.Source.calls c.args.input.now)

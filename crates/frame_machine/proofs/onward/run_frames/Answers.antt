@@ -2,9 +2,11 @@ use Rattle.std.proofs.Common.{◌-◌, Result, Ok, Err, Option, refl, ap, subst,
 use Rattle.std.specs.Prelude.{IfOk}
 use Rattle.machine_activations.specs.declared.calling.Turn.{Turn}
 use Rattle.machine_activations.specs.declared.calling.Turn.TheVariants.{Goes}
+use Rattle.machine_calls.specs.Hosting.{AsksOn, vain_by}
 use Rattle.frame_machine.specs.declared.outcome.RunFault.{RunFault}
-use Rattle.frame_machine.specs.Onward.{CountsFaults, Follows, onward_or}
+use Rattle.frame_machine.specs.Onward.{CountsFaults, Follows, onward_or, vain_of, vain_then}
 use Rattle.frame_machine.specs.SoFar.{At, Carries}
+use Rattle.frame_machine.proofs.Asks.{asks_not, asks_later}
 use Rattle.frame_machine.proofs.Faults.{none_failed, later_failed}
 use Rattle.frame_machine.proofs.Onwards.{along, after, stays, frame_falls, few_in_all}
 use Rattle.frame_machine.proofs.onward.run_frames.Goals as goal
@@ -15,6 +17,7 @@ running-init g c =
       counted = omega arith;
       carries = c.requires.carries;
       follows = stays c.args.image.now c.args.parts.now c.args.turns.now c.args.steps.now c.args.ahead.now (g.S.Source.left c.args.input.now) (g.K.Sink.written c.args.out.now) (Goes c.args.first) (Goes c.args.first) refl;
+      asks = asks_not c.args.ahead.now (g.S.Source.left c.args.input.now) (g.S.Source.calls c.args.input.now);
       source_stays = omega arith;
       sink_stays = omega arith;
     }
@@ -44,6 +47,10 @@ running-preserved g c =
           c.running.invariant.follows (subst (λ (q : Result Turn RunFault). Follows c.args.image.now c.running.parts c.go_on.new.parts c.running.left c.go_on.new.turns (c.go_on.new.steps - c.running.steps) c.running.ahead c.go_on.new.ahead
           (g.S.Source.left c.running.input) (g.S.Source.left c.go_on.new.input) (g.K.Sink.written c.running.out) (g.K.Sink.written c.go_on.new.out) (At c.args.image.now c.running.parts (Goes c.running.r)) q) is c.go_on.ensures.follows)
           (let a = c.running.invariant.counted in let b = c.go_on.ensures.counted in omega (arith, a, b));
+      asks = asks_later c.args.ahead.now c.running.ahead (g.S.Source.left c.args.input.now) (g.S.Source.left c.running.input) (g.S.Source.left c.go_on.new.input)
+          (g.S.Source.calls c.args.input.now) (g.S.Source.calls c.running.input) (g.S.Source.calls c.go_on.new.input) (vain_by c.go_on.new.ahead) c.running.invariant.asks
+          (subst (λ (q : Result (Option Turn) RunFault). AsksOn c.running.ahead (g.S.Source.left c.running.input) (g.S.Source.left c.go_on.new.input)
+          (g.S.Source.calls c.running.input) (g.S.Source.calls c.go_on.new.input) (vain_then q c.go_on.new.ahead)) c.in-Ok.is c.go_on.ensures.asks);
       source_stays = let a = c.running.invariant.source_stays in let b = c.go_on.ensures.faults.source_stays in omega (arith, a, b);
       sink_stays = let a = c.running.invariant.sink_stays in let b = c.go_on.ensures.faults.sink_stays in omega (arith, a, b);
     }
@@ -104,3 +111,17 @@ pub returns-in-Err-clause-faults : goal.returns-in-Err-clause-faults
 returns-in-Err-clause-faults g c =
     later_failed c.in-Err.fault _ _ _ _ _ _ c.running.invariant.source_stays c.running.invariant.sink_stays
     (subst (λ (q : Result (Option Turn) RunFault). CountsFaults q (g.S.Source.faults c.running.input) (g.S.Source.faults c.go_on.new.input) (g.K.Sink.faults c.running.out) (g.K.Sink.faults c.go_on.new.out)) c.in-Err.is c.go_on.ensures.faults)
+
+pub returns-in-Some-clause-asks : goal.returns-in-Some-clause-asks
+returns-in-Some-clause-asks g c =
+    asks_later c.args.ahead.now c.running.ahead (g.S.Source.left c.args.input.now) (g.S.Source.left c.running.input) (g.S.Source.left c.go_on.new.input)
+    (g.S.Source.calls c.args.input.now) (g.S.Source.calls c.running.input) (g.S.Source.calls c.go_on.new.input) (vain_by c.go_on.new.ahead) c.running.invariant.asks
+    (subst (λ (q : Result (Option Turn) RunFault). AsksOn c.running.ahead (g.S.Source.left c.running.input) (g.S.Source.left c.go_on.new.input)
+    (g.S.Source.calls c.running.input) (g.S.Source.calls c.go_on.new.input) (vain_then q c.go_on.new.ahead)) c.in-Ok.is c.go_on.ensures.asks)
+
+pub returns-in-Err-clause-asks : goal.returns-in-Err-clause-asks
+returns-in-Err-clause-asks g c =
+    asks_later c.args.ahead.now c.running.ahead (g.S.Source.left c.args.input.now) (g.S.Source.left c.running.input) (g.S.Source.left c.go_on.new.input)
+    (g.S.Source.calls c.args.input.now) (g.S.Source.calls c.running.input) (g.S.Source.calls c.go_on.new.input) (vain_of c.in-Err.fault c.go_on.new.ahead) c.running.invariant.asks
+    (subst (λ (q : Result (Option Turn) RunFault). AsksOn c.running.ahead (g.S.Source.left c.running.input) (g.S.Source.left c.go_on.new.input)
+    (g.S.Source.calls c.running.input) (g.S.Source.calls c.go_on.new.input) (vain_then q c.go_on.new.ahead)) c.in-Err.is c.go_on.ensures.asks)

@@ -1,11 +1,14 @@
 use Rattle.std.proofs.Common.{◌≡◌, ℕ, ◌+◌, ◌-◌, List, drop, length, Result, Err, None, ap, sym, subst, ◌∙◌, arith}
 use Rattle.std.proofs.lemmas.Result.{err_from_is_err_and}
+use Rattle.mesa_base.proofs.Asked.{asked_nothing}
 use Rattle.machine_activations.specs.declared.calling.Turn.TheVariants.{Empty}
+use Rattle.machine_calls.specs.Hosting.{vain_by}
 use Rattle.frame_machine.specs.declared.outcome.Outcome.{Outcome}
 use Rattle.frame_machine.specs.declared.outcome.RunFault.{RunFault}
 use Rattle.frame_machine.specs.declared.outcome.RunFault.TheVariants.{ReadFault, WriteFault}
-use Rattle.frame_machine.specs.Onward.{CountsFaults}
+use Rattle.frame_machine.specs.Onward.{CountsFaults, vain_of}
 use Rattle.frame_machine.specs.SoFar.{At, SoFar}
+use Rattle.frame_machine.proofs.Asks.{asked_once, vain_few, vain_few_of}
 use Rattle.frame_machine.proofs.Faults.{err_of, none_failed, later_failed}
 use Rattle.frame_machine.proofs.Going.{first}
 use Rattle.frame_machine.proofs.Starts.{is_there, short_so, next_so, can_start, done_so, ended_so, empty_so, range_so, at_input, at_output}
@@ -18,6 +21,7 @@ loop-instance-init g c = record {
   so = subst (λ n. SoFar c.args.image.now c.args.turns c.args.parts.now c.args.image.now.control c.args.turns n None (g.S.Source.left c.args.input.now) (g.S.Source.left c.args.input.now)
       (g.K.Sink.written c.args.out.now) (g.K.Sink.written c.args.out.now) (At c.args.image.now c.args.parts.now Empty)) (let e : 0 ≡ c.args.steps.now - c.args.steps.now = omega arith in e)
       (first c.args.image.now c.args.turns c.args.parts.now c.requires.zero c.requires.none (g.S.Source.left c.args.input.now) (g.K.Sink.written c.args.out.now));
+  asked = asked_nothing (g.S.Source.left c.args.input.now) (g.S.Source.calls c.args.input.now);
   source_stays = omega arith;
   sink_stays = omega arith;
 }
@@ -45,6 +49,7 @@ loop-instance-preserved g c = record {
       (next_so c.args.image.now c.as_slice-instance-items.result.now c.as_slice-instance-items.ensures c.loop-instance.instance-index c.loop-instance-test.true c.args.turns c.loop-instance.parts c.loop-instance.left
       (c.loop-instance.steps - c.args.steps.now) c.loop-instance.ahead (g.S.Source.left c.args.input.now) (g.S.Source.left c.loop-instance.input)
       (g.K.Sink.written c.args.out.now) (g.K.Sink.written c.loop-instance.out) c.loop-instance.invariant.so)) c.in_default.is;
+  asked = c.in_ok-last.ensures.asks (g.S.Source.left c.args.input.now) (g.S.Source.calls c.args.input.now) c.loop-instance.invariant.asked;
   source_stays = let a = c.loop-instance.invariant.source_stays in let b = c.run_instance.ensures.faults.source_stays in omega (arith, a, b);
   sink_stays = let a = c.loop-instance.invariant.sink_stays in let b = c.run_instance.ensures.faults.sink_stays in omega (arith, a, b);
 }
@@ -124,3 +129,18 @@ returns-clause-completes g c =
 
 pub returns-clause-faults : goal.returns-clause-faults
 returns-clause-faults g c = none_failed _ _ _ _ _ c.loop-instance.invariant.source_stays c.loop-instance.invariant.sink_stays
+
+pub returns-in-Some-clause-asked : goal.returns-in-Some-clause-asked
+returns-in-Some-clause-asked g c =
+    asked_once c.loop-instance.ahead (g.S.Source.left c.args.input.now) (g.S.Source.left c.loop-instance.input) (g.S.Source.left c.run_instance.new.input)
+    (g.S.Source.calls c.args.input.now) (g.S.Source.calls c.loop-instance.input) (g.S.Source.calls c.run_instance.new.input) (vain_by c.run_instance.new.ahead) c.loop-instance.invariant.asked
+    c.in_ok-last.ensures.asks (vain_few c.run_instance.new.ahead)
+
+pub returns-in_err-last-clause-asked : goal.returns-in_err-last-clause-asked
+returns-in_err-last-clause-asked g c =
+    asked_once c.loop-instance.ahead (g.S.Source.left c.args.input.now) (g.S.Source.left c.loop-instance.input) (g.S.Source.left c.run_instance.new.input)
+    (g.S.Source.calls c.args.input.now) (g.S.Source.calls c.loop-instance.input) (g.S.Source.calls c.run_instance.new.input) (vain_of c.in_err-last.field-0.0 c.run_instance.new.ahead) c.loop-instance.invariant.asked
+    c.in_err-last.ensures.asks (vain_few_of c.in_err-last.field-0.0 c.run_instance.new.ahead)
+
+pub returns-clause-asked : goal.returns-clause-asked
+returns-clause-asked g c = (vain_by c.loop-instance.ahead, vain_few c.loop-instance.ahead, c.loop-instance.invariant.asked)

@@ -1,6 +1,7 @@
 use Rattle.std.proofs.Common.{◌<◌, Some, length, refl, ap, ◌∙◌, arith}
 use Rattle.std.proofs.lemmas.Option.{slice_get_read}
 use Rattle.machine_ready.proofs.Running.{ready_can_run}
+use Rattle.frame_machine.proofs.Asks.{asks_not}
 use Rattle.frame_machine.proofs.Starts.{begun_then, passes}
 use Rattle.frame_machine.proofs.running.run_instance.Goals as goal
 
@@ -26,3 +27,9 @@ pub returns-clause-follows : goal.returns-clause-follows
 returns-clause-follows g c bound control begun begun' told held short e so =
     c.run_on.ensures.follows bound control begun begun' told held (omega (arith, short)) e
     (c.start-first.ensures.starts bound control begun c.args.ahead.now told (g.S.Source.left c.args.input.now) held (g.K.Sink.written c.args.out.now) so)
+
+pub returns-then-index-clause-asks : goal.returns-then-index-clause-asks
+returns-then-index-clause-asks g c = asks_not c.args.ahead.now (g.S.Source.left c.args.input.now) (g.S.Source.calls c.args.input.now)
+
+pub returns-clause-asks : goal.returns-clause-asks
+returns-clause-asks g c = c.run_on.ensures.asks

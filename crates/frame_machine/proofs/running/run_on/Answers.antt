@@ -2,9 +2,11 @@ use Rattle.std.proofs.Common.{◌≡◌, ◌-◌, Result, Ok, Err, Option, refl,
 use Rattle.std.proofs.lemmas.Result.{err_from_is_err_and}
 use Rattle.machine_rules.specs.declared.end.End.{End}
 use Rattle.machine_activations.specs.declared.calling.Turn.{Turn}
+use Rattle.machine_calls.specs.Hosting.{AsksOn, vain_by}
 use Rattle.frame_machine.specs.declared.outcome.RunFault.{RunFault}
-use Rattle.frame_machine.specs.Onward.{CountsFaults, Follows, last_turn}
+use Rattle.frame_machine.specs.Onward.{CountsFaults, Follows, last_turn, vain_of, vain_then}
 use Rattle.frame_machine.specs.SoFar.{At}
+use Rattle.frame_machine.proofs.Asks.{asks_not, asks_later}
 use Rattle.frame_machine.proofs.Faults.{none_failed, later_failed}
 use Rattle.frame_machine.proofs.Onwards.{along, after, stays, falls}
 use Rattle.frame_machine.proofs.running.run_on.Goals as goal
@@ -14,6 +16,7 @@ running-init g c = record {
   counted = omega arith;
   carries = c.requires.carries;
   follows = stays c.args.image.now c.args.parts.now c.args.turns.now c.args.steps.now c.args.ahead.now (g.S.Source.left c.args.input.now) (g.K.Sink.written c.args.out.now) c.args.first c.args.first refl;
+  asks = asks_not c.args.ahead.now (g.S.Source.left c.args.input.now) (g.S.Source.calls c.args.input.now);
   source_stays = omega arith;
   sink_stays = omega arith;
 }
@@ -72,6 +75,9 @@ running-preserved g c = record {
       (At c.args.image.now c.args.parts.now c.args.first) (At c.args.image.now c.running.parts c.running.turn) (Ok c.in_ok-turn.turn)
       (c.running.steps - c.args.steps.now) (c.advance.new.steps - c.running.steps) (c.advance.new.steps - c.args.steps.now)
       c.running.invariant.follows c.in_ok-turn.ensures.follows (let a = c.running.invariant.counted in let b = c.in_ok-turn.ensures.counted in omega (arith, a, b));
+  asks = asks_later c.args.ahead.now c.running.ahead (g.S.Source.left c.args.input.now) (g.S.Source.left c.running.input) (g.S.Source.left c.advance.new.input)
+      (g.S.Source.calls c.args.input.now) (g.S.Source.calls c.running.input) (g.S.Source.calls c.advance.new.input) (vain_by c.advance.new.ahead) c.running.invariant.asks
+      c.in_ok-turn.ensures.asks;
   source_stays = let a = c.running.invariant.source_stays in let b = c.in_ok-turn.ensures.faults.source_stays in omega (arith, a, b);
   sink_stays = let a = c.running.invariant.sink_stays in let b = c.in_ok-turn.ensures.faults.sink_stays in omega (arith, a, b);
 }
@@ -81,3 +87,19 @@ running-smaller g c =
     falls c.args.image.now c.args.parts.now c.running.parts c.args.turns.now c.running.turns c.args.steps.now c.running.steps c.advance.new.steps c.args.ahead.now c.running.ahead
     (g.S.Source.left c.args.input.now) (g.S.Source.left c.running.input) (g.K.Sink.written c.args.out.now) (g.K.Sink.written c.running.out) c.args.first c.running.turn c.in_ok-turn.turn
     c.in_default.not-Empty c.in_default.not-Ends c.running.invariant.counted c.requires.run c.running.invariant.follows c.in_ok-turn.ensures.advances
+
+pub returns-in-Empty-clause-asks : goal.returns-in-Empty-clause-asks
+returns-in-Empty-clause-asks g c = c.running.invariant.asks
+
+pub returns-in-Ends-clause-asks : goal.returns-in-Ends-clause-asks
+returns-in-Ends-clause-asks g c = c.running.invariant.asks
+
+pub returns-in_err-turn-clause-asks : goal.returns-in_err-turn-clause-asks
+returns-in_err-turn-clause-asks g c =
+    let p = err_from_is_err_and c.from_residual.result c.from_residual.ensures.1 in
+    let is : c.from_residual.result ≡ Err c.in_err-turn.field-0.0 = p.1 ∙ ap (λ (f : RunFault). Err f) p.2 in
+    subst (λ (r : Result (Option End) RunFault). AsksOn c.args.ahead.now (g.S.Source.left c.args.input.now) (g.S.Source.left c.advance.new.input)
+    (g.S.Source.calls c.args.input.now) (g.S.Source.calls c.advance.new.input) (vain_then r c.advance.new.ahead)) (sym is)
+    (asks_later c.args.ahead.now c.running.ahead (g.S.Source.left c.args.input.now) (g.S.Source.left c.running.input) (g.S.Source.left c.advance.new.input)
+    (g.S.Source.calls c.args.input.now) (g.S.Source.calls c.running.input) (g.S.Source.calls c.advance.new.input) (vain_of c.in_err-turn.field-0.0 c.advance.new.ahead)
+    c.running.invariant.asks c.in_err-turn.ensures.asks)

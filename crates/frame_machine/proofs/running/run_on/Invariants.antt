@@ -1,4 +1,5 @@
 use Rattle.std.proofs.Common.{◌+◌, ◌-◌, ◌*◌, ◌≤◌, Ok}
+use Rattle.machine_calls.specs.Hosting.{AsksOn, vain_by}
 use Rattle.frame_machine.specs.Onward.{Follows, waits}
 use Rattle.frame_machine.specs.SoFar.{At, Carries}
 use Rattle.frame_machine.proofs.Onwards.{still_most}
@@ -10,6 +11,7 @@ invariant-running g l = record {
   carries : Carries l.image l.parts l.turn;
   follows : Follows l.image l.fn.parts l.parts l.fn.turns l.turns (l.steps - l.fn.steps) l.fn.ahead l.ahead (g.S.Source.left l.fn.input) (g.S.Source.left l.input)
       (g.K.Sink.written l.fn.out) (g.K.Sink.written l.out) (At l.image l.fn.parts l.fn.first) (Ok l.turn);
+  asks : AsksOn l.fn.ahead (g.S.Source.left l.fn.input) (g.S.Source.left l.input) (g.S.Source.calls l.fn.input) (g.S.Source.calls l.input) (vain_by l.ahead);
   source_stays : g.S.Source.faults l.fn.input ≤ g.S.Source.faults l.input;
   sink_stays : g.K.Sink.faults l.fn.out ≤ g.K.Sink.faults l.out;
 }

@@ -1,0 +1,75 @@
+-- A source is asked once more.
+use Rattle.std.proofs.Common.{◌≡◌, ℕ, suc, ◌+◌, ◌<◌, ◌≤◌, List, [], ◌∷◌, length, drop, refl, sym, ap, subst, ◌∙◌, arith}
+use Rattle.std.specs.Prelude.{Option, Some, None, IfSome}
+use Rattle.std.proofs.lemmas.List.{length-drop}
+use Rattle.std.proofs.Math.Seq.{drop-cons}
+use Rattle.mesa_base.specs.Outside.{raised, Takes}
+use Rattle.mesa_base.specs.Asked.{after, Asked, AskedOnce}
+
+pub asked_nothing : (left : Option (List ℕ)) (calls : ℕ) → Asked left left calls calls 0
+unfolding after
+asked_nothing None calls = record { given = 0; counted = refl; rest = tt }
+asked_nothing (Some bytes) calls = record { given = 0; counted = refl; rest = (omega arith, refl) }
+
+pub not_asked : (left : Option (List ℕ)) (calls : ℕ) → AskedOnce left left calls calls
+not_asked left calls = (0, omega arith, asked_nothing left calls)
+
+one_more : (n first now next : ℕ) → now ≡ after (n + 0) first → next ≡ raised now → next ≡ after (n + 1) first
+unfolding after
+one_more n first now next so_far more =
+    let was : n + 0 ≡ n = omega arith in
+    let is : n + 1 ≡ suc n = omega arith in
+    more ∙ ap raised so_far ∙ ap (λ k. raised (after k first)) was ∙ sym (ap (λ k. after k first) is)
+
+behind : List ℕ → List ℕ
+behind [] = []
+behind (byte ∷ rest) = rest
+
+shorter : (n : ℕ) (bytes : List ℕ) (byte : ℕ) (rest : List ℕ) → drop n bytes ≡ byte ∷ rest → (n + 1 ≤ length bytes) × (rest ≡ drop (n + 1) bytes)
+unfolding behind
+shorter n bytes byte rest is =
+    let less : n < length bytes = omega (arith, length-drop n bytes, ap length is) in
+    let next : suc n ≡ n + 1 = omega arith in
+    (omega (arith, less), ap behind (sym is ∙ drop-cons bytes n byte less) ∙ ap (λ k. drop k bytes) next)
+
+-- it gave a byte
+pub asked_byte : (told left left' : Option (List ℕ)) (first calls calls' byte : ℕ) → Asked told left first calls 0 → calls' ≡ raised calls
+    → IfSome left (λ bytes. Takes bytes (Some byte) left') → Asked told left' first calls' 0
+asked_byte told left left' first calls calls' byte so_far more took = record {
+  given = so_far.given + 1;
+  counted = one_more so_far.given first calls calls' so_far.counted more ∙ ap (λ n. after n first) (omega arith);
+  rest = takes told so_far.rest;
+}
+  where
+    takes : (told : Option (List ℕ)) → IfSome told (λ bytes. (so_far.given ≤ length bytes) × (left ≡ Some (drop so_far.given bytes)))
+        → IfSome told (λ bytes. (so_far.given + 1 ≤ length bytes) × (left' ≡ Some (drop (so_far.given + 1) bytes)))
+    takes None so = tt
+    takes (Some bytes) so =
+        let t = subst (λ l. IfSome l (λ bs. Takes bs (Some byte) left')) so.1 took in
+        let s = shorter so_far.given bytes byte t.0 t.1 in
+        (s.0, t.2 ∙ ap Some s.1)
+
+-- it was at its end
+pub asked_end : (told left left' : Option (List ℕ)) (first calls calls' : ℕ) → Asked told left first calls 0 → calls' ≡ raised calls
+    → IfSome left (λ bytes. Takes bytes None left') → Asked told left' first calls' 1
+asked_end told left left' first calls calls' so_far more took = record {
+  given = so_far.given;
+  counted = one_more so_far.given first calls calls' so_far.counted more;
+  rest = takes told so_far.rest;
+}
+  where
+    takes : (told : Option (List ℕ)) → IfSome told (λ bytes. (so_far.given ≤ length bytes) × (left ≡ Some (drop so_far.given bytes)))
+        → IfSome told (λ bytes. (so_far.given ≤ length bytes) × (left' ≡ Some (drop so_far.given bytes)))
+    takes None so = tt
+    takes (Some bytes) so =
+        let t = subst (λ l. IfSome l (λ bs. Takes bs None left')) so.1 took in
+        (so.0, t.1 ∙ ap Some (sym t.0))
+
+-- it failed
+pub asked_failing : (told left left' : Option (List ℕ)) (first calls calls' : ℕ) → Asked told left first calls 0 → calls' ≡ raised calls
+    → left' ≡ left → Asked told left' first calls' 1
+asked_failing told left left' first calls calls' so_far more kept = record {
+  given = so_far.given;
+  counted = one_more so_far.given first calls calls' so_far.counted more;
+  rest = subst (λ l. IfSome told (λ bytes. (so_far.given ≤ length bytes) × (l ≡ Some (drop so_far.given bytes)))) (sym kept) so_far.rest;
+}
