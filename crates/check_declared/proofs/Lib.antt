@@ -1,2 +1,3 @@
+pub mod GlobalWords
 pub mod NameLaws
 pub mod VariableLoops

@@ -8,7 +8,7 @@ ghost use Rattle.check_rules.specs.Typed.{Local};
 ghost use Rattle.check_state.specs.Views as view;
 
 use check_scopes::Names;
-use check_state::{Meaning, narrower, next};
+use check_state::{Meaning, next};
 use mesa_base::OutOfMemory;
 use mesa_types::{FieldType, Home};
 use std::alloc::Global;
@@ -25,11 +25,11 @@ fn name_field(
     match &field.name {
         None => Ok(()),
         Some(name) => {
-            let home = Home::Local(narrower(number as usize)?);
+            let kind = field.kind.copy(alloc)?;
             scope.declare(
                 alloc,
                 name.bytes(),
-                Meaning::Variable(home, field.kind.copy(alloc)?),
+                Meaning::Variable(Home::Local(number), kind),
             )
         }
     }

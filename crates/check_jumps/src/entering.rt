@@ -16,7 +16,7 @@ ghost use Rattle.check_jumps.specs.Views.{arm_place};
 use crate::arms::{is_unwinding, parameters_of};
 use check_rules::CheckFault;
 use check_scopes::Names;
-use check_state::{ArmHere, ArmLabel, Around, Frame, Meaning, State, narrower, next};
+use check_state::{ArmHere, ArmLabel, Around, Frame, Meaning, State, narrow, next};
 use mesa_base::OutOfMemory;
 use mesa_types::{FieldType, Home};
 use std::alloc::Global;
@@ -25,8 +25,8 @@ use std::alloc::Global;
 #[derive(Drop)]
 pub struct ArmPlace {
     pub scope: Names<Meaning>,
-    pub first: u16,
-    pub count: u16,
+    pub first: u32,
+    pub count: u32,
 }
 
 fn total(first: usize, second: usize) -> Result<usize, OutOfMemory>
@@ -40,11 +40,11 @@ fn total(first: usize, second: usize) -> Result<usize, OutOfMemory>
 
 /// The number of the next variable of a procedure: behind its parameters, its results and its variables so far.
 #[tactic(auto, unfolding(check_state::specs::Views::state, check_state::specs::Views::around))]
-pub fn next_local(around: &Around<'_>, state: &State) -> Result<u16, OutOfMemory>
+pub fn next_local(around: &Around<'_>, state: &State) -> Result<u32, OutOfMemory>
     ensures { IfOk result (λ number. number ≡ length (view.around around.now).takes + length (view.around around.now).gives + count_in (view.state state.now).variables) }
 {
     let parameters = total(around.takes.len(), around.gives.len())?;
-    narrower(total(parameters, state.variables.count())?)
+    narrow(total(parameters, state.variables.count())?)
 }
 
 #[tactic(auto, using(check_state::proofs::ScopeLaws::with_name_as, crate::proofs::FieldLaws::name_is, crate::proofs::FieldLaws::kind_is), unfolding(check_state::specs::Views::names))]
@@ -59,22 +59,22 @@ fn name_field(
     match &field.name {
         None => Ok(()),
         Some(name) => {
-            let home = Home::Local(narrower(number as usize)?);
+            let kind = field.kind.copy(alloc)?;
             scope.declare(
                 alloc,
                 name.bytes(),
-                Meaning::Variable(home, field.kind.copy(alloc)?),
+                Meaning::Variable(Home::Local(number), kind),
             )
         }
     }
 }
 
 /// The names of the fields as variables, the first with this number.
-fn scope_of(fields: &[FieldType], alloc: Global, first: u16) -> Result<Names<Meaning>, OutOfMemory>
+fn scope_of(fields: &[FieldType], alloc: Global, first: u32) -> Result<Names<Meaning>, OutOfMemory>
     ensures { IfOk result (λ scope. view.names scope ≡ spec.fields_from first (view.fields fields.now) nothing) }
 {
     let mut scope = Names::new(alloc);
-    let mut number = u32::from(first);
+    let mut number = first;
     for field in fields {
         name_field(field, alloc, &mut scope, number)?;
         number = next(number)?;
@@ -82,10 +82,10 @@ fn scope_of(fields: &[FieldType], alloc: Global, first: u16) -> Result<Names<Mea
     Ok(scope)
 }
 
-fn place_of(fields: &[FieldType], alloc: Global, number: u16) -> Result<ArmPlace, OutOfMemory>
+fn place_of(fields: &[FieldType], alloc: Global, number: u32) -> Result<ArmPlace, OutOfMemory>
     ensures { IfOk result (λ made. arm_place made ≡ spec.arm_place (view.fields fields.now) number) }
 {
-    let count = narrower(fields.len())?;
+    let count = narrow(fields.len())?;
     let first = if count == 0 { 0 } else { number };
     let scope = scope_of(fields, alloc, number)?;
     Ok(ArmPlace {

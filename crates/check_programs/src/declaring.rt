@@ -24,7 +24,7 @@ use check_expressions::Checker;
 use check_heads::{Heading, heading};
 use check_locals::head;
 use check_rules::{Cause, CheckFault};
-use check_state::{Around, Meaning, State, fields_size, next};
+use check_state::{Around, Meaning, State, next, words_of_fields};
 use mesa_base::limits::SIGNAL_WORDS;
 use mesa_base::{Identifier, List, OutOfMemory, Place, Shared};
 use mesa_types::{Callee, Item, ItemKind};
@@ -59,11 +59,7 @@ fn procedure_head(
     ensures scope { IfOk result (λ made. words.names made.scope ≡ (plain_heading head).scope) }
     ensures operands { IfOk result (λ made. made.operands ≡ operands) }
 {
-    let Heading {
-        takes,
-        gives,
-        scope,
-    } = head;
+    let (takes, gives, scope) = head.into_scope(alloc)?;
     let item = first_item(names, alloc, ItemKind::Procedure, takes, gives)?;
     let item = Shared::new(alloc, item)?;
     Ok(ProcedureHead {
@@ -147,8 +143,8 @@ fn procedure(
 fn few_signal_words(head: &Heading, place: Place) -> Result<(), CheckFault>
     ensures { GivesOnly (λ _. tt) (step.few_signal_words (plain_heading head.now) place) result }
 {
-    let takes = fields_size(head.takes.as_slice())?;
-    let gives = fields_size(head.gives.as_slice())?;
+    let takes = words_of_fields(head.takes.as_slice());
+    let gives = words_of_fields(head.gives.as_slice());
     if u64::from(takes) + u64::from(gives) <= u64::from(SIGNAL_WORDS) {
         Ok(())
     } else {
@@ -183,7 +179,7 @@ fn declared_signals(
     let Heading {
         takes,
         gives,
-        scope: _,
+        elements: _,
     } = head;
     let head = first_item(names, alloc, kind, takes, gives)?;
     let items = renamed_all(names, alloc, &head)?;

@@ -7,7 +7,7 @@ ghost use Rattle.check_rules.specs.Programs as spec;
 ghost use Rattle.mesa_types.specs.Plain.{kinds_of};
 
 use check_rules::{Cause, CheckFault};
-use check_state::{Frame, State, fields_size};
+use check_state::{Frame, State, words_of_fields};
 use mesa_base::Place;
 use mesa_base::limits::LOCAL_WORDS;
 use mesa_types::FieldType;
@@ -54,7 +54,7 @@ pub fn few_locals(
 ) -> Result<(), CheckFault>
     ensures { GivesOnly (λ _. tt) (step.few_locals (words.fields takes.now) (words.fields gives.now) place (words.state state.now)) result }
 {
-    let parameters = u64::from(fields_size(takes)?) + u64::from(fields_size(gives)?);
+    let parameters = u64::from(words_of_fields(takes)) + u64::from(words_of_fields(gives));
     let variables = parameters.saturating_add(state.variables.words());
     if variables.saturating_add(state.hidden) <= u64::from(LOCAL_WORDS) {
         Ok(())

@@ -19,7 +19,7 @@ use check_jumps::{resumed, return_jump};
 use check_operands::{Arguments, At, first, nothing_given};
 use check_rules::{Cause, CheckFault};
 use check_selectors::{Target, Use, led_to, performed};
-use check_state::{Aim, Around, State, named, narrower};
+use check_state::{Aim, Around, State, named, narrow};
 use held_trees::{LetGo, both};
 use mesa_base::{OutOfMemory, Place};
 use mesa_types::{Targets, TypedExpr, TypedStmt};
@@ -137,7 +137,7 @@ pub(crate) fn raised<P: Phrases>(
 }
 
 #[tactic(auto, unfolding(check_operands::specs::Views::exprs))]
-fn give_back(arms: u32, first: u16, given: Arguments) -> TypedStmt
+fn give_back(arms: u32, first: u32, given: Arguments) -> TypedStmt
     ensures { stmt result ≡ t.ReturnWith arms first (parts.arguments given).places (parts.arguments given).values }
 {
     let Arguments { places, values } = given;
@@ -158,7 +158,7 @@ fn returned(
         return Ok(jump);
     }
     jump.let_go();
-    let (given, first) = both(given, narrower(around.takes.len()))?;
+    let (given, first) = both(given, narrow(around.takes.len()))?;
     Ok(give_back(around.arms, first, given))
 }
 

@@ -11,6 +11,7 @@ use held_trees::LetGo;
 use mesa_base::OutOfMemory;
 use mesa_types::{FieldType, TypeTree};
 use std::alloc::{AllocFailed, Global};
+use std::mem::replace;
 
 /// The variables of a module or procedure so far, in the order of their declarations, and how many words they take.
 #[derive(Drop)]
@@ -89,5 +90,15 @@ impl Frame {
             count,
         };
         Ok((first, second))
+    }
+
+    /// The same variables once more.
+    pub fn share(&mut self, alloc: Global) -> Result<Frame, OutOfMemory>
+        ensures same { IfOk result (λ more. kinds_of more.fields ≡ kinds_of self.old.fields) }
+        ensures stays { OnOk result (kinds_of self.new.fields ≡ kinds_of self.old.fields) }
+    {
+        let (same, more) = replace(self, Frame::new(alloc)).twice(alloc)?;
+        *self = same;
+        Ok(more)
     }
 }

@@ -8,7 +8,7 @@ ghost use Rattle.check_rules.specs.Scopes.{find};
 ghost use Rattle.check_state.specs.Gives.{Gives, GivesOnly};
 ghost use Rattle.check_state.specs.Views as view;
 
-use crate::around::{ArmLabel, Around};
+use crate::around::Around;
 use crate::meaning::Meaning;
 use crate::state::State;
 use crate::types::base_of;
@@ -17,6 +17,7 @@ use check_scopes::Names;
 use mesa_base::{Identifier, OutOfMemory, Place};
 use mesa_types::TypeTree;
 use std::alloc::Global;
+use std::mem::drop;
 use syntax_trees::syntax::{QualifiedName, TypeBase};
 
 fn shared(alloc: Global, found: Option<&Meaning>) -> Result<Option<Meaning>, OutOfMemory>
@@ -124,6 +125,25 @@ pub fn of_interface(
     seen(alloc, around, state, name, found)
 }
 
+/// What a name means behind another, of this meaning, and a dot.
+fn behind(
+    alloc: Global,
+    around: &Around<'_>,
+    state: &mut State,
+    first: &Option<Meaning>,
+    name: &Identifier,
+) -> Result<Meaning, CheckFault>
+    ensures { Gives view.meaning (spec.in_meaning (view.around around.now) (option_map view.meaning first.now) name.now (view.state state.old)) result (view.state state.new) }
+{
+    match first {
+        None | Some(Meaning::Later) | Some(Meaning::NotImported) => {
+            Err(CheckFault::At(Cause::UnknownName, name.place))
+        }
+        Some(Meaning::Interface(number)) => of_interface(alloc, around, state, *number, name),
+        Some(_) => Err(CheckFault::At(Cause::TypeMismatch, name.place)),
+    }
+}
+
 /// What a name means behind another and a dot.
 fn in_meaning(
     alloc: Global,
@@ -134,13 +154,9 @@ fn in_meaning(
 ) -> Result<Meaning, CheckFault>
     ensures { Gives view.meaning (spec.in_meaning (view.around around.now) (option_map view.meaning first) name.now (view.state state.old)) result (view.state state.new) }
 {
-    match first {
-        None | Some(Meaning::Later) | Some(Meaning::NotImported) => {
-            Err(CheckFault::At(Cause::UnknownName, name.place))
-        }
-        Some(Meaning::Interface(number)) => of_interface(alloc, around, state, number, name),
-        Some(_) => Err(CheckFault::At(Cause::TypeMismatch, name.place)),
-    }
+    let meaning = behind(alloc, around, state, &first, name);
+    drop(first);
+    meaning
 }
 
 /// What a name, or a name of an interface, means.
@@ -172,13 +188,22 @@ pub fn last_place(name: &QualifiedName) -> Place
     }
 }
 
-fn type_by(place: Place, meaning: Meaning) -> Result<TypeTree, CheckFault>
-    ensures { GivesOnly plain (spec.type_by place (view.meaning meaning)) result }
+/// The type that is meant, if one is.
+fn type_in(alloc: Global, place: Place, meaning: &Meaning) -> Result<TypeTree, CheckFault>
+    ensures { GivesOnly plain (spec.type_by place (view.meaning meaning.now)) result }
 {
     match meaning {
-        Meaning::TypeName(kind) => Ok(kind),
+        Meaning::TypeName(kind) => Ok(kind.copy(alloc)?),
         _ => Err(CheckFault::At(Cause::TypeMismatch, place)),
     }
+}
+
+fn type_by(alloc: Global, place: Place, meaning: Meaning) -> Result<TypeTree, CheckFault>
+    ensures { GivesOnly plain (spec.type_by place (view.meaning meaning)) result }
+{
+    let kind = type_in(alloc, place, &meaning);
+    drop(meaning);
+    kind
 }
 
 /// The type that a name is of.
@@ -192,7 +217,7 @@ pub fn type_named(
     ensures { Gives plain (spec.type_named (view.around around.now) name.now (view.state state.old)) result (view.state state.new) }
 {
     let meaning = qualified(alloc, around, state, name)?;
-    type_by(last_place(name), meaning)
+    type_by(alloc, last_place(name), meaning)
 }
 
 fn ordinal_type(place: Place, kind: TypeTree) -> Result<TypeTree, CheckFault>
@@ -224,14 +249,5 @@ pub fn word_base(
             let kind = type_named(alloc, around, state, name)?;
             Ok(Some(ordinal_type(last_place(name), kind)?))
         }
-    }
-}
-
-fn signal_by(place: Place, meaning: Meaning) -> Result<ArmLabel, CheckFault>
-    ensures { GivesOnly view.arm_label (spec.signal_by place (view.meaning meaning)) result }
-{
-    match meaning {
-        Meaning::Signal(raised, head) => Ok(ArmLabel::ForSignal(raised, head)),
-        _ => Err(CheckFault::At(Cause::TypeMismatch, place)),
     }
 }

@@ -1,6 +1,7 @@
 //! The state of checking, and the steps that only move what it holds.
 ghost use Rattle.std.specs.Prelude.{◌≡◌, ◌∷◌, IfOk, OnOk};
 ghost use Rattle.check_rules.specs.Names as naming;
+ghost use Rattle.mesa_types.specs.Plain.{kinds_of};
 ghost use Rattle.check_rules.specs.Steps as spec;
 ghost use Rattle.check_rules.specs.Scopes.{innermost, nothing, outer};
 ghost use Rattle.check_state.specs.Gives.{Gives};
@@ -111,41 +112,60 @@ impl State {
         Ok(old)
     }
 
-    /// The same state twice, in a number of steps that grows with it but little (`Names::share`, `GrowingFields::twice`); the marks
-    /// alone are copied.
+    /// The same scopes once more, and what is coming.
     #[tactic(auto, unfolding(crate::specs::Views::state, crate::specs::Views::scopes, crate::specs::Views::names))]
-    pub fn twice(self, alloc: Global) -> Result<(State, State), OutOfMemory>
-        ensures { IfOk result (λ both. (view.state both.0 ≡ view.state self) × (view.state both.1 ≡ view.state self)) }
+    fn copied_names(
+        &mut self,
+        alloc: Global,
+    ) -> Result<(Scopes<Meaning>, Names<Meaning>), OutOfMemory>
+        ensures scopes { IfOk result (λ both. view.scopes both.0 ≡ (view.state self.old).scopes) }
+        ensures coming { IfOk result (λ both. view.names both.1 ≡ (view.state self.old).coming) }
+        ensures stays { OnOk result (view.state self.new ≡ view.state self.old) }
     {
-        let State {
-            mut scopes,
-            mut coming,
-            used,
-            globals,
-            variables,
-            hidden,
-            operands,
-        } = self;
-        let (globals, more_globals) = globals.twice(alloc)?;
-        let (variables, more_variables) = variables.twice(alloc)?;
-        let more = State {
-            scopes: scopes.copy(alloc)?,
-            coming: coming.share(alloc)?,
-            used: used.copy(alloc)?,
-            globals: more_globals,
-            variables: more_variables,
-            hidden,
-            operands,
-        };
-        let same = State {
+        let scopes = self.scopes.copy(alloc)?;
+        let coming = self.coming.share(alloc)?;
+        Ok((scopes, coming))
+    }
+
+    /// The same variables once more, those of the module and those of the procedure.
+    #[tactic(auto, unfolding(crate::specs::Views::state))]
+    fn copied_frames(&mut self, alloc: Global) -> Result<(Frame, Frame), OutOfMemory>
+        ensures globals { IfOk result (λ both. kinds_of both.0.fields ≡ (view.state self.old).globals) }
+        ensures variables { IfOk result (λ both. kinds_of both.1.fields ≡ (view.state self.old).variables) }
+        ensures stays { OnOk result (view.state self.new ≡ view.state self.old) }
+    {
+        let globals = self.globals.share(alloc)?;
+        let variables = self.variables.share(alloc)?;
+        Ok((globals, variables))
+    }
+
+    /// The same state once more.
+    #[tactic(auto, unfolding(crate::specs::Views::state))]
+    fn copied(&mut self, alloc: Global) -> Result<State, OutOfMemory>
+        ensures same { IfOk result (λ more. view.state more ≡ view.state self.old) }
+        ensures stays { OnOk result (view.state self.new ≡ view.state self.old) }
+    {
+        let used = self.used.copy(alloc)?;
+        let (scopes, coming) = self.copied_names(alloc)?;
+        let (globals, variables) = self.copied_frames(alloc)?;
+        Ok(State {
             scopes,
             coming,
             used,
             globals,
             variables,
-            hidden,
-            operands,
-        };
+            hidden: self.hidden,
+            operands: self.operands,
+        })
+    }
+
+    /// The same state twice, in a number of steps that grows with it but little (`Names::share`, `GrowingFields::twice`); the marks
+    /// alone are copied.
+    pub fn twice(self, alloc: Global) -> Result<(State, State), OutOfMemory>
+        ensures { IfOk result (λ both. (view.state both.0 ≡ view.state self) × (view.state both.1 ≡ view.state self)) }
+    {
+        let mut same = self;
+        let more = same.copied(alloc)?;
         Ok((same, more))
     }
 

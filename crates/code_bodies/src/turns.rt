@@ -93,8 +93,8 @@ pub(crate) fn armed(
     routine: &Routine,
     arms: ArmBlocks,
     on: &[Label],
-    first: u16,
-    count: u16,
+    first: u32,
+    count: u32,
     body: Part,
 ) -> Result<ArmBlocks, OutOfMemory>
     requires right { off_in_arms arms ≡ 0 }
@@ -109,7 +109,7 @@ pub(crate) fn armed(
     } = body;
     let arm = ArmBlock {
         labels,
-        slot: routine.locals.start(usize::from(first)) as u16,
+        slot: routine.locals.start(first as usize) as u16,
         words: routine.locals.words_from(first, count) as u16,
         body,
     };

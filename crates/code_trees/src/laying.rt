@@ -65,17 +65,17 @@ impl<'a> Layout<'a> {
 
     /// The words of a variable.
     #[tactic(auto, using(crate::proofs::VariableStarts::words_between))]
-    pub fn words_of(&self, at: u16) -> u32
+    pub fn words_of(&self, at: u32) -> u32
         ensures { result ≡ words_at (kinds_laid self.now) at }
     {
-        self.start(usize::from(at) + 1) - self.start(usize::from(at))
+        self.start((at as usize) + 1) - self.start(at as usize)
     }
 
     /// The words of so many variables from one on.
     #[tactic(auto, using(crate::proofs::VariableStarts::words_from_on))]
-    pub fn words_from(&self, first: u16, count: u16) -> u32
+    pub fn words_from(&self, first: u32, count: u32) -> u32
         ensures { result ≡ words_from (kinds_laid self.now) first count }
     {
-        self.start(usize::from(first) + usize::from(count)) - self.start(usize::from(first))
+        self.start(first as usize + count as usize) - self.start(first as usize)
     }
 }

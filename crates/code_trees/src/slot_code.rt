@@ -20,11 +20,11 @@ pub fn load(routine: &Routine, home: Home, offset: u64, words: u64) -> Instructi
     let words = words as u16;
     match home {
         Home::Local(n) => Instruction::LoadL {
-            slot: (u64::from(routine.locals.start(usize::from(n))) + offset) as u16,
+            slot: (u64::from(routine.locals.start(n as usize)) + offset) as u16,
             words,
         },
         Home::Global(n) => Instruction::LoadG {
-            slot: (u64::from(routine.globals.start(usize::from(n))) + offset) as u16,
+            slot: (u64::from(routine.globals.start(n as usize)) + offset) as u16,
             words,
         },
     }
@@ -38,11 +38,11 @@ pub fn store(routine: &Routine, home: Home, offset: u64, words: u64) -> Instruct
     let words = words as u16;
     match home {
         Home::Local(n) => Instruction::StoreL {
-            slot: (u64::from(routine.locals.start(usize::from(n))) + offset) as u16,
+            slot: (u64::from(routine.locals.start(n as usize)) + offset) as u16,
             words,
         },
         Home::Global(n) => Instruction::StoreG {
-            slot: (u64::from(routine.globals.start(usize::from(n))) + offset) as u16,
+            slot: (u64::from(routine.globals.start(n as usize)) + offset) as u16,
             words,
         },
     }
@@ -57,12 +57,12 @@ pub fn load_within(routine: &Routine, home: Home, words: u64) -> Instruction
     let words = words as u16;
     match home {
         Home::Local(n) => Instruction::LoadLX {
-            slot: routine.locals.start(usize::from(n)) as u16,
+            slot: routine.locals.start(n as usize) as u16,
             extent: routine.locals.words_of(n) as u16,
             words,
         },
         Home::Global(n) => Instruction::LoadGX {
-            slot: routine.globals.start(usize::from(n)) as u16,
+            slot: routine.globals.start(n as usize) as u16,
             extent: routine.globals.words_of(n) as u16,
             words,
         },
@@ -77,12 +77,12 @@ pub fn store_within(routine: &Routine, home: Home, words: u64) -> Instruction
     let words = words as u16;
     match home {
         Home::Local(n) => Instruction::StoreLX {
-            slot: routine.locals.start(usize::from(n)) as u16,
+            slot: routine.locals.start(n as usize) as u16,
             extent: routine.locals.words_of(n) as u16,
             words,
         },
         Home::Global(n) => Instruction::StoreGX {
-            slot: routine.globals.start(usize::from(n)) as u16,
+            slot: routine.globals.start(n as usize) as u16,
             extent: routine.globals.words_of(n) as u16,
             words,
         },
@@ -97,11 +97,11 @@ fn clear(routine: &Routine, home: Home, words: u64) -> Instruction
     let words = words as u16;
     match home {
         Home::Local(n) => Instruction::ZeroL {
-            slot: routine.locals.start(usize::from(n)) as u16,
+            slot: routine.locals.start(n as usize) as u16,
             words,
         },
         Home::Global(n) => Instruction::ZeroG {
-            slot: routine.globals.start(usize::from(n)) as u16,
+            slot: routine.globals.start(n as usize) as u16,
             words,
         },
     }

@@ -161,7 +161,7 @@ pub fn returned(
     alloc: Global,
     routine: &Routine,
     arms: u32,
-    first: u16,
+    first: u32,
     of: Part,
     code: Code,
     words: u64,
@@ -170,7 +170,7 @@ pub fn returned(
     ensures { IfOk result (λ made. plain made.block ≡ tree.Both (plain of.block) (tree.Both (tree.Does (code ++ i.StoreL (slots.local_slot (coded routine.now) first) words ∷ [])) (tree.Goes arms t.Leave))) }
 {
     let set = Instruction::StoreL {
-        slot: routine.locals.start(usize::from(first)) as u16,
+        slot: routine.locals.start(first as usize) as u16,
         words: words as u16,
     };
     let (of, code) = both(of, longer(code, set))?;

@@ -3,7 +3,7 @@ use Rattle.check_jumps.proofs.ArmVariables.{fields_from_at, fields_from_out, nam
 use Rattle.check_jumps.proofs.entering.scope_of.Goals as goal
 
 pub loop-field-init : goal.loop-field-init
-loop-field-init c = rw (names_nothing c.new-scope.result c.new-scope.ensures, c.from-number.ensures) (search rules)
+loop-field-init c = rw (names_nothing c.new-scope.result c.new-scope.ensures) (search rules)
 
 pub loop-field-preserved : goal.loop-field-preserved
 loop-field-preserved c = rw c.loop-field.invariant (rw (fields_from_at c.loop-field.number c.args.fields.now c.loop-field.field-index c.field-item.result _ (search rules) (search rules)) (search rules))
