@@ -1,7 +1,7 @@
 use mesa_base::{OutOfMemory, Place};
 use std::alloc::{AllocError, AllocFailed};
 
-#[derive(Clone, Copy, Debug, PartialEq, Eq)]
+#[derive(Clone, Copy)]
 pub enum Cause {
     UnknownName,
     TwiceDeclared,
@@ -19,7 +19,7 @@ pub enum Cause {
     StampUnwanted,
 }
 
-#[derive(Clone, Copy, Debug, PartialEq, Eq)]
+#[derive(Clone, Copy)]
 pub enum CheckFault {
     At(Cause, Place),
     Memory,

@@ -7,7 +7,7 @@ use crate::instruction::Instruction;
 use crate::module_code::{CodeKind, CodeLink, CodeProcedure, CodeSignal, Phrase};
 
 /// The words that an instruction takes from the operand stack, and those that it then puts there.
-#[derive(Clone, Copy, Debug, PartialEq, Eq)]
+#[derive(Clone, Copy)]
 pub struct Moved {
     pub takes: u64,
     pub puts: u64,

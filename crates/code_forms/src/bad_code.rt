@@ -1,5 +1,5 @@
 /// What is wrong with a procedure's code, each with an offset in it.
-#[derive(Clone, Copy, Debug, PartialEq, Eq)]
+#[derive(Clone, Copy, PartialEq, Eq)]
 pub enum CodeFault {
     /// The jump at the offset leads where none may.
     BadJump(u32),
@@ -13,7 +13,7 @@ pub enum CodeFault {
 }
 
 /// The first procedure with a fault, by its number, and that fault.
-#[derive(Clone, Copy, Debug, PartialEq, Eq)]
+#[derive(Clone, Copy)]
 pub struct BadCode {
     pub procedure: u32,
     pub fault: CodeFault,

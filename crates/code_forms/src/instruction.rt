@@ -3,7 +3,7 @@ ghost use Rattle.code_forms.specs.Instructions.{number_of, bytes_of, name_of};
 
 /// An instruction. Words have 16 bits, targets are offsets in bytes, and what it does is said over the words on the
 /// operand stack.
-#[derive(Clone, Copy, Debug, PartialEq, Eq)]
+#[derive(Clone, Copy)]
 pub enum Instruction {
     /// Pushes the word.
     Lit { word: u16 },

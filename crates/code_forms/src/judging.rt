@@ -24,7 +24,7 @@ use crate::stack::{
 };
 
 /// The instructions to which one leads, and the depth there.
-#[derive(Clone, Copy, Debug)]
+#[derive(Clone, Copy)]
 pub struct Onward {
     pub next: Option<usize>,
     pub target: Option<usize>,

@@ -5,7 +5,7 @@ use crate::procedures::CodeProcedures;
 use mesa_base::{List, Name, Texts};
 
 /// What a link or a signal's entry stands for.
-#[derive(Clone, Copy, Debug, PartialEq, Eq)]
+#[derive(Clone, Copy)]
 pub enum CodeKind {
     Procedure,
     Signal,
@@ -13,7 +13,7 @@ pub enum CodeKind {
 }
 
 /// A signal or error of the module, with the words of its arguments and results.
-#[derive(Debug, Drop)]
+#[derive(Drop)]
 pub struct CodeSignal {
     pub kind: CodeKind,
     pub name: Name,
@@ -22,7 +22,7 @@ pub struct CodeSignal {
 }
 
 /// An imported item, with the words of its arguments and results.
-#[derive(Clone, Copy, Debug, PartialEq, Eq)]
+#[derive(Clone, Copy)]
 pub struct CodeLink {
     pub kind: CodeKind,
     pub args: u64,
@@ -30,7 +30,7 @@ pub struct CodeLink {
 }
 
 /// An instruction with its offset in bytes, and the words on the operand stack before it, which `validate` fills.
-#[derive(Clone, Copy, Debug, PartialEq, Eq)]
+#[derive(Clone, Copy)]
 pub struct CodeEntry {
     pub at: u32,
     pub depth: u32,
@@ -38,7 +38,7 @@ pub struct CodeEntry {
 }
 
 /// What an arm is for: a signal of the module, an imported one, a predeclared one, any, or the passing of a jump.
-#[derive(Clone, Copy, Debug, PartialEq, Eq)]
+#[derive(Clone, Copy)]
 pub enum Label {
     Any,
     Unwind,
@@ -49,7 +49,7 @@ pub enum Label {
 }
 
 /// An arm: its labels, the slot and the number of its parameters' words, and its region of the code.
-#[derive(Debug, Drop)]
+#[derive(Drop)]
 pub struct Arm {
     pub labels: Labels,
     pub slot: u16,
@@ -59,7 +59,7 @@ pub struct Arm {
 }
 
 /// A catch phrase: enabled from one offset up to another, with its arms.
-#[derive(Debug, Drop)]
+#[derive(Drop)]
 pub struct Phrase {
     pub from: u32,
     pub to: u32,
@@ -68,7 +68,7 @@ pub struct Phrase {
 
 /// A procedure: the words of its arguments, results and frame, the most words that its operand stack may have, its
 /// instructions in order of offset, and its phrases.
-#[derive(Debug, Drop)]
+#[derive(Drop)]
 pub struct CodeProcedure {
     pub name: Name,
     pub args: u16,
@@ -80,7 +80,7 @@ pub struct CodeProcedure {
 }
 
 /// The code of a module. Procedure 0 is its body.
-#[derive(Debug, Drop)]
+#[derive(Drop)]
 pub struct ModuleCode {
     pub name: Name,
     pub global_words: u16,

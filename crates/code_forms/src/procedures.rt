@@ -11,7 +11,7 @@ use std::marker::Model;
 use std::mem;
 
 /// The procedures of a module, by number.
-#[derive(Debug, Drop)]
+#[derive(Drop)]
 pub struct CodeProcedures {
     items: Vec<CodeProcedure>,
 }

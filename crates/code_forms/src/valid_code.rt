@@ -5,7 +5,7 @@ use crate::module_code::ModuleCode;
 use std::marker::Model;
 
 /// The code of a module that is valid, with the depth beside each instruction.
-#[derive(Debug, Drop)]
+#[derive(Drop)]
 pub struct ValidCode {
     code: ModuleCode,
 }

@@ -19,7 +19,7 @@ pub enum Mark {
 }
 
 /// Out of a part: in any case, or where the word on top is true, or where it is not.
-#[derive(Clone, Copy, Debug, PartialEq, Eq)]
+#[derive(Clone, Copy)]
 pub enum Leap {
     Anyhow,
     Where(bool),
@@ -27,7 +27,7 @@ pub enum Leap {
 
 /// Where a jump of the text goes: the start of a numbered statement or the place after it, the statements of a numbered
 /// label, or the return.
-#[derive(Clone, Copy, Debug, PartialEq, Eq)]
+#[derive(Clone, Copy)]
 pub enum Point {
     Start(u32),
     After(u32),

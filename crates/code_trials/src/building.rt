@@ -10,7 +10,7 @@ use std::alloc::Global;
 use std::test::Fail;
 
 /// An arm with its labels, slot, words, start and end.
-#[derive(Clone, Copy, Debug)]
+#[derive(Clone, Copy)]
 pub struct Handler<'a> {
     pub labels: &'a [Label],
     pub slot: u16,
@@ -20,7 +20,7 @@ pub struct Handler<'a> {
 }
 
 /// A phrase with its range and arms.
-#[derive(Clone, Copy, Debug)]
+#[derive(Clone, Copy)]
 pub struct Catch<'a> {
     pub from: u32,
     pub to: u32,
@@ -88,7 +88,7 @@ pub fn phrases_of(alloc: Global, catches: &[Catch<'_>]) -> Result<CatchTable, Ou
 }
 
 /// A procedure's words, instructions and phrases.
-#[derive(Clone, Copy, Debug)]
+#[derive(Clone, Copy)]
 pub struct Own<'a> {
     pub args: u16,
     pub results: u16,

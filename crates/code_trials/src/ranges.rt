@@ -54,33 +54,26 @@ fn words_with<'a>(catches: &'a [Catch<'a>]) -> Own<'a> {
 
 #[test]
 fn words_of_procedures(rt: HostRuntime) -> Result<(), Fail> {
-    let rows = [
-        (words(0, 0, FRAME_WORDS, STACK_WORDS), true),
-        (words(0, 0, 2_049, 0), false),
-        (words(0, 0, 0, 65_536), false),
-        (words(1_024, 1_024, 2_048, 0), true),
-        (words(1_024, 1_024, 2_047, 0), false),
-        (words(u16::MAX, u16::MAX, 2_048, 0), false),
-    ];
-    for (own, wanted) in rows {
-        assert_eq!(rt; fits(rt.alloc(), own)?, wanted, "{own:?}");
-    }
+    let alloc = rt.alloc();
+    assert!(rt; fits(alloc, words(0, 0, FRAME_WORDS, STACK_WORDS))?);
+    assert!(rt; !fits(alloc, words(0, 0, 2_049, 0))? && !fits(alloc, words(0, 0, 0, 65_536))?);
+    assert!(rt; fits(alloc, words(1_024, 1_024, 2_048, 0))?);
+    assert!(rt; !fits(alloc, words(1_024, 1_024, 2_047, 0))?);
+    assert!(rt; !fits(alloc, words(u16::MAX, u16::MAX, 2_048, 0))?);
     Ok(())
+}
+
+fn fits_all(alloc: Global, all: &[Own<'_>]) -> Result<bool, Fail> {
+    let procedures = procedures_of(alloc, all)?;
+    Ok(module_with(alloc, procedures)?.is_some())
 }
 
 #[test]
 fn first_procedure(rt: HostRuntime) -> Result<(), Fail> {
     let alloc = rt.alloc();
-    let rows: [(&[Own<'_>], bool); 4] = [
-        (&[], false),
-        (&[BODY], true),
-        (&[words(1, 0, 2, 0), BODY], false),
-        (&[words(0, 1, 2, 0), BODY], false),
-    ];
-    for (all, wanted) in rows {
-        let made = module_with(alloc, procedures_of(alloc, all)?)?;
-        assert_eq!(rt; made.is_some(), wanted, "{all:?}");
-    }
+    assert!(rt; fits_all(alloc, &[BODY])? && !fits_all(alloc, &[])?);
+    assert!(rt; !fits_all(alloc, &[words(1, 0, 2, 0), BODY])?);
+    assert!(rt; !fits_all(alloc, &[words(0, 1, 2, 0), BODY])?);
     Ok(())
 }
 
@@ -107,22 +100,17 @@ fn at_offsets(alloc: Global, offsets: &[u32]) -> Result<CodeProcedures, Fail> {
     Ok(procedures)
 }
 
+fn fits_at(alloc: Global, offsets: &[u32]) -> Result<bool, Fail> {
+    let procedures = at_offsets(alloc, offsets)?;
+    Ok(module_with(alloc, procedures)?.is_some())
+}
+
 #[test]
 fn offsets(rt: HostRuntime) -> Result<(), Fail> {
     let alloc = rt.alloc();
-    let rows: [(&[u32], bool); 7] = [
-        (&[], false),
-        (&[0], true),
-        (&[1], false),
-        (&[0, 1, 2], true),
-        (&[0, 2], false),
-        (&[0, 1, 1], false),
-        (&[u32::MAX], false),
-    ];
-    for (all, wanted) in rows {
-        let made = module_with(alloc, at_offsets(alloc, all)?)?;
-        assert_eq!(rt; made.is_some(), wanted, "{all:?}");
-    }
+    assert!(rt; fits_at(alloc, &[0])? && fits_at(alloc, &[0, 1, 2])?);
+    assert!(rt; !fits_at(alloc, &[])? && !fits_at(alloc, &[1])? && !fits_at(alloc, &[0, 2])?);
+    assert!(rt; !fits_at(alloc, &[0, 1, 1])? && !fits_at(alloc, &[u32::MAX])?);
     Ok(())
 }
 
@@ -145,28 +133,26 @@ fn fits_labelled(alloc: Global, labels: &[Label]) -> Result<bool, Fail> {
 
 #[test]
 fn labels(rt: HostRuntime) -> Result<(), Fail> {
-    let rows: [(&[Label], bool); 8] = [
-        (&[], false),
-        (&[Label::Own(1)], true),
-        (&[Label::Any, Label::Own(2)], false),
-        (&[Label::Link(0)], false),
-        (&[Label::Link(1), Label::Link(2)], true),
-        (&[Label::Link(3)], false),
-        (&[Label::Own(u32::MAX)], false),
-        (
-            &[Label::Unwind, Label::BoundsFault, Label::ZeroDivisor],
-            true,
-        ),
-    ];
-    for (labels, wanted) in rows {
-        assert_eq!(rt; fits_labelled(rt.alloc(), labels)?, wanted, "{labels:?}");
-    }
+    let alloc = rt.alloc();
+    assert!(rt; fits_labelled(alloc, &[Label::Own(1)])? && !fits_labelled(alloc, &[])?);
+    assert!(rt; fits_labelled(alloc, &[Label::Link(1), Label::Link(2)])?);
+    assert!(rt;
+        fits_labelled(
+            alloc,
+            &[Label::Unwind, Label::BoundsFault, Label::ZeroDivisor]
+        )?
+    );
+    assert!(rt; !fits_labelled(alloc, &[Label::Any, Label::Own(2)])?);
+    assert!(rt;
+        !fits_labelled(alloc, &[Label::Link(0)])? && !fits_labelled(alloc, &[Label::Link(3)])?
+    );
+    assert!(rt; !fits_labelled(alloc, &[Label::Own(u32::MAX)])?);
     let catches = [Catch {
         from: 0,
         to: 1,
         arms: &[],
     }];
-    assert!(rt; !fits(rt.alloc(), words_with(&catches))?);
+    assert!(rt; !fits(alloc, words_with(&catches))?);
     Ok(())
 }
 
@@ -182,23 +168,20 @@ fn with_signals(alloc: Global, signals: CodeSignals, globals: u16) -> Result<boo
     Ok(made.is_some())
 }
 
+fn fits_signal(alloc: Global, kind: CodeKind, results: u16) -> Result<bool, Fail> {
+    let signals = List::of(alloc, signal_of(alloc, kind, 3, results)?)?;
+    with_signals(alloc, signals, 0)
+}
+
 #[test]
 fn signals_and_globals(rt: HostRuntime) -> Result<(), Fail> {
     let alloc = rt.alloc();
-    let rows = [
-        (CodeKind::Procedure, 0, false),
-        (CodeKind::Signal, 9, true),
-        (CodeKind::Error, 0, true),
-        (CodeKind::Error, 1, false),
-    ];
-    for (kind, results, wanted) in rows {
-        let signals = List::of(alloc, signal_of(alloc, kind, 3, results)?)?;
-        assert_eq!(rt;
-            with_signals(alloc, signals, 0)?,
-            wanted,
-            "{kind:?} {results}"
-        );
-    }
+    assert!(rt;
+        fits_signal(alloc, CodeKind::Signal, 9)? && fits_signal(alloc, CodeKind::Error, 0)?
+    );
+    assert!(rt;
+        !fits_signal(alloc, CodeKind::Procedure, 0)? && !fits_signal(alloc, CodeKind::Error, 1)?
+    );
     assert!(rt; with_signals(alloc, signals_of(alloc)?, 16_384)?);
     assert!(rt; !with_signals(alloc, signals_of(alloc)?, 16_385)?);
     Ok(())
@@ -224,49 +207,52 @@ fn link(kind: CodeKind, results: u64) -> CodeLink {
     }
 }
 
+fn fits_strings(alloc: Global, count: usize) -> Result<bool, Fail> {
+    let strings = strings_of(alloc, count)?;
+    with_strings(alloc, strings, link(CodeKind::Procedure, u64::MAX))
+}
+
+fn fits_string(alloc: Global, length: usize) -> Result<bool, Fail> {
+    let mut string: Bytes = List::new(alloc);
+    for _ in 0..length {
+        string.push(7)?;
+    }
+    let strings = List::of(alloc, string)?;
+    with_strings(alloc, strings, link(CodeKind::Procedure, u64::MAX))
+}
+
+fn fits_link(alloc: Global, kind: CodeKind, results: u64) -> Result<bool, Fail> {
+    let strings = strings_of(alloc, 0)?;
+    with_strings(alloc, strings, link(kind, results))
+}
+
 #[test]
 fn strings_and_links(rt: HostRuntime) -> Result<(), Fail> {
     let alloc = rt.alloc();
-    let any_link = link(CodeKind::Procedure, u64::MAX);
-    for (count, wanted) in [(DISTINCT_STRINGS, true), (65_536, false)] {
-        let strings = strings_of(alloc, count)?;
-        assert_eq!(rt; with_strings(alloc, strings, any_link)?, wanted);
-    }
-    for (length, wanted) in [(STRING_BYTES, true), (32_768, false)] {
-        let mut string: Bytes = List::new(alloc);
-        for _ in 0..length {
-            string.push(7)?;
-        }
-        let strings = List::of(alloc, string)?;
-        assert_eq!(rt; with_strings(alloc, strings, any_link)?, wanted);
-    }
-    for (kind, results, wanted) in [
-        (CodeKind::Signal, 1, true),
-        (CodeKind::Error, 0, true),
-        (CodeKind::Error, 1, false),
-    ] {
-        let strings = strings_of(alloc, 0)?;
-        assert_eq!(rt; with_strings(alloc, strings, link(kind, results))?, wanted);
-    }
+    assert!(rt; fits_strings(alloc, DISTINCT_STRINGS)? && !fits_strings(alloc, 65_536)?);
+    assert!(rt; fits_string(alloc, STRING_BYTES)? && !fits_string(alloc, 32_768)?);
+    assert!(rt; fits_link(alloc, CodeKind::Signal, 1)? && fits_link(alloc, CodeKind::Error, 0)?);
+    assert!(rt; !fits_link(alloc, CodeKind::Error, 1)?);
     Ok(())
 }
 
+fn has_its_parts(code: &ModuleCode) -> bool {
+    let few = code.global_words == 4 && code.signals.len() == 2 && code.strings.len() == 2;
+    few && code.links.len() == 3
+        && code.procedures.len() == 2
+        && code.name.bytes() == b"M".as_slice()
+}
+
 /// The parts stand in the module as they were, and in the valid code.
+fn keeps_its_parts(alloc: Global) -> Result<bool, Fail> {
+    let procedures = procedures_of(alloc, &[BODY, BODY])?;
+    let code = module_with(alloc, procedures)?.ok_or("out of range")?;
+    let valid = validate(code).ok().ok_or("not valid")?;
+    Ok(has_its_parts(&valid.into_code()))
+}
+
 #[test]
 fn parts(rt: HostRuntime) -> Result<(), Fail> {
-    let alloc = rt.alloc();
-    let Some(code) = module_with(alloc, procedures_of(alloc, &[BODY, BODY])?)? else {
-        return Err(Fail::new("out of range"));
-    };
-    let Ok(valid) = validate(code) else {
-        return Err(Fail::new("not valid"));
-    };
-    let code = valid.into_code();
-    assert_eq!(rt; code.name.bytes(), b"M".as_slice());
-    assert_eq!(rt; code.global_words, 4);
-    assert_eq!(rt; code.signals.len(), 2);
-    assert_eq!(rt; code.strings.len(), 2);
-    assert_eq!(rt; code.links.len(), 3);
-    assert_eq!(rt; code.procedures.len(), 2);
+    assert!(rt; keeps_its_parts(rt.alloc())?);
     Ok(())
 }

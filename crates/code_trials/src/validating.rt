@@ -5,7 +5,7 @@ use code_forms::Instruction::{
     Add, ArmEnd, Call, CallLink, Jump, JumpBack, JumpIf, Leave, LeaveReturn, Lit, LoadG, Pop,
     Raise, RaiseHost, Return, StoreG, Str, ZeroL,
 };
-use code_forms::{BadCode, CodeEntry, CodeFault, Instruction, Label, ValidCode};
+use code_forms::{CodeEntry, CodeFault, Instruction, Label, ValidCode};
 use std::alloc::Global;
 use std::test::Fail;
 
@@ -218,7 +218,10 @@ fn body<'a>(code: &'a [Instruction], catches: &'a [Catch<'a>]) -> Own<'a> {
 fn holds(entries: &[CodeEntry], code: &[Instruction], depths: &[u32]) -> bool {
     let mut at: u32 = 0;
     for (entry, (instruction, depth)) in entries.iter().zip(code.iter().zip(depths.iter())) {
-        if entry.at != at || entry.depth != *depth || entry.instruction != *instruction {
+        if entry.at != at
+            || entry.depth != *depth
+            || entry.instruction.name() != instruction.name()
+        {
             return false;
         }
         at = at.saturating_add(instruction.bytes());
@@ -245,9 +248,9 @@ fn check_valid<'a>(
             if body_holds(&valid, code, depths) {
                 return Ok(());
             }
-            Err(Fail::new(format_args!("{code:?} is {valid:?}")))
+            Err(Fail::new("other depths"))
         }
-        Err(bad) => Err(Fail::new(format_args!("{code:?} is {bad:?}"))),
+        Err(_) => Err(Fail::new("not valid")),
     }
 }
 
@@ -259,12 +262,12 @@ fn check_fault<'a>(
     fault: CodeFault,
 ) -> Result<(), Fail> {
     match judged(alloc, &[body(code, catches), OTHER])? {
-        Ok(_) => Err(Fail::new(format_args!("{code:?} is valid"))),
+        Ok(_) => Err(Fail::new("valid")),
         Err(bad) => {
             if bad.procedure == 0 && bad.fault == fault {
                 return Ok(());
             }
-            Err(Fail::new(format_args!("{code:?} with {catches:?} is {bad:?}")))
+            Err(Fail::new("another fault"))
         }
     }
 }
@@ -384,19 +387,19 @@ const BAD: Own<'static> = Own {
     catches: &[],
 };
 
-/// The first procedure with a fault, and its number.
+/// Whether the first fault is that of this procedure.
+fn is_bad_at(alloc: Global, all: &[Own<'_>], procedure: u32) -> Result<bool, Fail> {
+    match judged(alloc, all)? {
+        Ok(_) => Ok(false),
+        Err(bad) => Ok(bad.procedure == procedure && bad.fault == CodeFault::StackDiffers(0)),
+    }
+}
+
 #[test]
 fn procedures(rt: HostRuntime) -> Result<(), Fail> {
-    let fault = CodeFault::StackDiffers(0);
-    for (all, procedure) in [
-        ([BAD, BAD, BAD], 0),
-        ([GOOD, BAD, BAD], 1),
-        ([GOOD, OTHER, BAD], 2),
-    ] {
-        match judged(rt.alloc(), &all)? {
-            Ok(_) => return Err(Fail::new("valid")),
-            Err(bad) => assert_eq!(rt; bad, BadCode { procedure, fault }),
-        }
-    }
+    let alloc = rt.alloc();
+    assert!(rt; is_bad_at(alloc, &[BAD, BAD, BAD], 0)?);
+    assert!(rt; is_bad_at(alloc, &[GOOD, BAD, BAD], 1)?);
+    assert!(rt; is_bad_at(alloc, &[GOOD, OTHER, BAD], 2)?);
     Ok(())
 }

@@ -14,7 +14,7 @@ use mesa_base::{List, Name, OutOfMemory};
 use std::alloc::Global;
 
 /// The instructions of a procedure in order of offset, its phrases, and the most words before an instruction.
-#[derive(Debug, Drop)]
+#[derive(Drop)]
 pub struct WrittenCode {
     pub depth: u32,
     pub code: CodeEntries,
@@ -22,7 +22,7 @@ pub struct WrittenCode {
 }
 
 /// The words of a procedure's arguments, of its results, and of its frame.
-#[derive(Clone, Copy, Debug, PartialEq, Eq)]
+#[derive(Clone, Copy)]
 pub struct FrameWords {
     pub args: u16,
     pub results: u16,

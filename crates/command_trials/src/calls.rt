@@ -23,7 +23,7 @@ pub struct Call<'a> {
 }
 
 /// What a call left: its exit status, and what `out` and `err` received.
-#[derive(Debug, Drop)]
+#[derive(Drop)]
 pub struct Left {
     pub status: u8,
     pub out: Bytes,
@@ -119,27 +119,18 @@ pub fn called(alloc: Global, call: &Call<'_>) -> Result<Left, OutOfMemory> {
     left_in(alloc, status, &objects)
 }
 
-/// A call with an input, in which no call on the outside fails.
-pub fn left_with(
-    rt: &HostRuntime,
-    words: &str,
-    text: &str,
-    bytes: &str,
-) -> Result<Left, OutOfMemory> {
+/// A call without input, in which no call on the outside fails.
+pub fn left_by(rt: &HostRuntime, words: &str, text: &str) -> Result<Left, OutOfMemory> {
     let made = Call {
         words,
         text: text.as_bytes(),
-        bytes: bytes.as_bytes(),
+        bytes: &[],
         folder: &[],
         input: &[],
         out: &[],
         err: &[],
     };
     called(rt.alloc(), &made)
-}
-
-pub fn left_by(rt: &HostRuntime, words: &str, text: &str) -> Result<Left, OutOfMemory> {
-    left_with(rt, words, text, "")
 }
 
 pub fn is_left(left: &Left, status: u8, out: &str, err: &str) -> bool {

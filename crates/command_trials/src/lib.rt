@@ -1,4 +1,4 @@
-//! Trials of `mesa` over objects in memory: texts that run, texts that are refused, limits, and calls that fail.
+//! Trials of `mesa` over objects in memory: limits, and calls that fail.
 #![tactic(auto)]
 
 #[cfg(test)]
@@ -7,7 +7,3 @@ mod calls;
 mod failing;
 #[cfg(test)]
 mod limits;
-#[cfg(test)]
-mod refusing;
-#[cfg(test)]
-mod running;

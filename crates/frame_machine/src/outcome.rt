@@ -1,14 +1,14 @@
 use machine_rules::End;
 
 /// The end of a run and the turns that are left.
-#[derive(Clone, Copy, Debug, PartialEq, Eq)]
+#[derive(Clone, Copy)]
 pub struct Outcome {
     pub end: End,
     pub left: u64,
 }
 
 /// Why a run came to no end: the input or the output failed.
-#[derive(Clone, Copy, Debug, PartialEq, Eq)]
+#[derive(Clone, Copy, PartialEq, Eq)]
 pub enum RunFault {
     ReadFault,
     WriteFault,

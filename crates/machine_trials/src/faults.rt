@@ -73,17 +73,9 @@ fn broken_then_right(
             room: row.room,
         },
     )?;
-    assert!(rt;
-        is_broken(&left, row.fault, row.out),
-        "{} left {left:?}",
-        row.out
-    );
+    assert!(rt; is_broken(&left, row.fault, row.out), "{}", row.out);
     let left = ran(alloc, machine, &with_turns(turns, "hi"))?;
-    assert!(rt;
-        is_left(&left, End::Done, 0, out),
-        "after {} left {left:?}",
-        row.out
-    );
+    assert!(rt; is_left(&left, End::Done, 0, out), "after {}", row.out);
     Ok(())
 }
 

@@ -87,10 +87,7 @@ const ROWS: [Row; 10] = [
 
 fn spent(rt: &impl Abort, alloc: Global, machine: &mut Machine, turns: u64) -> Result<(), Fail> {
     let left = ran(alloc, machine, &with_turns(turns, ""))?;
-    assert!(rt;
-        is_left(&left, End::Spent, 0, ""),
-        "{turns} turns left {left:?}"
-    );
+    assert!(rt; is_left(&left, End::Spent, 0, ""), "{turns} turns");
     Ok(())
 }
 

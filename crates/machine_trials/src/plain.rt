@@ -297,7 +297,7 @@ fn left_of_input(
     next: Option<u8>,
 ) -> Result<(), Fail> {
     let left = ran(alloc, machine, &with_turns(100, "hi"))?;
-    assert!(rt; left.next == next, "left {left:?}");
+    assert!(rt; left.next == next);
     Ok(())
 }
 

@@ -15,7 +15,7 @@ use std::sync::ledger::{Blank, Ledger};
 use std::test::Fail;
 
 /// What a run is given: its turns, its input, the numbers of the reads and of the writes that fail, and the room of its output.
-#[derive(Clone, Copy, Debug)]
+#[derive(Clone, Copy)]
 pub struct Given<'a> {
     pub turns: u64,
     pub input: &'a str,
@@ -36,7 +36,7 @@ pub fn with_turns<'a>(turns: u64, input: &'a str) -> Given<'a> {
 }
 
 /// What a run left: what it told, what was printed, and the next byte of its input.
-#[derive(Debug, Drop)]
+#[derive(Drop)]
 pub struct Left {
     pub told: Result<Outcome, RunFault>,
     pub out: Bytes,
@@ -133,7 +133,7 @@ fn cut_at_each(
         let left = ran(alloc, machine, &with_turns(turns, trial.input))?;
         assert!(rt;
             is_cut(&left, trial.out, printed),
-            "{turns} turns for {} left {left:?}",
+            "{turns} turns for {}",
             trial.out
         );
         printed = left.out.len();
@@ -152,7 +152,7 @@ fn ended_at(
         let left = ran(alloc, machine, &with_turns(turns, trial.input))?;
         assert!(rt;
             is_left(&left, trial.end, more, trial.out),
-            "{turns} turns for {} left {left:?}",
+            "{turns} turns for {}",
             trial.out
         );
     }

@@ -6,7 +6,7 @@ ghost use Rattle.mesa_command.specs.Forms.{IsGo, HasNoForm, file_of, is_base, is
 use mesa_base::{Words, begins_with_letter, decimal_value, is_letter_or_digit};
 
 /// The words `go NAME.mesa TURNS`: the file that is run, and the turns that the run may spend.
-#[derive(Clone, Copy, Debug)]
+#[derive(Clone, Copy)]
 pub struct Go<'a> {
     pub file: &'a str,
     pub turns: u64,

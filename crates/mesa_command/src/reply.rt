@@ -11,7 +11,7 @@ use mesa_base::{Decimal, Place, Sink, Status};
 use module_texts::TextFault;
 
 /// A signal that nothing caught, as a line calls it.
-#[derive(Clone, Copy, Debug)]
+#[derive(Clone, Copy)]
 pub enum UncaughtSignal<'a> {
     /// One of a module: the module's name, and its own.
     Own(&'a [u8], &'a [u8]),
@@ -20,7 +20,7 @@ pub enum UncaughtSignal<'a> {
 }
 
 /// How a call ends, with what its line shows.
-#[derive(Clone, Copy, Debug)]
+#[derive(Clone, Copy)]
 pub enum Reply<'a> {
     Done,
     Uncaught(UncaughtSignal<'a>),

@@ -5,7 +5,7 @@ use mesa_base::{OutOfMemory, Place};
 use std::alloc::{AllocError, AllocFailed};
 
 /// Why a text has no list of tokens: the first fault in the text, at its place.
-#[derive(Clone, Copy, Debug, PartialEq, Eq)]
+#[derive(Clone, Copy)]
 pub enum LexFault {
     /// No token begins with this byte, or it may not stand in the string that holds it.
     BadByte(Place),
@@ -21,7 +21,7 @@ pub enum LexFault {
 }
 
 /// Why the tokens of a text are none of a grammar.
-#[derive(Clone, Copy, Debug, PartialEq, Eq)]
+#[derive(Clone, Copy)]
 pub enum SyntaxFault {
     /// The tokens up to this one begin no text of the grammar, or at the text's end they are none.
     Unexpected(Place),

@@ -1,7 +1,7 @@
 use crate::token::Kind;
 
 /// What stands at a place of a text, with the count of its bytes.
-#[derive(Debug, Drop)]
+#[derive(Drop)]
 pub enum Lexed {
     /// A blank or a comment.
     Gap(usize),

@@ -1,5 +1,5 @@
 /// The marks. `_` and U+2190 are one mark, the arrow.
-#[derive(Clone, Copy, Debug, PartialEq, Eq)]
+#[derive(Clone, Copy, PartialEq, Eq)]
 pub enum Mark {
     Arrow,
     Semicolon,

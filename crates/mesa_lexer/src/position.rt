@@ -4,7 +4,7 @@ ghost use Rattle.mesa_lexer.specs.Positions.{IsBehind, passed, place_of, step_ov
 use mesa_base::Place;
 
 /// A line and a column, kept while bytes are passed. A line feed behind a carriage return ends no further line.
-#[derive(Clone, Copy, Debug)]
+#[derive(Clone, Copy)]
 pub struct Position {
     line: u32,
     column: u32,

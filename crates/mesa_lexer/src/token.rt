@@ -6,7 +6,7 @@ use crate::word::Word;
 use mesa_base::{Bytes, List, Name, Place};
 
 /// What a token is, with its value. A `_`, or U+2190, inside a text or as a character is the byte 137 octal.
-#[derive(Debug, Drop)]
+#[derive(Drop)]
 pub enum Kind {
     Name(Name),
     Word(Word),
@@ -17,14 +17,14 @@ pub enum Kind {
 }
 
 /// A token and where its first byte stands.
-#[derive(Debug, Drop)]
+#[derive(Drop)]
 pub struct Token {
     pub kind: Kind,
     pub place: Place,
 }
 
 /// The tokens of a text. Only `tokens` makes them.
-#[derive(Debug, Drop)]
+#[derive(Drop)]
 pub struct Tokens {
     items: List<Token>,
     end: Place,

@@ -1,6 +1,6 @@
 /// The reserved words of the language, and behind them the words that the language reserves and this project leaves out:
 /// tokens that no production takes (Language Manual, appendix on reserved words).
-#[derive(Clone, Copy, Debug, PartialEq, Eq)]
+#[derive(Clone, Copy, PartialEq, Eq)]
 pub enum Word {
     AndWord,
     AnyWord,

@@ -4,7 +4,7 @@ ghost use Rattle.module_runs.specs.declared.fault.ModuleFault.TheVariants.{Memor
 use mesa_base::OutOfMemory;
 
 /// Why the run of a module came to no end: the input or the output failed, or memory ran out.
-#[derive(Clone, Copy, Debug, PartialEq, Eq)]
+#[derive(Clone, Copy)]
 pub enum ModuleFault {
     ReadFault,
     WriteFault,

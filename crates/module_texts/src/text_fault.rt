@@ -7,7 +7,7 @@ use mesa_base::Place;
 use mesa_lexer::{LexFault, SyntaxFault};
 
 /// The first fault of a text.
-#[derive(Clone, Copy, Debug, PartialEq, Eq)]
+#[derive(Clone, Copy)]
 pub enum TextFault {
     Lexical(LexFault),
     Syntactic(SyntaxFault),

@@ -23,7 +23,7 @@ pub struct Instance {
 
 /// What a link of an instance is bound to: an entry of the items wanted of the loader; or the procedure, above 0, or the
 /// signal of this number of an instance.
-#[derive(Clone, Copy, Debug, PartialEq, Eq)]
+#[derive(Clone, Copy)]
 pub enum Link {
     Wanted(u32),
     To { instance: u32, number: u32 },

@@ -10,7 +10,7 @@ pub type JumpScopes = List<JumpScope>;
 
 /// A place of a body to which a jump goes: the start of a numbered statement or the place after it, the statements of a
 /// numbered label, or the return.
-#[derive(Clone, Copy, Debug, PartialEq, Eq)]
+#[derive(Clone, Copy)]
 pub enum Point {
     Start(u32),
     After(u32),
@@ -19,7 +19,7 @@ pub enum Point {
 }
 
 /// A jump: where it goes, and how many arms it leaves on its way.
-#[derive(Clone, Copy, Debug, PartialEq, Eq)]
+#[derive(Clone, Copy)]
 pub struct JumpScope {
     pub point: Point,
     pub arms: u32,

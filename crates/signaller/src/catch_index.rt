@@ -12,14 +12,14 @@ use std::marker::Model;
 use std::sync::ledger::Ledger;
 
 /// From its start to that of the next segment the innermost phrase is this one.
-#[derive(Clone, Copy, Debug, PartialEq, Eq)]
+#[derive(Clone, Copy)]
 pub struct Segment {
     pub start: u32,
     pub phrase: Option<u32>,
 }
 
 /// The segments of the code of a procedure, in order.
-#[derive(Debug, Drop)]
+#[derive(Drop)]
 pub struct CatchIndex {
     segments: Vec<Segment>,
 }

@@ -1,5 +1,5 @@
 /// An arm by the number of its phrase and its number in it.
-#[derive(Clone, Copy, Debug, PartialEq, Eq)]
+#[derive(Clone, Copy)]
 pub struct Place {
     pub phrase: usize,
     pub arm: usize,

@@ -10,13 +10,13 @@ use code_forms::{CatchTable, Phrase};
 use mesa_base::List;
 
 /// The phrase that is asked next; None means that no phrase is left to ask.
-#[derive(Clone, Copy, Debug, PartialEq, Eq)]
+#[derive(Clone, Copy)]
 pub struct Search {
     pub phrase: Option<u32>,
 }
 
 /// An arm, as arms are numbered over the whole table in its order, with the search beyond its phrase; or none.
-#[derive(Clone, Copy, Debug, PartialEq, Eq)]
+#[derive(Clone, Copy)]
 pub enum Found {
     Arm(u32, Search),
     Beyond,
@@ -26,7 +26,7 @@ pub enum Found {
 pub type LinkSignals = List<Option<SignalId>>;
 
 /// An instance, and for each of its links the signal to which it is bound, or none for a procedure.
-#[derive(Debug, Drop)]
+#[derive(Drop)]
 pub struct Links {
     pub instance: u32,
     pub signals: LinkSignals,

@@ -1,5 +1,5 @@
 /// A signal: one of an instance, by the instance's number and its own, or a predeclared one.
-#[derive(Clone, Copy, Debug, PartialEq, Eq)]
+#[derive(Clone, Copy, PartialEq, Eq)]
 pub enum SignalId {
     Own(u32, u32),
     BoundsFault,

@@ -11,7 +11,7 @@ use mesa_base::OutOfMemory;
 use std::alloc::Global;
 
 /// The phrases that are open, the next one to be opened, the offset to which the sweep has come, and the segments up to it.
-#[derive(Debug, Drop)]
+#[derive(Drop)]
 pub struct Sweep {
     pub opened: Vec<u32>,
     pub next: usize,

@@ -50,7 +50,7 @@ pub enum RepeatLabels {
 }
 
 /// The operators whose runs associate to the left.
-#[derive(Clone, Copy, Debug, PartialEq, Eq)]
+#[derive(Clone, Copy)]
 pub enum Operator {
     Or,
     And,
@@ -61,13 +61,13 @@ pub enum Operator {
     Modulo,
 }
 
-#[derive(Clone, Copy, Debug, PartialEq, Eq)]
+#[derive(Clone, Copy)]
 pub enum Sign {
     Positive,
     Negative,
 }
 
-#[derive(Clone, Copy, Debug, PartialEq, Eq)]
+#[derive(Clone, Copy)]
 pub enum Access {
     Public,
     Private,

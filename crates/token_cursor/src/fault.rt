@@ -2,7 +2,7 @@ use mesa_base::OutOfMemory;
 use std::alloc::{AllocError, AllocFailed};
 
 /// Why a parser function stopped, with the cursor at the token where it did.
-#[derive(Debug, Drop)]
+#[derive(Drop)]
 pub enum Stopped {
     Unexpected,
     TooDeep,
