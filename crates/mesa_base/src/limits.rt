@@ -51,5 +51,8 @@ pub const CONFIGURATION_DEPTH: usize = 32;
 /// The most activations of procedures that stand at one time.
 pub const ACTIVATIONS: usize = 8_192;
 
+/// The most nodes of the tree of a module that is translated.
+pub const TREE_NODES: usize = 4_194_304;
+
 /// The most bytes of an interface, object or image file.
 pub const FILE_BYTES: usize = 536_870_912;
