@@ -14,7 +14,7 @@ use Rattle.code_forms.specs.declared.module_code.Phrase.{Phrase}
 use Rattle.code_forms.specs.declared.around.Moved.{Moved}
 use Rattle.code_forms.specs.declared.bad_code.CodeFault.{CodeFault}
 use Rattle.code_forms.specs.Depths.{DepthsAreSettled}
-use Rattle.code_forms.specs.Ranges.{PhraseInRange, ProcedureInRange, CanBeRead, IsBody, KeepsRanges}
+use Rattle.code_forms.specs.Ranges.{AreFew, PhraseInRange, ProcedureInRange, CanBeRead, IsBody, KeepsRanges}
 use Rattle.code_forms.specs.Routine.{Routine, Spot, spot_of, spots, words_of, routine_with}
 use Rattle.code_forms.specs.Same.{bare_entry, with_code, bare_procedure, bare}
 use Rattle.code_forms.specs.Valid.{RoutineIsValid, FirstFault, AreValid, HaveDepths, IsFirstFaultOf}
@@ -94,6 +94,7 @@ same_range signals links p q e r =
       words = (let x = r.words in omega (arith, x, a, s, f));
       depth = (let x = r.depth in omega (arith, x, d));
       code = in_order_same p.code q.code (same_spots_of p q e) r.code;
+      few = subst (λ (l : List Phrase). AreFew l) (ap (λ (x : CodeProcedure). x.phrases) e) r.few;
       phrases = subst (λ (l : List Phrase). All (PhraseInRange signals links) l) (ap (λ (x : CodeProcedure). x.phrases) e) r.phrases;
     }
 
@@ -129,6 +130,7 @@ same_body (Some p) (Some q) h b =
 pub same_keeps : (globals : ℕ) (signals : List CodeSignal) (strings : List (List ℕ)) (links : List CodeLink) (ps qs : List CodeProcedure) → bare ps ≡ bare qs → KeepsRanges globals signals strings links ps → KeepsRanges globals signals strings links qs
 same_keeps globals signals strings links ps qs h r = record {
   few_globals = r.few_globals;
+  few_signals = r.few_signals;
   each_signal = r.each_signal;
   few_strings = r.few_strings;
   each_string = r.each_string;

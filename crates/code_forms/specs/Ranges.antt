@@ -46,12 +46,18 @@ LabelInRange signals links (l.Link k) = IsSignalLink (slice_get links k)
 LabelInRange signals links l.BoundsFault = Unit {0}
 LabelInRange signals links l.ZeroDivisor = Unit {0}
 
+-- a file has so few of them that 32 bits count them
+abbrev pub AreFew : {X : Type 0} → List X → Type 0
+AreFew xs = length xs < 2 ^ 32
+
 pub record ArmInRange (signals : List CodeSignal) (links : List CodeLink) (arm : Arm) : Type 0 where
   pub labelled : 0 < length arm.labels
+  pub few : AreFew arm.labels
   pub labels : All (LabelInRange signals links) arm.labels
 
 pub record PhraseInRange (signals : List CodeSignal) (links : List CodeLink) (phrase : Phrase) : Type 0 where
   pub armed : 0 < length phrase.arms
+  pub few : AreFew phrase.arms
   pub arms : All (ArmInRange signals links) phrase.arms
 
 -- there is an instruction; the first begins at 0, and each other where the one before it ends, within 32 bits
@@ -66,6 +72,7 @@ pub record ProcedureInRange (signals : List CodeSignal) (links : List CodeLink) 
   pub words : p.args + p.results ≤ p.frame
   pub depth : p.depth ≤ STACK_WORDS
   pub code : InOrder p.code
+  pub few : AreFew p.phrases
   pub phrases : All (PhraseInRange signals links) p.phrases
 
 -- what `validate` needs of a procedure to read it
@@ -82,10 +89,11 @@ IsBody (Some p) = (p.args ≡ 0) × (p.results ≡ 0)
 pub record KeepsRanges (globals : ℕ) (signals : List CodeSignal) (strings : List (List ℕ)) (links : List CodeLink)
     (procedures : List CodeProcedure) : Type 0 where
   pub few_globals : globals ≤ GLOBAL_WORDS
+  pub few_signals : AreFew signals
   pub each_signal : All SignalInRange signals
   pub few_strings : length strings ≤ DISTINCT_STRINGS
   pub each_string : All (λ s. length s ≤ STRING_BYTES) strings
   pub each_link : All LinkInRange links
   pub body : IsBody (slice_get procedures 0)
-  pub few_procedures : length procedures < 2 ^ 32
+  pub few_procedures : AreFew procedures
   pub each_procedure : All (ProcedureInRange signals links) procedures

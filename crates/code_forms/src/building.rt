@@ -3,7 +3,7 @@ ghost use Rattle.mesa_base.specs.declared.limits.TheConstants.{STRING_BYTES};
 ghost use Rattle.code_forms.specs.declared.module_code.CodeEntry.{CodeEntry};
 ghost use Rattle.code_forms.specs.Built.{HasParts};
 ghost use Rattle.code_forms.specs.Instructions.{bytes_of};
-ghost use Rattle.code_forms.specs.Ranges.{IsSignalWith, SignalInRange, IsLinkWith, LinkInRange, IsSignalLink, LabelInRange, ArmInRange, PhraseInRange, InOrder, ProcedureInRange, IsBody, KeepsRanges};
+ghost use Rattle.code_forms.specs.Ranges.{AreFew, IsSignalWith, SignalInRange, IsLinkWith, LinkInRange, IsSignalLink, LabelInRange, ArmInRange, PhraseInRange, InOrder, ProcedureInRange, IsBody, KeepsRanges};
 
 use crate::limits::{FRAME_WORDS, STACK_WORDS};
 use crate::module_code::{
@@ -13,6 +13,13 @@ use crate::module_code::{
 use crate::procedures::CodeProcedures;
 use mesa_base::limits::{DISTINCT_STRINGS, GLOBAL_WORDS, STRING_BYTES};
 use mesa_base::{Bytes, Name, Texts};
+
+// Whether 32 bits count so many.
+fn is_few(count: usize) -> bool
+    ensures { IsTrue result ↔ count < 2 ^ 32 }
+{
+    count <= u32::MAX as usize
+}
 
 fn is_signal_with(kind: CodeKind, results: u64) -> bool
     ensures { IsTrue result ↔ IsSignalWith kind results }
@@ -99,7 +106,7 @@ fn labels_in_range(signals: &[CodeSignal], links: &[CodeLink], labels: &[Label])
 fn arm_in_range(signals: &[CodeSignal], links: &[CodeLink], arm: &Arm) -> bool
     ensures { IsTrue result ↔ ArmInRange signals.now links.now arm.now }
 {
-    if arm.labels.is_empty() {
+    if arm.labels.is_empty() || !is_few(arm.labels.len()) {
         return false;
     }
     labels_in_range(signals, links, arm.labels.as_slice())
@@ -119,7 +126,7 @@ fn arms_in_range(signals: &[CodeSignal], links: &[CodeLink], arms: &[Arm]) -> bo
 fn phrase_in_range(signals: &[CodeSignal], links: &[CodeLink], phrase: &Phrase) -> bool
     ensures { IsTrue result ↔ PhraseInRange signals.now links.now phrase.now }
 {
-    if phrase.arms.is_empty() {
+    if phrase.arms.is_empty() || !is_few(phrase.arms.len()) {
         return false;
     }
     arms_in_range(signals, links, phrase.arms.as_slice())
@@ -193,7 +200,8 @@ fn procedure_in_range(signals: &[CodeSignal], links: &[CodeLink], procedure: &Co
     if !words_in_range(procedure) || !is_in_order(procedure.code.as_slice()) {
         return false;
     }
-    phrases_in_range(signals, links, procedure.phrases.as_slice())
+    is_few(procedure.phrases.len())
+        && phrases_in_range(signals, links, procedure.phrases.as_slice())
 }
 
 fn procedures_in_range(
@@ -236,7 +244,7 @@ fn keeps_ranges(
     if !strings_in_range(strings) || !signals_in_range(signals) || !links_in_range(links) {
         return false;
     }
-    if !has_body(procedures) || procedures.len() > u32::MAX as usize {
+    if !has_body(procedures) || !is_few(procedures.len()) || !is_few(signals.len()) {
         return false;
     }
     procedures_in_range(signals, links, procedures)

@@ -15,7 +15,7 @@ use Rattle.code_forms.specs.declared.module_code.Label.{Label}
 use Rattle.code_forms.specs.declared.module_code.Label.TheVariants as l
 use Rattle.code_forms.specs.declared.module_code.Phrase.{Phrase}
 use Rattle.code_forms.specs.Instructions.{bytes_of}
-use Rattle.code_forms.specs.Ranges.{IsSignalWith, IsLinkWith, IsSignalLink, LabelInRange, ArmInRange, PhraseInRange, InOrder, ProcedureInRange, IsBody, KeepsRanges}
+use Rattle.code_forms.specs.Ranges.{AreFew, IsSignalWith, IsLinkWith, IsSignalLink, LabelInRange, ArmInRange, PhraseInRange, InOrder, ProcedureInRange, IsBody, KeepsRanges}
 
 -- each passes
 abbrev pub every : {X : Type 0} → (X → Bool) → List X → Bool
@@ -72,21 +72,29 @@ label_holds signals links (l.Link k) e = signal_link_holds (slice_get links k) e
 label_holds signals links l.BoundsFault e = tt
 label_holds signals links l.ZeroDivisor e = tt
 
+abbrev pub few_test : {X : Type 0} → List X → Bool
+few_test xs = nat_lt (length xs) (2 ^ 32)
+
+few_holds : {X : Type 0} (xs : List X) → few_test xs ≡ true → AreFew xs
+few_holds xs e = ltb-true _ _ e
+
 abbrev pub arm_test : List CodeSignal → List CodeLink → Arm → Bool
-arm_test signals links a = nat_lt 0 (length a.labels) && every (label_test signals links) a.labels
+arm_test signals links a = nat_lt 0 (length a.labels) && (few_test a.labels && every (label_test signals links) a.labels)
 
 arm_holds : (signals : List CodeSignal) (links : List CodeLink) (a : Arm) → arm_test signals links a ≡ true → ArmInRange signals links a
 arm_holds signals links a e =
-    let b = and_parts (nat_lt 0 (length a.labels)) (every (label_test signals links) a.labels) e in
-    record { labelled = ltb-true 0 (length a.labels) b.0; labels = every_holds _ _ (label_holds signals links) a.labels b.1 }
+    let b = and_parts (nat_lt 0 (length a.labels)) _ e in
+    let c = and_parts (few_test a.labels) (every (label_test signals links) a.labels) b.1 in
+    record { labelled = ltb-true 0 (length a.labels) b.0; few = few_holds a.labels c.0; labels = every_holds _ _ (label_holds signals links) a.labels c.1 }
 
 abbrev pub phrase_test : List CodeSignal → List CodeLink → Phrase → Bool
-phrase_test signals links p = nat_lt 0 (length p.arms) && every (arm_test signals links) p.arms
+phrase_test signals links p = nat_lt 0 (length p.arms) && (few_test p.arms && every (arm_test signals links) p.arms)
 
 phrase_holds : (signals : List CodeSignal) (links : List CodeLink) (p : Phrase) → phrase_test signals links p ≡ true → PhraseInRange signals links p
 phrase_holds signals links p e =
-    let b = and_parts (nat_lt 0 (length p.arms)) (every (arm_test signals links) p.arms) e in
-    record { armed = ltb-true 0 (length p.arms) b.0; arms = every_holds _ _ (arm_holds signals links) p.arms b.1 }
+    let b = and_parts (nat_lt 0 (length p.arms)) _ e in
+    let c = and_parts (few_test p.arms) (every (arm_test signals links) p.arms) b.1 in
+    record { armed = ltb-true 0 (length p.arms) b.0; few = few_holds p.arms c.0; arms = every_holds _ _ (arm_holds signals links) p.arms c.1 }
 
 -- entries that follow each other from an offset on
 abbrev pub follows : ℕ → List CodeEntry → Bool
@@ -129,7 +137,7 @@ code_holds code t =
 
 abbrev pub procedure_test : List CodeSignal → List CodeLink → CodeProcedure → Bool
 procedure_test signals links p =
-    nat_le p.frame 2048 && (nat_le (p.args + p.results) p.frame && (nat_le p.depth 65535 && (code_test p.code && every (phrase_test signals links) p.phrases)))
+    nat_le p.frame 2048 && (nat_le (p.args + p.results) p.frame && (nat_le p.depth 65535 && (code_test p.code && (few_test p.phrases && every (phrase_test signals links) p.phrases))))
 
 procedure_holds : (signals : List CodeSignal) (links : List CodeLink) (p : CodeProcedure) → procedure_test signals links p ≡ true → ProcedureInRange signals links p
 procedure_holds signals links p t =
@@ -137,12 +145,14 @@ procedure_holds signals links p t =
     let c = and_parts (nat_le (p.args + p.results) p.frame) _ b.1 in
     let d = and_parts (nat_le p.depth 65535) _ c.1 in
     let e = and_parts (code_test p.code) _ d.1 in
+    let f = and_parts (few_test p.phrases) _ e.1 in
     record {
       frame = leb-true _ _ b.0;
       words = leb-true _ _ c.0;
       depth = leb-true _ _ d.0;
       code = code_holds p.code e.0;
-      phrases = every_holds _ _ (phrase_holds signals links) p.phrases e.1;
+      few = few_holds p.phrases f.0;
+      phrases = every_holds _ _ (phrase_holds signals links) p.phrases f.1;
     }
 
 abbrev pub body_test : Option CodeProcedure → Bool
@@ -157,7 +167,7 @@ abbrev pub module_test : ℕ → List CodeSignal → List (List ℕ) → List Co
 module_test globals signals strings links procedures =
     nat_le globals 16384 && (every (λ s. signal_test s.kind s.results) signals && (nat_le (length strings) 65535 && (every (λ s. nat_le (length s) 32767) strings
     && (every (λ k. link_test k.kind k.results) links && (body_test (slice_get procedures 0) && (nat_lt (length procedures) (2 ^ 32)
-    && every (procedure_test signals links) procedures))))))
+    && (few_test signals && every (procedure_test signals links) procedures)))))))
 
 pub keeps_ranges : (globals : ℕ) (signals : List CodeSignal) (strings : List (List ℕ)) (links : List CodeLink) (procedures : List CodeProcedure)
     → module_test globals signals strings links procedures ≡ true → KeepsRanges globals signals strings links procedures
@@ -169,13 +179,15 @@ keeps_ranges globals signals strings links procedures t =
     let e = and_parts (every (λ k. link_test k.kind k.results) links) _ d.1 in
     let f = and_parts (body_test (slice_get procedures 0)) _ e.1 in
     let g = and_parts (nat_lt (length procedures) (2 ^ 32)) _ f.1 in
+    let h = and_parts (few_test signals) _ g.1 in
     record {
       few_globals = leb-true _ _ a.0;
+      few_signals = few_holds signals h.0;
       each_signal = every_holds _ _ (λ s h. signal_holds s.kind s.results h) signals b.0;
       few_strings = leb-true _ _ c.0;
       each_string = every_holds _ _ (λ s h. leb-true _ _ h) strings d.0;
       each_link = every_holds _ _ (λ k h. link_holds k.kind k.results h) links e.0;
       body = body_holds (slice_get procedures 0) f.0;
       few_procedures = ltb-true _ _ g.0;
-      each_procedure = every_holds _ _ (procedure_holds signals links) procedures g.1;
+      each_procedure = every_holds _ _ (procedure_holds signals links) procedures h.1;
     }
