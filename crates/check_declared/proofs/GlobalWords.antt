@@ -8,7 +8,7 @@ use Rattle.mesa_types.specs.Shapes.{count_in, join, one, words_in_all}
 use Rattle.check_rules.specs.Around.{Around}
 use Rattle.check_rules.specs.Names.{settle}
 use Rattle.check_rules.specs.Parts.{first_name}
-use Rattle.check_rules.specs.PlainTypes.{PlainType, kind_of, words_of}
+use Rattle.interface_records.specs.PlainTypes.{PlainType, kind_of, words_of}
 use Rattle.check_rules.specs.Statements.{few_globals, global, local, meaning_of, variables}
 use Rattle.check_rules.specs.Steps.{State, Checked, and_then, only}
 use Rattle.check_rules.specs.Typed.{Home, Global}

@@ -6,7 +6,7 @@ use Rattle.mesa_base.specs.declared.identifier.Identifier.{Identifier}
 use Rattle.check_rules.specs.Around.{Around}
 use Rattle.check_rules.specs.Meanings.{Meaning}
 use Rattle.check_rules.specs.Names.{each_means, settle, shown, coming}
-use Rattle.check_rules.specs.PlainTypes.{PlainType}
+use Rattle.interface_records.specs.PlainTypes.{PlainType}
 use Rattle.check_rules.specs.Statements.{variable, variables, numbers_from}
 use Rattle.check_rules.specs.Steps.{State, Check, and_then}
 use Rattle.check_rules.specs.Typed.{Home}

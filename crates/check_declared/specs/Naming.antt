@@ -7,7 +7,7 @@ use Rattle.check_scopes.specs.declared.names.Names.{Names}
 use Rattle.check_rules.specs.Around.{Around}
 use Rattle.check_rules.specs.Names.{settle}
 use Rattle.check_rules.specs.Parts.{first_name}
-use Rattle.check_rules.specs.PlainTypes.{PlainType}
+use Rattle.interface_records.specs.PlainTypes.{PlainType}
 use Rattle.check_rules.specs.Statements.{variables, few_globals, meaning_of}
 use Rattle.check_rules.specs.Steps.{Check, ◌>>=◌, pure}
 use Rattle.check_rules.specs.Typed.{Home}

@@ -1,7 +1,7 @@
 -- What the code's values stand for.
 use Rattle.std.specs.Prelude.{Bool, true, false, List, [], Option, Some, None}
 use Rattle.mesa_types.specs.Plain.{expr, interval}
-use Rattle.check_rules.specs.PlainTypes.{PlainField, PlainType, fields, plain}
+use Rattle.interface_records.specs.PlainTypes.{PlainField, PlainType, fields, plain}
 use Rattle.check_rules.specs.Statements as rule
 use Rattle.check_state.specs.Views.{gave}
 use Rattle.check_declared.specs.declared.counting.Counter.{Counter}

@@ -3,7 +3,7 @@ ghost use Rattle.std.specs.Prelude.{◌≡◌, Ok};
 ghost use Rattle.mesa_types.specs.Constants as constants;
 ghost use Rattle.mesa_types.specs.Plain.{expr};
 ghost use Rattle.syntax_trees.specs.PlainSyntax as plain_syntax;
-ghost use Rattle.check_rules.specs.PlainTypes.{plain};
+ghost use Rattle.interface_records.specs.PlainTypes.{plain};
 ghost use Rattle.check_rules.specs.Meanings as meanings;
 ghost use Rattle.check_rules.specs.Statements as spec;
 ghost use Rattle.check_rules.specs.Steps.{and_then, or_refuse};

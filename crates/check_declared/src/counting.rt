@@ -3,7 +3,7 @@ ghost use Rattle.std.specs.Prelude.{◌≡◌, IfOk};
 ghost use Rattle.mesa_types.specs.Plain.{expr, interval};
 ghost use Rattle.mesa_types.specs.Typed as t;
 ghost use Rattle.check_rules.specs.Operators as operators;
-ghost use Rattle.check_rules.specs.PlainTypes.{plain};
+ghost use Rattle.interface_records.specs.PlainTypes.{plain};
 ghost use Rattle.check_rules.specs.Ranges as ranges;
 ghost use Rattle.check_rules.specs.Statements as spec;
 ghost use Rattle.check_state.specs.Gives.{GivesOnly};

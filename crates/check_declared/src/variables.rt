@@ -4,7 +4,7 @@ ghost use Rattle.mesa_base.specs.declared.limits.TheConstants.{GLOBAL_WORDS, OPE
 ghost use Rattle.mesa_types.specs.Shapes.{words_in_all};
 ghost use Rattle.check_rules.specs.Names.{settle};
 ghost use Rattle.check_rules.specs.Parts as parts;
-ghost use Rattle.check_rules.specs.PlainTypes.{plain, words_of as type_words};
+ghost use Rattle.interface_records.specs.PlainTypes.{plain, words_of as type_words};
 ghost use Rattle.check_rules.specs.Statements as spec;
 ghost use Rattle.check_rules.specs.Steps.{only};
 ghost use Rattle.check_rules.specs.declared.fault.Cause.TheVariants.{FrameTooLarge};

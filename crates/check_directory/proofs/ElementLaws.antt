@@ -7,8 +7,8 @@ use Rattle.mesa_types.specs.declared.types.Origin.{Origin}
 use Rattle.check_scopes.specs.Scopes.{Scope, over}
 use Rattle.check_rules.specs.Directory.{elements_from, elements_in, first_entry, is_own}
 use Rattle.check_rules.specs.Meanings as m
-use Rattle.check_rules.specs.PlainTypes as v
-use Rattle.check_rules.specs.PlainTypes.{PlainInterface, PlainType, plain}
+use Rattle.interface_records.specs.PlainTypes as v
+use Rattle.interface_records.specs.PlainTypes.{PlainInterface, PlainType, plain}
 use Rattle.check_state.proofs.TypeForms.{of_array, of_boolean, of_cardinal, of_character, of_enumeration, of_integer, of_string}
 use Rattle.check_directory.proofs.EntryLaws.{over_entries, over_none}
 

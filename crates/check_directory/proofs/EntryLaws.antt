@@ -10,7 +10,7 @@ use Rattle.mesa_types.specs.declared.faces.Item.{Item}
 use Rattle.mesa_types.specs.declared.types.FieldType.{FieldType, out-FieldType}
 use Rattle.check_rules.specs.Directory.{Entry, entry, first_entry, elements_from, elements_in, in_parts, in_fields, in_items, in_constants, in_types, items_from, of_import, constant_entry, type_entry}
 use Rattle.check_rules.specs.Meanings as m
-use Rattle.check_rules.specs.PlainTypes.{PlainType, PlainField, PlainInterface, parts_of, plain, plain_field, plain_item, plain_constant, plain_name}
+use Rattle.interface_records.specs.PlainTypes.{PlainType, PlainField, PlainInterface, parts_of, plain, plain_field, plain_item, plain_constant, plain_name}
 use Rattle.check_state.specs.Views.{seen_as, names, meaning}
 use Rattle.check_state.specs.declared.meaning.Meaning.{Meaning}
 use Rattle.check_state.proofs.ScopeLaws.{over_as, with_name_as}

@@ -7,7 +7,7 @@ use Rattle.mesa_base.specs.declared.identifier.Identifier.{Identifier}
 use Rattle.syntax_trees.specs.declared.syntax.DirectoryItem.{DirectoryItem}
 use Rattle.interface_records.specs.declared.interface.Interface.{Interface}
 use Rattle.check_rules.specs.Directory.{interface_at, names_in, place_in, put_some, those_of}
-use Rattle.check_rules.specs.PlainTypes.{PlainInterface, plain_interface}
+use Rattle.interface_records.specs.PlainTypes.{PlainInterface, plain_interface}
 use Rattle.check_directory.specs.Interfaces.{found}
 use Rattle.check_directory.proofs.PlaceLaws.{at_drop}
 

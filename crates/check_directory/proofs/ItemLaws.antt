@@ -10,7 +10,7 @@ use Rattle.check_scopes.specs.Shows.{means}
 use Rattle.check_scopes.specs.declared.names.Names.{Names}
 use Rattle.check_rules.specs.Directory.{Entry, directory, directory_scope, entries, entry, first_entry, used_names, using}
 use Rattle.check_rules.specs.Meanings as m
-use Rattle.check_rules.specs.PlainTypes.{PlainInterface, plain_interface}
+use Rattle.interface_records.specs.PlainTypes.{PlainInterface, plain_interface}
 use Rattle.check_rules.specs.Steps.{Checked, and_then, only, refuse}
 use Rattle.check_rules.specs.declared.fault.Cause.TheVariants.{UnknownName, TwiceDeclared}
 use Rattle.check_state.specs.Views.{meaning, names}

@@ -9,7 +9,7 @@ use Rattle.check_scopes.specs.Shows.{means}
 use Rattle.check_scopes.specs.declared.names.Names.{Names}
 use Rattle.check_rules.specs.Directory.{entries, first_entry, names_in, offered, opened, place_in, restricted, scope_at}
 use Rattle.check_rules.specs.Meanings as m
-use Rattle.check_rules.specs.PlainTypes.{PlainInterface, plain_interface}
+use Rattle.interface_records.specs.PlainTypes.{PlainInterface, plain_interface}
 use Rattle.check_state.specs.Views.{meaning, names, seen_as}
 use Rattle.check_state.specs.declared.meaning.Meaning.{Meaning}
 use Rattle.check_state.proofs.ScopeLaws.{over_as, slice_get_map}

@@ -2,7 +2,7 @@
 use Rattle.std.specs.Prelude.{List, map}
 use denote.Ref.{Bor}
 use Rattle.interface_records.specs.declared.interface.Interface.{Interface}
-use Rattle.check_rules.specs.PlainTypes.{PlainInterface, plain_interface}
+use Rattle.interface_records.specs.PlainTypes.{PlainInterface, plain_interface}
 
 abbrev pub found : List (Bor Interface) → List PlainInterface
 found = map (λ (i : Bor Interface). plain_interface i.now)

@@ -3,7 +3,7 @@ use Rattle.std.specs.Prelude.{ℕ, List, None, bytes_eq, not}
 use Rattle.syntax_trees.specs.declared.syntax.DirectoryItem.{DirectoryItem}
 use Rattle.check_scopes.specs.Scopes.{has}
 use Rattle.check_rules.specs.Directory.{entries, first_entry, using}
-use Rattle.check_rules.specs.PlainTypes.{PlainInterface}
+use Rattle.interface_records.specs.PlainTypes.{PlainInterface}
 use Rattle.check_rules.specs.Steps.{Checked, and_then, only}
 use Rattle.check_rules.specs.declared.fault.Cause.TheVariants.{UnknownName, TwiceDeclared}
 

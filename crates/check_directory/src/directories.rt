@@ -5,7 +5,7 @@ ghost use Rattle.check_directory.specs.Items as step;
 ghost use Rattle.check_state.specs.Gives.{GivesOnly};
 ghost use Rattle.check_state.specs.Views as view;
 ghost use Rattle.check_rules.specs.Directory as spec;
-ghost use Rattle.check_rules.specs.PlainTypes.{plain_interface};
+ghost use Rattle.interface_records.specs.PlainTypes.{plain_interface};
 
 use crate::entries::entries;
 use crate::offers::offer;

@@ -2,7 +2,7 @@
 ghost use Rattle.std.specs.Prelude.{◌≡◌, IfOk};
 ghost use Rattle.check_state.specs.Views as view;
 ghost use Rattle.check_rules.specs.Directory as spec;
-ghost use Rattle.check_rules.specs.PlainTypes.{plain_interface};
+ghost use Rattle.interface_records.specs.PlainTypes.{plain_interface};
 
 use crate::elements::{in_constants, in_items, in_types};
 use crate::interface_names::{constants, items, types};

@@ -3,7 +3,7 @@ ghost use Rattle.std.specs.Prelude.{◌≡◌, [], ◌∷◌, IfOk, OnOk};
 ghost use Rattle.check_scopes.specs.Scopes.{over};
 ghost use Rattle.check_state.specs.Views as view;
 ghost use Rattle.check_rules.specs.Directory as spec;
-ghost use Rattle.check_rules.specs.PlainTypes.{plain_item};
+ghost use Rattle.interface_records.specs.PlainTypes.{plain_item};
 ghost use Rattle.mesa_base.specs.Name.{IsName};
 
 use check_scopes::Names;

@@ -4,7 +4,7 @@ ghost use Rattle.std.specs.Option.{option_copied};
 ghost use Rattle.check_directory.specs.Interfaces.{found};
 ghost use Rattle.check_scopes.specs.Shows.{means};
 ghost use Rattle.check_rules.specs.Directory as spec;
-ghost use Rattle.check_rules.specs.PlainTypes.{plain_interface};
+ghost use Rattle.interface_records.specs.PlainTypes.{plain_interface};
 
 use crate::positions::directory_places;
 use check_scopes::Names;

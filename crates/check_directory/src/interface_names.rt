@@ -3,7 +3,7 @@ ghost use Rattle.std.specs.Prelude.{◌≡◌, [], ◌∷◌, map, IfOk, OnOk};
 ghost use Rattle.check_scopes.specs.Scopes.{over};
 ghost use Rattle.check_state.specs.Views as view;
 ghost use Rattle.check_rules.specs.Directory as spec;
-ghost use Rattle.check_rules.specs.PlainTypes.{plain, plain_item, plain_constant, plain_name};
+ghost use Rattle.interface_records.specs.PlainTypes.{plain, plain_item, plain_constant, plain_name};
 
 use crate::offers::offer;
 use check_scopes::Names;

@@ -2,7 +2,7 @@
 ghost use Rattle.std.specs.Prelude.{map};
 ghost use Rattle.check_state.specs.Gives.{GivesOnly};
 ghost use Rattle.check_rules.specs.CheckedModule as spec;
-ghost use Rattle.check_rules.specs.PlainTypes.{plain_interface};
+ghost use Rattle.interface_records.specs.PlainTypes.{plain_interface};
 ghost use Rattle.syntax_trees.specs.PlainSyntax as plain;
 
 use crate::directories::directory;

@@ -3,7 +3,7 @@ ghost use Rattle.std.specs.Prelude.{◌≡◌, List, map, IfOk};
 ghost use Rattle.check_scopes.specs.Shows.{means};
 ghost use Rattle.check_state.specs.Views as view;
 ghost use Rattle.check_rules.specs.Directory as spec;
-ghost use Rattle.check_rules.specs.PlainTypes.{plain_interface};
+ghost use Rattle.interface_records.specs.PlainTypes.{plain_interface};
 ghost use Rattle.mesa_base.specs.declared.identifier.Identifier.{Identifier as ListedName};
 
 use crate::entries::entries;

@@ -15,7 +15,7 @@ use Rattle.mesa_types.specs.declared.types.FieldType.{FieldType}
 use Rattle.check_rules.specs.Around.{Around}
 use Rattle.check_rules.specs.Checking as spec
 use Rattle.check_rules.specs.Parts.{Found, first, count, keys, kinds, kind_by, number_by, has_name, found, field_named, are_fields, complete, places_of}
-use Rattle.check_rules.specs.PlainTypes.{PlainField, PlainType, plain_field, words_of}
+use Rattle.interface_records.specs.PlainTypes.{PlainField, PlainType, plain_field, words_of}
 use Rattle.check_rules.specs.Ranges.{Arguments, Typed, Into}
 use Rattle.check_rules.specs.Reached.{Shape, OfFields, OfElements, NoShape, shape_of}
 use Rattle.check_rules.specs.declared.fault.Cause.TheVariants.{TypeMismatch, WrongCount}

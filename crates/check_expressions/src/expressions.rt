@@ -5,7 +5,7 @@ ghost use Rattle.mesa_types.specs.Plain.{expr};
 ghost use Rattle.syntax_trees.specs.PlainSyntax as plain;
 ghost use Rattle.syntax_trees.specs.Syntax as s;
 ghost use Rattle.check_rules.specs.Checking as spec;
-ghost use Rattle.check_rules.specs.PlainTypes as v;
+ghost use Rattle.interface_records.specs.PlainTypes as v;
 ghost use Rattle.check_state.specs.Gives.{Gives};
 ghost use Rattle.check_state.specs.Views as words;
 ghost use Rattle.check_selectors.specs.Views as reaching;

@@ -1,5 +1,5 @@
 //! What is asked of lists before their values, and lists without values.
-ghost use Rattle.check_rules.specs.PlainTypes as v;
+ghost use Rattle.interface_records.specs.PlainTypes as v;
 ghost use Rattle.check_state.specs.Gives.{Gives, GivesOnly};
 ghost use Rattle.check_state.specs.Views as words;
 ghost use Rattle.check_operands.specs.Lists as parts;

@@ -11,7 +11,7 @@ use Rattle.check_scopes.specs.Scopes.{Scope, over, nothing, with_name}
 use Rattle.check_scopes.specs.Shows.{means}
 use Rattle.check_scopes.specs.declared.names.Names.{Names}
 use Rattle.check_rules.specs.Directory.{place_in}
-use Rattle.check_rules.specs.PlainTypes.{PlainInterface, PlainItem, plain_interface, plain_item}
+use Rattle.interface_records.specs.PlainTypes.{PlainInterface, PlainItem, plain_interface, plain_item}
 use Rattle.check_rules.specs.Programs as program
 use Rattle.check_rules.specs.Programs.{exported, fits_item, offer_named, pair_for, pairs}
 use Rattle.check_rules.specs.Steps.{Checked, and_then}

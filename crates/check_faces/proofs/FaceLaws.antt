@@ -3,7 +3,7 @@ use Rattle.std.proofs.Common.{◌≡◌, List, [], ◌∷◌, map, refl, ap, ◌
 use Rattle.interface_records.specs.declared.interface.Interface.{Interface}
 use Rattle.mesa_types.specs.declared.faces.Item.{Item}
 use Rattle.mesa_types.specs.declared.types.FieldType.{FieldType, roll-FieldType, out-FieldType, roll-out-FieldType}
-use Rattle.check_rules.specs.PlainTypes.{face_of, field_of, item_of, plain_field, plain_interface, plain_item}
+use Rattle.interface_records.specs.PlainTypes.{face_of, field_of, item_of, plain_field, plain_interface, plain_item}
 use Rattle.check_state.proofs.TypeBack.{back}
 use Rattle.check_state.proofs.TypeForms.{parts_of_field}
 

@@ -6,7 +6,7 @@ use Rattle.interface_records.specs.declared.interface.Interface.{Interface}
 use Rattle.mesa_types.specs.declared.faces.Import.{Import}
 use Rattle.mesa_types.specs.declared.faces.Item.{Item}
 use Rattle.check_scopes.specs.Marks.{row, with_row}
-use Rattle.check_rules.specs.PlainTypes.{PlainItem, plain_interface, plain_item}
+use Rattle.interface_records.specs.PlainTypes.{PlainItem, plain_interface, plain_item}
 use Rattle.check_rules.specs.Programs.{first_row, imported, marked_from, other_rows, unused}
 use Rattle.check_directory.specs.Interfaces.{found}
 use Rattle.check_directory.proofs.PlaceLaws.{at_drop}

@@ -3,7 +3,7 @@ use Rattle.std.specs.Prelude.{ℕ, Bool, true, false, List, [], ◌∷◌, ◌++
 use Rattle.mesa_types.specs.declared.faces.Export.{Export}
 use Rattle.mesa_types.specs.declared.faces.Import.{Import}
 use Rattle.mesa_types.specs.declared.faces.Pair.{Pair}
-use Rattle.check_rules.specs.PlainTypes.{PlainInterface, PlainItem, face_of}
+use Rattle.interface_records.specs.PlainTypes.{PlainInterface, PlainItem, face_of}
 use Rattle.check_rules.specs.Programs.{Offer, fits_item, marked_from, pairs}
 use Rattle.check_rules.specs.Steps.{Checked, and_then}
 

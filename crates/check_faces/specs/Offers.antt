@@ -1,7 +1,7 @@
 -- What is offered, as the definition sees it.
 use Rattle.std.specs.Prelude.{List, map}
 use Rattle.mesa_base.specs.declared.identifier.Identifier.{Identifier}
-use Rattle.check_rules.specs.PlainTypes.{plain_item}
+use Rattle.interface_records.specs.PlainTypes.{plain_item}
 use Rattle.check_rules.specs.Programs as program
 use Rattle.check_faces.specs.declared.exports.Offer.{Offer}
 

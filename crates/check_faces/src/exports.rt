@@ -8,7 +8,7 @@ ghost use Rattle.check_scopes.specs.Shows.{means};
 ghost use Rattle.check_state.specs.Gives.{GivesOnly};
 ghost use Rattle.check_rules.specs.Directory.{place_in};
 ghost use Rattle.check_rules.specs.Parts.{same_types};
-ghost use Rattle.check_rules.specs.PlainTypes.{plain_field, plain_interface, plain_item};
+ghost use Rattle.interface_records.specs.PlainTypes.{plain_field, plain_interface, plain_item};
 ghost use Rattle.check_rules.specs.Programs as spec;
 
 use check_rules::{Cause, CheckFault};

@@ -2,7 +2,7 @@
 ghost use Rattle.std.specs.Prelude.{◌≡◌, ◌++◌, map, IfOk, OnOk};
 ghost use Rattle.check_directory.specs.Interfaces.{found};
 ghost use Rattle.check_faces.specs.Giving as step;
-ghost use Rattle.check_rules.specs.PlainTypes.{plain_interface, plain_item};
+ghost use Rattle.interface_records.specs.PlainTypes.{plain_interface, plain_item};
 ghost use Rattle.check_rules.specs.Programs as spec;
 
 use check_scopes::Marks;

@@ -13,7 +13,7 @@ use Rattle.check_rules.specs.Checking.{type_exp}
 use Rattle.check_rules.specs.Meanings.{Meaning, Variable}
 use Rattle.check_rules.specs.Names.{announce}
 use Rattle.check_rules.specs.Parts.{each_of}
-use Rattle.check_rules.specs.PlainTypes.{PlainField, PlainType}
+use Rattle.interface_records.specs.PlainTypes.{PlainField, PlainType}
 use Rattle.check_rules.specs.Programs.{Heading, heading, named_parameters, own_scope, parameters}
 use Rattle.check_rules.specs.Scopes.{Scope, nothing, outer, over}
 use Rattle.check_rules.specs.Statements.{fields_from, named_field}

@@ -7,7 +7,7 @@ use Rattle.mesa_types.specs.declared.faces.ItemKind.{ItemKind}
 use Rattle.check_rules.specs.Definitions.{item_meaning}
 use Rattle.check_rules.specs.Meanings.{Meaning}
 use Rattle.check_rules.specs.Names.{coming, each_means, settle, shown}
-use Rattle.check_rules.specs.PlainTypes.{plain_item}
+use Rattle.interface_records.specs.PlainTypes.{plain_item}
 use Rattle.check_rules.specs.Programs.{Heading, named_item}
 use Rattle.check_rules.specs.Steps.{State, and_then}
 use Rattle.check_heads.specs.Forms.{item_names, items}

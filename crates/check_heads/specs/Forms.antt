@@ -9,7 +9,7 @@ use Rattle.check_rules.specs.Definitions.{Defined, constants_by, defined, defini
 use Rattle.check_rules.specs.Meanings.{Meaning, TypeName}
 use Rattle.check_rules.specs.Names.{announce, settle}
 use Rattle.check_rules.specs.Parts.{first}
-use Rattle.check_rules.specs.PlainTypes.{PlainConstant, PlainItem, PlainType}
+use Rattle.interface_records.specs.PlainTypes.{PlainConstant, PlainItem, PlainType}
 use Rattle.check_rules.specs.Programs.{Heading, before_others, coming_scope, heading, named_item, own_scope, parameters}
 use Rattle.check_rules.specs.Ranges.{Into}
 use Rattle.check_rules.specs.Statements.{constant_meaning}

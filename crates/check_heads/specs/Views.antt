@@ -1,7 +1,7 @@
 -- What the code's values stand for.
 use Rattle.std.specs.Prelude.{map}
 use Rattle.check_rules.specs.Definitions as definition
-use Rattle.check_rules.specs.PlainTypes.{plain_constant, plain_item, plain_name}
+use Rattle.interface_records.specs.PlainTypes.{plain_constant, plain_item, plain_name}
 use Rattle.check_rules.specs.Programs as program
 use Rattle.check_state.specs.Views.{fields, names}
 use Rattle.check_heads.specs.declared.definitions.AllDefined.{AllDefined}

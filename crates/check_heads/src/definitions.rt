@@ -2,7 +2,7 @@
 ghost use Rattle.std.specs.Prelude.{◌≡◌, [], map, IfOk};
 ghost use Rattle.syntax_trees.specs.PlainSyntax as syntax;
 ghost use Rattle.check_rules.specs.Definitions as spec;
-ghost use Rattle.check_rules.specs.PlainTypes.{plain, plain_constant, plain_name};
+ghost use Rattle.interface_records.specs.PlainTypes.{plain, plain_constant, plain_name};
 ghost use Rattle.check_state.specs.Gives.{Gives};
 ghost use Rattle.check_state.specs.Views as words;
 ghost use Rattle.check_heads.specs.Forms as form;

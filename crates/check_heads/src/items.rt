@@ -2,7 +2,7 @@
 ghost use Rattle.std.specs.Prelude.{◌≡◌, map, IfOk, OnOk};
 ghost use Rattle.check_rules.specs.Definitions as spec;
 ghost use Rattle.check_rules.specs.Names.{coming};
-ghost use Rattle.check_rules.specs.PlainTypes.{plain_item};
+ghost use Rattle.interface_records.specs.PlainTypes.{plain_item};
 ghost use Rattle.check_rules.specs.Programs.{named_item as item_named};
 ghost use Rattle.check_state.specs.Gives.{Gives};
 ghost use Rattle.check_state.specs.Views as words;

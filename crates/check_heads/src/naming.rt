@@ -1,7 +1,7 @@
 //! Parameters and results as variables of their body.
 ghost use Rattle.std.specs.Prelude.{◌≡◌, ◌+◌, length, IfOk, OnOk};
 ghost use Rattle.check_rules.specs.Meanings as meaning;
-ghost use Rattle.check_rules.specs.PlainTypes.{plain_field};
+ghost use Rattle.interface_records.specs.PlainTypes.{plain_field};
 ghost use Rattle.check_rules.specs.Programs as program;
 ghost use Rattle.check_rules.specs.Statements as spec;
 ghost use Rattle.check_rules.specs.Typed.{Local};

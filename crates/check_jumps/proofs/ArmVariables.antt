@@ -5,7 +5,7 @@ use Rattle.mesa_types.specs.Shapes.{join, one}
 use Rattle.mesa_types.specs.Typed.{Kind, Kinds, NoKinds, AndKind}
 use Rattle.mesa_types.specs.declared.types.FieldType.{FieldType}
 use Rattle.check_rules.specs.Meanings.{Meaning, Variable}
-use Rattle.check_rules.specs.PlainTypes.{plain, plain_field, kind_of, kinds_of}
+use Rattle.interface_records.specs.PlainTypes.{plain, plain_field, kind_of, kinds_of}
 use Rattle.check_rules.specs.Scopes.{Scope, nothing}
 use Rattle.check_rules.specs.Statements.{fields_from, named_field}
 use Rattle.check_rules.specs.Typed.{Local}

@@ -4,7 +4,7 @@ use Rattle.std.specs.Prelude.{ℕ, Bool, true, false, ◌&&◌, Option, Some, No
 use Rattle.mesa_types.specs.Types.{types_in}
 use Rattle.mesa_types.specs.declared.types.TypeTree.{TypeTree}
 use Rattle.mesa_types.specs.declared.types.FieldType.{FieldType, roll-FieldType, roll-out-FieldType}
-use Rattle.check_rules.specs.PlainTypes.{PlainField, plain, plain_field, same, same_name, tree_of}
+use Rattle.interface_records.specs.PlainTypes.{PlainField, plain, plain_field, same, same_name, tree_of}
 use Rattle.check_rules.specs.Parts.{same_types, same_fields}
 use Rattle.check_rules.proofs.SoundTypes.{no_truth, both_left, both_right}
 use Rattle.check_rules.proofs.SoundSame.{types_same, bytes_same}

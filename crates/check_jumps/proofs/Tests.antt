@@ -4,7 +4,7 @@ use Rattle.std.specs.Prelude.{◌&&◌}
 use Rattle.std.proofs.lemmas.List.{drop_more, drop_all}
 use Rattle.check_rules.specs.Around.{ArmLabel, ForAny, ForUnwind, ForSignal, all_resumable, all_give, all_like}
 use Rattle.check_rules.specs.Parts.{same_fields}
-use Rattle.check_rules.specs.PlainTypes.{PlainField, PlainItem}
+use Rattle.interface_records.specs.PlainTypes.{PlainField, PlainItem}
 use Rattle.check_state.specs.declared.around.ArmLabel.{ArmLabel as Label}
 use Rattle.check_state.specs.Views.{arm_label}
 use Rattle.check_jumps.specs.Arms.{is_resumable, gives, is_like}

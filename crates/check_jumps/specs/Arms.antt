@@ -4,7 +4,7 @@ use Rattle.syntax_trees.specs.declared.syntax.QualifiedName.{QualifiedName}
 use Rattle.check_rules.specs.Around.{Around, ArmLabel, ForSignal, is_signal}
 use Rattle.check_rules.specs.Names.{qualified, signal_by}
 use Rattle.check_rules.specs.Parts.{last_of, same_fields, same_types}
-use Rattle.check_rules.specs.PlainTypes.{PlainField, PlainItem}
+use Rattle.interface_records.specs.PlainTypes.{PlainField, PlainItem}
 use Rattle.check_rules.specs.Steps.{Check, ◌>>=◌, lift}
 
 -- the signal or error that a name is of

@@ -2,7 +2,7 @@
 ghost use Rattle.std.specs.Prelude.{◌≡◌, map};
 ghost use Rattle.check_rules.specs.Around as spec;
 ghost use Rattle.check_rules.specs.Parts as parts;
-ghost use Rattle.check_rules.specs.PlainTypes.{plain_item};
+ghost use Rattle.interface_records.specs.PlainTypes.{plain_item};
 ghost use Rattle.check_state.specs.Views as view;
 ghost use Rattle.check_jumps.specs.Arms as label;
 

@@ -9,7 +9,7 @@ use Rattle.check_rules.specs.Meanings.{Meaning}
 use Rattle.check_rules.specs.Names.{announce, settle}
 use Rattle.check_rules.specs.Parts.{first, first_name}
 use Rattle.check_rules.specs.Phrases.{holds}
-use Rattle.check_rules.specs.PlainTypes.{PlainType, kind_of}
+use Rattle.interface_records.specs.PlainTypes.{PlainType, kind_of}
 use Rattle.check_rules.specs.Ranges.{Into}
 use Rattle.check_rules.specs.Scopes.{Scope, innermost}
 use Rattle.check_rules.specs.Statements.{Headed, Nothing, Variables, constant_meaning, declare, few_globals, meaning_of, variables}

@@ -6,7 +6,7 @@ use Rattle.mesa_types.specs.declared.types.TypeTree.{TypeTree}
 use Rattle.mesa_types.specs.declared.typed_tree.TypedExpr.{TypedExpr}
 use Rattle.mesa_types.specs.declared.typed_tree.TypedStmt.TheVariants as tree
 use Rattle.mesa_types.specs.declared.typed_tree.Condition.TheFolds.{fold-roll-TypedStmt}
-use Rattle.check_rules.specs.PlainTypes.{kind_of, plain}
+use Rattle.interface_records.specs.PlainTypes.{kind_of, plain}
 use Rattle.check_state.proofs.KindLaws.{kind_plain}
 
 pub declare_form : (hs : List t.Home) (k : TypeTree) → stmt (tree.Declare hs k) ≡ t.Declare hs (kind_of (plain k))

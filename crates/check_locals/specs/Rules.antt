@@ -10,7 +10,7 @@ use Rattle.check_rules.specs.Meanings.{Meaning, TypeName}
 use Rattle.check_rules.specs.Names.{announce, settle}
 use Rattle.check_rules.specs.Parts.{first, first_name}
 use Rattle.check_rules.specs.Phrases.{holds}
-use Rattle.check_rules.specs.PlainTypes.{PlainType, kind_of}
+use Rattle.interface_records.specs.PlainTypes.{PlainType, kind_of}
 use Rattle.check_rules.specs.Ranges.{Into}
 use Rattle.check_rules.specs.Statements.{Headed, Nothing, constant_meaning, declare}
 use Rattle.check_rules.specs.Steps.{Check, and_then, ◌>>=◌, lift, measured, pure}

@@ -3,7 +3,7 @@ use Rattle.std.specs.Prelude.{Option, Some, None}
 use Rattle.mesa_types.specs.Plain.{stmt}
 use Rattle.mesa_types.specs.Typed as t
 use Rattle.mesa_types.specs.declared.typed_tree.TypedStmt.{TypedStmt}
-use Rattle.check_rules.specs.PlainTypes.{plain}
+use Rattle.interface_records.specs.PlainTypes.{plain}
 use Rattle.check_rules.specs.Statements as rule
 use Rattle.check_state.specs.Views.{names}
 use Rattle.check_locals.specs.declared.headed.Headed.{Headed}

@@ -4,7 +4,7 @@ ghost use Rattle.mesa_types.specs.Plain.{expr, stmt};
 ghost use Rattle.syntax_trees.specs.PlainSyntax as plain;
 ghost use Rattle.mesa_types.specs.Typed as t;
 ghost use Rattle.check_rules.specs.Checking as spec;
-ghost use Rattle.check_rules.specs.PlainTypes as v;
+ghost use Rattle.interface_records.specs.PlainTypes as v;
 ghost use Rattle.check_rules.specs.Statements as rule;
 ghost use Rattle.check_rules.specs.Steps as step;
 ghost use Rattle.check_state.specs.Gives.{Gives};

@@ -5,7 +5,7 @@ ghost use Rattle.mesa_types.specs.Operators as operators;
 ghost use Rattle.syntax_trees.specs.PlainSyntax as tree;
 ghost use Rattle.mesa_types.specs.Typed as t;
 ghost use Rattle.check_rules.specs.Parts.{and_operation};
-ghost use Rattle.check_rules.specs.PlainTypes.{plain};
+ghost use Rattle.interface_records.specs.PlainTypes.{plain};
 ghost use Rattle.check_rules.specs.Values as spec;
 ghost use Rattle.check_state.specs.Gives.{GivesOnly};
 ghost use Rattle.check_state.specs.Views.{typed};

@@ -8,7 +8,7 @@ use Rattle.syntax_trees.specs.declared.syntax.Access.{Access}
 use Rattle.check_rules.specs.Meanings.{Procedure}
 use Rattle.check_rules.specs.Names.{settle}
 use Rattle.check_rules.specs.Parts.{first_name}
-use Rattle.check_rules.specs.PlainTypes.{PlainItem}
+use Rattle.interface_records.specs.PlainTypes.{PlainItem}
 use Rattle.check_rules.specs.Programs as spec
 use Rattle.check_rules.specs.Programs.{Declared, Heading, Offer, ProcedureHead, SignalHead, if_public, named_item, procedure_offer, signal_meanings, signal_offers}
 use Rattle.check_rules.specs.Steps.{State, Checked, and_then}

@@ -1,6 +1,6 @@
 -- What is found with one declaration more.
 use Rattle.std.proofs.Common.{◌≡◌, ◌+◌, ℕ, List, [], ◌∷◌, ◌++◌, refl, ap, arith}
-use Rattle.check_rules.specs.PlainTypes.{PlainItem}
+use Rattle.interface_records.specs.PlainTypes.{PlainItem}
 use Rattle.check_rules.specs.Programs.{Stated, Offer}
 use Rattle.check_programs.specs.Found.{Found, with_one}
 

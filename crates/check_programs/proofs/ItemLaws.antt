@@ -5,7 +5,7 @@ use Rattle.mesa_types.specs.declared.faces.Item.{Item}
 use Rattle.mesa_types.specs.declared.faces.ItemKind.{ItemKind}
 use Rattle.mesa_types.specs.declared.faces.ItemKind.TheVariants as item
 use Rattle.mesa_types.specs.declared.types.FieldType.{FieldType, roll-FieldType, out-FieldType, roll-out-FieldType}
-use Rattle.check_rules.specs.PlainTypes.{field_of, item_of, plain_field, plain_item}
+use Rattle.interface_records.specs.PlainTypes.{field_of, item_of, plain_field, plain_item}
 use Rattle.check_rules.specs.Programs as spec
 use Rattle.check_rules.specs.Programs.{Heading, named_item}
 use Rattle.check_state.proofs.TypeBack.{back}

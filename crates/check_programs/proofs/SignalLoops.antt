@@ -6,7 +6,7 @@ use Rattle.mesa_base.specs.declared.identifier.Identifier.{Identifier}
 use Rattle.mesa_types.specs.declared.faces.Item.{Item}
 use Rattle.check_rules.specs.Meanings.{Signal}
 use Rattle.check_rules.specs.Names.{each_means, coming}
-use Rattle.check_rules.specs.PlainTypes.{PlainItem, plain_item}
+use Rattle.interface_records.specs.PlainTypes.{PlainItem, plain_item}
 use Rattle.check_rules.specs.Programs.{Offer, procedure_offer, signal_meanings, signal_offers}
 use Rattle.check_rules.specs.Steps.{State}
 use Rattle.check_rules.specs.Typed.{OwnSignal}

@@ -6,7 +6,7 @@ use Rattle.syntax_trees.specs.Syntax as s
 use Rattle.mesa_types.specs.declared.typed_tree.TypedProcedure.{TypedProcedure}
 use Rattle.check_rules.specs.Around.{Around}
 use Rattle.check_rules.specs.Meanings.{Meaning}
-use Rattle.check_rules.specs.PlainTypes.{PlainItem}
+use Rattle.interface_records.specs.PlainTypes.{PlainItem}
 use Rattle.check_rules.specs.Programs.{DataHead, ProcedureHead, SignalHead, and_procedure, procedure, value_of}
 use Rattle.check_rules.specs.Scopes.{Scope}
 use Rattle.check_rules.specs.Statements.{Headed}

@@ -2,7 +2,7 @@
 use Rattle.std.specs.Prelude.{ℕ, ◌+◌, List, [], ◌∷◌, ◌++◌, map}
 use Rattle.syntax_trees.specs.Syntax as s
 use Rattle.check_rules.specs.Around.{Around}
-use Rattle.check_rules.specs.PlainTypes.{PlainItem}
+use Rattle.interface_records.specs.PlainTypes.{PlainItem}
 use Rattle.check_rules.specs.Programs.{Declared, Stated, Offer, all_declared, signals_of, offers_of}
 use Rattle.check_rules.specs.Steps.{Check, ◌>>=◌, pure}
 

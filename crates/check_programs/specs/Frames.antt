@@ -3,7 +3,7 @@ use Rattle.std.specs.Prelude.{◌+◌, List, nat_le}
 use Rattle.mesa_base.specs.declared.limits.TheConstants.{LOCAL_WORDS}
 use Rattle.mesa_base.specs.declared.place.Place.{Place}
 use Rattle.mesa_types.specs.Shapes.{words_in_all}
-use Rattle.check_rules.specs.PlainTypes.{PlainField, words_of_fields}
+use Rattle.interface_records.specs.PlainTypes.{PlainField, words_of_fields}
 use Rattle.check_rules.specs.Steps.{State, Checked, only}
 use Rattle.check_rules.specs.declared.fault.Cause.TheVariants.{FrameTooLarge}
 

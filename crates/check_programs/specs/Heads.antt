@@ -2,7 +2,7 @@
 use Rattle.std.specs.Prelude.{List, [], ◌∷◌}
 use Rattle.mesa_base.specs.declared.identifier.Identifier.{Identifier}
 use Rattle.mesa_types.specs.declared.faces.ItemKind.{ItemKind}
-use Rattle.check_rules.specs.PlainTypes.{PlainField, PlainItem}
+use Rattle.interface_records.specs.PlainTypes.{PlainField, PlainItem}
 
 -- under the first of several names
 abbrev pub first_item : ItemKind → List PlainField → List PlainField → List Identifier → PlainItem

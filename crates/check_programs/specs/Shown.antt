@@ -5,7 +5,7 @@ use Rattle.syntax_trees.specs.Syntax as s
 use Rattle.check_rules.specs.Typed as t
 use Rattle.check_rules.specs.Around.{Around}
 use Rattle.check_rules.specs.Checking.{phrase, statements, exits}
-use Rattle.check_rules.specs.PlainTypes.{PlainItem}
+use Rattle.interface_records.specs.PlainTypes.{PlainItem}
 use Rattle.check_rules.specs.Parts.{join_stmts}
 use Rattle.check_rules.specs.Phrases.{is_catch}
 use Rattle.check_rules.specs.Programs.{Offer, Stated, Whole, heads_are_done, marked_if, offers_of, signals_of}

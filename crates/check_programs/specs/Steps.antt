@@ -9,7 +9,7 @@ use Rattle.syntax_trees.specs.declared.syntax.Access.{Access}
 use Rattle.check_rules.specs.Around.{Around}
 use Rattle.check_rules.specs.Names.{announce}
 use Rattle.check_rules.specs.Parts.{first_name}
-use Rattle.check_rules.specs.PlainTypes.{words_of_fields}
+use Rattle.interface_records.specs.PlainTypes.{words_of_fields}
 use Rattle.check_rules.specs.Programs.{Declared, DataHead, Heading, heading, declared_procedure, declared_signals}
 use Rattle.check_rules.specs.Checking.{head}
 use Rattle.check_rules.specs.Steps.{Check, Checked, ◌>>=◌, pure, only, measured, within_operands}

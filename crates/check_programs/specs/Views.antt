@@ -2,7 +2,7 @@
 use Rattle.std.specs.Prelude.{map}
 use Rattle.mesa_types.specs.Plain.{kinds_of, plain_body, plain_procedure, stmt}
 use Rattle.mesa_types.specs.Typed as t
-use Rattle.check_rules.specs.PlainTypes.{plain_item}
+use Rattle.interface_records.specs.PlainTypes.{plain_item}
 use Rattle.check_rules.specs.Programs as program
 use Rattle.check_faces.specs.Offers.{offer}
 use Rattle.check_state.specs.Views.{names}

@@ -8,7 +8,7 @@ ghost use Rattle.check_state.specs.Gives.{Gives, GivesOnly};
 ghost use Rattle.check_state.specs.Views as words;
 ghost use Rattle.check_rules.specs.Meanings as meaning;
 ghost use Rattle.check_rules.specs.Names.{settle};
-ghost use Rattle.check_rules.specs.PlainTypes.{plain_item};
+ghost use Rattle.interface_records.specs.PlainTypes.{plain_item};
 ghost use Rattle.check_rules.specs.Programs as spec;
 ghost use Rattle.check_rules.specs.Typed as t;
 ghost use Rattle.mesa_types.specs.declared.faces.ItemKind.TheVariants as kinds;

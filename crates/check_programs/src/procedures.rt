@@ -4,7 +4,7 @@ ghost use Rattle.check_state.specs.Gives.{Gives};
 ghost use Rattle.check_state.specs.Views as words;
 ghost use Rattle.check_rules.specs.Around.{body_of};
 ghost use Rattle.check_rules.specs.Checking.{block as block_rule};
-ghost use Rattle.check_rules.specs.PlainTypes.{plain_item};
+ghost use Rattle.interface_records.specs.PlainTypes.{plain_item};
 ghost use Rattle.check_rules.specs.Programs as spec;
 ghost use Rattle.check_rules.specs.Steps.{in_scope};
 ghost use Rattle.mesa_types.specs.Plain.{kinds_of, plain_procedure, stmt};

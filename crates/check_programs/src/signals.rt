@@ -4,7 +4,7 @@ ghost use Rattle.check_programs.specs.Heads as step;
 ghost use Rattle.check_state.specs.Gives.{Gives};
 ghost use Rattle.check_state.specs.Views as view;
 ghost use Rattle.check_rules.specs.Names.{settle};
-ghost use Rattle.check_rules.specs.PlainTypes.{plain_item};
+ghost use Rattle.interface_records.specs.PlainTypes.{plain_item};
 ghost use Rattle.check_rules.specs.Programs as spec;
 
 use check_rules::CheckFault;

@@ -13,8 +13,8 @@ use Rattle.syntax_trees.specs.declared.syntax.TypeBase.TheVariants.{Unsaid, OfIn
 use Rattle.mesa_types.specs.Operators as words
 use Rattle.check_rules.specs.Typed as t
 use Rattle.check_rules.specs.Typed.{LinkedProcedure, LinkedSignal}
-use Rattle.check_rules.specs.PlainTypes as v
-use Rattle.check_rules.specs.PlainTypes.{PlainType, PlainField, words_of, words_of_fields}
+use Rattle.interface_records.specs.PlainTypes as v
+use Rattle.interface_records.specs.PlainTypes.{PlainType, PlainField, words_of, words_of_fields}
 use Rattle.check_rules.specs.Scopes.{Scope, find}
 use Rattle.check_rules.specs.Meanings.{Meaning, Constant, TypeName, Procedure, Signal, Interface, Later, Headless, NotImported}
 use Rattle.check_rules.specs.Steps.{State, Check, Checked, and_then, ◌>>=◌, pure, fail, lift, only, ensure, spend, in_scope, back, or_refuse}

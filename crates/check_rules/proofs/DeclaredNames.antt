@@ -11,7 +11,7 @@ use Rattle.mesa_types.specs.declared.faces.ItemKind.TheVariants as item
 use Rattle.interface_records.specs.declared.interface.Constant.{Constant}
 use Rattle.interface_records.specs.declared.interface.NamedType.{NamedType}
 use Rattle.check_rules.specs.Typed as t
-use Rattle.check_rules.specs.PlainTypes.{PlainType, PlainItem, PlainConstant, PlainName, PlainInterface, item_of, constant_of, named_of, interface_of, plain_interface, base_of}
+use Rattle.interface_records.specs.PlainTypes.{PlainType, PlainItem, PlainConstant, PlainName, PlainInterface, item_of, constant_of, named_of, interface_of, plain_interface, base_of}
 use Rattle.check_rules.specs.Meanings as meaning
 use Rattle.check_rules.specs.Meanings.{Meaning}
 use Rattle.check_rules.specs.Steps.{State, ◌>>=◌, lift, or_refuse}

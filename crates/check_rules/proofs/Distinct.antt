@@ -13,7 +13,7 @@ use Rattle.mesa_types.specs.declared.faces.ItemKind.TheVariants as item
 use Rattle.interface_records.specs.declared.interface.Interface.{Interface}
 use Rattle.interface_records.specs.declared.interface.Constant.{Constant}
 use Rattle.interface_records.specs.declared.interface.NamedType.{NamedType}
-use Rattle.check_rules.specs.PlainTypes.{PlainType, PlainItem, PlainConstant, PlainName, PlainInterface, item_of, constant_of, named_of, interface_of, plain_interface}
+use Rattle.interface_records.specs.PlainTypes.{PlainType, PlainItem, PlainConstant, PlainName, PlainInterface, item_of, constant_of, named_of, interface_of, plain_interface}
 use Rattle.check_rules.specs.Scopes.{innermost, has}
 use Rattle.check_rules.specs.Meanings as meaning
 use Rattle.check_rules.specs.Meanings.{Meaning, Later}
@@ -29,7 +29,7 @@ use Rattle.check_rules.specs.Definitions as d
 use Rattle.check_rules.specs.CheckedModule.{checked_definitions, interface_by, definitions, known_of, start, defined_as, lists}
 use Rattle.check_rules.specs.declared.fault.Cause.TheVariants.{TwiceDeclared, FrameTooLarge}
 use Rattle.check_rules.specs.Laws.{names_of_interface, NamesStandOnce}
-use Rattle.check_rules.specs.Lists.{NoneTwice}
+use Rattle.interface_records.specs.Lists.{NoneTwice}
 use Rattle.check_rules.specs.Places as places
 use Rattle.check_rules.proofs.Coming.{bit}
 use Rattle.check_rules.proofs.Keeping.{Kept, Anything, From, Later as LaterState}

@@ -1,7 +1,7 @@
 -- What the examples compute with.
 use Rattle.std.specs.Prelude.{ℕ}
 use Rattle.check_rules.specs.Scopes as scopes
-use Rattle.check_rules.specs.PlainTypes as plaintypes
+use Rattle.interface_records.specs.PlainTypes as plaintypes
 use Rattle.check_rules.specs.Ranges as ranges
 use Rattle.check_rules.specs.Operators as operators
 use Rattle.mesa_types.specs.Constants as constants

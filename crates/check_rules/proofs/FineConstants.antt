@@ -8,8 +8,8 @@ use Rattle.syntax_trees.specs.declared.syntax.Operator.{Operator}
 use Rattle.syntax_trees.specs.declared.syntax.Operator.TheVariants.{Or, And, Add, Subtract, Multiply, Divide, Modulo}
 use Rattle.check_rules.specs.Typed as t
 use Rattle.check_rules.specs.Typed.{Base, Signed, Unsigned}
-use Rattle.check_rules.specs.PlainTypes as v
-use Rattle.check_rules.specs.PlainTypes.{PlainType}
+use Rattle.interface_records.specs.PlainTypes as v
+use Rattle.interface_records.specs.PlainTypes.{PlainType}
 use Rattle.check_rules.specs.Operators.{Sort, Number, Letter, Truth, Other, Meeting, Applied, number_type, arithmetic, on_letter, meet, operation}
 use Rattle.check_rules.specs.Parts.{and_operation, and_part}
 use Rattle.check_rules.specs.Ranges as ranges

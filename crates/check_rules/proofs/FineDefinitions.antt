@@ -11,7 +11,7 @@ use Rattle.mesa_types.specs.Constants.{constant}
 use Rattle.mesa_types.specs.declared.faces.ItemKind.{ItemKind}
 use Rattle.mesa_types.specs.declared.faces.ItemKind.TheVariants as item
 use Rattle.check_rules.specs.Typed as t
-use Rattle.check_rules.specs.PlainTypes.{PlainType, PlainField, PlainItem, PlainConstant, PlainName, base_of}
+use Rattle.interface_records.specs.PlainTypes.{PlainType, PlainField, PlainItem, PlainConstant, PlainName, base_of}
 use Rattle.check_rules.specs.Scopes.{Scope, nothing, innermost}
 use Rattle.check_rules.specs.Meanings as m
 use Rattle.check_rules.specs.Meanings.{Meaning}

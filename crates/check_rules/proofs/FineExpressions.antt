@@ -7,7 +7,7 @@ use Rattle.mesa_types.specs.Operators as words
 use Rattle.mesa_types.specs.Constants.{constant}
 use Rattle.mesa_types.specs.declared.faces.ItemKind.TheVariants as item
 use Rattle.check_rules.specs.Typed as t
-use Rattle.check_rules.specs.PlainTypes.{PlainType, PlainField, words_of_fields}
+use Rattle.interface_records.specs.PlainTypes.{PlainType, PlainField, words_of_fields}
 use Rattle.check_rules.specs.Meanings as m
 use Rattle.check_rules.specs.Steps.{◌>>=◌, pure, lift, or_refuse}
 use Rattle.check_rules.specs.Around.{Around, in_constant, in_arm}

@@ -4,11 +4,11 @@ use Rattle.std.proofs.Common.{refl, sym, subst, ap, arith, inl, inr}
 use Rattle.std.proofs.lemmas.List.Elements.{All-head, All-tail}
 use Rattle.mesa_base.specs.declared.identifier.Identifier.{Identifier}
 use Rattle.syntax_trees.specs.Syntax as s
-use Rattle.check_rules.specs.PlainTypes.{PlainType, PlainField}
+use Rattle.interface_records.specs.PlainTypes.{PlainType, PlainField}
 use Rattle.check_rules.specs.Scopes.{has}
 use Rattle.check_rules.specs.Steps.{only}
 use Rattle.check_rules.specs.Parts.{distinct, each_of, names_of}
-use Rattle.check_rules.specs.Spelled.{EachHasName, NoneHasName, names_among}
+use Rattle.interface_records.specs.Spelled.{EachHasName, NoneHasName, names_among}
 use Rattle.check_rules.specs.TreeNames.{AllNames, Named, FieldsNamed, LabeledNamed}
 use Rattle.check_rules.specs.Written.{HasField, FieldsWritten, NamedWritten}
 use Rattle.check_rules.specs.declared.fault.Cause.TheVariants.{TwiceDeclared}

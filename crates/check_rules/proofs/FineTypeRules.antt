@@ -10,8 +10,8 @@ use Rattle.mesa_types.specs.Constants.{constant}
 use Rattle.mesa_types.specs.Operators.{shifted, truth}
 use Rattle.check_rules.specs.Typed as t
 use Rattle.check_rules.specs.Typed.{Base, Signed, Unsigned}
-use Rattle.check_rules.specs.PlainTypes as v
-use Rattle.check_rules.specs.PlainTypes.{PlainType, PlainField, base_of, depth_of, is_text, parts_of, same, sign_of, words_of}
+use Rattle.interface_records.specs.PlainTypes as v
+use Rattle.interface_records.specs.PlainTypes.{PlainType, PlainField, base_of, depth_of, is_text, parts_of, same, sign_of, words_of}
 use Rattle.check_rules.specs.Scopes.{Scope, innermost, outer}
 use Rattle.check_rules.specs.Meanings as m
 use Rattle.check_rules.specs.Meanings.{Meaning}

@@ -10,7 +10,7 @@ use Rattle.syntax_trees.specs.declared.syntax.Labels.TheVariants.{Any, Unwind, S
 use Rattle.syntax_trees.specs.declared.syntax.TypeBase.{TypeBase}
 use Rattle.syntax_trees.specs.declared.syntax.TypeBase.TheVariants.{Unsaid, OfInteger, OfCardinal, OfCharacter, OfName}
 use Rattle.check_rules.specs.Typed as t
-use Rattle.check_rules.specs.PlainTypes.{PlainType, PlainItem, base_of}
+use Rattle.interface_records.specs.PlainTypes.{PlainType, PlainItem, base_of}
 use Rattle.check_rules.specs.Scopes.{Scope, find}
 use Rattle.check_rules.specs.Meanings as m
 use Rattle.check_rules.specs.Meanings.{Meaning}

@@ -13,8 +13,8 @@ use Rattle.syntax_trees.specs.declared.syntax.Sign.{Sign}
 use Rattle.syntax_trees.specs.declared.syntax.Sign.TheVariants.{Positive, Negative}
 use Rattle.check_rules.specs.Typed as t
 use Rattle.check_rules.specs.Typed.{Signed, Unsigned, Relation, Home}
-use Rattle.check_rules.specs.PlainTypes as v
-use Rattle.check_rules.specs.PlainTypes.{PlainType, PlainField, base_of, conforms, fields, array_parts, is_text, one_base, words_of}
+use Rattle.interface_records.specs.PlainTypes as v
+use Rattle.interface_records.specs.PlainTypes.{PlainType, PlainField, base_of, conforms, fields, array_parts, is_text, one_base, words_of}
 use Rattle.check_rules.specs.Scopes.{Scope, nothing, outer}
 use Rattle.check_rules.specs.Meanings as m
 use Rattle.check_rules.specs.Meanings.{Meaning}

@@ -10,7 +10,7 @@ use Rattle.mesa_types.specs.declared.faces.Export.{Export}
 use Rattle.syntax_trees.specs.declared.syntax.DirectoryItem.{DirectoryItem}
 use Rattle.interface_records.specs.declared.interface.Interface.{Interface}
 use Rattle.check_rules.specs.Typed as t
-use Rattle.check_rules.specs.PlainTypes.{PlainInterface, face_of, plain_interface}
+use Rattle.interface_records.specs.PlainTypes.{PlainInterface, face_of, plain_interface}
 use Rattle.check_rules.specs.Steps.{State}
 use Rattle.check_rules.specs.Directory.{interface_at, put_some, those_of, place_in, names_in}
 use Rattle.check_rules.specs.Programs.{Offer, Whole, imported, other_rows, pairs, exported, offers_of}

@@ -11,7 +11,7 @@ use Rattle.syntax_trees.specs.Syntax as s
 use Rattle.syntax_trees.specs.SyntaxNodes.{type_nodes, named_fields_nodes, types_nodes, field_list_nodes, maybe_fields_nodes, head_nodes, defined_nodes, definition_nodes, definitions_nodes}
 use Rattle.mesa_types.specs.declared.faces.ItemKind.{ItemKind}
 use Rattle.mesa_types.specs.declared.faces.ItemKind.TheVariants as item
-use Rattle.check_rules.specs.PlainTypes.{PlainType, PlainField, PlainItem, PlainInterface}
+use Rattle.interface_records.specs.PlainTypes.{PlainType, PlainField, PlainItem, PlainInterface}
 use Rattle.check_rules.specs.Scopes.{nothing}
 use Rattle.check_rules.specs.Meanings as meaning
 use Rattle.check_rules.specs.Steps.{State, ◌>>=◌, lift, back}

@@ -8,7 +8,7 @@ use Rattle.syntax_trees.specs.Syntax as s
 use Rattle.mesa_types.specs.declared.faces.ItemKind.{ItemKind}
 use Rattle.mesa_types.specs.declared.faces.ItemKind.TheVariants as item
 use Rattle.interface_records.specs.declared.interface.Interface.{Interface}
-use Rattle.check_rules.specs.PlainTypes.{PlainType, PlainField, PlainItem, PlainInterface, field_of, item_of, interface_of, plain_interface}
+use Rattle.interface_records.specs.PlainTypes.{PlainType, PlainField, PlainItem, PlainInterface, field_of, item_of, interface_of, plain_interface}
 use Rattle.check_rules.specs.Scopes.{nothing}
 use Rattle.check_rules.specs.Meanings.{Later}
 use Rattle.check_rules.specs.Steps.{lift, State, Checked, and_then, ◌>>=◌, only, back}
@@ -24,7 +24,7 @@ use Rattle.check_rules.specs.Definitions as d
 use Rattle.check_rules.specs.CheckedModule.{checked_definitions, interface_by, definitions, known_of, start, defined_as, lists}
 use Rattle.check_rules.specs.declared.fault.Cause.TheVariants.{TwiceDeclared}
 use Rattle.check_rules.specs.Laws.{AllNamed, NoneNamed, names_of_fields, GivesNothing, HeadIsInForm, HeadsAreInForm}
-use Rattle.check_rules.specs.Spelled.{EachHasName, NoneHasName, names_among, with_name}
+use Rattle.interface_records.specs.Spelled.{EachHasName, NoneHasName, names_among, with_name}
 use Rattle.check_rules.proofs.Coming.{bit, is_coming, Grown, type_exp_grows, unnamed_fields_grow}
 use Rattle.check_rules.proofs.Distinct.{times, times_append, none_twice, same_name, turned_false, bit_small}
 use Rattle.check_rules.proofs.Outcomes.{Gives, then_ok, any_ok, both_ok, Any, any, bind, give, within, told_ok}

@@ -9,8 +9,8 @@ use Rattle.syntax_trees.specs.SyntaxNodes as sn
 use Rattle.mesa_types.specs.declared.faces.ItemKind.TheVariants as item
 use Rattle.mesa_types.specs.Operators as words
 use Rattle.check_rules.specs.Typed as t
-use Rattle.check_rules.specs.PlainTypes as v
-use Rattle.check_rules.specs.PlainTypes.{PlainType, PlainField, words_of, words_of_fields}
+use Rattle.interface_records.specs.PlainTypes as v
+use Rattle.interface_records.specs.PlainTypes.{PlainType, PlainField, words_of, words_of_fields}
 use Rattle.check_rules.specs.Scopes.{nothing, has}
 use Rattle.check_rules.specs.Meanings.{TypeName, Procedure}
 use Rattle.check_rules.specs.Steps.{refuse, Checked, Check, ◌>>=◌, pure, lift}

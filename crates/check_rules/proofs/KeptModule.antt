@@ -21,7 +21,7 @@ use Rattle.syntax_trees.specs.declared.syntax.Access.TheVariants.{Public, Privat
 use Rattle.syntax_trees.specs.declared.syntax.DirectoryItem.{DirectoryItem}
 use Rattle.interface_records.specs.declared.interface.Interface.{Interface}
 use Rattle.check_rules.specs.Typed as t
-use Rattle.check_rules.specs.PlainTypes.{PlainType, PlainField, PlainItem, PlainInterface, item_of, field_of, plain_interface, words_of_fields}
+use Rattle.interface_records.specs.PlainTypes.{PlainType, PlainField, PlainItem, PlainInterface, item_of, field_of, plain_interface, words_of_fields}
 use Rattle.check_rules.specs.Scopes.{Scope, nothing, has}
 use Rattle.check_rules.specs.Meanings.{Meaning}
 use Rattle.check_rules.specs.Meanings as meaning

@@ -9,7 +9,7 @@ use Rattle.syntax_trees.specs.declared.syntax.Labels.{Labels}
 use Rattle.syntax_trees.specs.declared.syntax.Labels.TheVariants.{Any, Unwind, Signals}
 use Rattle.syntax_trees.specs.declared.syntax.TypeBase.{TypeBase}
 use Rattle.syntax_trees.specs.declared.syntax.TypeBase.TheVariants.{Unsaid, OfInteger, OfCardinal, OfCharacter, OfName}
-use Rattle.check_rules.specs.PlainTypes.{PlainType, base_of}
+use Rattle.interface_records.specs.PlainTypes.{PlainType, base_of}
 use Rattle.check_rules.specs.Meanings.{Meaning, Constant, TypeName, Procedure, Signal, Interface, Later, Headless, NotImported}
 use Rattle.std.specs.Option.{option_or}
 use Rattle.check_rules.specs.Typed.{LinkedProcedure, LinkedSignal}

@@ -13,7 +13,7 @@ use Rattle.syntax_trees.specs.declared.syntax.TypeBase.{TypeBase}
 use Rattle.syntax_trees.specs.declared.syntax.TypeBase.TheVariants.{Unsaid, OfInteger, OfCardinal, OfCharacter, OfName}
 use Rattle.check_rules.specs.Typed as t
 use Rattle.check_rules.specs.Typed.{Relation, Home, Given}
-use Rattle.check_rules.specs.PlainTypes.{kind_of, PlainType, PlainField, base_of, conforms, is_text, words_of, depth_of, sign_of}
+use Rattle.interface_records.specs.PlainTypes.{kind_of, PlainType, PlainField, base_of, conforms, is_text, words_of, depth_of, sign_of}
 use Rattle.check_rules.specs.Meanings.{Meaning, Variable}
 use Rattle.check_rules.specs.Steps.{Check, ◌>>=◌, pure, or_refuse}
 use Rattle.check_rules.specs.Around.{parameters_of, Around, ArmHere, NoArm, InArm, ArmLabel, Seen, in_statement, is_unwinding, jump, leave_loop, exit_loop, next_round, go_to_seen, go_to, return, arm_for_raises, retry, continue, reject, all_resumable, all_give, results_of, resumed}

@@ -5,14 +5,14 @@ use Rattle.syntax_trees.specs.Syntax as s
 use Rattle.mesa_types.specs.declared.faces.Pair.{Pair}
 use Rattle.mesa_base.specs.declared.identifier.Identifier.{Identifier}
 use Rattle.check_rules.specs.Typed as t
-use Rattle.check_rules.specs.PlainTypes.{PlainItem, PlainInterface, item_of, face_of, plain_interface}
+use Rattle.interface_records.specs.PlainTypes.{PlainItem, PlainInterface, item_of, face_of, plain_interface}
 use Rattle.check_rules.specs.Steps.{State, Checked, Fault, and_then}
 use Rattle.check_rules.specs.Programs.{Offer, Whole, marked_from, imported, first_row, other_rows, pairs, pair_for, offer_named, fits_item, exported, offers_of}
 use Rattle.check_rules.specs.Directory.{those_of}
 use Rattle.check_rules.specs.CheckedModule.{checked, checked_definitions, program_by, module_of, lists, whole_of}
 use Rattle.check_rules.specs.Laws.{ComesToOne, EachTextHasOneResult, ImportsInOrder, ExportsInOrder, ShapesAreInOrder}
-use Rattle.check_rules.specs.Lists.{Ascend}
-use Rattle.check_rules.specs.Spelled.{item_numbers}
+use Rattle.interface_records.specs.Lists.{Ascend}
+use Rattle.interface_records.specs.Spelled.{item_numbers}
 
 -- One result.
 value_or : {A : Type 0} → A → Checked A → A

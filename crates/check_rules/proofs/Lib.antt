@@ -13,6 +13,7 @@ mod FineValues
 mod GivenFaces
 mod HeadCounts
 mod HeadForms
+pub mod HeadNames
 pub mod Keeping
 pub mod Kept
 pub mod KeptModule
@@ -67,5 +68,6 @@ pub mod SpelledLaw
 mod SpelledOrder
 pub mod SpelledShapes
 mod SpelledTypes
+pub mod Stamps
 pub mod Texts
 mod TypeLaws

@@ -6,8 +6,8 @@ use Rattle.mesa_base.specs.declared.identifier.Identifier.{Identifier}
 use Rattle.mesa_types.specs.declared.types.Origin.{Origin}
 use Rattle.mesa_types.specs.Operators.{Tried, Fine, Faulty, tried}
 use Rattle.interface_records.specs.declared.interface.Interface.{Interface}
-use Rattle.check_rules.specs.PlainTypes as v
-use Rattle.check_rules.specs.PlainTypes.{PlainType, PlainField, PlainItem, PlainConstant, PlainName, PlainInterface, base_of, depth_of, fields_of_parts, parts_of, plain_interface, words_of}
+use Rattle.interface_records.specs.PlainTypes as v
+use Rattle.interface_records.specs.PlainTypes.{PlainType, PlainField, PlainItem, PlainConstant, PlainName, PlainInterface, base_of, depth_of, fields_of_parts, parts_of, plain_interface, words_of}
 use Rattle.check_rules.specs.Parts.{names_of}
 use Rattle.check_rules.specs.Limits.{KeepsLimits, PartsKeepLimits, FieldsKeepLimits, ItemsKeepLimits, ConstantsKeepLimits, NamesKeepLimits, InterfaceKeepsLimits, InterfacesKeepLimits}
 use Rattle.check_rules.specs.CheckedModule.{checked_definitions}

@@ -2,7 +2,7 @@
 use Rattle.std.specs.Prelude.{◌≡◌, List, [], ◌∷◌, ◌++◌, codes}
 use Rattle.std.proofs.Common.{refl}
 use Rattle.check_rules.specs.declared.fault.Cause.TheVariants.{UnknownName, TwiceDeclared, TypeMismatch, NotConstant, BadLabel, WrongCount, NotResumable, UnwindJumps, FrameTooLarge}
-use Rattle.check_rules.specs.PlainTypes.{PlainInterface}
+use Rattle.interface_records.specs.PlainTypes.{PlainInterface}
 use Rattle.check_rules.proofs.Texts.{Row, fine, bad, good, wrong, mistakes, interface}
 use Rattle.check_rules.proofs.Everything.{everything}
 

@@ -12,10 +12,11 @@ use Rattle.mesa_types.specs.declared.types.FieldType.{FieldType}
 use Rattle.mesa_types.specs.declared.types.Origin.{Origin}
 use Rattle.mesa_types.specs.Operators.{Tried, Fine, Faulty, tried}
 use Rattle.interface_records.specs.declared.interface.Interface.{Interface}
-use Rattle.check_rules.specs.PlainTypes as v
-use Rattle.check_rules.specs.PlainTypes.{PlainType, PlainField, PlainItem, PlainConstant, PlainName, PlainInterface, base_of, depth_of, fields_of_parts, parts_of, plain_field, plain_interface, plain_item, words_of}
+use Rattle.interface_records.specs.PlainTypes as v
+use Rattle.interface_records.specs.PlainTypes.{PlainType, PlainField, PlainItem, PlainConstant, PlainName, PlainInterface, base_of, depth_of, fields_of_parts, parts_of, plain_field, plain_interface, plain_item, words_of}
 use Rattle.check_rules.specs.Parts.{names_of}
-use Rattle.check_rules.specs.Interfaces.{HasPart, TypeInOrder, PartsInOrder, FieldsInOrder, ItemsInOrder, ConstantsInOrder, NamesInOrder, InterfaceInOrder, InterfacesInOrder}
+use Rattle.interface_records.specs.PlainTypes.{HasPart}
+use Rattle.check_rules.specs.Interfaces.{TypeInOrder, PartsInOrder, FieldsInOrder, ItemsInOrder, ConstantsInOrder, NamesInOrder, InterfaceInOrder, InterfacesInOrder}
 use Rattle.check_rules.specs.CheckedModule.{checked_definitions}
 use Rattle.check_rules.specs.Laws.{GivesNothing, HeadIsInForm, CheckedInterfacesAreInOrder}
 use Rattle.check_rules.specs.TypeRules.{is_index}

@@ -8,8 +8,8 @@ use Rattle.mesa_types.specs.declared.types.TypeTree.TheFolds.{fold-TypeTree, fol
 use Rattle.mesa_types.specs.declared.types.FieldType.{FieldType, roll-FieldType}
 use Rattle.mesa_types.specs.declared.faces.Item.{Item}
 use Rattle.interface_records.specs.declared.interface.Interface.{Interface}
-use Rattle.check_rules.specs.PlainTypes as v
-use Rattle.check_rules.specs.PlainTypes.{NoPart, AndPart, Parts, PlainItem, PlainConstant, PlainName, PlainInterface, constant_of, named_of, interface_of, plain_constant, plain_name, PlainType, PlainField, parts_of, plain, plain_field, plain_step, plain_field_step, tree_of, trees_of, field_of, plain_item, item_of, face_of, plain_interface}
+use Rattle.interface_records.specs.PlainTypes as v
+use Rattle.interface_records.specs.PlainTypes.{NoPart, AndPart, Parts, PlainItem, PlainConstant, PlainName, PlainInterface, constant_of, named_of, interface_of, plain_constant, plain_name, PlainType, PlainField, parts_of, plain, plain_field, plain_step, plain_field_step, tree_of, trees_of, field_of, plain_item, item_of, face_of, plain_interface}
 
 abbrev plain_tree : TypeTree → PlainType
 plain_tree = fold-TypeTree PlainType PlainField plain_step plain_field_step

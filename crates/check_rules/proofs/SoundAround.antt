@@ -8,7 +8,7 @@ use Rattle.mesa_base.specs.declared.identifier.Identifier.{Identifier}
 use Rattle.mesa_types.specs.Sound as sound
 use Rattle.mesa_types.specs.Typed as points
 use Rattle.check_rules.specs.Typed as t
-use Rattle.check_rules.specs.PlainTypes.{PlainItem, kinds_of}
+use Rattle.interface_records.specs.PlainTypes.{PlainItem, kinds_of}
 use Rattle.check_rules.specs.Scopes.{Scope, with_name}
 use Rattle.check_rules.specs.Meanings as m
 use Rattle.check_rules.specs.Around.{Around, Seen, ArmHere, NoArm, InArm, ArmLabel, ForAny, ForUnwind, ForSignal, in_statement, inside, in_constant, label_scope, with_labels, in_round, is_unwinding, in_arm, all_like, parameters_of, label_for, label_of}

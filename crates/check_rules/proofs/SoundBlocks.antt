@@ -11,7 +11,7 @@ use Rattle.mesa_types.specs.Constants.{constant}
 use Rattle.mesa_types.specs.Counts.{operands_of_stmt, hidden, hidden_arms, hidden_exits, hidden_stmts, hidden_phrase}
 use Rattle.mesa_types.specs.Shapes.{one}
 use Rattle.check_rules.specs.Typed as t
-use Rattle.check_rules.specs.PlainTypes.{PlainType, base_of, kind_of}
+use Rattle.interface_records.specs.PlainTypes.{PlainType, base_of, kind_of}
 use Rattle.check_rules.specs.declared.fault.Cause.{Cause}
 use Rattle.check_rules.specs.Scopes.{Scope, nothing}
 use Rattle.check_rules.specs.Meanings as m

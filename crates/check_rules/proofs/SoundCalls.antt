@@ -13,8 +13,8 @@ use Rattle.mesa_types.specs.Counts.{operands, operands_of, hidden_expr, hidden_e
 use Rattle.mesa_types.specs.Shapes.{one, copies, count_in, KindAt, words_in_all}
 use Rattle.mesa_types.proofs.WordSizes.{sizes_agree}
 use Rattle.check_rules.specs.Typed as t
-use Rattle.check_rules.specs.PlainTypes as v
-use Rattle.check_rules.specs.PlainTypes.{PlainType, PlainField, PlainItem, kind_of, kinds_of, fields, words_of, words_of_fields, elements_of, item_of}
+use Rattle.interface_records.specs.PlainTypes as v
+use Rattle.interface_records.specs.PlainTypes.{PlainType, PlainField, PlainItem, kind_of, kinds_of, fields, words_of, words_of_fields, elements_of, item_of}
 use Rattle.check_rules.specs.Scopes.{has}
 use Rattle.check_rules.specs.Meanings.{Meaning}
 use Rattle.check_rules.specs.Meanings as m

@@ -14,7 +14,7 @@ use Rattle.mesa_types.specs.Sound as sound
 use Rattle.mesa_types.specs.Links as links
 use Rattle.mesa_types.specs.Shapes.{join, words_in_all, AllHaveWords}
 use Rattle.check_rules.specs.Typed as t
-use Rattle.check_rules.specs.PlainTypes.{PlainItem, PlainInterface, kinds_of, item_of}
+use Rattle.interface_records.specs.PlainTypes.{PlainItem, PlainInterface, kinds_of, item_of}
 use Rattle.check_rules.specs.Steps.{State, Checked, and_then}
 use Rattle.check_rules.specs.Around.{Known}
 use Rattle.check_rules.specs.Parts.{names_of}

@@ -13,7 +13,7 @@ use Rattle.syntax_trees.specs.declared.syntax.Access.{Access}
 use Rattle.syntax_trees.specs.Syntax as s
 use Rattle.mesa_types.specs.Shapes.{words_in_all}
 use Rattle.check_rules.specs.Typed as t
-use Rattle.check_rules.specs.PlainTypes.{PlainItem, item_of, words_of_fields}
+use Rattle.interface_records.specs.PlainTypes.{PlainItem, item_of, words_of_fields}
 use Rattle.check_rules.specs.Scopes.{Scope}
 use Rattle.check_rules.specs.Meanings.{Meaning}
 use Rattle.check_rules.specs.Meanings as m

@@ -13,7 +13,7 @@ use Rattle.mesa_types.specs.declared.faces.ItemKind.TheVariants as item
 use Rattle.syntax_trees.specs.declared.syntax.Access.{Access}
 use Rattle.syntax_trees.specs.Syntax as s
 use Rattle.check_rules.specs.Typed as t
-use Rattle.check_rules.specs.PlainTypes.{PlainItem, item_of, words_of_fields}
+use Rattle.interface_records.specs.PlainTypes.{PlainItem, item_of, words_of_fields}
 use Rattle.check_rules.specs.Meanings as m
 use Rattle.check_rules.specs.Meanings.{Meaning}
 use Rattle.check_rules.specs.Steps.{State, Check, and_then, ◌>>=◌, pure, only, measured, within_operands}

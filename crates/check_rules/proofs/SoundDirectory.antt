@@ -8,7 +8,7 @@ use Rattle.mesa_base.specs.declared.identifier.Identifier.{Identifier}
 use Rattle.syntax_trees.specs.declared.syntax.DirectoryItem.{DirectoryItem}
 use Rattle.check_rules.specs.Scopes.{has}
 use Rattle.check_rules.specs.Parts.{names_of}
-use Rattle.check_rules.specs.PlainTypes.{PlainInterface}
+use Rattle.interface_records.specs.PlainTypes.{PlainInterface}
 use Rattle.check_rules.specs.Steps.{Checked, and_then, only}
 use Rattle.check_rules.specs.Directory.{place_in, names_in, directory, listed, using, first_entry, entries, interface_at, those_of}
 use Rattle.check_rules.specs.declared.fault.Cause.{Cause}

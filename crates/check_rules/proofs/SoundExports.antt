@@ -11,14 +11,14 @@ use Rattle.mesa_types.specs.declared.faces.Export.{Export}
 use Rattle.mesa_types.specs.Sound as sound
 use Rattle.mesa_types.specs.Types.{types_in}
 use Rattle.check_rules.specs.Typed as t
-use Rattle.check_rules.specs.PlainTypes.{PlainField, PlainItem, PlainInterface, same, tree_of, field_of, item_of, face_of}
+use Rattle.interface_records.specs.PlainTypes.{PlainField, PlainItem, PlainInterface, same, tree_of, field_of, item_of, face_of}
 use Rattle.check_rules.specs.Parts.{same_types}
 use Rattle.check_rules.specs.Steps.{Checked, and_then, only}
 use Rattle.check_rules.specs.declared.fault.Cause.TheVariants.{ExportDiffers}
 use Rattle.check_rules.specs.Programs.{Offer, offer_named, same_kind, is_for, pair_for, fits_item, pairs, exported, imported}
 use Rattle.check_rules.specs.Laws.{ImportsInOrder, ExportsInOrder}
-use Rattle.check_rules.specs.Lists.{Ascend}
-use Rattle.check_rules.specs.Spelled.{item_numbers}
+use Rattle.interface_records.specs.Lists.{Ascend}
+use Rattle.interface_records.specs.Spelled.{item_numbers}
 use Rattle.check_rules.proofs.SoundTypes.{no_truth, none_is_no, both_left, both_right}
 use Rattle.check_rules.proofs.SoundSame.{types_same}
 use Rattle.check_rules.proofs.SoundSteps.{World}

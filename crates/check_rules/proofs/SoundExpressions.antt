@@ -12,8 +12,8 @@ use Rattle.syntax_trees.specs.declared.syntax.Operator.TheVariants.{Or, And, Add
 use Rattle.syntax_trees.specs.declared.syntax.Sign.{Sign}
 use Rattle.mesa_base.specs.declared.relation.Relation.{Relation}
 use Rattle.check_rules.specs.Typed as t
-use Rattle.check_rules.specs.PlainTypes as v
-use Rattle.check_rules.specs.PlainTypes.{PlainType}
+use Rattle.interface_records.specs.PlainTypes as v
+use Rattle.interface_records.specs.PlainTypes.{PlainType}
 use Rattle.check_rules.specs.Steps.{Check, lift}
 use Rattle.check_rules.specs.Around.{Around}
 use Rattle.check_rules.specs.Parts.{and_operation}

@@ -8,7 +8,7 @@ use Rattle.mesa_types.specs.Sound as sound
 use Rattle.mesa_types.specs.Counts.{operands, operands_of_stmt, operands_of_targets, hidden, hidden_expr, hidden_targets}
 use Rattle.mesa_types.specs.Shapes.{one, join, count_in, words_in, KindAt, words_before}
 use Rattle.check_rules.specs.Typed as t
-use Rattle.check_rules.specs.PlainTypes.{PlainType, PlainField, kind_of, kinds_of, fields, words_of, conforms}
+use Rattle.interface_records.specs.PlainTypes.{PlainType, PlainField, kind_of, kinds_of, fields, words_of, conforms}
 use Rattle.check_rules.specs.declared.fault.Cause.{Cause}
 use Rattle.check_rules.specs.declared.fault.Cause.TheVariants.{WrongCount, TwiceDeclared}
 use Rattle.check_rules.specs.Scopes.{has}

@@ -5,7 +5,7 @@ use Rattle.mesa_base.specs.declared.identifier.Identifier.{Identifier}
 use Rattle.syntax_trees.specs.Syntax as s
 use Rattle.mesa_types.specs.Shapes.{join, count_in}
 use Rattle.check_rules.specs.Typed as t
-use Rattle.check_rules.specs.PlainTypes.{PlainField, kind_of, kinds_of}
+use Rattle.interface_records.specs.PlainTypes.{PlainField, kind_of, kinds_of}
 use Rattle.check_rules.specs.Scopes.{Scope, outer, nothing}
 use Rattle.check_rules.specs.Meanings.{Meaning}
 use Rattle.check_rules.specs.Steps.{State, Check, Checked, back, in_scope}

@@ -3,7 +3,7 @@ use Rattle.std.proofs.Common.{◌≡◌, ℕ, zero, suc, ◌+◌, List, [], ◌�
 use Rattle.std.specs.Prelude.{Bool, true, false, Some, Contains, slice_get, replicate}
 use Rattle.mesa_types.specs.declared.faces.Item.{Item}
 use Rattle.mesa_types.specs.Links as links
-use Rattle.check_rules.specs.PlainTypes.{PlainItem, PlainInterface, item_of}
+use Rattle.interface_records.specs.PlainTypes.{PlainItem, PlainInterface, item_of}
 use Rattle.check_rules.specs.Programs.{unused, marked_from, imported}
 use Rattle.check_rules.proofs.SoundTypes.{none_is_no}
 use Rattle.check_rules.proofs.SoundSteps.{mark_at}

@@ -3,9 +3,10 @@ use Rattle.std.proofs.Common.{◌≡◌, List, [], ◌∷◌, refl, sym, subst}
 use Rattle.std.specs.Prelude.{IfOk, map}
 use Rattle.syntax_trees.specs.Syntax as s
 use Rattle.mesa_types.specs.Sound.{Sound}
-use Rattle.check_rules.specs.PlainTypes as v
-use Rattle.check_rules.specs.PlainTypes.{PlainType, PlainField, PlainItem, PlainConstant, PlainName, PlainInterface, plain_interface}
-use Rattle.check_rules.specs.Interfaces.{HasPart, TypeInOrder, PartsInOrder, FieldsInOrder, ItemsInOrder, ConstantsInOrder, NamesInOrder, InterfacesInOrder}
+use Rattle.interface_records.specs.PlainTypes as v
+use Rattle.interface_records.specs.PlainTypes.{PlainType, PlainField, PlainItem, PlainConstant, PlainName, PlainInterface, plain_interface}
+use Rattle.interface_records.specs.PlainTypes.{HasPart}
+use Rattle.check_rules.specs.Interfaces.{TypeInOrder, PartsInOrder, FieldsInOrder, ItemsInOrder, ConstantsInOrder, NamesInOrder, InterfacesInOrder}
 use Rattle.check_rules.specs.Mentions.{of_kind}
 use Rattle.check_rules.specs.Written.{ModuleWritten}
 use Rattle.check_rules.specs.CheckedModule.{checked, program_by}

@@ -12,8 +12,8 @@ use Rattle.mesa_types.specs.Sound as sound
 use Rattle.mesa_types.specs.Counts.{operands_of, hidden_exprs, hidden_phrase}
 use Rattle.mesa_types.specs.Shapes.{copies, one}
 use Rattle.check_rules.specs.Typed as t
-use Rattle.check_rules.specs.PlainTypes.{PlainType, PlainField, PlainItem, kind_of, kinds_of, fields, elements_of, words_of, words_of_fields}
-use Rattle.check_rules.specs.PlainTypes as v
+use Rattle.interface_records.specs.PlainTypes.{PlainType, PlainField, PlainItem, kind_of, kinds_of, fields, elements_of, words_of, words_of_fields}
+use Rattle.interface_records.specs.PlainTypes as v
 use Rattle.check_rules.specs.Meanings as m
 use Rattle.check_rules.specs.declared.fault.Cause.TheVariants.{TypeMismatch, WrongCount}
 use Rattle.check_rules.specs.Steps.{Check, Checked, fail}

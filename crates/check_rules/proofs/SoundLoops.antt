@@ -11,8 +11,8 @@ use Rattle.syntax_trees.specs.declared.syntax.RepeatLabels.{RepeatLabels}
 use Rattle.syntax_trees.specs.declared.syntax.RepeatLabels.TheVariants as repeat
 use Rattle.mesa_types.specs.Counts.{operands_of_stmt, operands_of_tests, operands_of_cases, operands_of_interval, operands_of_condition, operands_of_loop, hidden, hidden_tests, hidden_cases, hidden_interval, hidden_condition, hidden_loop, hidden_exits, hidden_finish, hidden_stmts, hidden_phrase}
 use Rattle.check_rules.specs.Typed as t
-use Rattle.check_rules.specs.PlainTypes as v
-use Rattle.check_rules.specs.PlainTypes.{PlainType, base_of, kind_of, conforms}
+use Rattle.interface_records.specs.PlainTypes as v
+use Rattle.interface_records.specs.PlainTypes.{PlainType, base_of, kind_of, conforms}
 use Rattle.check_rules.specs.Meanings as m
 use Rattle.check_rules.specs.Meanings.{Meaning}
 use Rattle.check_rules.specs.Steps.{Checked, ◌>>=◌, pure}

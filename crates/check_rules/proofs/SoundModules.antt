@@ -10,7 +10,7 @@ use Rattle.mesa_types.specs.declared.faces.ItemKind.TheVariants as item
 use Rattle.mesa_types.specs.Sound as sound
 use Rattle.mesa_types.specs.Shapes.{join, words_in_all}
 use Rattle.check_rules.specs.Typed as t
-use Rattle.check_rules.specs.PlainTypes.{PlainField, PlainItem, kinds_of, field_of, item_of, words_of_fields}
+use Rattle.interface_records.specs.PlainTypes.{PlainField, PlainItem, kinds_of, field_of, item_of, words_of_fields}
 use Rattle.check_rules.proofs.SoundTypes.{field_words_agree, none_is_no}
 use Rattle.check_rules.proofs.SoundTrees.{tree_kinds, fields_within}
 use Rattle.check_rules.proofs.SoundSteps.{World, at, ItemIn, SignalKind}

@@ -13,8 +13,8 @@ use Rattle.syntax_trees.specs.declared.syntax.Labels.{Labels}
 use Rattle.syntax_trees.specs.declared.syntax.Labels.TheVariants.{Any, Unwind, Signals}
 use Rattle.mesa_types.specs.Links.{imported, IsUsed}
 use Rattle.check_rules.specs.Typed as t
-use Rattle.check_rules.specs.PlainTypes as v
-use Rattle.check_rules.specs.PlainTypes.{PlainType, PlainItem, base_of, item_of}
+use Rattle.interface_records.specs.PlainTypes as v
+use Rattle.interface_records.specs.PlainTypes.{PlainType, PlainItem, base_of, item_of}
 use Rattle.check_rules.specs.Scopes.{Scope, find}
 use Rattle.check_rules.specs.Meanings.{Meaning}
 use Rattle.check_rules.specs.Meanings as m

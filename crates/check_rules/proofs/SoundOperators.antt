@@ -9,8 +9,8 @@ use Rattle.mesa_types.specs.declared.typed_parts.Base.TheVariants.{Signed, Unsig
 use Rattle.mesa_types.specs.declared.typed_parts.Range.{Range}
 use Rattle.mesa_types.specs.declared.typed_parts.Range.TheVariants.{Every, From}
 use Rattle.check_rules.specs.Typed as t
-use Rattle.check_rules.specs.PlainTypes as v
-use Rattle.check_rules.specs.PlainTypes.{PlainType, base_of, kind_of, bounds, sign_of, same}
+use Rattle.interface_records.specs.PlainTypes as v
+use Rattle.interface_records.specs.PlainTypes.{PlainType, base_of, kind_of, bounds, sign_of, same}
 use Rattle.check_rules.specs.Ranges.{in_common, range_between, range_by, range_for, is_number_base}
 use Rattle.check_rules.specs.Reached.{range_by_signs, index_range, first_word}
 use Rattle.check_rules.specs.Operators.{Sort, Number, Letter, Truth, Other, Meeting, Applied, sort_of_base, sort_of, meet, number_type, arithmetic, on_letter, operation, of_one_base, related_by, related}

@@ -12,7 +12,7 @@ use Rattle.syntax_trees.specs.Syntax as s
 use Rattle.mesa_types.specs.Counts.{hidden}
 use Rattle.mesa_types.specs.Shapes.{join, words_in_all, AllHaveWords}
 use Rattle.check_rules.specs.Typed as t
-use Rattle.check_rules.specs.PlainTypes.{PlainField, PlainItem, kinds_of, item_of, words_of_fields}
+use Rattle.interface_records.specs.PlainTypes.{PlainField, PlainItem, kinds_of, item_of, words_of_fields}
 use Rattle.check_rules.specs.declared.fault.Cause.{Cause}
 use Rattle.check_rules.specs.declared.fault.Cause.TheVariants.{FrameTooLarge}
 use Rattle.check_rules.specs.Scopes.{Scope, outer, nothing}

@@ -8,8 +8,8 @@ use Rattle.mesa_types.specs.Counts.{operands, operands_in, unnamed, hidden_expr,
 use Rattle.mesa_types.specs.Shapes.{one, KindAt, PartOf, words_before, words_in, HasWords}
 use Rattle.mesa_types.proofs.WordSizes.{values_have_words}
 use Rattle.check_rules.specs.Typed as t
-use Rattle.check_rules.specs.PlainTypes as v
-use Rattle.check_rules.specs.PlainTypes.{PlainType, PlainField, base_of, kind_of, kinds_of, fields, is_text, words_of, elements_of, one_base, array_parts, bounds}
+use Rattle.interface_records.specs.PlainTypes as v
+use Rattle.interface_records.specs.PlainTypes.{PlainType, PlainField, base_of, kind_of, kinds_of, fields, is_text, words_of, elements_of, one_base, array_parts, bounds}
 use Rattle.check_rules.specs.declared.fault.Cause.{Cause}
 use Rattle.check_rules.specs.Meanings.{Meaning}
 use Rattle.check_rules.specs.Meanings as m

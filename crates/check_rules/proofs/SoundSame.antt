@@ -3,8 +3,8 @@ use Rattle.std.proofs.Common.{◌≡◌, ℕ, List, [], ◌∷◌, refl, sym, �
 use Rattle.std.specs.Prelude.{true, ◌&&◌, Option, Some, None, nat_eq, bytes_eq}
 use Rattle.std.proofs.lemmas.Bool.{eqb-true}
 use Rattle.mesa_types.specs.declared.types.Origin.{Origin}
-use Rattle.check_rules.specs.PlainTypes as v
-use Rattle.check_rules.specs.PlainTypes.{PlainType, Parts, PlainField, base_of, kind_of, kinds_of, same, same_parts, same_names, same_name, same_origin, same_stamp, conforms, one_base}
+use Rattle.interface_records.specs.PlainTypes as v
+use Rattle.interface_records.specs.PlainTypes.{PlainType, Parts, PlainField, base_of, kind_of, kinds_of, same, same_parts, same_names, same_name, same_origin, same_stamp, conforms, one_base}
 use Rattle.check_rules.specs.Parts.{same_types, same_fields}
 use Rattle.check_rules.proofs.SoundTypes.{no_truth, both_left, both_right, one_of, some_base, based_left, based_right}
 

@@ -12,7 +12,7 @@ use Rattle.mesa_base.specs.declared.limits.TheConstants.{GLOBAL_WORDS}
 use Rattle.mesa_types.specs.Sound as sound
 use Rattle.mesa_types.specs.Shapes.{join, one, count_in, KindAt, AllHaveWords, words_in_all}
 use Rattle.check_rules.specs.Typed as t
-use Rattle.check_rules.specs.PlainTypes.{PlainType, PlainField, kind_of, kinds_of}
+use Rattle.interface_records.specs.PlainTypes.{PlainType, PlainField, kind_of, kinds_of}
 use Rattle.check_rules.specs.declared.fault.Cause.{Cause}
 use Rattle.check_rules.specs.Scopes.{Scope, innermost, outer, nothing, over, with_name}
 use Rattle.check_rules.specs.Meanings.{Meaning}

@@ -16,8 +16,8 @@ use Rattle.mesa_types.specs.Counts.{operands_of_stmt, hidden, hidden_stmts}
 use Rattle.mesa_types.specs.Shapes.{one, words_in_all}
 use Rattle.mesa_types.proofs.WordSizes.{sizes_agree}
 use Rattle.check_rules.specs.Typed as t
-use Rattle.check_rules.specs.PlainTypes as v
-use Rattle.check_rules.specs.PlainTypes.{PlainType, PlainField, PlainItem, kind_of, kinds_of, words_of, item_of}
+use Rattle.interface_records.specs.PlainTypes as v
+use Rattle.interface_records.specs.PlainTypes.{PlainType, PlainField, PlainItem, kind_of, kinds_of, words_of, item_of}
 use Rattle.check_rules.specs.declared.fault.Cause.{Cause}
 use Rattle.check_rules.specs.Meanings as m
 use Rattle.check_rules.specs.Steps.{Check, Checked, and_then, lift, only, refuse}

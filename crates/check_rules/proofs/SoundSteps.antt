@@ -14,7 +14,7 @@ use Rattle.mesa_types.specs.Links.{imported, IsUsed}
 use Rattle.mesa_types.specs.Shapes.{join, KindAt, AllHaveWords, words_in_all}
 use Rattle.mesa_base.specs.declared.limits.TheConstants.{GLOBAL_WORDS}
 use Rattle.check_rules.specs.Typed as t
-use Rattle.check_rules.specs.PlainTypes.{PlainField, PlainItem, kind_of, kinds_of, item_of}
+use Rattle.interface_records.specs.PlainTypes.{PlainField, PlainItem, kind_of, kinds_of, item_of}
 use Rattle.check_rules.specs.Scopes.{Scope, outer}
 use Rattle.check_rules.specs.Meanings.{Meaning}
 use Rattle.check_rules.specs.Meanings as m

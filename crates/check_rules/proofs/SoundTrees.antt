@@ -13,8 +13,8 @@ use Rattle.mesa_types.specs.declared.types.TypeTree.TheVariants as tree
 use Rattle.mesa_types.specs.declared.types.TypeTree.TheOpen.{TypeTree-F, FieldType-F}
 use Rattle.mesa_types.specs.declared.types.TypeTree.TheFolds.{fold-TypeTree, fold-FieldType, fold-roll-TypeTree, fold-roll-FieldType, map-TypeTree}
 use Rattle.mesa_types.specs.declared.types.FieldType.{FieldType, roll-FieldType, out-roll-FieldType}
-use Rattle.check_rules.specs.PlainTypes as v
-use Rattle.check_rules.specs.PlainTypes.{PlainType, Parts, PlainField, kind_of, kinds_of, kinds_of_parts, elements_of, words_of, depth_of, depth_of_parts, tree_of, trees_of, field_of}
+use Rattle.interface_records.specs.PlainTypes as v
+use Rattle.interface_records.specs.PlainTypes.{PlainType, Parts, PlainField, kind_of, kinds_of, kinds_of_parts, elements_of, words_of, depth_of, depth_of_parts, tree_of, trees_of, field_of}
 use Rattle.check_rules.proofs.SoundTypes.{TypeIn, PartsIn, FieldsIn, words_agree, fields_have_words}
 use Rattle.mesa_types.proofs.KindWords.{kind_words}
 use Rattle.mesa_types.specs.Sound as sound

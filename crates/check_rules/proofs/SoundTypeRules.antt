@@ -11,8 +11,8 @@ use Rattle.syntax_trees.specs.declared.syntax.QualifiedName.{QualifiedName}
 use Rattle.syntax_trees.specs.declared.syntax.TypeBase.{TypeBase}
 use Rattle.mesa_types.specs.declared.types.Origin.{Origin}
 use Rattle.check_rules.specs.Typed as t
-use Rattle.check_rules.specs.PlainTypes as v
-use Rattle.check_rules.specs.PlainTypes.{PlainType, Parts, PlainField, base_of, kind_of, elements_of, words_of, depth_of, parts_of, same}
+use Rattle.interface_records.specs.PlainTypes as v
+use Rattle.interface_records.specs.PlainTypes.{PlainType, Parts, PlainField, base_of, kind_of, elements_of, words_of, depth_of, parts_of, same}
 use Rattle.check_rules.specs.declared.fault.Cause.{Cause}
 use Rattle.check_rules.specs.Meanings as m
 use Rattle.check_rules.specs.Meanings.{Meaning}

@@ -3,8 +3,8 @@ use Rattle.std.proofs.Common.{◌≡◌, ℕ, ◌*◌, List, [], ◌∷◌, leng
 use Rattle.std.specs.Prelude.{◌≤◌, ◌<◌, Bool, true, false, ◌&&◌, ◌||◌, Option, Some, None, is_some}
 use Rattle.mesa_types.specs.Typed as t
 use Rattle.mesa_types.specs.Shapes.{words_in, words_in_all, HasWords, AllHaveWords}
-use Rattle.check_rules.specs.PlainTypes as v
-use Rattle.check_rules.specs.PlainTypes.{PlainType, Parts, PlainField, base_of, kind_of, kinds_of, kinds_of_parts, fields_of_parts, elements_of, words_of, words_of_parts, words_of_fields, depth_of, one_base, bounds, fields}
+use Rattle.interface_records.specs.PlainTypes as v
+use Rattle.interface_records.specs.PlainTypes.{PlainType, Parts, PlainField, base_of, kind_of, kinds_of, kinds_of_parts, fields_of_parts, elements_of, words_of, words_of_parts, words_of_fields, depth_of, one_base, bounds, fields}
 
 -- ---- truth values
 

@@ -14,8 +14,8 @@ use Rattle.mesa_base.specs.declared.relation.Relation.{Relation}
 use Rattle.mesa_types.specs.declared.typed_parts.Range.{Range}
 use Rattle.mesa_types.specs.declared.typed_parts.Range.TheVariants.{Every, From}
 use Rattle.check_rules.specs.Typed as t
-use Rattle.check_rules.specs.PlainTypes as v
-use Rattle.check_rules.specs.PlainTypes.{PlainType, kind_of, conforms}
+use Rattle.interface_records.specs.PlainTypes as v
+use Rattle.interface_records.specs.PlainTypes.{PlainType, kind_of, conforms}
 use Rattle.check_rules.specs.declared.fault.Cause.{Cause}
 use Rattle.check_rules.specs.Steps.{and_then, only, refuse, or_refuse}
 use Rattle.check_rules.specs.Ranges.{Typed, typed, Aim, Free, Into, Several, checked, range_for, fitted_if, finish}

@@ -11,7 +11,7 @@ use Rattle.mesa_types.specs.Sound as sound
 use Rattle.mesa_types.specs.Counts.{hidden, hidden_stmts}
 use Rattle.mesa_types.specs.Shapes.{words_in_all}
 use Rattle.check_rules.specs.Typed as t
-use Rattle.check_rules.specs.PlainTypes.{PlainItem, item_of, words_of_fields}
+use Rattle.interface_records.specs.PlainTypes.{PlainItem, item_of, words_of_fields}
 use Rattle.check_rules.specs.Scopes.{Scope}
 use Rattle.check_rules.specs.Meanings as m
 use Rattle.check_rules.specs.Meanings.{Meaning}

@@ -20,7 +20,7 @@ use Rattle.mesa_types.specs.Shapes.{one, KindAt, words_before}
 use Rattle.mesa_types.specs.Nodes.{count_of}
 use Rattle.syntax_trees.specs.Syntax as s
 use Rattle.check_rules.specs.Typed as t
-use Rattle.check_rules.specs.PlainTypes.{PlainType, Array, PlainField, kind_of, kinds_of, fields, words_of}
+use Rattle.interface_records.specs.PlainTypes.{PlainType, Array, PlainField, kind_of, kinds_of, fields, words_of}
 use Rattle.check_rules.specs.Scopes.{Scope}
 use Rattle.check_rules.specs.Meanings.{Meaning}
 use Rattle.check_rules.specs.Meanings as m

@@ -13,13 +13,13 @@ use Rattle.mesa_types.specs.declared.faces.ItemKind.TheVariants as item
 use Rattle.interface_records.specs.declared.interface.Constant.{Constant}
 use Rattle.interface_records.specs.declared.interface.Interface.{Interface}
 use Rattle.interface_records.specs.declared.interface.NamedType.{NamedType}
-use Rattle.check_rules.specs.PlainTypes.{PlainField, PlainItem, PlainConstant, PlainName, PlainInterface, interface_of, plain_constant, plain_interface, plain_item, plain_name}
+use Rattle.interface_records.specs.PlainTypes.{PlainField, PlainItem, PlainConstant, PlainName, PlainInterface, interface_of, plain_constant, plain_interface, plain_item, plain_name}
 use Rattle.check_rules.specs.Scopes.{has}
 use Rattle.check_rules.specs.Mentions.{of_kind, origins}
 use Rattle.check_rules.specs.CheckedModule.{checked_definitions, interface_by, known_of}
 use Rattle.check_rules.specs.TypeRules.{origin}
-use Rattle.check_rules.specs.Lists.{NoneTwice}
-use Rattle.check_rules.specs.Spelled.{InSixBytes, OriginCanBeSpelled, names_among, NamesCanBeSpelled, TypeCanBeSpelled, FieldsCanBeSpelled, ItemsCanBeSpelled, names_of_items, names_of_constants, names_of_types, ConstantsCanBeSpelled, NamedTypesCanBeSpelled, InterfaceCanBeSpelled, InterfacesCanBeSpelled}
+use Rattle.interface_records.specs.Lists.{NoneTwice}
+use Rattle.interface_records.specs.Spelled.{InSixBytes, OriginCanBeSpelled, names_among, NamesCanBeSpelled, TypeCanBeSpelled, FieldsCanBeSpelled, ItemsCanBeSpelled, names_of_items, names_of_constants, names_of_types, ConstantsCanBeSpelled, NamedTypesCanBeSpelled, InterfaceCanBeSpelled, InterfacesCanBeSpelled}
 use Rattle.check_rules.specs.TreeNames.{HasNames, KindNamed, DefinitionNamed}
 use Rattle.check_rules.specs.Written.{ModuleWritten}
 use Rattle.check_rules.specs.Laws.{IsOfItsText, definitions_of, names_of_interface, IsOfTextSize, CheckedInterfacesCanBeSpelled}

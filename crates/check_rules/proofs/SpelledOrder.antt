@@ -1,10 +1,10 @@
 -- What files can spell is in order.
 use Rattle.std.specs.Prelude.{List, [], ◌∷◌}
-use Rattle.check_rules.specs.PlainTypes as v
-use Rattle.check_rules.specs.PlainTypes.{PlainType, PlainField, PlainItem, PlainConstant, PlainName}
+use Rattle.interface_records.specs.PlainTypes as v
+use Rattle.interface_records.specs.PlainTypes.{PlainType, PlainField, PlainItem, PlainConstant, PlainName}
 use Rattle.check_rules.specs.Interfaces.{TypeInOrder, PartsInOrder, FieldsInOrder, ItemsInOrder, ConstantsInOrder, NamesInOrder}
 use Rattle.check_rules.specs.Laws.{SpelledInterfacesAreInOrder}
-use Rattle.check_rules.specs.Spelled.{TypeCanBeSpelled, PartsCanBeSpelled, FieldsCanBeSpelled, ItemsCanBeSpelled, ConstantsCanBeSpelled, NamedTypesCanBeSpelled}
+use Rattle.interface_records.specs.Spelled.{TypeCanBeSpelled, PartsCanBeSpelled, FieldsCanBeSpelled, ItemsCanBeSpelled, ConstantsCanBeSpelled, NamedTypesCanBeSpelled}
 use Rattle.check_rules.proofs.OrderKept.{subrange_order}
 use Rattle.check_rules.proofs.SoundTypes.{some_base}
 use Rattle.check_rules.proofs.SpelledTypes.{index_some, value_word}

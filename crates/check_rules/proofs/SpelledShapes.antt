@@ -19,7 +19,7 @@ use Rattle.syntax_trees.specs.declared.syntax.Access.{Access}
 use Rattle.syntax_trees.specs.declared.syntax.DirectoryItem.{DirectoryItem}
 use Rattle.interface_records.specs.declared.interface.Interface.{Interface}
 use Rattle.check_rules.specs.Typed as t
-use Rattle.check_rules.specs.PlainTypes.{PlainInterface, PlainItem, face_of, plain_interface, plain_item, words_of_fields}
+use Rattle.interface_records.specs.PlainTypes.{PlainInterface, PlainItem, face_of, plain_interface, plain_item, words_of_fields}
 use Rattle.check_rules.specs.Scopes.{has}
 use Rattle.check_rules.specs.Meanings as meaning
 use Rattle.check_rules.specs.Steps.{State, ◌>>=◌, ensure, measured, only}
@@ -32,9 +32,9 @@ use Rattle.check_rules.specs.Statements.{labels_of_exits}
 use Rattle.check_rules.specs.Directory.{directory, interface_at, listed, names_in, place_in, put_some, those_of}
 use Rattle.check_rules.specs.Programs.{Declared, Heading, behind_top, Offer, Whole, all_declared, before_others, declaration, declared, declared_procedure, declared_signals, enabled, exported, first_item, fits_item, frame, heading, if_public, imported, is_public, other_rows, named_item, offer_named, offers_of, outermost, pair_for, pairs, procedure_offer, signal_meanings, signal_offers, values_of, whole_in}
 use Rattle.check_rules.specs.CheckedModule.{checked, known_of, lists, module_of, program_by, whole_of}
-use Rattle.check_rules.specs.Lists.{Ascend}
+use Rattle.interface_records.specs.Lists.{Ascend}
 use Rattle.check_rules.specs.Laws.{ExportsInOrder, ImportsInOrder, IsOfTextSize, ModulesCanBeSpelled, faces, shape_of}
-use Rattle.check_rules.specs.Spelled.{ExportCanBeSpelled, FaceCanBeSpelled, ImportCanBeSpelled, InFourBytes, InterfacesCanBeSpelled, ShapeCanBeSpelled, item_numbers}
+use Rattle.interface_records.specs.Spelled.{ExportCanBeSpelled, FaceCanBeSpelled, ImportCanBeSpelled, InFourBytes, InterfacesCanBeSpelled, ShapeCanBeSpelled, item_numbers}
 use Rattle.check_rules.specs.TreeNames.{HasNames}
 use Rattle.check_rules.specs.declared.fault.Cause.TheVariants.{FrameTooLarge, TwiceDeclared, UnknownName}
 use Rattle.check_rules.proofs.Coming.{bit}

@@ -11,13 +11,13 @@ use Rattle.mesa_base.specs.declared.identifier.Identifier.{Identifier}
 use Rattle.mesa_types.specs.declared.types.Origin.{Origin}
 use Rattle.mesa_types.specs.Operators.{fits, shifted, tried, truth, wrap}
 use Rattle.check_rules.specs.Typed.{Base, Signed, Unsigned, From}
-use Rattle.check_rules.specs.PlainTypes as v
-use Rattle.check_rules.specs.PlainTypes.{PlainType, PlainField, base_of, bounds, conforms, depth_of, elements_of, fields_of_parts, is_number, one_base, parts_of, same, sign_of, words_of, words_of_parts}
-use Rattle.check_rules.specs.Interfaces.{HasPart}
+use Rattle.interface_records.specs.PlainTypes as v
+use Rattle.interface_records.specs.PlainTypes.{PlainType, PlainField, base_of, bounds, conforms, depth_of, elements_of, fields_of_parts, is_number, one_base, parts_of, same, sign_of, words_of, words_of_parts}
+use Rattle.interface_records.specs.PlainTypes.{HasPart}
 use Rattle.check_rules.specs.Operators.{number_type}
 use Rattle.check_rules.specs.Parts.{names_of}
 use Rattle.check_rules.specs.Ranges.{range_between, range_for}
-use Rattle.check_rules.specs.Spelled.{OriginCanBeSpelled, IsValueOf, names_among, with_name, NamesCanBeSpelled, TypeCanBeSpelled, PartsCanBeSpelled}
+use Rattle.interface_records.specs.Spelled.{OriginCanBeSpelled, IsValueOf, names_among, with_name, NamesCanBeSpelled, TypeCanBeSpelled, PartsCanBeSpelled}
 use Rattle.check_rules.specs.TreeNames.{AllNames}
 use Rattle.check_rules.specs.TypeRules.{is_index}
 use Rattle.check_rules.proofs.Distinct.{times, none_twice}

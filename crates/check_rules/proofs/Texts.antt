@@ -1,6 +1,6 @@
 -- What texts come to: checked, or refused with a cause at the place that a `^` in the text marks.
 use Rattle.std.specs.Prelude.{ℕ, ◌+◌, Bool, true, false, ◌&&◌, List, [], ◌∷◌, ◌++◌, Option, Some, None, Ok, Err, codes, nat_eq, if◌then◌else◌}
-use Rattle.check_rules.specs.PlainTypes.{PlainInterface}
+use Rattle.interface_records.specs.PlainTypes.{PlainInterface}
 use Rattle.syntax_trees.specs.Syntax as s
 use Rattle.check_rules.specs.Steps.{Checked}
 use Rattle.check_rules.specs.CheckedModule.{program_by, interface_by}

@@ -8,12 +8,12 @@ use Rattle.mesa_types.specs.declared.types.Origin.{Origin}
 use Rattle.mesa_types.specs.Operators.{Tried, Fine, Faulty, fits, shifted, tried, truth, wrap}
 use Rattle.check_rules.specs.Typed as t
 use Rattle.check_rules.specs.Typed.{Base}
-use Rattle.check_rules.specs.PlainTypes as v
-use Rattle.check_rules.specs.PlainTypes.{PlainType, PlainField, base_of, conforms, depth_of, fields_of_parts, parts_of, sign_of, words_of}
+use Rattle.interface_records.specs.PlainTypes as v
+use Rattle.interface_records.specs.PlainTypes.{PlainType, PlainField, base_of, conforms, depth_of, fields_of_parts, parts_of, sign_of, words_of}
 use Rattle.check_rules.specs.Operators.{number_type}
 use Rattle.check_rules.specs.Parts.{names_of}
 use Rattle.check_rules.specs.Ranges.{range_for}
-use Rattle.check_rules.specs.Spelled.{EachHasName, NoneHasName, names_among}
+use Rattle.interface_records.specs.Spelled.{EachHasName, NoneHasName, names_among}
 use Rattle.check_rules.specs.TreeNames.{AllNames}
 use Rattle.check_rules.specs.TypeRules.{is_index}
 use Rattle.check_rules.proofs.Distinct.{times}

@@ -13,7 +13,7 @@ use Rattle.check_rules.specs.Steps.{Checked, and_then, refuse, only}
 use Rattle.check_rules.specs.declared.fault.Cause.TheVariants.{TypeMismatch, BadLabel, NotResumable, UnwindJumps}
 -- of the module: its name and stamp, its distinct string literals in text order, the tokens at which its records and
 -- enumerations stand, and what each item of the DIRECTORY has to offer
-use Rattle.check_rules.specs.PlainTypes.{PlainField, PlainItem}
+use Rattle.interface_records.specs.PlainTypes.{PlainField, PlainItem}
 
 pub record Known : Type 0 where
   pub name : List ℕ

@@ -17,7 +17,7 @@ use Rattle.check_rules.specs.Directory.{directory, listed, offered, opened, dire
 use Rattle.check_rules.specs.Programs.{ahead, Whole, program_body, outermost, signals_of, offers_of, exported, imported, unused}
 use Rattle.check_rules.specs.Definitions as d
 use Rattle.check_rules.specs.declared.fault.Cause.TheVariants.{StampMissing, StampUnwanted}
-use Rattle.check_rules.specs.PlainTypes.{PlainInterface, item_of, interface_of, plain_interface}
+use Rattle.interface_records.specs.PlainTypes.{PlainInterface, item_of, interface_of, plain_interface}
 
 abbrev pub known_of : s.Module → Option ℕ → Bool → List Identifier → List PlainInterface → Known
 known_of m stamp is_program imports is = record {

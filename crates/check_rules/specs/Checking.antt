@@ -5,7 +5,7 @@ use Rattle.syntax_trees.specs.Syntax as s
 use Rattle.mesa_types.specs.Operators as words
 use Rattle.mesa_base.specs.declared.place.Place.{Place}
 use Rattle.check_rules.specs.Typed as t
-use Rattle.check_rules.specs.PlainTypes as v
+use Rattle.interface_records.specs.PlainTypes as v
 use Rattle.mesa_types.specs.declared.faces.ItemKind.TheVariants as item
 use Rattle.mesa_base.specs.declared.identifier.Identifier.{Identifier}
 use Rattle.check_rules.specs.Scopes.{has, nothing}
@@ -21,7 +21,7 @@ use Rattle.check_rules.specs.TypeRules.{origin, limited, elements, few, is_index
 use Rattle.check_rules.specs.Statements.{whole, held, numbered, returned, declare, given_initial, Ends, tested, tested_inside, rounds, counter, given, Counted, NotCounted, By, Controlled, looped, source, extracted, enter_arm, Headed, Nothing, Variables, constant_meaning, labels_of_exits, labels_of_repeats, numbers_from, Left, also_left, new_labels, is_finished, labels_of}
 use Rattle.check_rules.specs.Phrases.{holds, in_left, in_raise, in_targets, in_cases, in_items, is_catch}
 use Rattle.check_rules.specs.declared.fault.Cause.TheVariants.{TypeMismatch, WrongCount, TwiceDeclared}
-use Rattle.check_rules.specs.PlainTypes.{PlainField, PlainItem, PlainType, kind_of, parts_of, words_of, words_of_fields}
+use Rattle.interface_records.specs.PlainTypes.{PlainField, PlainItem, PlainType, kind_of, parts_of, words_of, words_of_fields}
 
 unfoldable mutual
   -- Expressions.

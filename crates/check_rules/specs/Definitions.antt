@@ -17,7 +17,7 @@ use Rattle.check_rules.specs.Statements.{constant_meaning}
 use Rattle.check_rules.specs.Checking.{check, type_exp}
 use Rattle.check_rules.specs.Programs.{elements_of, also, before_others, Heading, heading, named_item}
 -- what the interface's own names mean before their declaration
-use Rattle.check_rules.specs.PlainTypes.{PlainConstant, PlainItem, PlainName, PlainType}
+use Rattle.interface_records.specs.PlainTypes.{PlainConstant, PlainItem, PlainName, PlainType}
 
 abbrev pub one_ahead : List Identifier → s.Defined → Scope Meaning → Scope Meaning
 one_ahead xs (s.TypeItem e) scope = also Later (xs ++ elements_of e) scope

@@ -1,7 +1,7 @@
 -- Interfaces: what their names mean, and the lists that name them (Language Manual, chapter 7; that the elements of an
 -- interface's enumerations are names of it is a rule of this project).
 use Rattle.std.specs.Prelude.{ℕ, ◌+◌, Bool, false, not, ◌&&◌, List, [], ◌∷◌, ◌++◌, map, Option, Some, None, Ok, if◌then◌else◌, bytes_eq, nat_eq, is_some, slice_get, codes}
-use Rattle.check_rules.specs.PlainTypes as v
+use Rattle.interface_records.specs.PlainTypes as v
 use Rattle.mesa_types.specs.declared.types.Origin.{Origin}
 use Rattle.mesa_types.specs.declared.faces.ItemKind.{ItemKind}
 use Rattle.mesa_types.specs.declared.faces.ItemKind.TheVariants as item
@@ -14,7 +14,7 @@ use Rattle.check_rules.specs.Meanings as m
 use Rattle.check_rules.specs.Parts.{names_of}
 use Rattle.check_rules.specs.Steps.{Checked, and_then, only, refuse}
 use Rattle.check_rules.specs.declared.fault.Cause.TheVariants.{UnknownName, TwiceDeclared}
-use Rattle.check_rules.specs.PlainTypes.{PlainConstant, PlainField, PlainInterface, PlainItem, PlainName, PlainType}
+use Rattle.interface_records.specs.PlainTypes.{PlainConstant, PlainField, PlainInterface, PlainItem, PlainName, PlainType}
 
 pub record Entry : Type 0 where
   pub name : List ℕ

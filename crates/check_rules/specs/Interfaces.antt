@@ -4,11 +4,7 @@ use Rattle.std.specs.Prelude.{◌≡◌, ◌≤◌, ◌<◌, List, [], ◌∷◌
 use Rattle.mesa_base.specs.declared.limits.TheConstants.{TYPE_WORDS, TYPE_DEPTH, ENUMERATION_ELEMENTS}
 use Rattle.mesa_types.specs.declared.faces.ItemKind.TheVariants as item
 use Rattle.check_rules.specs.Typed as t
-use Rattle.check_rules.specs.PlainTypes.{PlainType, Integer, Cardinal, Boolean, Character, String, Enumeration, Subrange, Array, Record, Parts, NoPart, AndPart, PlainField, PlainItem, PlainConstant, PlainName, PlainInterface, kind_of, elements_of, words_of, depth_of}
-
-unfoldable pub HasPart : Parts → Type 0
-HasPart NoPart = ⊥
-HasPart (AndPart x k ps) = Unit {0}
+use Rattle.interface_records.specs.PlainTypes.{HasPart, PlainType, Integer, Cardinal, Boolean, Character, String, Enumeration, Subrange, Array, Record, Parts, NoPart, AndPart, PlainField, PlainItem, PlainConstant, PlainName, PlainInterface, kind_of, elements_of, words_of, depth_of}
 
 unfoldable mutual
   pub TypeInOrder : PlainType → Type 0

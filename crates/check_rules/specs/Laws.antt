@@ -1,7 +1,9 @@
 -- The laws of checking.
 use Rattle.std.specs.Prelude.{◌≡◌, ℕ, ◌*◌, ◌≤◌, ◌⊎◌, true, false, is_some, List, [], ◌∷◌, ◌++◌, length, map, Ok, Err, IfOk, IfErr}
 use Rattle.std.specs.List.{All, Contains}
+use Rattle.mesa_base.specs.Name.{IsName}
 use Rattle.mesa_base.specs.declared.limits.TheConstants.{TEXT_BYTES}
+use Rattle.mesa_base.specs.declared.place.Place.{Place}
 use Rattle.syntax_trees.specs.Syntax as s
 use Rattle.mesa_types.specs.Nodes.{nodes}
 use Rattle.syntax_trees.specs.SyntaxNodes.{module_nodes}
@@ -20,13 +22,14 @@ use Rattle.interface_records.specs.declared.interface.NamedType.{NamedType}
 use Rattle.check_rules.specs.Typed as t
 use Rattle.mesa_types.specs.Sound.{Sound}
 use Rattle.check_rules.specs.Interfaces.{InterfaceInOrder, InterfacesInOrder}
-use Rattle.check_rules.specs.Lists.{Ascend, NoneTwice}
-use Rattle.check_rules.specs.Spelled.{InSixBytes, InterfaceCanBeSpelled, InterfacesCanBeSpelled, ShapeCanBeSpelled, item_numbers, with_name}
+use Rattle.interface_records.specs.Lists.{Ascend, NoneTwice}
+use Rattle.interface_records.specs.Spelled.{InSixBytes, InterfaceCanBeSpelled, InterfacesCanBeSpelled, ShapeCanBeSpelled, item_numbers, with_name}
 use Rattle.check_rules.specs.TreeNames.{HasNames}
 use Rattle.check_rules.specs.Written.{ModuleWritten}
-use Rattle.check_rules.specs.Steps.{Checked, Fault}
+use Rattle.check_rules.specs.Steps.{Checked, Fault, refuse}
+use Rattle.check_rules.specs.declared.fault.Cause.TheVariants.{StampMissing, StampUnwanted}
 use Rattle.check_rules.specs.CheckedModule.{checked, checked_definitions}
-use Rattle.check_rules.specs.PlainTypes.{PlainInterface, plain_interface}
+use Rattle.interface_records.specs.PlainTypes.{PlainInterface, plain_interface}
 use Rattle.check_rules.specs.Limits.{InterfaceKeepsLimits, InterfacesKeepLimits}
 use Rattle.check_rules.specs.Parts.{names_of}
 use Rattle.check_rules.specs.Places.{places_in}
@@ -183,3 +186,27 @@ CheckedInterfacesCanBeSpelled = (m : s.Module) (stamp : ℕ) (is : List Interfac
 -- an interface that files can spell, as one that is read, is in order
 abbrev pub SpelledInterfacesAreInOrder : Type 0
 SpelledInterfacesAreInOrder = (i : PlainInterface) → InterfaceCanBeSpelled i → InterfaceInOrder i
+
+-- the signals and procedures of a module have names
+pub record NamedThroughout (x : t.Module) : Type 0 where
+  pub signals : All (λ (i : Item). IsName i.name) x.signals
+  pub procedures : All (λ (p : t.Procedure). IsName p.head.name) x.procedures
+
+-- so it is with what checking gives of a tree that has names and is written as a text
+abbrev pub CheckedModulesHaveNames : Type 0
+CheckedModulesHaveNames = (m : s.Module) (is : List Interface) → HasNames m → ModuleWritten m.kind → IfOk (checked m is) NamedThroughout
+
+-- a module of definitions, or a program, the word of its kind at this place
+abbrev pub AreDefinitionsAt : s.ModuleKind → Place → Type 0
+AreDefinitionsAt (s.Program q imports exports opens inner) p = ⊥
+AreDefinitionsAt (s.Interface q opens defs) p = q ≡ p
+
+abbrev pub IsProgramAt : s.ModuleKind → Place → Type 0
+IsProgramAt (s.Program q imports exports opens inner) p = q ≡ p
+IsProgramAt (s.Interface q opens defs) p = ⊥
+
+-- definitions without a stamp, and a program under one, are refused at that word, whatever the stamp and the interfaces are
+pub record StampsComeFirst : Type 0 where
+  pub missing : (m : s.Module) (is : List Interface) (p : Place) → AreDefinitionsAt m.kind p → checked m is ≡ refuse StampMissing p
+  pub unwanted : (m : s.Module) (stamp : ℕ) (is : List Interface) (p : Place) → IsProgramAt m.kind p
+      → checked_definitions m stamp is ≡ refuse StampUnwanted p

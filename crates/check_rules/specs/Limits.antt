@@ -1,7 +1,7 @@
 -- Which types keep their limits, inside and out: words, depth and elements (rule of this project).
 use Rattle.std.specs.Prelude.{◌≡◌, ◌≤◌, List, [], ◌∷◌, length, Some}
 use Rattle.mesa_base.specs.declared.limits.TheConstants.{TYPE_WORDS, TYPE_DEPTH, ENUMERATION_ELEMENTS}
-use Rattle.check_rules.specs.PlainTypes.{PlainType, Integer, Cardinal, Boolean, Character, String, Enumeration, Subrange, Array, Record, Parts, NoPart, AndPart, PlainField, PlainItem, PlainConstant, PlainName, PlainInterface, base_of, words_of, depth_of}
+use Rattle.interface_records.specs.PlainTypes.{PlainType, Integer, Cardinal, Boolean, Character, String, Enumeration, Subrange, Array, Record, Parts, NoPart, AndPart, PlainField, PlainItem, PlainConstant, PlainName, PlainInterface, base_of, words_of, depth_of}
 
 unfoldable mutual
   pub KeepsLimits : PlainType → Type 0

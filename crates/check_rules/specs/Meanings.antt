@@ -1,7 +1,7 @@
 -- What names mean.
 use Rattle.std.specs.Prelude.{ℕ}
 use Rattle.check_rules.specs.Typed as t
-use Rattle.check_rules.specs.PlainTypes.{PlainItem, PlainType}
+use Rattle.interface_records.specs.PlainTypes.{PlainItem, PlainType}
 
 pub data Meaning : Type 0 where
   Variable : t.Home → PlainType → Meaning

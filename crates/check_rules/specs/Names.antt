@@ -8,7 +8,7 @@ use Rattle.syntax_trees.specs.declared.syntax.Labels.{Labels}
 use Rattle.syntax_trees.specs.declared.syntax.Labels.TheVariants.{Any, Unwind, Signals}
 use Rattle.syntax_trees.specs.declared.syntax.TypeBase.{TypeBase}
 use Rattle.syntax_trees.specs.declared.syntax.TypeBase.TheVariants.{Unsaid, OfInteger, OfCardinal, OfCharacter, OfName}
-use Rattle.check_rules.specs.PlainTypes as v
+use Rattle.interface_records.specs.PlainTypes as v
 use Rattle.check_rules.specs.Typed.{LinkedProcedure, LinkedSignal}
 use Rattle.check_rules.specs.Scopes.{Scope, find, nothing, over, with_name, innermost}
 use Rattle.check_rules.specs.Meanings.{Meaning, TypeName, Procedure, Signal, Interface, Later, Headless, NotImported}
@@ -16,7 +16,7 @@ use Rattle.check_rules.specs.Steps.{State, Check, Checked, ◌>>=◌, and_then, 
 use Rattle.check_rules.specs.Around.{Around, ArmLabel, ForAny, ForUnwind, ForSignal}
 use Rattle.check_rules.specs.Parts.{last_of}
 use Rattle.check_rules.specs.declared.fault.Cause.TheVariants.{UnknownName, TwiceDeclared, TypeMismatch, NotConstant}
-use Rattle.check_rules.specs.PlainTypes.{PlainType, base_of}
+use Rattle.interface_records.specs.PlainTypes.{PlainType, base_of}
 
 abbrev pub or_empty : List Bool → Option (List Bool) → List Bool
 or_empty other None = other

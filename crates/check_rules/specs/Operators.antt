@@ -3,18 +3,14 @@
 use Rattle.std.specs.Prelude.{Bool, true, false, Option, Some, None, if◌then◌else◌}
 use Rattle.check_rules.specs.Typed as t
 use Rattle.check_rules.specs.Typed.{Base, Signed, Unsigned, Range, Every, Relation}
-use Rattle.check_rules.specs.PlainTypes as v
+use Rattle.interface_records.specs.PlainTypes as v
 use Rattle.syntax_trees.specs.declared.syntax.Operator.{Operator}
 use Rattle.syntax_trees.specs.declared.syntax.Operator.TheVariants.{Or, And, Add, Subtract, Multiply, Divide, Modulo}
 use Rattle.check_rules.specs.Ranges.{in_common}
 -- what operators see of a type: its base
-use Rattle.check_rules.specs.PlainTypes.{PlainType, base_of, same}
-
-pub data Sort : Type 0 where
-  Number : Base → Sort
-  Letter : Sort
-  Truth : Sort
-  Other : Sort
+use Rattle.interface_records.specs.PlainTypes.{PlainType, base_of, same}
+pub use Rattle.interface_records.specs.Sorts.{Sort, Number, Letter, Truth, Other, sort_of_base}
+unfoldable pub use Rattle.interface_records.specs.Sorts.{sort_of}
 
 -- two operands that meet: how both are read as numbers, and the checks of the two
 pub record Meeting : Type 0 where
@@ -28,16 +24,6 @@ pub record Applied : Type 0 where
   pub operator : t.Operator
   pub right : Range
   pub kind : PlainType
-
-abbrev pub sort_of_base : Option PlainType → Sort
-sort_of_base (Some v.Integer) = Number Signed
-sort_of_base (Some v.Cardinal) = Number Unsigned
-sort_of_base (Some v.Character) = Letter
-sort_of_base (Some v.Boolean) = Truth
-sort_of_base _ = Other
-
-unfoldable pub sort_of : PlainType → Sort
-sort_of kind = sort_of_base (base_of kind)
 
 -- two numbers in one operation: a literal takes the other's type; of a mixed operation, which is INTEGER, the CARDINAL is checked
 unfoldable pub meet : Base → Bool → Base → Bool → Meeting

@@ -3,7 +3,7 @@ use Rattle.std.specs.Prelude.{ℕ, ◌+◌, Bool, true, false, ◌&&◌, not, Li
 use Rattle.syntax_trees.specs.Syntax as s
 use Rattle.mesa_base.specs.declared.place.Place.{Place}
 use Rattle.check_rules.specs.Typed as t
-use Rattle.check_rules.specs.PlainTypes as v
+use Rattle.interface_records.specs.PlainTypes as v
 use Rattle.mesa_base.specs.declared.identifier.Identifier.{Identifier}
 use Rattle.syntax_trees.specs.declared.syntax.QualifiedName.{QualifiedName}
 use Rattle.syntax_trees.specs.declared.syntax.TypeBase.{TypeBase}
@@ -11,7 +11,7 @@ use Rattle.syntax_trees.specs.declared.syntax.TypeBase.TheVariants.{Unsaid, OfIn
 use Rattle.check_rules.specs.Scopes.{has}
 use Rattle.check_rules.specs.Steps.{Checked, and_then, only}
 use Rattle.check_rules.specs.declared.fault.Cause.TheVariants.{TwiceDeclared}
-use Rattle.check_rules.specs.PlainTypes.{PlainField, PlainType, same, same_name, words_of}
+use Rattle.interface_records.specs.PlainTypes.{PlainField, PlainType, same, same_name, words_of}
 
 unfoldable pub first : s.Expr → Place
 first (s.Run e ss) = first e

@@ -26,7 +26,7 @@ use Rattle.check_rules.specs.Phrases.{is_catch}
 use Rattle.check_rules.specs.Checking.{type_exp, unnamed_fields, head, initial, block, phrase, statements, exits}
 use Rattle.check_rules.specs.declared.fault.Cause.TheVariants.{ExportDiffers, FrameTooLarge}
 -- the names that a module declares itself, elements of the enumerations in its own types included
-use Rattle.check_rules.specs.PlainTypes.{PlainField, PlainInterface, PlainItem, face_of, item_of, words_of_fields}
+use Rattle.interface_records.specs.PlainTypes.{PlainField, PlainInterface, PlainItem, face_of, item_of, words_of_fields}
 
 unfoldable mutual
   pub elements_of : s.TypeExp → List Identifier

@@ -8,7 +8,7 @@ use Rattle.check_rules.specs.Steps.{Checked, refuse}
 use Rattle.check_rules.specs.declared.fault.Cause.TheVariants.{TypeMismatch}
 -- an expression's value and type, whether it is a number literal that takes the type of another operand, and what it gave
 -- where it is a call or raise
-use Rattle.check_rules.specs.PlainTypes.{PlainField, PlainType, base_of, bounds, conforms, is_cardinal, is_integer, sign_of}
+use Rattle.interface_records.specs.PlainTypes.{PlainField, PlainType, base_of, bounds, conforms, is_cardinal, is_integer, sign_of}
 
 pub record Typed : Type 0 where
   pub value : t.Expr

@@ -3,7 +3,7 @@ use Rattle.std.specs.Prelude.{ℕ, Bool, true, false, List, [], ◌∷◌, Optio
 use Rattle.mesa_base.specs.declared.place.Place.{Place}
 use Rattle.check_rules.specs.Typed as t
 use Rattle.check_rules.specs.Typed.{Home, Base, Signed, Unsigned, Range, Every}
-use Rattle.check_rules.specs.PlainTypes as v
+use Rattle.interface_records.specs.PlainTypes as v
 use Rattle.mesa_base.specs.declared.identifier.Identifier.{Identifier}
 use Rattle.check_rules.specs.Steps.{Check, Checked, and_then, ◌>>=◌, pure, fail, refuse, or_refuse, only, ensure, lift, spend}
 use Rattle.check_rules.specs.Meanings.{Meaning}
@@ -13,7 +13,7 @@ use Rattle.check_rules.specs.Names.{of_interface}
 use Rattle.check_rules.specs.Parts.{Found, field_named, and_suffix, and_part}
 use Rattle.check_rules.specs.Ranges.{Typed, typed, range_between, Aim, Several}
 use Rattle.check_rules.specs.declared.fault.Cause.TheVariants.{UnknownName, TypeMismatch, WrongCount}
-use Rattle.check_rules.specs.PlainTypes.{PlainField, PlainItem, PlainType, array_parts, base_of, bounds, elements_of, fields, is_text, one_base, sign_of, words_of, words_of_fields}
+use Rattle.interface_records.specs.PlainTypes.{PlainField, PlainItem, PlainType, array_parts, base_of, bounds, elements_of, fields, is_text, one_base, sign_of, words_of, words_of_fields}
 
 pub data Reached : Type 0 where
   -- a variable or a part of one

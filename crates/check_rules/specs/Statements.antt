@@ -21,7 +21,7 @@ use Rattle.check_rules.specs.Steps.{State, Check, Checked, and_then, ◌>>=◌, 
 use Rattle.check_rules.specs.Names.{settle}
 use Rattle.check_rules.specs.declared.fault.Cause.TheVariants.{TypeMismatch, NotConstant, TwiceDeclared, GlobalsTooLarge}
 -- a statement with a number, where a phrase belongs to it
-use Rattle.check_rules.specs.PlainTypes.{PlainField, PlainType, base_of, conforms, fields, is_text, kind_of, kinds_of, sign_of}
+use Rattle.interface_records.specs.PlainTypes.{PlainField, PlainType, base_of, conforms, fields, is_text, kind_of, kinds_of, sign_of}
 
 abbrev pub numbered : Around → Bool → (Around → Check t.Stmt) → Check t.Stmt
 numbered a true rule = rule (in_statement a) >>= (λ s. pure (t.Marked a.marked s))

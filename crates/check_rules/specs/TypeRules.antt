@@ -4,10 +4,12 @@ use Rattle.mesa_base.specs.declared.limits.TheConstants.{TYPE_WORDS, TYPE_DEPTH,
 use Rattle.mesa_base.specs.declared.place.Place.{Place}
 use Rattle.check_rules.specs.Typed as t
 use Rattle.check_rules.specs.Typed.{Base, Signed, Unsigned}
-use Rattle.check_rules.specs.PlainTypes as v
+use Rattle.interface_records.specs.PlainTypes as v
 use Rattle.mesa_types.specs.declared.types.Origin.{Origin}
 use Rattle.mesa_base.specs.declared.identifier.Identifier.{Identifier}
 use Rattle.check_rules.specs.Operators.{Sort, Number, sort_of}
+pub use Rattle.interface_records.specs.Sorts.{is_index_by}
+unfoldable pub use Rattle.interface_records.specs.Sorts.{is_index}
 use Rattle.mesa_types.specs.Constants.{constant}
 use Rattle.mesa_types.specs.Operators.{shifted, truth, wrap}
 use Rattle.check_rules.specs.Ranges.{Typed}
@@ -17,7 +19,7 @@ use Rattle.check_rules.specs.Names.{is_declared, element_in}
 use Rattle.check_rules.specs.Steps.{Check, Checked, and_then, pure, refuse, only, or_refuse}
 use Rattle.check_rules.specs.declared.fault.Cause.TheVariants.{TwiceDeclared, TypeMismatch, NotConstant, TypeTooLarge}
 -- a record or enumeration is that of its declaration: how many of them begin before it in the text
-use Rattle.check_rules.specs.PlainTypes.{PlainType, base_of, bounds, depth_of, is_text, same, sign_of, words_of}
+use Rattle.interface_records.specs.PlainTypes.{PlainType, base_of, bounds, depth_of, is_text, same, sign_of, words_of}
 
 abbrev pub origin : Known → Place → Origin
 origin known p = record { «module» = known.name; stamp = known.stamp; number = length (filter (λ n. nat_lt n p.token) known.origins) }
@@ -36,14 +38,6 @@ elements a k n (x ∷ xs) = λ s.
 -- and so are the elements of an enumeration
 unfoldable pub few : Place → List Identifier → Checked (Unit {0})
 few p xs = only (nat_le (length xs) ENUMERATION_ELEMENTS) TypeTooLarge p
-
-abbrev pub is_index_by : Sort → Bool → Bool
-is_index_by (Number b) is_subrange = is_subrange
-is_index_by _ is_subrange = true
-
--- BOOLEAN, CHARACTER, an enumeration or a subrange
-unfoldable pub is_index : PlainType → Bool
-is_index k = is_some (base_of k) && is_index_by (sort_of k) (is_some (bounds k))
 
 abbrev pub literal_word : Bool → t.Expr → Option ℕ
 literal_word true (t.Literal n) = Some 0

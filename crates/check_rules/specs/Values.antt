@@ -5,7 +5,7 @@ use Rattle.mesa_base.specs.declared.limits.TheConstants.{GREATEST_NUMBER, GREATE
 use Rattle.mesa_base.specs.declared.place.Place.{Place}
 use Rattle.check_rules.specs.Typed as t
 use Rattle.check_rules.specs.Typed.{Range, Relation}
-use Rattle.check_rules.specs.PlainTypes as v
+use Rattle.interface_records.specs.PlainTypes as v
 use Rattle.mesa_types.specs.declared.faces.ItemKind.{ItemKind}
 use Rattle.mesa_types.specs.declared.faces.ItemKind.TheVariants as item
 use Rattle.mesa_base.specs.declared.identifier.Identifier.{Identifier}
@@ -23,7 +23,7 @@ use Rattle.check_rules.specs.Statements.{Ends, bases, between, lies_in}
 use Rattle.check_rules.specs.Steps.{Check, Checked, and_then, ◌>>=◌, pure, fail, refuse, or_refuse, only, ensure, spend}
 use Rattle.check_rules.specs.declared.fault.Cause.TheVariants.{TypeMismatch, WrongCount, GlobalsTooLarge}
 -- a literal up to 32767 takes the type of another operand; a larger one is CARDINAL
-use Rattle.check_rules.specs.PlainTypes.{PlainField, PlainItem, PlainType, words_of, words_of_fields}
+use Rattle.interface_records.specs.PlainTypes.{PlainField, PlainItem, PlainType, words_of, words_of_fields}
 
 unfoldable pub number : ℕ → Typed
 number n =

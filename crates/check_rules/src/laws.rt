@@ -1,6 +1,6 @@
 //! Laws of checking. No call of the program is here.
 
-ghost use Rattle.check_rules.specs.Laws.{CheckedInterfacesAreInOrder, CheckedInterfacesCanBeSpelled, CheckedModulesAreSound, EachTextHasOneResult, FaultsStandInTheText, HeadsAreInForm, InterfacesAreOfTheirText, ModulesCanBeSpelled, NamesStandOnce, ShapesAreGiven, ShapesAreInOrder, SpelledInterfacesAreInOrder, TypedTreesHaveFewNodes, TypesKeepTheirLimits};
+ghost use Rattle.check_rules.specs.Laws.{CheckedInterfacesAreInOrder, CheckedInterfacesCanBeSpelled, CheckedModulesAreSound, CheckedModulesHaveNames, EachTextHasOneResult, FaultsStandInTheText, HeadsAreInForm, InterfacesAreOfTheirText, ModulesCanBeSpelled, NamesStandOnce, ShapesAreGiven, ShapesAreInOrder, SpelledInterfacesAreInOrder, StampsComeFirst, TypedTreesHaveFewNodes, TypesKeepTheirLimits};
 
 /// Each text has exactly one result: a typed module or an interface, or its first fault with its cause and place.
 #[tactic(auto, using(crate::proofs::LawProofs::one_result))]
@@ -87,4 +87,16 @@ pub fn interfaces_can_be_spelled()
 /// An interface that files can spell is in order, so that what is checked with interfaces that were read is sound.
 pub fn spelled_interfaces_are_in_order()
     ensures { SpelledInterfacesAreInOrder }
+{}
+
+/// The signals and procedures of a checked module have names, where its tree has names and is written as a text.
+#[tactic(auto, using(crate::proofs::HeadNames::modules_have_names))]
+pub fn checked_modules_have_names()
+    ensures { CheckedModulesHaveNames }
+{}
+
+/// Definitions without a stamp, and a program under one, are refused at the word of their kind, whatever the interfaces given are.
+#[tactic(auto, using(crate::proofs::Stamps::stamps_come_first))]
+pub fn stamps_come_first()
+    ensures { StampsComeFirst }
 {}

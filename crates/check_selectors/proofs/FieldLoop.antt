@@ -2,7 +2,7 @@
 use Rattle.std.proofs.Common.{◌≡◌, ◌<◌, ◌≤◌, ◌+◌, ℕ, true, false, List, ◌∷◌, map, drop, length, get_or, Some, None, refl, sym, ap, ◌∙◌}
 use Rattle.std.proofs.lemmas.List.{drop_more, drop_all}
 use Rattle.mesa_types.specs.declared.types.FieldType.{FieldType, out-FieldType}
-use Rattle.check_rules.specs.PlainTypes.{PlainField, plain, plain_field, words_of}
+use Rattle.interface_records.specs.PlainTypes.{PlainField, plain, plain_field, words_of}
 use Rattle.check_rules.specs.Parts.{found, has_name}
 use Rattle.check_state.proofs.TypeForms.{parts_of_field}
 

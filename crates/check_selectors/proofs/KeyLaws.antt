@@ -9,7 +9,7 @@ use Rattle.mesa_base.specs.declared.identifier.Identifier.{Identifier}
 use Rattle.syntax_trees.specs.declared.syntax.Keyed.{Keyed}
 use Rattle.mesa_types.specs.declared.types.FieldType.{FieldType, out-FieldType}
 use Rattle.check_scopes.specs.Scopes.{Scope, nothing, over, with_name, has}
-use Rattle.check_rules.specs.PlainTypes.{PlainField, PlainType, plain_field, words_of}
+use Rattle.interface_records.specs.PlainTypes.{PlainField, PlainType, plain_field, words_of}
 use Rattle.check_rules.specs.Parts.{Found, found, field_named, has_name, number_by, names_of, are_fields, differ, places_of}
 use Rattle.check_state.proofs.TypeForms.{parts_of_field}
 use Rattle.check_selectors.specs.Keys.{places, places_if, named_number, numbered, unless, with_place, places_from}

@@ -3,7 +3,7 @@ use Rattle.std.proofs.Common.{◌≡◌, ◌≤◌, ◌<◌, false, List, [], �
 use Rattle.mesa_base.specs.declared.place.Place.{Place}
 use Rattle.mesa_types.specs.Typed as t
 use Rattle.mesa_types.specs.declared.types.FieldType.{FieldType, out-FieldType}
-use Rattle.check_rules.specs.PlainTypes.{PlainType, PlainField, plain, plain_field}
+use Rattle.interface_records.specs.PlainTypes.{PlainType, PlainField, plain, plain_field}
 use Rattle.check_state.proofs.TypeForms.{parts_of_field}
 use Rattle.check_rules.specs.Ranges.{Aim}
 use Rattle.check_rules.specs.Reached.{Value, Results, settled, results, several}

@@ -3,8 +3,8 @@ use Rattle.std.specs.Prelude.{ℕ, Bool, true, false, List, Option, Some, None, 
 use Rattle.mesa_base.specs.declared.place.Place.{Place}
 use Rattle.mesa_base.specs.declared.identifier.Identifier.{Identifier}
 use Rattle.mesa_types.specs.Typed as t
-use Rattle.check_rules.specs.PlainTypes as v
-use Rattle.check_rules.specs.PlainTypes.{PlainField, PlainType, fields, is_text}
+use Rattle.interface_records.specs.PlainTypes as v
+use Rattle.interface_records.specs.PlainTypes.{PlainField, PlainType, fields, is_text}
 use Rattle.check_rules.specs.Parts.{Found, field_named}
 use Rattle.check_rules.specs.Reached.{Reached, Value, is_length}
 use Rattle.check_rules.specs.Steps.{Checked, and_then, refuse, or_refuse}

@@ -2,7 +2,7 @@
 use Rattle.std.specs.Prelude.{ℕ, ◌+◌, Bool, true, List, [], ◌∷◌, ◌++◌, Option, Some, None, if◌then◌else◌}
 use Rattle.mesa_base.specs.declared.identifier.Identifier.{Identifier}
 use Rattle.check_scopes.specs.Scopes.{Scope, nothing, over, with_name}
-use Rattle.check_rules.specs.PlainTypes.{PlainField}
+use Rattle.interface_records.specs.PlainTypes.{PlainField}
 use Rattle.check_rules.specs.Parts.{complete, places_of}
 
 -- the places, where each field has one key

@@ -5,7 +5,7 @@ use Rattle.mesa_types.specs.Plain.{expr, suffix}
 use Rattle.mesa_types.specs.Typed as t
 use Rattle.mesa_types.specs.declared.faces.Item.{Item}
 use Rattle.mesa_types.specs.declared.typed_tree.Suffix.{Suffix}
-use Rattle.check_rules.specs.PlainTypes.{PlainField, PlainType, plain}
+use Rattle.interface_records.specs.PlainTypes.{PlainField, PlainType, plain}
 use Rattle.check_rules.specs.Parts as parts
 use Rattle.check_rules.specs.Reached as spec
 use Rattle.check_state.specs.Views.{fields, meaning}

@@ -2,8 +2,8 @@
 ghost use Rattle.std.specs.Prelude.{◌≡◌, Some, option_map, IfOk};
 ghost use Rattle.mesa_types.specs.Plain.{expr};
 ghost use Rattle.mesa_types.specs.Typed as t;
-ghost use Rattle.check_rules.specs.PlainTypes as v;
-ghost use Rattle.check_rules.specs.PlainTypes.{plain, words_of};
+ghost use Rattle.interface_records.specs.PlainTypes as v;
+ghost use Rattle.interface_records.specs.PlainTypes.{plain, words_of};
 ghost use Rattle.check_rules.specs.Reached as spec;
 ghost use Rattle.check_state.specs.Gives.{GivesOnly};
 ghost use Rattle.check_state.specs.Views.{typed};

@@ -3,7 +3,7 @@ ghost use Rattle.std.specs.Prelude.{◌≡◌, ◌+◌, [], ◌∷◌, ◌++◌,
 ghost use Rattle.mesa_types.specs.Plain.{expr};
 ghost use Rattle.mesa_types.specs.Typed as t;
 ghost use Rattle.check_rules.specs.Parts as spec;
-ghost use Rattle.check_rules.specs.PlainTypes.{plain, plain_field, words_of};
+ghost use Rattle.interface_records.specs.PlainTypes.{plain, plain_field, words_of};
 ghost use Rattle.check_rules.specs.Reached as rule;
 ghost use Rattle.check_state.specs.Gives.{Gives, GivesOnly};
 ghost use Rattle.check_state.specs.Views as words;

@@ -2,7 +2,7 @@
 ghost use Rattle.std.specs.Prelude.{◌≡◌, ◌++◌, ◌∷◌, [], map, true, IfOk, OnOk};
 ghost use Rattle.mesa_base.specs.declared.identifier.Identifier.{Identifier};
 ghost use Rattle.syntax_trees.specs.declared.syntax.Keyed.{Keyed};
-ghost use Rattle.check_rules.specs.PlainTypes.{plain_field};
+ghost use Rattle.interface_records.specs.PlainTypes.{plain_field};
 ghost use Rattle.check_scopes.specs.Scopes.{over, with_name};
 ghost use Rattle.check_scopes.specs.Shows.{means};
 ghost use Rattle.check_selectors.specs.Keys as spec;

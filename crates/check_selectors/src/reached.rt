@@ -2,7 +2,7 @@
 ghost use Rattle.std.specs.Prelude.{◌≡◌, [], option_map, Some, IfOk};
 ghost use Rattle.mesa_types.specs.Plain.{expr};
 ghost use Rattle.mesa_types.specs.Typed as t;
-ghost use Rattle.check_rules.specs.PlainTypes.{plain, plain_item};
+ghost use Rattle.interface_records.specs.PlainTypes.{plain, plain_item};
 ghost use Rattle.check_rules.specs.Reached as spec;
 ghost use Rattle.check_state.specs.Gives.{Gives, GivesOnly};
 ghost use Rattle.check_state.specs.Views as words;

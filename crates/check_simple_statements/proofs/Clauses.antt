@@ -11,8 +11,8 @@ use Rattle.check_rules.specs.Checking as spec
 use Rattle.check_rules.specs.Names.{named}
 use Rattle.check_rules.specs.Parts.{are_fields, count_lefts, first, first_of_interval, keys_of_lefts}
 use Rattle.check_rules.specs.Phrases.{holds, in_items, in_left, in_raise, in_targets}
-use Rattle.check_rules.specs.PlainTypes as v
-use Rattle.check_rules.specs.PlainTypes.{PlainField, plain_field}
+use Rattle.interface_records.specs.PlainTypes as v
+use Rattle.interface_records.specs.PlainTypes.{PlainField, plain_field}
 use Rattle.check_rules.specs.Ranges.{Arguments, Into}
 use Rattle.check_rules.specs.Reached.{Store, reached, stored}
 use Rattle.check_rules.specs.Statements.{By, NotCounted, counter, given, returned_by, rounds}

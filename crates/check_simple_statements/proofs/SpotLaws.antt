@@ -7,7 +7,7 @@ use Rattle.std.proofs.lemmas.List.{drop_all}
 use Rattle.mesa_types.specs.declared.types.FieldType.{FieldType, out-FieldType}
 use Rattle.check_scopes.specs.Scopes.{Scope, over}
 use Rattle.check_rules.specs.Parts.{Found, found, has_name}
-use Rattle.check_rules.specs.PlainTypes.{PlainField, PlainType, plain, plain_field, words_of}
+use Rattle.interface_records.specs.PlainTypes.{PlainField, PlainType, plain, plain_field, words_of}
 use Rattle.check_state.proofs.TypeForms.{parts_of_field}
 use Rattle.check_jumps.proofs.Tests.{at_drop}
 use Rattle.check_simple_statements.specs.Spots.{named_spot, spot}

@@ -19,7 +19,7 @@ use Rattle.check_scopes.specs.Scopes.{Scope, nothing, with_name}
 use Rattle.check_scopes.specs.Shows.{means}
 use Rattle.check_scopes.specs.declared.names.Names.{Names}
 use Rattle.check_rules.specs.Parts.{Found, are_fields, count_lefts, field_named, keys_of_lefts}
-use Rattle.check_rules.specs.PlainTypes.{PlainField, plain_field, words_of}
+use Rattle.interface_records.specs.PlainTypes.{PlainField, plain_field, words_of}
 use Rattle.check_rules.specs.Scopes.{has}
 use Rattle.check_rules.specs.Statements.{extracted}
 use Rattle.check_rules.specs.Steps.{Checked, State, and_then, ensure, only, or_refuse, refuse}

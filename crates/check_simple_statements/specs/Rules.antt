@@ -8,8 +8,8 @@ use Rattle.check_rules.specs.Around.{Around, return, resumed}
 use Rattle.check_rules.specs.Checking as spec
 use Rattle.check_rules.specs.Names.{named}
 use Rattle.check_rules.specs.Parts.{Found, field_named, first, first_of_interval}
-use Rattle.check_rules.specs.PlainTypes as v
-use Rattle.check_rules.specs.PlainTypes.{PlainField, words_of}
+use Rattle.interface_records.specs.PlainTypes as v
+use Rattle.interface_records.specs.PlainTypes.{PlainField, words_of}
 use Rattle.check_rules.specs.Ranges.{Typed, Free, Into, Several}
 use Rattle.check_rules.specs.Reached.{Perform, reached, performed}
 use Rattle.check_rules.specs.Scopes.{Scope}

@@ -2,7 +2,7 @@
 use Rattle.std.specs.Prelude.{◌≡◌, ℕ, List, Option, Some, None, option_map}
 use Rattle.check_scopes.specs.Scopes.{Scope, nothing, with_name}
 use Rattle.check_rules.specs.Parts as parts
-use Rattle.check_rules.specs.PlainTypes.{plain}
+use Rattle.interface_records.specs.PlainTypes.{plain}
 use Rattle.check_scopes.specs.Shows.{means}
 use Rattle.check_state.specs.Views.{fields}
 use Rattle.check_simple_statements.specs.declared.spots.Spot.{Spot}

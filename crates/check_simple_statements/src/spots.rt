@@ -3,7 +3,7 @@ ghost use Rattle.std.specs.Prelude.{◌≡◌, ◌+◌, List, ℕ, option_map, I
 ghost use Rattle.check_scopes.specs.Scopes.{over};
 ghost use Rattle.check_scopes.specs.Shows.{means};
 ghost use Rattle.check_rules.specs.Parts as parts;
-ghost use Rattle.check_rules.specs.PlainTypes.{plain, words_of};
+ghost use Rattle.interface_records.specs.PlainTypes.{plain, words_of};
 ghost use Rattle.check_state.specs.Views as words;
 ghost use Rattle.check_simple_statements.specs.Spots as view;
 

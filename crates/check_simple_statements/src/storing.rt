@@ -7,7 +7,7 @@ ghost use Rattle.check_scopes.specs.Scopes.{with_name};
 ghost use Rattle.check_scopes.specs.Shows.{means};
 ghost use Rattle.check_rules.specs.Checking as spec;
 ghost use Rattle.check_rules.specs.Parts as parts;
-ghost use Rattle.check_rules.specs.PlainTypes.{plain_field};
+ghost use Rattle.interface_records.specs.PlainTypes.{plain_field};
 ghost use Rattle.check_rules.specs.Statements as rule;
 ghost use Rattle.check_rules.specs.Steps.{only};
 ghost use Rattle.check_rules.specs.declared.fault.Cause.TheVariants.{TwiceDeclared, WrongCount};

@@ -12,8 +12,8 @@ use Rattle.mesa_types.specs.declared.types.TypeTree.TheVariants as tree
 use Rattle.mesa_types.specs.declared.types.TypeTree.TheOpen.{TypeTree-F, FieldType-F}
 use Rattle.mesa_types.specs.declared.types.TypeTree.TheFolds.{fold-TypeTree, fold-FieldType, fold-roll-TypeTree, fold-roll-FieldType, map-TypeTree}
 use Rattle.mesa_types.specs.declared.types.FieldType.{FieldType, roll-FieldType, out-FieldType, roll-out-FieldType}
-use Rattle.check_rules.specs.PlainTypes as v
-use Rattle.check_rules.specs.PlainTypes.{PlainType, PlainField, Parts, kind_of, kinds_of, kinds_of_parts, elements_of, words_of, words_of_fields, plain, plain_field, tree_of, trees_of}
+use Rattle.interface_records.specs.PlainTypes as v
+use Rattle.interface_records.specs.PlainTypes.{PlainType, PlainField, Parts, kind_of, kinds_of, kinds_of_parts, elements_of, words_of, words_of_fields, plain, plain_field, tree_of, trees_of}
 use Rattle.check_rules.proofs.SoundTypes.{words_agree, field_words_agree}
 use Rattle.check_state.proofs.TypeBack.{back}
 use Rattle.check_state.proofs.TypeForms.{parts_of_field}

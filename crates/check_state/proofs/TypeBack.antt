@@ -5,7 +5,7 @@ use Rattle.mesa_types.specs.declared.types.TypeTree.TheVariants as tree
 use Rattle.mesa_types.specs.declared.types.TypeTree.TheOpen.{TypeTree-F, FieldType-F}
 use Rattle.mesa_types.specs.declared.types.TypeTree.TheFolds.{fold-TypeTree, fold-FieldType, fold-roll-TypeTree, fold-roll-FieldType, ind-TypeTree, map-TypeTree, map-FieldType}
 use Rattle.mesa_types.specs.declared.types.FieldType.{FieldType, roll-FieldType}
-use Rattle.check_rules.specs.PlainTypes.{PlainType, PlainField, parts_of, plain, plain_step, plain_field_step, tree_of, trees_of, field_of}
+use Rattle.interface_records.specs.PlainTypes.{PlainType, PlainField, parts_of, plain, plain_step, plain_field_step, tree_of, trees_of, field_of}
 
 abbrev plain_tree : TypeTree → PlainType
 plain_tree = fold-TypeTree PlainType PlainField plain_step plain_field_step

@@ -6,8 +6,8 @@ use Rattle.mesa_types.specs.declared.types.TypeTree.TheOpen.{TypeTree-F, FieldTy
 use Rattle.mesa_types.specs.declared.types.TypeTree.TheFolds.{fold-roll-TypeTree, fold-roll-FieldType, map-TypeTree}
 use Rattle.mesa_types.specs.declared.types.FieldType.{FieldType, roll-FieldType, out-FieldType, roll-out-FieldType}
 use Rattle.mesa_types.specs.declared.types.Origin.{Origin}
-use Rattle.check_rules.specs.PlainTypes as v
-use Rattle.check_rules.specs.PlainTypes.{PlainType, PlainField, fields_of_parts, parts_of, plain, plain_field, plain_step, plain_field_step}
+use Rattle.interface_records.specs.PlainTypes as v
+use Rattle.interface_records.specs.PlainTypes.{PlainType, PlainField, fields_of_parts, parts_of, plain, plain_field, plain_step, plain_field_step}
 
 pub type_at : (y : TypeTree-F TypeTree FieldType) {x : TypeTree} → roll-TypeTree y ≡ x
     → plain x ≡ plain_step (map-TypeTree TypeTree FieldType PlainType PlainField plain plain_field y)

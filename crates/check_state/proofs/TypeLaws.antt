@@ -9,8 +9,8 @@ use Rattle.mesa_types.specs.declared.types.TypeTree.TheOpen.{TypeTree-F}
 use Rattle.mesa_types.specs.declared.types.TypeTree.TheFolds.{fold-FieldType, fold-roll-TypeTree, map-TypeTree}
 use Rattle.mesa_types.specs.declared.types.FieldType.{FieldType}
 use Rattle.mesa_types.specs.declared.types.Origin.{Origin}
-use Rattle.check_rules.specs.PlainTypes as v
-use Rattle.check_rules.specs.PlainTypes.{PlainType, Parts, PlainField, base_of, same, same_parts, same_names, same_name, same_origin, same_stamp, elements_of, plain, plain_field, plain_step, tree_of, trees_of}
+use Rattle.interface_records.specs.PlainTypes as v
+use Rattle.interface_records.specs.PlainTypes.{PlainType, Parts, PlainField, base_of, same, same_parts, same_names, same_name, same_origin, same_stamp, elements_of, plain, plain_field, plain_step, tree_of, trees_of}
 use Rattle.check_rules.proofs.SoundSame.{types_same}
 use Rattle.check_state.proofs.TypeBack.{back}
 use Rattle.check_state.proofs.TypeForms.{type_at, of_integer, of_cardinal, of_boolean, of_character, of_enumeration}

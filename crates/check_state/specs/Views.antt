@@ -8,7 +8,7 @@ use Rattle.check_scopes.specs.Scopes.{Scope, nothing, over}
 use Rattle.check_scopes.specs.Shows.{means, shows}
 use Rattle.check_scopes.specs.declared.names.Names.{Names}
 use Rattle.check_scopes.specs.declared.scopes.Scopes.{Scopes}
-use Rattle.check_rules.specs.PlainTypes.{PlainField, plain, plain_field, plain_item}
+use Rattle.interface_records.specs.PlainTypes.{PlainField, plain, plain_field, plain_item}
 use Rattle.check_rules.specs.Meanings as m
 use Rattle.check_rules.specs.Names.{or_nothing}
 use Rattle.check_rules.specs.Steps as step

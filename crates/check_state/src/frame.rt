@@ -2,7 +2,7 @@ ghost use Rattle.std.specs.Prelude.{◌≡◌, IfOk, OnOk, length};
 ghost use Rattle.mesa_types.specs.Plain.{kinds_of};
 ghost use Rattle.mesa_types.specs.Shapes.{count_in, join, one, words_in_all};
 ghost use Rattle.mesa_types.specs.Typed.{NoKinds};
-ghost use Rattle.check_rules.specs.PlainTypes.{kind_of, plain};
+ghost use Rattle.interface_records.specs.PlainTypes.{kind_of, plain};
 
 use crate::counts::{next, sum};
 use crate::growing::GrowingFields;

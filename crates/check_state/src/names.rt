@@ -2,7 +2,7 @@
 ghost use Rattle.std.specs.Prelude.{◌≡◌, option_map, IfOk};
 ghost use Rattle.std.specs.Option.{option_copied};
 ghost use Rattle.check_rules.specs.Names as spec;
-ghost use Rattle.check_rules.specs.PlainTypes.{plain};
+ghost use Rattle.interface_records.specs.PlainTypes.{plain};
 ghost use Rattle.check_rules.specs.Parts.{last_of};
 ghost use Rattle.check_rules.specs.Scopes.{find};
 ghost use Rattle.check_state.specs.Gives.{Gives, GivesOnly};

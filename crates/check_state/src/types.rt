@@ -1,8 +1,8 @@
 //! Questions on types, with the definition's answers.
 ghost use Rattle.std.specs.Prelude.{◌≡◌, ◌<◌, option_map, map, min, IfOk};
 ghost use Rattle.std.specs.Option.{option_copied};
-ghost use Rattle.check_rules.specs.PlainTypes as spec;
-ghost use Rattle.check_rules.specs.PlainTypes.{plain, plain_field};
+ghost use Rattle.interface_records.specs.PlainTypes as spec;
+ghost use Rattle.interface_records.specs.PlainTypes.{plain, plain_field};
 
 use mesa_base::OutOfMemory;
 use mesa_types::{Base, FieldType, TypeTree};

@@ -8,7 +8,7 @@ use Rattle.check_rules.specs.Around.{Around, in_round, inside, with_labels}
 use Rattle.check_rules.specs.Checking as spec
 use Rattle.check_rules.specs.Parts.{first, join_stmts}
 use Rattle.check_rules.specs.Phrases.{holds, in_cases, is_catch}
-use Rattle.check_rules.specs.PlainTypes as v
+use Rattle.interface_records.specs.PlainTypes as v
 use Rattle.check_rules.specs.Ranges.{Into}
 use Rattle.check_rules.specs.Statements.{Held, held, labels_of_exits, labels_of_repeats, looped, numbered, whole}
 use Rattle.check_rules.specs.Scopes.{nothing}

@@ -10,8 +10,8 @@ use Rattle.mesa_types.specs.declared.types.TypeTree.TheVariants as tree
 use Rattle.mesa_types.specs.declared.types.TypeTree.TheOpen.{TypeTree-F}
 use Rattle.mesa_types.specs.declared.types.TypeTree.TheFolds.{fold-FieldType, fold-roll-TypeTree, fold-roll-FieldType, map-TypeTree}
 use Rattle.mesa_types.specs.declared.types.FieldType.{FieldType, roll-FieldType}
-use Rattle.check_rules.specs.PlainTypes as v
-use Rattle.check_rules.specs.PlainTypes.{PlainType, Parts, depth_of, depth_of_parts, plain, tree_of, trees_of, words_of}
+use Rattle.interface_records.specs.PlainTypes as v
+use Rattle.interface_records.specs.PlainTypes.{PlainType, Parts, depth_of, depth_of_parts, plain, tree_of, trees_of, words_of}
 use Rattle.check_state.proofs.KindLaws.{words_plain}
 use Rattle.check_state.proofs.TypeBack.{back}
 

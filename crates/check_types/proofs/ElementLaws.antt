@@ -8,7 +8,7 @@ use Rattle.mesa_base.specs.declared.place.Place.{Place}
 use Rattle.check_rules.specs.Around.{Around}
 use Rattle.check_rules.specs.Meanings.{Meaning, Constant, Later}
 use Rattle.check_rules.specs.Names.{announce, is_declared, element_in, coming, at_once}
-use Rattle.check_rules.specs.PlainTypes.{PlainType}
+use Rattle.interface_records.specs.PlainTypes.{PlainType}
 use Rattle.check_rules.specs.Scopes.{innermost}
 use Rattle.check_rules.specs.Steps.{State, Checked, and_then, only, refuse}
 use Rattle.check_rules.specs.TypeRules.{elements, few}

@@ -5,7 +5,7 @@ use Rattle.mesa_base.specs.declared.place.Place.{Place}
 use Rattle.check_rules.specs.Around.{Around}
 use Rattle.check_rules.specs.Meanings.{Constant}
 use Rattle.check_rules.specs.Names.{announce, is_declared, element_in}
-use Rattle.check_rules.specs.PlainTypes.{PlainType}
+use Rattle.interface_records.specs.PlainTypes.{PlainType}
 use Rattle.check_rules.specs.Steps.{Check, and_then, ◌>>=◌, fail, lift, only}
 use Rattle.check_rules.specs.TypeRules.{elements, few}
 use Rattle.check_rules.specs.declared.fault.Cause.TheVariants.{TwiceDeclared, TypeTooLarge}

@@ -3,8 +3,8 @@ ghost use Rattle.std.specs.Prelude.{◌≡◌, ◌+◌, ◌-◌, ◌<◌, nat_le
 ghost use Rattle.std.specs.Option.{option_copied};
 ghost use Rattle.mesa_types.specs.Operators as word;
 ghost use Rattle.mesa_types.specs.Plain.{expr};
-ghost use Rattle.check_rules.specs.PlainTypes as types;
-ghost use Rattle.check_rules.specs.PlainTypes.{plain};
+ghost use Rattle.interface_records.specs.PlainTypes as types;
+ghost use Rattle.interface_records.specs.PlainTypes.{plain};
 ghost use Rattle.check_rules.specs.TypeRules as spec;
 ghost use Rattle.check_state.specs.Gives.{GivesOnly};
 ghost use Rattle.check_state.specs.Views.{typed};

@@ -1,7 +1,7 @@
 //! What limits types, and which types are index types.
 ghost use Rattle.std.specs.Prelude.{◌≡◌, nat_le};
 ghost use Rattle.mesa_base.specs.declared.limits.TheConstants.{TYPE_WORDS, TYPE_DEPTH};
-ghost use Rattle.check_rules.specs.PlainTypes.{depth_of, plain, words_of};
+ghost use Rattle.interface_records.specs.PlainTypes.{depth_of, plain, words_of};
 ghost use Rattle.check_rules.specs.TypeRules as spec;
 ghost use Rattle.check_state.specs.Gives.{GivesOnly};
 ghost use Rattle.check_values.specs.Views as view;

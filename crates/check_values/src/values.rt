@@ -2,8 +2,8 @@
 ghost use Rattle.std.specs.Prelude.{◌≡◌, true, None, IfOk};
 ghost use Rattle.mesa_types.specs.Plain.{expr, interval};
 ghost use Rattle.mesa_types.specs.Typed as t;
-ghost use Rattle.check_rules.specs.PlainTypes as v;
-ghost use Rattle.check_rules.specs.PlainTypes.{plain};
+ghost use Rattle.interface_records.specs.PlainTypes as v;
+ghost use Rattle.interface_records.specs.PlainTypes.{plain};
 ghost use Rattle.check_rules.specs.Ranges as ranges;
 ghost use Rattle.check_rules.specs.Statements as rule;
 ghost use Rattle.check_rules.specs.Values as spec;

@@ -10,8 +10,8 @@ use Rattle.check_rules.specs.Around.{Around, in_constant}
 use Rattle.check_rules.specs.Checking as spec
 use Rattle.check_rules.specs.Names.{type_named}
 use Rattle.check_rules.specs.Parts.{first, first_of_type}
-use Rattle.check_rules.specs.PlainTypes as v
-use Rattle.check_rules.specs.PlainTypes.{PlainType}
+use Rattle.interface_records.specs.PlainTypes as v
+use Rattle.interface_records.specs.PlainTypes.{PlainType}
 use Rattle.check_rules.specs.Steps.{State, ◌>>=◌, and_then, pure, lift, ensure, or_refuse}
 use Rattle.check_rules.specs.TypeRules.{bound, elements, few, interval_base, is_index, limited, subrange}
 use Rattle.check_rules.specs.Values.{bound_aim}

@@ -10,7 +10,7 @@ use Rattle.mesa_types.specs.declared.types.FieldType.{FieldType}
 use Rattle.check_rules.specs.Around.{Around}
 use Rattle.check_rules.specs.Checking as spec
 use Rattle.check_rules.specs.Parts.{distinct, each_of, names_of}
-use Rattle.check_rules.specs.PlainTypes.{PlainField, PlainType, plain_field}
+use Rattle.interface_records.specs.PlainTypes.{PlainField, PlainType, plain_field}
 use Rattle.check_rules.specs.Steps.{State, Check, Checked, and_then}
 use Rattle.check_jumps.proofs.Tests.{at_drop}
 use Rattle.check_jumps.proofs.Gathering.{behind}

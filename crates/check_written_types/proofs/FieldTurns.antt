@@ -9,7 +9,7 @@ use Rattle.mesa_types.specs.declared.types.FieldType.{FieldType}
 use Rattle.check_rules.specs.Around.{Around}
 use Rattle.check_rules.specs.Checking as spec
 use Rattle.check_rules.specs.Parts.{distinct, each_of, names_of}
-use Rattle.check_rules.specs.PlainTypes.{PlainField, PlainType, plain_field}
+use Rattle.interface_records.specs.PlainTypes.{PlainField, PlainType, plain_field}
 use Rattle.check_rules.specs.Steps.{State, and_then}
 use Rattle.check_rules.specs.declared.fault.CheckFault.{CheckFault}
 use Rattle.check_rules.specs.declared.fault.CheckFault.TheVariants.{Memory}

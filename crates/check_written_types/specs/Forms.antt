@@ -9,8 +9,8 @@ use Rattle.check_rules.specs.Around.{Around}
 use Rattle.check_rules.specs.Checking.{of_interval}
 use Rattle.check_rules.specs.Names.{word_base}
 use Rattle.check_rules.specs.Parts.{names_of}
-use Rattle.check_rules.specs.PlainTypes as v
-use Rattle.check_rules.specs.PlainTypes.{PlainField, PlainType, parts_of}
+use Rattle.interface_records.specs.PlainTypes as v
+use Rattle.interface_records.specs.PlainTypes.{PlainField, PlainType, parts_of}
 use Rattle.check_rules.specs.Steps.{Check, ◌>>=◌, pure}
 use Rattle.check_rules.specs.TypeRules.{origin}
 

@@ -1,7 +1,7 @@
 //! Fields with names, which have one type.
 ghost use Rattle.std.specs.Prelude.{◌≡◌, ◌++◌, Some, None, IfOk, OnOk};
 ghost use Rattle.check_rules.specs.Parts as parts;
-ghost use Rattle.check_rules.specs.PlainTypes.{plain, plain_field};
+ghost use Rattle.interface_records.specs.PlainTypes.{plain, plain_field};
 ghost use Rattle.check_state.specs.Views as words;
 
 use held_trees::{LetGo, both, put};

@@ -4,7 +4,7 @@ ghost use Rattle.std.specs.Option.{option_copied};
 ghost use Rattle.syntax_trees.specs.PlainSyntax as syntax;
 ghost use Rattle.check_rules.specs.Checking as spec;
 ghost use Rattle.check_rules.specs.Parts as parts;
-ghost use Rattle.check_rules.specs.PlainTypes.{plain};
+ghost use Rattle.interface_records.specs.PlainTypes.{plain};
 ghost use Rattle.check_state.specs.Gives.{Gives};
 ghost use Rattle.check_state.specs.Views as words;
 ghost use Rattle.check_written_types.specs.Forms as form;

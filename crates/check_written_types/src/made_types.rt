@@ -1,8 +1,8 @@
 //! Types that are made of their parts.
 ghost use Rattle.std.specs.Prelude.{◌≡◌, IfOk};
 ghost use Rattle.check_rules.specs.Parts.{names_of};
-ghost use Rattle.check_rules.specs.PlainTypes as types;
-ghost use Rattle.check_rules.specs.PlainTypes.{plain};
+ghost use Rattle.interface_records.specs.PlainTypes as types;
+ghost use Rattle.interface_records.specs.PlainTypes.{plain};
 ghost use Rattle.check_rules.specs.TypeRules as spec;
 ghost use Rattle.check_state.specs.Gives.{Gives};
 ghost use Rattle.check_state.specs.Views as words;

@@ -1,7 +1,7 @@
 -- Each cause at each kind of place, where no other table has it.
 use Rattle.std.specs.Prelude.{◌≡◌, ℕ, List, [], ◌∷◌, ◌++◌, codes}
 use Rattle.std.proofs.Common.{refl}
-use Rattle.check_rules.specs.PlainTypes.{PlainInterface}
+use Rattle.interface_records.specs.PlainTypes.{PlainInterface}
 use Rattle.check_rules.specs.declared.fault.Cause.{Cause}
 use Rattle.check_rules.specs.declared.fault.Cause.TheVariants.{UnknownName, TwiceDeclared, TypeMismatch, NotConstant, BadLabel, WrongCount, ExportDiffers}
 use Rattle.check_rules.proofs.Texts.{Row, fine, bad, good, wrong, mistakes, interface}

@@ -7,8 +7,8 @@ use Rattle.mesa_base.specs.declared.limits.TheConstants.{DISTINCT_STRINGS, ENUME
 use Rattle.mesa_base.specs.declared.place.Place.{Place}
 use Rattle.mesa_base.specs.declared.identifier.Identifier.{Identifier}
 use Rattle.syntax_trees.specs.Syntax as syntax
-use Rattle.check_rules.specs.PlainTypes as v
-use Rattle.check_rules.specs.PlainTypes.{PlainType, PlainInterface}
+use Rattle.interface_records.specs.PlainTypes as v
+use Rattle.interface_records.specs.PlainTypes.{PlainType, PlainInterface}
 use Rattle.check_rules.specs.Scopes.{innermost, nothing}
 use Rattle.check_rules.specs.Meanings.{Meaning, Constant, Later}
 use Rattle.check_rules.specs.Around.{Around, Known, body_of}

@@ -1,7 +1,7 @@
 -- Interfaces: DIRECTORY, USING, IMPORTS, EXPORTS, OPEN, and DEFINITIONS.
 use Rattle.std.specs.Prelude.{◌≡◌, List, [], ◌∷◌, ◌++◌, codes}
 use Rattle.std.proofs.Common.{refl}
-use Rattle.check_rules.specs.PlainTypes.{PlainInterface}
+use Rattle.interface_records.specs.PlainTypes.{PlainInterface}
 use Rattle.check_rules.specs.declared.fault.Cause.TheVariants.{UnknownName, TwiceDeclared, TypeMismatch, NotConstant, WrongCount, ExportDiffers, StampMissing, StampUnwanted}
 use Rattle.check_rules.proofs.Texts.{Row, fine, bad, mistakes, mistakes_under, interface}
 use Rattle.check_rules.proofs.Everything.{everything}

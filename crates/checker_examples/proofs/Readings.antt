@@ -10,8 +10,8 @@ use Rattle.syntax_trees.specs.Syntax as s
 use Rattle.check_rules.specs.Typed as t
 use Rattle.check_rules.specs.Steps.{Checked}
 use Rattle.check_rules.specs.CheckedModule.{program_by}
-use Rattle.check_rules.specs.PlainTypes as v
-use Rattle.check_rules.specs.PlainTypes.{PlainInterface, item_of}
+use Rattle.interface_records.specs.PlainTypes as v
+use Rattle.interface_records.specs.PlainTypes.{PlainInterface, item_of}
 use Rattle.check_rules.specs.declared.fault.Cause.TheVariants.{UnknownName, TwiceDeclared, TypeMismatch, ExportDiffers}
 use Rattle.check_rules.proofs.Lexing.{Token}
 use Rattle.check_rules.proofs.Reading.{read}

@@ -4,8 +4,8 @@ use Rattle.std.proofs.Common.{refl}
 use Rattle.interface_records.specs.Faces.{iodefs}
 use Rattle.interface_records.specs.declared.interface.Interface.{Interface}
 use Rattle.mesa_types.specs.declared.faces.ItemKind.TheVariants as item
-use Rattle.check_rules.specs.PlainTypes as v
-use Rattle.check_rules.specs.PlainTypes.{PlainInterface, interface_of}
+use Rattle.interface_records.specs.PlainTypes as v
+use Rattle.interface_records.specs.PlainTypes.{PlainInterface, interface_of}
 use Rattle.check_rules.specs.declared.fault.Cause.TheVariants.{UnknownName, TwiceDeclared, BadLabel, NotResumable, StampMissing, StampUnwanted}
 use Rattle.check_rules.proofs.Texts.{Row, fine, bad, runs, mistakes, mistakes_under, interface}
 use Rattle.check_rules.proofs.Everything.{everything}

@@ -1,1 +1,6 @@
 pub mod Faces
+pub mod Laws
+pub mod Lists
+pub mod PlainTypes
+pub mod Sorts
+pub mod Spelled

@@ -6,7 +6,7 @@ use Rattle.syntax_trees.specs.Syntax as s
 use Rattle.mesa_types.specs.declared.faces.Item.{Item}
 use Rattle.mesa_types.specs.declared.types.FieldType.{FieldType, roll-FieldType, out-FieldType, roll-out-FieldType}
 use Rattle.check_rules.specs.CheckedModule.{defined_as}
-use Rattle.check_rules.specs.PlainTypes.{constant_of, field_of, interface_of, item_of, named_of, plain_constant, plain_field, plain_item, plain_name}
+use Rattle.interface_records.specs.PlainTypes.{constant_of, field_of, interface_of, item_of, named_of, plain_constant, plain_field, plain_item, plain_name}
 use Rattle.check_state.proofs.TypeBack.{back}
 use Rattle.check_state.proofs.TypeForms.{parts_of_field}
 

@@ -12,7 +12,7 @@ use Rattle.interface_records.specs.declared.interface.Interface.{Interface}
 use Rattle.check_rules.specs.Typed as t
 use Rattle.check_rules.specs.CheckedModule as spec
 use Rattle.check_rules.specs.CheckedModule.{checked}
-use Rattle.check_rules.specs.PlainTypes.{PlainInterface, plain_interface}
+use Rattle.interface_records.specs.PlainTypes.{PlainInterface, plain_interface}
 use Rattle.check_rules.specs.Programs.{Whole}
 use Rattle.check_rules.specs.Steps.{State, Checked, and_then}
 use Rattle.check_programs.specs.Shown.{Shown, shown}

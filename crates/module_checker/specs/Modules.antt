@@ -9,7 +9,7 @@ use Rattle.check_rules.specs.Typed as t
 use Rattle.check_rules.specs.CheckedModule.{whole_of}
 use Rattle.check_rules.specs.Directory.{those_of}
 use Rattle.check_rules.specs.Mentions.{of_kind, texts}
-use Rattle.check_rules.specs.PlainTypes.{PlainInterface, item_of}
+use Rattle.interface_records.specs.PlainTypes.{PlainInterface, item_of}
 use Rattle.check_rules.specs.Programs.{Offer, exported, imported}
 use Rattle.check_rules.specs.Steps.{Checked, and_then}
 use Rattle.check_programs.specs.Shown.{Shown, shown}

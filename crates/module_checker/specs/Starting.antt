@@ -6,7 +6,7 @@ use Rattle.check_rules.specs.CheckedModule.{known_of, start}
 use Rattle.check_rules.specs.Definitions as d
 use Rattle.check_rules.specs.Directory.{directory_scope, offered, opened, predeclared, those_of}
 use Rattle.check_rules.specs.Meanings.{Meaning}
-use Rattle.check_rules.specs.PlainTypes.{PlainInterface}
+use Rattle.interface_records.specs.PlainTypes.{PlainInterface}
 use Rattle.check_rules.specs.Programs.{ahead, unused}
 use Rattle.check_rules.specs.Scopes.{Scope, nothing}
 use Rattle.check_rules.specs.Steps.{State}

@@ -3,7 +3,7 @@ ghost use Rattle.std.specs.Prelude.{◌≡◌, Ok, map, IfOk};
 ghost use Rattle.check_heads.specs.Views as view;
 ghost use Rattle.check_state.specs.Gives.{GivesOnly};
 ghost use Rattle.check_rules.specs.CheckedModule as spec;
-ghost use Rattle.check_rules.specs.PlainTypes.{interface_of, plain_interface};
+ghost use Rattle.interface_records.specs.PlainTypes.{interface_of, plain_interface};
 ghost use Rattle.check_rules.specs.Steps.{and_then};
 ghost use Rattle.syntax_trees.specs.PlainSyntax as plain;
 

@@ -4,7 +4,7 @@ ghost use Rattle.check_faces.specs.Offers.{offer};
 ghost use Rattle.check_programs.specs.Views as parts;
 ghost use Rattle.check_state.specs.Gives.{GivesOnly};
 ghost use Rattle.check_rules.specs.CheckedModule as spec;
-ghost use Rattle.check_rules.specs.PlainTypes.{plain_interface};
+ghost use Rattle.interface_records.specs.PlainTypes.{plain_interface};
 ghost use Rattle.mesa_types.specs.Plain.{plain as plain_module};
 ghost use Rattle.syntax_trees.specs.PlainSyntax as plain;
 ghost use Rattle.module_checker.specs.Modules as step;

@@ -2,7 +2,7 @@
 //! of the opened interfaces, and the predeclared ones.
 ghost use Rattle.std.specs.Prelude.{◌≡◌, [], map, IfOk};
 ghost use Rattle.check_state.specs.Views as words;
-ghost use Rattle.check_rules.specs.PlainTypes.{plain_interface};
+ghost use Rattle.interface_records.specs.PlainTypes.{plain_interface};
 ghost use Rattle.syntax_trees.specs.PlainSyntax as plain;
 ghost use Rattle.module_checker.specs.Starting as step;
 

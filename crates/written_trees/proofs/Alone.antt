@@ -13,7 +13,7 @@ use Rattle.interface_records.specs.Faces.{iodefs}
 use Rattle.check_rules.specs.CheckedModule.{checked}
 use Rattle.check_rules.specs.Interfaces.{InterfacesInOrder}
 use Rattle.check_rules.specs.Laws.{ShapesAreGiven, faces}
-use Rattle.check_rules.specs.PlainTypes.{plain_interface}
+use Rattle.interface_records.specs.PlainTypes.{plain_interface}
 use Rattle.check_rules.specs.Steps.{Checked}
 use Rattle.check_rules.specs.Typed as t
 use Rattle.check_rules.proofs.KeptModule.{few_nodes}

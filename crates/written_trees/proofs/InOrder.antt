@@ -8,7 +8,7 @@ use Rattle.mesa_types.specs.declared.types.TypeTree.TheOpen.{TypeTree-F}
 use Rattle.mesa_types.specs.declared.types.TypeTree.TheFolds.{fold-roll-TypeTree, fold-roll-FieldType}
 use Rattle.mesa_types.specs.declared.types.TypeTree.TheVariants as tree
 use Rattle.interface_records.specs.Faces.{iodefs}
-use Rattle.check_rules.specs.PlainTypes.{PlainType, PlainField, plain, plain_field, plain_step, plain_field_step, plain_interface}
+use Rattle.interface_records.specs.PlainTypes.{PlainType, PlainField, plain, plain_field, plain_step, plain_field_step, plain_interface}
 use Rattle.check_rules.specs.Interfaces.{InterfacesInOrder, ItemsInOrder, FieldsInOrder, TypeInOrder, ConstantsInOrder, NamesInOrder}
 
 no_error : item.Procedure ≡ item.Error → ⊥

@@ -1,5 +1,5 @@
 -- The laws of trees of texts.
-use Rattle.std.specs.Prelude.{ℕ, List, [], ◌∷◌, map, IfOk, IfErr}
+use Rattle.std.specs.Prelude.{ℕ, List, [], ◌∷◌, map, replicate, IfOk, IfErr}
 use Rattle.std.specs.List.{All, Contains}
 use Rattle.mesa_base.specs.declared.place.Place.{Place}
 use Rattle.mesa_lexer.specs.Tokens.{HasTokens}
@@ -13,10 +13,10 @@ use Rattle.interface_records.specs.declared.interface.Interface.{Interface}
 use Rattle.interface_records.specs.Faces.{iodefs}
 use Rattle.check_rules.specs.Written.{ModuleWritten}
 use Rattle.check_rules.specs.Interfaces.{InterfaceInOrder, InterfacesInOrder}
-use Rattle.check_rules.specs.Laws.{shape_of}
-use Rattle.check_rules.specs.Spelled.{InSixBytes, InterfaceCanBeSpelled, InterfacesCanBeSpelled, ShapeCanBeSpelled}
+use Rattle.check_rules.specs.Laws.{NamedThroughout, shape_of}
+use Rattle.interface_records.specs.Spelled.{InSixBytes, InterfaceCanBeSpelled, InterfacesCanBeSpelled, ShapeCanBeSpelled}
 use Rattle.check_rules.specs.Typed as t
-use Rattle.check_rules.specs.PlainTypes.{plain_interface}
+use Rattle.interface_records.specs.PlainTypes.{plain_interface}
 use Rattle.check_rules.specs.CheckedModule.{checked, checked_definitions}
 use Rattle.written_trees.specs.Limits.{AreWithin}
 use Rattle.check_rules.specs.TreeNames.{HasNames}
@@ -68,9 +68,15 @@ abbrev pub CheckedDefinitionsAreInOrder : Type 0
 CheckedDefinitionsAreInOrder = (text : List ℕ) (x : Module) (stamp : ℕ) (is : List Interface) → IsTreeOf text x → InterfacesInOrder (map plain_interface is)
     → IfOk (checked_definitions (syntax x) stamp is) (λ (i : Interface). InterfaceInOrder (plain_interface i))
 
--- files can spell what checking gives of a text, where they can spell the interfaces given to it
+-- the signals and procedures of what checking gives of a text have names
+abbrev pub CheckedTextsHaveNames : Type 0
+CheckedTextsHaveNames = (text : List ℕ) (x : Module) (is : List Interface) → IsTreeOf text x → IfOk (checked (syntax x) is) NamedThroughout
+
+-- files can spell what checking gives of a text, where they can spell the interfaces given to it; the built-in one is such
 pub record CheckedTextsCanBeSpelled : Type 0 where
   pub modules : (text : List ℕ) (x : Module) (is : List Interface) → IsTreeOf text x → InterfacesCanBeSpelled (map plain_interface is)
       → IfOk (checked (syntax x) is) (λ (m : t.Module). ShapeCanBeSpelled (shape_of m))
   pub interfaces : (text : List ℕ) (x : Module) (stamp : ℕ) (is : List Interface) → IsTreeOf text x → InSixBytes stamp
       → InterfacesCanBeSpelled (map plain_interface is) → IfOk (checked_definitions (syntax x) stamp is) (λ (i : Interface). InterfaceCanBeSpelled (plain_interface i))
+  pub with_built_in : (text : List ℕ) (x : Module) (count : ℕ) → IsTreeOf text x
+      → IfOk (checked (syntax x) (replicate count iodefs)) (λ (m : t.Module). ShapeCanBeSpelled (shape_of m))

@@ -1,5 +1,5 @@
 ghost use Rattle.written_trees.specs.Alone.{CheckedTextsStandAlone};
-ghost use Rattle.written_trees.specs.Laws.{CheckedDefinitionsAreInOrder, CheckedTextsAreSound, CheckedTextsCanBeSpelled, FaultsStandAtTokens, NamesOfTreesAreNames, PlacesAreOfTokens, TokensAreWithin, TreesAreWritten};
+ghost use Rattle.written_trees.specs.Laws.{CheckedDefinitionsAreInOrder, CheckedTextsAreSound, CheckedTextsCanBeSpelled, CheckedTextsHaveNames, FaultsStandAtTokens, NamesOfTreesAreNames, PlacesAreOfTokens, TokensAreWithin, TreesAreWritten};
 
 use check_rules::laws::shapes_are_given;
 
@@ -43,8 +43,14 @@ pub fn checked_definitions_are_in_order()
     ensures { CheckedDefinitionsAreInOrder }
 {}
 
+/// The signals and procedures of a module that checking gives of a text have names.
+#[tactic(auto, using(crate::proofs::LawProofs::texts_have_names))]
+pub fn checked_texts_have_names()
+    ensures { CheckedTextsHaveNames }
+{}
+
 /// Files can spell the shape of a module, and the interface under a stamp of six bytes, that checking gives of a text, where they can
-/// spell the interfaces given to it.
+/// spell the interfaces given to it, as they can the built-in one.
 #[tactic(auto, using(crate::proofs::LawProofs::texts_can_be_spelled))]
 pub fn checked_texts_can_be_spelled()
     ensures { CheckedTextsCanBeSpelled }

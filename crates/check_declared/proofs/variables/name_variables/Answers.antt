@@ -1,5 +1,5 @@
 use Rattle.std.proofs.Common.{rules, ◌∙◌, get_or, refl, arith}
-use Rattle.check_rules.specs.PlainTypes.{plain}
+use Rattle.interface_records.specs.PlainTypes.{plain}
 use Rattle.check_rules.specs.Statements.{meaning_of}
 use Rattle.check_rules.specs.Typed.{Global}
 use Rattle.check_declared.proofs.VariableLoops.{means_at, means_out, settled}

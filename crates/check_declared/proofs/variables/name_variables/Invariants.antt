@@ -1,6 +1,6 @@
 use Rattle.std.proofs.Common.{◌≡◌, drop, map}
 use Rattle.check_rules.specs.Names.{each_means}
-use Rattle.check_rules.specs.PlainTypes.{plain}
+use Rattle.interface_records.specs.PlainTypes.{plain}
 use Rattle.check_rules.specs.Statements.{meaning_of}
 use Rattle.check_state.specs.Views.{state}
 use Rattle.check_declared.proofs.variables.name_variables.Given as goal

@@ -1,5 +1,5 @@
 use Rattle.std.proofs.Common.{rules}
-use Rattle.check_rules.specs.PlainTypes.{plain}
+use Rattle.interface_records.specs.PlainTypes.{plain}
 use Rattle.check_state.specs.Views.{around}
 use Rattle.check_jumps.proofs.Gathering.{gathered_at, gathered_end}
 use Rattle.check_declared.proofs.VariableLoops.{one_variable, variables_begin}

@@ -1,5 +1,5 @@
 use Rattle.std.proofs.Common.{◌≡◌, drop}
-use Rattle.check_rules.specs.PlainTypes.{plain}
+use Rattle.interface_records.specs.PlainTypes.{plain}
 use Rattle.check_rules.specs.Statements.{variables}
 use Rattle.check_state.specs.Views.{around, state}
 use Rattle.check_jumps.proofs.Gathering.{gathered, behind}

@@ -1,5 +1,5 @@
 use Rattle.std.proofs.Common.{◌≡◌, rules, [], ◌∷◌, true, Ok, refl, ◌∙◌}
-use Rattle.check_rules.specs.PlainTypes.{plain_interface}
+use Rattle.interface_records.specs.PlainTypes.{plain_interface}
 use Rattle.check_directory.specs.Items.{fits}
 use Rattle.check_directory.proofs.ItemLaws.{directory_end, directory_next, directory_short, directory_step}
 use Rattle.check_directory.proofs.ListLaws.{none_before, one_before}

@@ -1,6 +1,6 @@
 use Rattle.std.proofs.Common.{◌≡◌, ℕ, List, [], length, map}
 use Rattle.check_rules.specs.Directory.{directory}
-use Rattle.check_rules.specs.PlainTypes.{plain_interface}
+use Rattle.interface_records.specs.PlainTypes.{plain_interface}
 use Rattle.check_directory.specs.Lists.{HasNames}
 use Rattle.check_directory.proofs.directories.directory.Given as goal
 

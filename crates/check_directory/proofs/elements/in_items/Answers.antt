@@ -1,6 +1,6 @@
 use Rattle.std.proofs.Common.{rules, map}
 use Rattle.check_rules.specs.Directory.{in_fields}
-use Rattle.check_rules.specs.PlainTypes.{plain_field, plain_interface}
+use Rattle.interface_records.specs.PlainTypes.{plain_field, plain_interface}
 use Rattle.check_state.specs.Views.{names}
 use Rattle.check_directory.proofs.EntryLaws as laws
 use Rattle.check_directory.proofs.elements.in_items.Goals as goal

@@ -1,7 +1,7 @@
 use Rattle.std.proofs.Common.{◌≡◌, drop}
 use Rattle.check_scopes.specs.Scopes.{over}
 use Rattle.check_rules.specs.Directory.{first_entry}
-use Rattle.check_rules.specs.PlainTypes.{plain_interface}
+use Rattle.interface_records.specs.PlainTypes.{plain_interface}
 use Rattle.check_state.specs.Views.{names}
 use Rattle.check_directory.proofs.EntryLaws as laws
 use Rattle.check_directory.proofs.elements.in_items.Given as goal

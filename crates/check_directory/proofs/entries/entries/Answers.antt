@@ -1,6 +1,6 @@
 use Rattle.std.proofs.Common.{rules, map}
 use Rattle.check_rules.specs.Directory.{constant_entry, entries, in_constants, in_items, in_types, items_from, type_entry}
-use Rattle.check_rules.specs.PlainTypes.{plain_interface}
+use Rattle.interface_records.specs.PlainTypes.{plain_interface}
 use Rattle.check_state.specs.Views.{names}
 use Rattle.check_directory.proofs.EntryLaws.{no_names, six_together}
 use Rattle.check_directory.proofs.entries.entries.Goals as goal

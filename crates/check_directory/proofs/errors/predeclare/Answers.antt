@@ -3,7 +3,7 @@ use Rattle.check_scopes.specs.Scopes.{over}
 use Rattle.check_scopes.proofs.Innermost.{ok_also}
 use Rattle.check_rules.specs.Directory.{entry, first_entry, predeclared_error}
 use Rattle.check_rules.specs.Meanings as m
-use Rattle.check_rules.specs.PlainTypes.{plain_item}
+use Rattle.interface_records.specs.PlainTypes.{plain_item}
 use Rattle.check_state.specs.Views.{names}
 use Rattle.check_state.specs.declared.meaning.Meaning.TheVariants.{Signal}
 use Rattle.check_directory.proofs.EntryLaws.{offered_by}

@@ -1,5 +1,5 @@
 use Rattle.std.proofs.Common.{rules, map, sym, ◌∙◌}
-use Rattle.check_rules.specs.PlainTypes.{plain_interface}
+use Rattle.interface_records.specs.PlainTypes.{plain_interface}
 use Rattle.check_directory.proofs.FoundLaws.{found_end, none_found, one_found}
 use Rattle.check_directory.proofs.found.those_of.Goals as goal
 use Rattle.check_directory.proofs.found.those_of.Goals.{in-Some+in_ok-push, in_default}

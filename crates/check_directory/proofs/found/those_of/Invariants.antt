@@ -1,6 +1,6 @@
 use Rattle.std.proofs.Common.{◌≡◌, ◌++◌, drop, map}
 use Rattle.check_rules.specs.Directory.{those_of}
-use Rattle.check_rules.specs.PlainTypes.{plain_interface}
+use Rattle.interface_records.specs.PlainTypes.{plain_interface}
 use Rattle.check_directory.specs.Interfaces.{found}
 use Rattle.check_directory.proofs.found.those_of.Given as goal
 

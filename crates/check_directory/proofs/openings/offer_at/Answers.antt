@@ -2,7 +2,7 @@ use Rattle.std.proofs.Common.{◌≡◌, rules, map, Some, refl, slice_get, sym,
 use Rattle.std.proofs.lemmas.Option.{slice_get_past, slice_get_read}
 use Rattle.check_scopes.specs.Shows.{means}
 use Rattle.check_rules.specs.Directory.{offered, scope_at}
-use Rattle.check_rules.specs.PlainTypes.{plain_interface}
+use Rattle.interface_records.specs.PlainTypes.{plain_interface}
 use Rattle.check_directory.proofs.ElementLaws.{then_if}
 use Rattle.check_directory.proofs.EntryLaws.{no_names}
 use Rattle.check_directory.proofs.OfferLaws.{no_interface, no_item, nowhere, offer_here}

@@ -1,5 +1,5 @@
 use Rattle.std.proofs.Common.{rules, map, sym, ◌∙◌}
-use Rattle.check_rules.specs.PlainTypes.{plain_interface}
+use Rattle.interface_records.specs.PlainTypes.{plain_interface}
 use Rattle.check_directory.proofs.OfferLaws.{offered_end, offered_next, offered_short}
 use Rattle.check_directory.proofs.openings.offered.Goals as goal
 

@@ -1,6 +1,6 @@
 use Rattle.std.proofs.Common.{◌≡◌, rules, map, sym, ap, ◌∙◌}
 use Rattle.check_rules.specs.Directory.{names_in, offered, place_in, scope_at}
-use Rattle.check_rules.specs.PlainTypes.{plain_interface}
+use Rattle.interface_records.specs.PlainTypes.{plain_interface}
 use Rattle.check_scopes.specs.Scopes.{over}
 use Rattle.check_state.specs.Views.{names}
 use Rattle.check_directory.proofs.EntryLaws.{no_names}

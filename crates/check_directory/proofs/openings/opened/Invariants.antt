@@ -1,6 +1,6 @@
 use Rattle.std.proofs.Common.{◌≡◌, length, map}
 use Rattle.check_rules.specs.Directory.{offered, opened}
-use Rattle.check_rules.specs.PlainTypes.{plain_interface}
+use Rattle.interface_records.specs.PlainTypes.{plain_interface}
 use Rattle.check_state.specs.Views.{names}
 use Rattle.check_directory.proofs.OfferLaws.{opened_over}
 use Rattle.check_directory.proofs.openings.opened.Given as goal

@@ -1,5 +1,5 @@
 use Rattle.std.proofs.Common.{◌≡◌, rules, map, Ok, sym, ap, ◌∙◌}
-use Rattle.check_rules.specs.PlainTypes.{plain_interface}
+use Rattle.interface_records.specs.PlainTypes.{plain_interface}
 use Rattle.check_faces.specs.Giving.{export}
 use Rattle.check_faces.specs.Offers.{offer}
 use Rattle.check_faces.proofs.ExportLaws.{export_at, export_next, export_on, export_out, export_start}

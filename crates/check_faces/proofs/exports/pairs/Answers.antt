@@ -1,6 +1,6 @@
 use Rattle.std.proofs.Common.{◌≡◌, rules, map, Ok, option_map, sym, ap, ◌∙◌}
 use Rattle.std.specs.Option.{option_copied}
-use Rattle.check_rules.specs.PlainTypes.{plain_item}
+use Rattle.interface_records.specs.PlainTypes.{plain_item}
 use Rattle.check_faces.specs.Giving.{given}
 use Rattle.check_faces.specs.Offers.{offer}
 use Rattle.check_faces.proofs.ExportLaws.{go_on, pairs_at, pairs_next, pairs_out, pairs_start}

@@ -1,7 +1,7 @@
 use Rattle.std.proofs.Common.{◌≡◌, drop, map}
 use Rattle.check_scopes.specs.Shows.{means}
 use Rattle.check_rules.specs.Directory.{place_in}
-use Rattle.check_rules.specs.PlainTypes.{plain_item}
+use Rattle.interface_records.specs.PlainTypes.{plain_item}
 use Rattle.check_rules.specs.Programs.{pairs}
 use Rattle.check_faces.specs.Offers.{names, offer}
 use Rattle.check_faces.proofs.ExportLaws.{go_on}

@@ -1,5 +1,5 @@
 use Rattle.std.proofs.Common.{rules}
-use Rattle.check_rules.specs.PlainTypes.{plain, plain_constant}
+use Rattle.interface_records.specs.PlainTypes.{plain, plain_constant}
 use Rattle.check_heads.specs.Forms.{named_constant}
 use Rattle.check_heads.proofs.ItemLaws.{map_done, put_more}
 use Rattle.check_heads.proofs.definitions.named_constants.Goals as goal

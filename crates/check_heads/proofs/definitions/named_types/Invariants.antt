@@ -1,6 +1,6 @@
 use Rattle.std.proofs.Common.{◌≡◌, map, take}
 use Rattle.check_rules.specs.Definitions.{named_type}
-use Rattle.check_rules.specs.PlainTypes.{plain, plain_name}
+use Rattle.interface_records.specs.PlainTypes.{plain, plain_name}
 use Rattle.check_heads.proofs.definitions.named_types.Given as goal
 
 abbrev pub invariant-loop-name : goal.invariant-loop-name

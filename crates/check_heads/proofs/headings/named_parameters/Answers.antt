@@ -1,6 +1,6 @@
 use Rattle.std.proofs.Common.{map, rules}
 use Rattle.syntax_trees.specs.PlainSyntax as plain
-use Rattle.check_rules.specs.PlainTypes.{plain_field}
+use Rattle.interface_records.specs.PlainTypes.{plain_field}
 use Rattle.check_state.specs.Views as words
 use Rattle.check_heads.proofs.HeadingLaws.{parameters_at, parameters_end, parameters_first}
 use Rattle.check_heads.proofs.headings.named_parameters.Goals as goal

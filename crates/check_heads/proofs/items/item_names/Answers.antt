@@ -1,5 +1,5 @@
 use Rattle.std.proofs.Common.{rules}
-use Rattle.check_rules.specs.PlainTypes.{plain_item}
+use Rattle.interface_records.specs.PlainTypes.{plain_item}
 use Rattle.check_rules.specs.Programs.{named_item}
 use Rattle.check_state.specs.Views as words
 use Rattle.check_heads.specs.Views as view

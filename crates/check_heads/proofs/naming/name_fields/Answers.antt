@@ -1,6 +1,6 @@
 use Rattle.std.proofs.Common.{rules, arith}
 use Rattle.std.proofs.lemmas.List.{length-map}
-use Rattle.check_rules.specs.PlainTypes.{plain_field}
+use Rattle.interface_records.specs.PlainTypes.{plain_field}
 use Rattle.check_jumps.proofs.ArmVariables.{fields_from_at, fields_from_out}
 use Rattle.check_heads.proofs.naming.name_fields.Goals as goal
 

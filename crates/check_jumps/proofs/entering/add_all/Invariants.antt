@@ -1,7 +1,7 @@
 use Rattle.std.proofs.Common.{◌≡◌, drop}
 use Rattle.mesa_types.specs.Plain.{kinds_of}
 use Rattle.mesa_types.specs.Shapes.{join}
-use Rattle.check_rules.specs.PlainTypes as types
+use Rattle.interface_records.specs.PlainTypes as types
 use Rattle.check_state.specs.Views.{fields}
 use Rattle.check_jumps.proofs.entering.add_all.Given as goal
 

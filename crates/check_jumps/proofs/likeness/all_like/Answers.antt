@@ -1,5 +1,5 @@
 use Rattle.std.proofs.Common.{rules}
-use Rattle.check_rules.specs.PlainTypes.{plain_item}
+use Rattle.interface_records.specs.PlainTypes.{plain_item}
 use Rattle.check_jumps.proofs.Tests.{alike_at, alike_out}
 use Rattle.check_jumps.proofs.likeness.all_like.Goals as goal
 

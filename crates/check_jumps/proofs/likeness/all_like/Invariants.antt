@@ -1,6 +1,6 @@
 use Rattle.std.proofs.Common.{◌≡◌, drop, map}
 use Rattle.check_rules.specs.Around.{all_like}
-use Rattle.check_rules.specs.PlainTypes.{plain_item}
+use Rattle.interface_records.specs.PlainTypes.{plain_item}
 use Rattle.check_state.specs.Views.{arm_label}
 use Rattle.check_jumps.proofs.likeness.all_like.Given as goal
 

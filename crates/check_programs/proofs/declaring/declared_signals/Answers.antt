@@ -1,6 +1,6 @@
 use Rattle.std.proofs.Common.{rules, map, ◌∙◌, ap}
 use Rattle.check_faces.specs.Offers.{offer}
-use Rattle.check_rules.specs.PlainTypes.{plain_item}
+use Rattle.interface_records.specs.PlainTypes.{plain_item}
 use Rattle.check_state.specs.Views as words
 use Rattle.check_programs.specs.Heads.{renamed}
 use Rattle.check_programs.specs.Views as view

@@ -1,5 +1,5 @@
 use Rattle.std.proofs.Common.{◌≡◌, map, take}
-use Rattle.check_rules.specs.PlainTypes.{plain_item}
+use Rattle.interface_records.specs.PlainTypes.{plain_item}
 use Rattle.check_programs.specs.Heads.{renamed}
 use Rattle.check_programs.proofs.signals.renamed_all.Given as goal
 

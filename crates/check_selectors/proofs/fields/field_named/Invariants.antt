@@ -1,6 +1,6 @@
 use Rattle.std.proofs.Common.{◌≡◌, drop, map}
 use Rattle.check_rules.specs.Parts.{found}
-use Rattle.check_rules.specs.PlainTypes.{plain_field}
+use Rattle.interface_records.specs.PlainTypes.{plain_field}
 use Rattle.check_selectors.proofs.fields.field_named.Given as goal
 
 abbrev pub invariant-loop-field : goal.invariant-loop-field

@@ -1,7 +1,7 @@
 use Rattle.std.proofs.Common.{◌≡◌, drop, map}
 use Rattle.check_scopes.specs.Scopes.{over}
 use Rattle.check_scopes.specs.Shows.{means}
-use Rattle.check_rules.specs.PlainTypes.{plain_field}
+use Rattle.interface_records.specs.PlainTypes.{plain_field}
 use Rattle.check_selectors.specs.Keys.{numbered}
 use Rattle.check_selectors.proofs.keys.numbers.Given as goal
 

@@ -1,7 +1,7 @@
 use Rattle.std.proofs.Common.{◌≡◌, ℕ, List, drop, map}
 use Rattle.check_scopes.specs.Shows.{means}
 use Rattle.check_rules.specs.Parts.{found}
-use Rattle.check_rules.specs.PlainTypes.{plain_field}
+use Rattle.interface_records.specs.PlainTypes.{plain_field}
 use Rattle.check_simple_statements.proofs.SpotLaws.{or_behind}
 use Rattle.check_simple_statements.proofs.spots.index_of.Given as goal
 

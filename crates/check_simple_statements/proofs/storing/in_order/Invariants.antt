@@ -2,7 +2,7 @@ use Rattle.std.proofs.Common.{◌≡◌, drop, map}
 use Rattle.mesa_types.specs.Plain.{target}
 use Rattle.syntax_trees.specs.PlainSyntax as plain
 use Rattle.check_rules.specs.Checking as spec
-use Rattle.check_rules.specs.PlainTypes.{plain_field}
+use Rattle.interface_records.specs.PlainTypes.{plain_field}
 use Rattle.check_state.specs.Views as words
 use Rattle.check_simple_statements.proofs.Chains.{onto}
 use Rattle.check_simple_statements.proofs.storing.in_order.Given as goal

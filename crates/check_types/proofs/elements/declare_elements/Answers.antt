@@ -1,5 +1,5 @@
 use Rattle.std.proofs.Common.{rules}
-use Rattle.check_rules.specs.PlainTypes.{plain}
+use Rattle.interface_records.specs.PlainTypes.{plain}
 use Rattle.check_state.specs.Views.{around, state}
 use Rattle.check_types.proofs.ElementLaws.{few_are_all, too_many_are_all}
 use Rattle.check_types.proofs.elements.declare_elements.Goals as goal

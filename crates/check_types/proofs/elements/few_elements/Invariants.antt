@@ -1,5 +1,5 @@
 use Rattle.std.proofs.Common.{◌≡◌, drop}
-use Rattle.check_rules.specs.PlainTypes.{plain}
+use Rattle.interface_records.specs.PlainTypes.{plain}
 use Rattle.check_rules.specs.TypeRules.{elements}
 use Rattle.check_state.specs.Views.{around, state}
 use Rattle.check_types.proofs.elements.few_elements.Given as goal

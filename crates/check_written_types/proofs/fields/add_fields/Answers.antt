@@ -1,5 +1,5 @@
 use Rattle.std.proofs.Common.{rules}
-use Rattle.check_rules.specs.PlainTypes.{plain}
+use Rattle.interface_records.specs.PlainTypes.{plain}
 use Rattle.check_state.specs.Views.{fields}
 use Rattle.check_written_types.proofs.FieldLoops.{each_at, each_out, field_more}
 use Rattle.check_written_types.proofs.fields.add_fields.Goals as goal

@@ -1,6 +1,6 @@
 use Rattle.std.proofs.Common.{◌≡◌, ◌++◌, drop}
 use Rattle.check_rules.specs.Parts.{each_of}
-use Rattle.check_rules.specs.PlainTypes.{plain}
+use Rattle.interface_records.specs.PlainTypes.{plain}
 use Rattle.check_state.specs.Views.{fields}
 use Rattle.check_written_types.proofs.fields.add_fields.Given as goal
 

@@ -1,7 +1,7 @@
 use Rattle.std.proofs.Common.{[], map, take, rules, sym, ap, ◌∙◌}
 use Rattle.std.specs.Prelude.{is_some}
 use Rattle.syntax_trees.specs.PlainSyntax as plain
-use Rattle.check_rules.specs.PlainTypes.{plain as plain_type, plain_field}
+use Rattle.interface_records.specs.PlainTypes.{plain as plain_type, plain_field}
 use Rattle.check_scopes.specs.Scopes.{has}
 use Rattle.check_state.specs.Views as words
 use Rattle.check_written_types.proofs.FieldLoops.{named_at, named_end, named_first, named_rest, names_before, unnamed_at, unnamed_end, unnamed_first}

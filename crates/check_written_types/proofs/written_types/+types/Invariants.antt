@@ -1,7 +1,7 @@
 -- What is still to come, behind the fields that are done.
 use Rattle.std.proofs.Common.{◌≡◌, [], map, take, drop}
 use Rattle.syntax_trees.specs.PlainSyntax as plain
-use Rattle.check_rules.specs.PlainTypes.{plain_field}
+use Rattle.interface_records.specs.PlainTypes.{plain_field}
 use Rattle.check_state.specs.Views as words
 use Rattle.check_declared.specs.Naming.{HasNames}
 use Rattle.check_written_types.proofs.FieldLoops.{named_rest, names_before, unnamed_rest}

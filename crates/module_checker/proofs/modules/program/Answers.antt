@@ -1,7 +1,7 @@
 use Rattle.std.proofs.Common.{map, sym, subst}
 use Rattle.mesa_types.specs.Plain.{plain as plain_module}
 use Rattle.syntax_trees.specs.PlainSyntax as plain
-use Rattle.check_rules.specs.PlainTypes.{plain_interface}
+use Rattle.interface_records.specs.PlainTypes.{plain_interface}
 use Rattle.check_rules.specs.Steps.{Checked}
 use Rattle.check_rules.specs.Typed as t
 use Rattle.check_programs.specs.Views as parts

@@ -1,6 +1,6 @@
 -- Lists without repetition, and numbers in order.
 use Rattle.std.specs.Prelude.{◌≡◌, ℕ, suc, ◌≤◌, ◌<◌, false, List, [], ◌∷◌}
-use Rattle.check_rules.specs.Scopes.{has}
+use Rattle.check_scopes.specs.Scopes.{has}
 
 -- numbers that ascend, none below the first and all below the last
 unfoldable pub Ascend : ℕ → ℕ → List ℕ → Type 0

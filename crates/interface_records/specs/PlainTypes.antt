@@ -13,7 +13,9 @@ use Rattle.mesa_types.specs.declared.faces.ItemKind.{ItemKind}
 use Rattle.interface_records.specs.declared.interface.Interface.{Interface}
 use Rattle.interface_records.specs.declared.interface.Constant.{Constant}
 use Rattle.interface_records.specs.declared.interface.NamedType.{NamedType}
-use Rattle.check_rules.specs.Typed as t
+use Rattle.mesa_types.specs.declared.typed_parts.Base.{Base}
+use Rattle.mesa_types.specs.declared.typed_parts.Base.TheVariants.{Signed, Unsigned}
+use Rattle.mesa_types.specs.Typed as t
 
 mutual
   pub data PlainType : Type 0 where
@@ -33,6 +35,11 @@ mutual
   pub data Parts : Type 0 where
     NoPart : Parts
     AndPart : Option (List ℕ) → PlainType → Parts → Parts
+
+-- a record has a field
+unfoldable pub HasPart : Parts → Type 0
+HasPart NoPart = ⊥
+HasPart (AndPart x k ps) = Unit {0}
 
 -- a field, parameter or result
 pub record PlainField : Type 0 where
@@ -227,12 +234,12 @@ one_base _ _ = false
 unfoldable pub conforms : PlainType → PlainType → Bool
 conforms from to = one_base (base_of from) (base_of to) || same from to
 
-abbrev pub sign_by : Option PlainType → t.Base
-sign_by (Some base) = if is_integer base then t.Signed else t.Unsigned
-sign_by None = t.Unsigned
+abbrev pub sign_by : Option PlainType → Base
+sign_by (Some base) = if is_integer base then Signed else Unsigned
+sign_by None = Unsigned
 
 -- how the words of a type are read as numbers
-unfoldable pub sign_of : PlainType → t.Base
+unfoldable pub sign_of : PlainType → Base
 sign_of k = sign_by (base_of k)
 
 -- The types of the code.

@@ -11,10 +11,9 @@ use Rattle.mesa_types.specs.declared.faces.Pair.{Pair}
 use Rattle.mesa_types.specs.declared.faces.Import.{Import}
 use Rattle.mesa_types.specs.declared.faces.Export.{Export}
 use Rattle.mesa_types.specs.declared.faces.Shape.{Shape}
-use Rattle.check_rules.specs.Interfaces.{HasPart}
-use Rattle.check_rules.specs.Lists.{Ascend, NoneTwice}
-use Rattle.check_rules.specs.PlainTypes.{PlainType, Integer, Cardinal, Boolean, Character, String, Enumeration, Subrange, Array, Record, Parts, NoPart, AndPart, PlainField, PlainItem, PlainConstant, PlainName, PlainInterface, base_of, depth_of, fields_of_parts, plain_item, sign_of, words_of}
-use Rattle.check_rules.specs.TypeRules.{is_index}
+use Rattle.interface_records.specs.Lists.{Ascend, NoneTwice}
+use Rattle.interface_records.specs.PlainTypes.{HasPart, PlainType, Integer, Cardinal, Boolean, Character, String, Enumeration, Subrange, Array, Record, Parts, NoPart, AndPart, PlainField, PlainItem, PlainConstant, PlainName, PlainInterface, base_of, depth_of, fields_of_parts, plain_item, sign_of, words_of}
+use Rattle.interface_records.specs.Sorts.{is_index}
 
 -- a count or a number of four bytes, and a stamp of six
 abbrev pub InFourBytes : ℕ → Type 0
