@@ -2,7 +2,6 @@
 ghost use Rattle.std.specs.Prelude.{◌≡◌, IfOk};
 ghost use Rattle.mesa_types.specs.Plain.{expr, interval};
 ghost use Rattle.mesa_types.specs.Typed as t;
-ghost use Rattle.check_rules.specs.Operators as operators;
 ghost use Rattle.interface_records.specs.PlainTypes.{plain};
 ghost use Rattle.check_rules.specs.Ranges as ranges;
 ghost use Rattle.check_rules.specs.Statements as spec;
@@ -13,7 +12,7 @@ ghost use Rattle.check_declared.specs.Views as view;
 
 use check_rules::{Cause, CheckFault};
 use check_state::{Meaning, Typed, base_of, conforms};
-use check_values::{Ends, Meeting, Sort, checked, range_for, related, sort_of};
+use check_values::{Ends, Meeting, Sort, checked, number_type, range_for, related, sort_of};
 use held_trees::{LetGo, both};
 use mesa_base::{OutOfMemory, Place};
 use mesa_types::{Base, Given, Home, Interval, TypeTree, TypedExpr};
@@ -39,15 +38,6 @@ impl LetGo for Rounds {
 }
 
 #[tactic(auto, using(check_state::proofs::TypeForms::type_forms))]
-fn number_type(base: Base) -> TypeTree
-    ensures { plain result ≡ operators.number_type base }
-{
-    match base {
-        Base::Signed => TypeTree::Integer,
-        Base::Unsigned => TypeTree::Cardinal,
-    }
-}
-
 fn met_kind(sort: Sort, base: Base, kind: TypeTree) -> TypeTree
     ensures { plain result ≡ spec.met_kind (value.sort sort) base (plain kind) }
 {

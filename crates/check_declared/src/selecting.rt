@@ -2,7 +2,6 @@
 ghost use Rattle.std.specs.Prelude.{◌≡◌, IfOk};
 ghost use Rattle.mesa_types.specs.Plain.{expr, interval, test};
 ghost use Rattle.mesa_types.specs.Typed as t;
-ghost use Rattle.interface_records.specs.PlainTypes.{plain};
 ghost use Rattle.check_rules.specs.Ranges as ranges;
 ghost use Rattle.check_rules.specs.Statements as spec;
 ghost use Rattle.check_state.specs.Gives.{GivesOnly};
@@ -10,11 +9,11 @@ ghost use Rattle.check_state.specs.Views.{typed};
 ghost use Rattle.check_values.specs.Views as view;
 
 use check_rules::{Cause, CheckFault};
-use check_state::{Typed, sign_of};
-use check_values::{Ends, Meeting, checked, related, turned};
+use check_state::Typed;
+use check_values::{Ends, Meeting, bases, checked, lies_in, related, turned};
 use held_trees::LetGo;
 use mesa_base::{OutOfMemory, Place, Relation};
-use mesa_types::{Base, Bases, Interval, Test, TypeTree, TypedExpr};
+use mesa_types::{Bases, Interval, Test, TypedExpr};
 use std::alloc::Global;
 
 fn related_test(meeting: Meeting, relation: Relation, value: TypedExpr) -> Test
@@ -55,31 +54,6 @@ pub fn tested(
             Err(CheckFault::At(Cause::TypeMismatch, place))
         }
         Some(meeting) => Ok(test_by(turned(is_negated, relation), alloc, meeting, value)?),
-    }
-}
-
-fn are_related(a: &Typed, b: &Typed) -> bool
-    ensures { result ≡ spec.are_related (typed a.now) (typed b.now) }
-{
-    match related(&a.kind, a.literal, &b.kind, b.literal) {
-        Some(_) => true,
-        None => false,
-    }
-}
-
-fn lies_in(a: &Typed, ends: &Ends) -> bool
-    ensures { result ≡ spec.lies_in (typed a.now) (view.ends ends.now) }
-{
-    are_related(a, &ends.low) && are_related(a, &ends.high)
-}
-
-fn bases(kind: &TypeTree, ends: &Ends) -> Bases
-    ensures { result ≡ spec.bases (plain kind.now) (view.ends ends.now) }
-{
-    Bases {
-        number: sign_of(kind),
-        first: sign_of(&ends.low.kind),
-        last: sign_of(&ends.high.kind),
     }
 }
 

@@ -29,6 +29,7 @@ use Rattle.check_rules.specs.Steps.{Check, Checked, State, and_then, ◌>>=◌, 
 use Rattle.check_rules.specs.Values.{Raises, by_level, by_shape, compared, in_order, is_truth, letter, level_of, raises_by, summed, not_of, number, signed, string, truth, within}
 use Rattle.check_operands.specs.Lists as lists
 use Rattle.check_operands.specs.Runs as runs
+use Rattle.check_operands.specs.Runs.{freely}
 use Rattle.check_expressions.specs.Lists.{at_place, none_given, nothing_in, target}
 use Rattle.check_expressions.proofs.Folding.{in_turn}
 
@@ -45,29 +46,29 @@ run_is a x ss = λ i. by_level (level_of ss) (pure x) (spec.sums a t.NoOperation
     (made_of t.AllOf x.value (spec.truths a (is_truth x.kind) ss) i) (made_of t.SomeOf x.value (spec.truths a (is_truth x.kind) ss) i)
 
 pub check_run : (a : Around) (aim : Aim) (e : s.Expr) (ss : s.Operations) → spec.check a aim (s.Run e ss) ≡ (do
-  x ← spec.check a Free e
+  x ← freely a e
   r ← runs.run a x ss
   lift (finish aim r))
 unfolding spec.check
-check_run a aim e ss = λ i. spec.check a Free e >>= (λ x. run_is a x ss i >>= (λ r. lift (finish aim r)))
+check_run a aim e ss = λ i. freely a e >>= (λ x. run_is a x ss i >>= (λ r. lift (finish aim r)))
 
 pub check_not : (a : Around) (aim : Aim) (p : Place) (e : s.Expr) → spec.check a aim (s.Not p e) ≡ (do
-  x ← spec.check a Free e
+  x ← freely a e
   r ← lift (not_of p x)
   lift (finish aim r))
 unfolding spec.check
 check_not a aim p e = refl
 
 pub check_compare : (a : Around) (aim : Aim) (d : s.Expr) (b : Bool) (o : Relation) (p : Place) (e : s.Expr) → spec.check a aim (s.Compare d b o p e) ≡ (do
-  x ← spec.check a Free d
-  y ← spec.check a Free e
+  x ← freely a d
+  y ← freely a e
   r ← lift (compared b o p x y)
   lift (finish aim r))
 unfolding spec.check
 check_compare a aim d b o p e = refl
 
 pub check_within : (a : Around) (aim : Aim) (e : s.Expr) (b : Bool) (p : Place) (i : s.Interval) → spec.check a aim (s.Within e b p i) ≡ (do
-  x ← spec.check a Free e
+  x ← freely a e
   ends ← spec.interval a i
   r ← lift (within b p x ends)
   lift (finish aim r))
@@ -75,7 +76,7 @@ unfolding spec.check
 check_within a aim e b p i = refl
 
 pub check_signed : (a : Around) (aim : Aim) (sign : Sign) (p : Place) (e : s.Expr) → spec.check a aim (s.Signed sign p e) ≡ (do
-  x ← spec.check a Free e
+  x ← freely a e
   r ← lift (signed sign p x)
   lift (finish aim r))
 unfolding spec.check
@@ -111,13 +112,13 @@ by_left a aim (s.LeftOf x ss) = refl
 pub check_reference : (a : Around) (aim : Aim) (l : s.Left) → spec.check a aim (s.Reference l) ≡ runs.reference a aim l
 check_reference a aim l = by_left a aim l
 
-by_aim_of : (a : Around) (aim : Aim) (p : Place) (items : s.Items) → spec.check a aim (s.Constructor p items) ≡ lift (target aim p) >>= (λ x. spec.construct a x.0 x.1 p items)
+by_aim_of : (a : Around) (aim : Aim) (p : Place) (items : s.Items) → spec.check a aim (s.Constructor p items) ≡ lift (target aim) >>= (λ x. spec.construct a x.0 x.1 p items)
 unfolding spec.check
-by_aim_of a Free p items = refl
+by_aim_of a (Free q) p items = refl
 by_aim_of a (Into k q) p items = refl
-by_aim_of a Several p items = refl
+by_aim_of a (Several q) p items = refl
 
-pub check_constructor : (a : Around) (aim : Aim) (p : Place) (items : s.Items) → spec.check a aim (s.Constructor p items) ≡ lift (target aim p) >>= (λ x. spec.construct a x.0 x.1 p items)
+pub check_constructor : (a : Around) (aim : Aim) (p : Place) (items : s.Items) → spec.check a aim (s.Constructor p items) ≡ lift (target aim) >>= (λ x. spec.construct a x.0 x.1 p items)
 check_constructor a aim p items = by_aim_of a aim p items
 
 pub check_raised : (a : Around) (aim : Aim) (r : s.Raise) → spec.check a aim (s.Raised r) ≡ runs.raised a aim r
@@ -130,8 +131,8 @@ pub ruleset clauses = (check_run, check_not, check_compare, check_within, check_
 -- ---- parts
 
 pub interval_is : (a : Around) (p : Place) (low high : s.Expr) (open_low open_high : Bool) → spec.interval a (s.Between p open_low low high open_high) ≡ (do
-  x ← spec.check a Free low
-  y ← spec.check a Free high
+  x ← freely a low
+  y ← freely a high
   pure (record { open_low = open_low; low = x; high = y; open_high = open_high }))
 unfolding spec.check
 interval_is a p low high open_low open_high = refl
@@ -220,10 +221,10 @@ unfolding spec.check
 one_of_keyed a p es = refl
 
 pub one_alone : (a : Around) (p : Place) (es : List Expr) (e : Expr) → 1 ≤ length es → length es < 2 → e ≡ get_or es 0 e
-    → spec.one a p (s.InOrder (plain.exprs es)) ≡ spec.check a Free (plain.expr e) >>= (λ x. pure (first (plain.expr e), x))
+    → spec.one a p (s.InOrder (plain.exprs es)) ≡ freely a (plain.expr e) >>= (λ x. pure (first (plain.expr e), x))
 unfolding spec.check
 one_alone a p [] e some few here = absurd (omega (arith, some))
-one_alone a p (x ∷ []) e some few here = ap (λ y. spec.check a Free (plain.expr y) >>= (λ r. pure (first (plain.expr y), r))) (sym here)
+one_alone a p (x ∷ []) e some few here = ap (λ y. freely a (plain.expr y) >>= (λ r. pure (first (plain.expr y), r))) (sym here)
 one_alone a p (x ∷ y ∷ es) e some few here = absurd (omega (arith, few))
 
 pub one_of_many : (a : Around) (p : Place) (es : List Expr) → length es ≢ 1 → spec.one a p (s.InOrder (plain.exprs es)) ≡ fail WrongCount p

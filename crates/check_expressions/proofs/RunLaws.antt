@@ -32,13 +32,13 @@ use Rattle.syntax_trees.proofs.PlainForms.{parts_of_operation, suffix_at}
 use Rattle.check_rules.specs.Around.{Around}
 use Rattle.check_rules.specs.Checking as spec
 use Rattle.interface_records.specs.PlainTypes.{PlainType}
-use Rattle.check_rules.specs.Ranges.{Typed, Free}
+use Rattle.check_rules.specs.Ranges.{Typed}
 use Rattle.check_rules.specs.Reached.{Reached, Use, field, may_apply, settled}
 use Rattle.check_rules.specs.declared.fault.Cause.TheVariants.{TypeMismatch}
 use Rattle.check_rules.specs.Steps.{Checked, State, and_then, ◌>>=◌, pure, ensure}
 use Rattle.check_rules.specs.Values.{Done, Bare, Sums, Alls, Somes, level_of, is_truth, step, truth, truth_operand}
 use Rattle.check_operands.specs.Folds.{folded}
-use Rattle.check_operands.specs.Runs.{Sum, begun, with_done, behind, ended, sum_turn, sums, operand, truth_turn, truths, run, suffix}
+use Rattle.check_operands.specs.Runs.{freely, Sum, begun, with_done, behind, ended, sum_turn, sums, operand, truth_turn, truths, run, suffix}
 use Rattle.check_expressions.proofs.Folding.{folded_at, in_turn}
 
 -- ---- sums and products
@@ -81,7 +81,7 @@ unfolding spec.check folded sum_turn
 sums_go a done [] σ = refl
 sums_go a done (o ∷ os) σ =
     ap (λ f. and_then (sums_after a done (f (plain.operations os)) σ) (done_with done)) (parts_of_operation o)
-    ∙ sum_check a done (out-Operation o).operator (out-Operation o).place os (spec.check a Free (plain.expr (out-Operation o).right) σ) (λ x σ. sums_go a (with_done done x) os σ)
+    ∙ sum_check a done (out-Operation o).operator (out-Operation o).place os (freely a (plain.expr (out-Operation o).right) σ) (λ x σ. sums_go a (with_done done x) os σ)
 
 pub sums_folded : (a : Around) (x : Typed) (os : List Operation) (σ : State)
     → sums a x (plain.operations os) σ ≡ and_then (folded (sum_turn a) (begun x) os σ) ended_at
@@ -144,7 +144,7 @@ unfolding spec.check folded truth_turn operand
 truths_go a es fits [] σ = ap (λ l. Ok (l, σ)) (onto_none es)
 truths_go a es fits (o ∷ os) σ =
     ap (λ f. and_then (spec.truths a fits (f (plain.operations os)) σ) (onto_at es)) (parts_of_operation o)
-    ∙ truth_check a es fits (out-Operation o).place os (spec.check a Free (plain.expr (out-Operation o).right) σ) (λ x σ. truths_go a (es ++ x ∷ []) true os σ)
+    ∙ truth_check a es fits (out-Operation o).place os (freely a (plain.expr (out-Operation o).right) σ) (λ x σ. truths_go a (es ++ x ∷ []) true os σ)
 
 pub truths_folded : (a : Around) (x : Typed) (os : List Operation) (σ : State)
     → truths a x (plain.operations os) σ ≡ and_then (folded (truth_turn a) (x.value ∷ [], is_truth x.kind) os σ) listed_at

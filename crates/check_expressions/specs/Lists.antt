@@ -9,9 +9,9 @@ use Rattle.check_rules.specs.Steps.{Check, Checked, and_then, ◌>>=◌, pure, l
 use Rattle.check_rules.specs.Values.{by_aim, by_shape, in_order, string}
 use Rattle.check_rules.specs.declared.fault.Cause.TheVariants.{TypeMismatch, WrongCount}
 
--- the type that a constructor at p has from its target, and where the expression begins that goes there
-abbrev pub target : Aim → Place → Checked (PlainType × Place)
-target aim p = by_aim aim (refuse TypeMismatch p) (λ k q. Ok (k, q))
+-- the type that a constructor has from its target, and where the expression begins that goes there
+abbrev pub target : Aim → Checked (PlainType × Place)
+target aim = by_aim aim (refuse TypeMismatch) (λ k q. Ok (k, q))
 
 -- a constructor without values
 abbrev pub nothing_in : PlainType → Place → Place → Checked Typed

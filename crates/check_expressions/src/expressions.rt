@@ -61,13 +61,13 @@ impl<P: Phrases> Checker<P> {
         ensures { Gives words.typed (spec.check (words.around around.now) (words.aim aim.entry) (plain.expr e.now) (words.state state.old)) result (words.state state.new) }
     {
         match e {
-            Expr::Run(first, rest) => {
-                let first = self.check(first.get(), around, state, Aim::Free)?;
-                let found = self.run(rest.as_slice(), around, state, first)?;
+            Expr::Run(left, rest) => {
+                let left = self.check(left.get(), around, state, Aim::Free(first(left.get())))?;
+                let found = self.run(rest.as_slice(), around, state, left)?;
                 finish(self.alloc, aim, found)
             }
             Expr::Not(place, e) => {
-                let found = self.check(e.get(), around, state, Aim::Free)?;
+                let found = self.check(e.get(), around, state, Aim::Free(first(e.get())))?;
                 let found = not_of(self.alloc, *place, found)?;
                 finish(self.alloc, aim, found)
             }
@@ -78,8 +78,9 @@ impl<P: Phrases> Checker<P> {
                 place,
                 right,
             } => {
-                let left = self.check(left.get(), around, state, Aim::Free)?;
-                let (left, right) = both(left, self.check(right.get(), around, state, Aim::Free))?;
+                let left = self.check(left.get(), around, state, Aim::Free(first(left.get())))?;
+                let other = Aim::Free(first(right.get()));
+                let (left, right) = both(left, self.check(right.get(), around, state, other))?;
                 let found = compared(self.alloc, *is_negated, *relation, *place, left, right)?;
                 finish(self.alloc, aim, found)
             }
@@ -89,13 +90,13 @@ impl<P: Phrases> Checker<P> {
                 place,
                 interval,
             } => {
-                let found = self.check(value.get(), around, state, Aim::Free)?;
+                let found = self.check(value.get(), around, state, Aim::Free(first(value.get())))?;
                 let (found, ends) = both(found, self.interval(interval, around, state))?;
                 let found = within(self.alloc, *is_negated, *place, found, ends)?;
                 finish(self.alloc, aim, found)
             }
             Expr::Signed(sign, place, e) => {
-                let found = self.check(e.get(), around, state, Aim::Free)?;
+                let found = self.check(e.get(), around, state, Aim::Free(first(e.get())))?;
                 let found = signed(self.alloc, *sign, *place, found)?;
                 finish(self.alloc, aim, found)
             }
@@ -108,7 +109,7 @@ impl<P: Phrases> Checker<P> {
             Expr::Parenthesis(_, e) => self.check(e.get(), around, state, aim),
             Expr::Reference(left) => self.reference(left, around, state, aim),
             Expr::Constructor(list) => {
-                let (kind, start) = target_of(aim, list.place)?;
+                let (kind, start) = target_of(aim)?;
                 let at = (start, list.place);
                 match &list.item {
                     Entries::Nothing => nothing_in(kind, at),
@@ -181,7 +182,8 @@ impl<P: Phrases> Checker<P> {
         requires { P.ask self.now.phrases }
         ensures { Gives view.sum (runs.sum_turn (words.around around.now) (view.sum done) one.now (words.state state.old)) result (words.state state.new) }
     {
-        let (done, right) = both(done, self.check(&one.right, around, state, Aim::Free))?;
+        let aim = Aim::Free(first(&one.right));
+        let (done, right) = both(done, self.check(&one.right, around, state, aim))?;
         behind(self.alloc, one.operator, one.place, done, right)
     }
 
@@ -220,7 +222,7 @@ impl<P: Phrases> Checker<P> {
         requires { P.ask self.now.phrases }
         ensures { Gives expr (runs.operand (words.around around.now) fits one.now (words.state state.old)) result (words.state state.new) }
     {
-        let right = self.check(&one.right, around, state, Aim::Free)?;
+        let right = self.check(&one.right, around, state, Aim::Free(first(&one.right)))?;
         truth_operand(fits, one.place, right)
     }
 
@@ -236,11 +238,10 @@ impl<P: Phrases> Checker<P> {
         requires { P.ask self.now.phrases }
         ensures { Gives values.ends (spec.interval (words.around around.now) (plain.interval interval.now) (words.state state.old)) result (words.state state.new) }
     {
-        let low = self.check(interval.low.get(), around, state, Aim::Free)?;
-        let (low, high) = both(
-            low,
-            self.check(interval.high.get(), around, state, Aim::Free),
-        )?;
+        let aim = Aim::Free(first(interval.low.get()));
+        let low = self.check(interval.low.get(), around, state, aim)?;
+        let aim = Aim::Free(first(interval.high.get()));
+        let (low, high) = both(low, self.check(interval.high.get(), around, state, aim))?;
         Ok(Ends {
             open_low: interval.is_open_below,
             low,
@@ -262,15 +263,14 @@ impl<P: Phrases> Checker<P> {
         requires { P.ask self.now.phrases }
         ensures { Gives words.typed (runs.reference (words.around around.now) (words.aim aim.entry) (plain.left left.now) (words.state state.old)) result (words.state state.new) }
     {
-        let start = left.name.place;
         let meaning = named(self.alloc, around, state, &left.name)?;
         let at = At {
-            last: start,
+            last: left.name.place,
             reached: led_to(self.alloc, meaning),
         };
         let at = self.walk(left.suffixes.as_slice(), around, state, Use::Read, at)?;
         let At { last, reached } = at;
-        let found = value(self.alloc, state, aim, start, last, reached)?;
+        let found = value(self.alloc, state, aim, last, reached)?;
         finish(self.alloc, aim, found)
     }
 
@@ -390,7 +390,7 @@ impl<P: Phrases> Checker<P> {
         match &brackets.items {
             Entries::InOrder(all) => match all.as_slice() {
                 [e] => {
-                    let found = self.check(e, around, state, Aim::Free)?;
+                    let found = self.check(e, around, state, Aim::Free(first(e)))?;
                     Ok((first(e), found))
                 }
                 _ => Err(CheckFault::At(Cause::WrongCount, brackets.place)),
@@ -703,7 +703,7 @@ impl<P: Phrases> Checker<P> {
     {
         let at = self.raise(of, around, state)?;
         let At { last, reached } = at;
-        let found = value(self.alloc, state, aim, last, last, reached)?;
+        let found = value(self.alloc, state, aim, last, reached)?;
         finish(self.alloc, aim, found)
     }
 

@@ -15,11 +15,11 @@ use mesa_types::{FieldType, TypeTree};
 use std::alloc::Global;
 
 /// The type that a constructor has from its target, and where the expression begins that goes there.
-pub(crate) fn target_of<'a>(aim: Aim<'a>, place: Place) -> Result<(&'a TypeTree, Place), CheckFault>
-    ensures { GivesOnly (λ x. (v.plain x.0.now, x.1)) (lists.target (words.aim aim.entry) place) result }
+pub(crate) fn target_of<'a>(aim: Aim<'a>) -> Result<(&'a TypeTree, Place), CheckFault>
+    ensures { GivesOnly (λ x. (v.plain x.0.now, x.1)) (lists.target (words.aim aim.entry)) result }
 {
     match aim {
-        Aim::Free | Aim::Several => Err(CheckFault::At(Cause::TypeMismatch, place)),
+        Aim::Free(start) | Aim::Several(start) => Err(CheckFault::At(Cause::TypeMismatch, start)),
         Aim::Into(kind, start) => Ok((kind, start)),
     }
 }

@@ -10,7 +10,7 @@ use Rattle.check_rules.specs.Typed as t
 use Rattle.check_rules.specs.Around.{Around}
 use Rattle.check_rules.specs.Checking as spec
 use Rattle.check_rules.specs.Names.{named}
-use Rattle.check_rules.specs.Parts.{and_operation}
+use Rattle.check_rules.specs.Parts.{and_operation, first}
 use Rattle.interface_records.specs.PlainTypes.{PlainType, PlainItem, words_of_fields}
 use Rattle.check_rules.specs.Ranges.{Typed, Aim, Free, finish}
 use Rattle.check_rules.specs.Meanings.{Meaning, Procedure, TypeName}
@@ -18,6 +18,10 @@ use Rattle.check_rules.specs.Reached.{Reached, Variable, Value, Results, Named, 
 use Rattle.check_rules.specs.Steps.{Check, Checked, and_then, ◌>>=◌, pure, lift, spend, fail, refuse}
 use Rattle.check_rules.specs.Values.{Done, Raises, by_aim, by_level, has_parts, is_truth, level_of, no_phrase, step, summed, truth, truth_operand}
 use Rattle.check_rules.specs.declared.fault.Cause.TheVariants.{TypeMismatch}
+
+-- an operand, which stands free
+abbrev pub freely : Around → s.Expr → Check Typed
+freely a e = spec.check a (Free (first e)) e
 
 -- a run of sums or products as far as it is checked: its first operand, the operators with what stands to their right, the type
 pub record Sum : Type 0 where
@@ -44,7 +48,7 @@ ended a = record { value = t.Operate a.first a.operations; kind = a.kind; litera
 
 unfoldable pub sum_turn : Around → Sum → Operation → Check Sum
 sum_turn a done o = do
-  r ← spec.check a Free (plain.expr (out-Operation o).right)
+  r ← freely a (plain.expr (out-Operation o).right)
   lift (behind (out-Operation o).operator (out-Operation o).place done r)
 
 unfoldable pub sums : Around → Typed → s.Operations → Check Typed
@@ -53,7 +57,7 @@ sums a x ss = spec.sums a t.NoOperation x.kind x.literal ss >>= (λ r. pure (sum
 -- an operand of AND or OR, whose left operand fits or does not
 unfoldable pub operand : Around → Bool → Operation → Check t.Expr
 operand a fits o = do
-  r ← spec.check a Free (plain.expr (out-Operation o).right)
+  r ← freely a (plain.expr (out-Operation o).right)
   lift (truth_operand fits (out-Operation o).place r)
 
 -- the operands of AND or OR so far, and whether the last of them fits
@@ -74,7 +78,7 @@ unfoldable pub reference : Around → Aim → s.Left → Check Typed
 reference a aim (s.LeftOf x ss) = do
   m ← named a x
   r ← spec.walk a Read x.place (reached m) ss
-  x ← value aim x.place r.0 r.1
+  x ← value aim r.0 r.1
   lift (finish aim x)
 
 -- where one suffix leads
@@ -124,13 +128,13 @@ apply_as a last (ToCall c i) b = call a c i b
 apply_as a last (ToConstruct k) b = construct_named a k last b
 
 unfoldable pub constructor : Around → Aim → Place → s.Items → Check Typed
-constructor a aim p items = by_aim aim (fail TypeMismatch p) (λ k q. spec.construct a k q p items)
+constructor a aim p items = by_aim aim (fail TypeMismatch) (λ k q. spec.construct a k q p items)
 
 -- the value of a raise
 unfoldable pub raised : Around → Aim → s.Raise → Check Typed
 raised a aim r = do
   x ← spec.raise a r
-  x ← value aim x.0 x.0 x.1
+  x ← value aim x.0 x.1
   lift (finish aim x)
 
 -- where a raise begins, and what it gives

@@ -110,7 +110,7 @@ pub fn aim_for(kind: Option<&TypeTree>, start: Place) -> Aim<'_>
 {
     match kind {
         Some(kind) => Aim::Into(kind, start),
-        None => Aim::Free,
+        None => Aim::Free(start),
     }
 }
 

@@ -178,13 +178,13 @@ elements_grow : (a : Around) (k : PlainType) (i : ℕ) (xs : List Identifier) �
 elements_grow a k i xs = record { in_state = λ σ. elements_grown a k i xs σ }
 
 -- values
-value_grows : (aim : Aim) (start last : Place) (r : Reached) → Grows (value aim start last r)
+value_grows : (aim : Aim) (last : Place) (r : Reached) → Grows (value aim last r)
 unfolding value
-value_grows aim start last (Variable h ss k) =
+value_grows aim last (Variable h ss k) =
     spending (words_of k) (λ u. pure (record { value = t.Variable h ss (words_of k); kind = k; literal = false; gave = None })) done
-value_grows aim start last (Value n e k) = spending n (λ u. pure (record { value = e; kind = k; literal = false; gave = None })) done
-value_grows aim start last (Results e fs) = lifted (results aim start e fs)
-value_grows aim start last (Named m) = wrong
+value_grows aim last (Value n e k) = spending n (λ u. pure (record { value = e; kind = k; literal = false; gave = None })) done
+value_grows aim last (Results e fs) = lifted (results aim e fs)
+value_grows aim last (Named m) = wrong
 
 field_grows : (a : Around) (last : Place) (r : Reached) (x : Identifier) → Grows (field a last r x)
 unfolding field
@@ -199,10 +199,10 @@ levels Sums h i j k = i
 levels Alls h i j k = j
 levels Somes h i j k = k
 
-aims : {A : Type 0} (aim : Aim) {x : Check A} {y : PlainType → Place → Check A} → Grows x → ((k : PlainType) (p : Place) → Grows (y k p))
-    → Grows (by_aim aim x y)
-aims Free h k = h
-aims Several h k = h
+aims : {A : Type 0} (aim : Aim) {x : Place → Check A} {y : PlainType → Place → Check A} → ((p : Place) → Grows (x p))
+    → ((k : PlainType) (p : Place) → Grows (y k p)) → Grows (by_aim aim x y)
+aims (Free p) h k = h p
+aims (Several p) h k = h p
 aims (Into j p) h k = k j p
 
 shapes : {A : Type 0} (sh : Shape) {x : List PlainField → Check A} {y : ℕ → PlainType → Check A} {z : Check A}
@@ -223,15 +223,15 @@ mutual
   unfolding check letter
 
   check_grows : (a : Around) (aim : Aim) (e : s.Expr) → Grows (check a aim e)
-  check_grows a aim (s.Run e ss) = bind (check_grows a Free e)
+  check_grows a aim (s.Run e ss) = bind (check_grows a (Free (first e)) e)
       (λ x. bind (levels (level_of ss) done (bind (sums_grow a t.NoOperation x.kind x.literal ss) (λ r. done))
       (bind (truths_grow a (is_truth x.kind) ss) (λ es. done)) (bind (truths_grow a (is_truth x.kind) ss) (λ es. done))) (λ r. lifted (finish aim r)))
-  check_grows a aim (s.Not p e) = bind (check_grows a Free e) (λ x. bind (lifted (not_of p x)) (λ r. lifted (finish aim r)))
+  check_grows a aim (s.Not p e) = bind (check_grows a (Free (first e)) e) (λ x. bind (lifted (not_of p x)) (λ r. lifted (finish aim r)))
   check_grows a aim (s.Compare d b o p e) =
-      bind (check_grows a Free d) (λ x. bind (check_grows a Free e) (λ y. bind (lifted (compared b o p x y)) (λ r. lifted (finish aim r))))
-  check_grows a aim (s.Within e b p i) = bind (check_grows a Free e)
+      bind (check_grows a (Free (first d)) d) (λ x. bind (check_grows a (Free (first e)) e) (λ y. bind (lifted (compared b o p x y)) (λ r. lifted (finish aim r))))
+  check_grows a aim (s.Within e b p i) = bind (check_grows a (Free (first e)) e)
       (λ x. bind (interval_grows a i) (λ ends. bind (lifted (within b p x ends)) (λ r. lifted (finish aim r))))
-  check_grows a aim (s.Signed sign p e) = bind (check_grows a Free e) (λ x. bind (lifted (signed sign p x)) (λ r. lifted (finish aim r)))
+  check_grows a aim (s.Signed sign p e) = bind (check_grows a (Free (first e)) e) (λ x. bind (lifted (signed sign p x)) (λ r. lifted (finish aim r)))
   check_grows a aim (s.NumberLiteral p n) = spending 1 (λ u. lift (finish aim (number n))) (lifted (finish aim (number n)))
   check_grows a aim (s.CharacterLiteral p n) = spending 1 (λ u. lift (finish aim (letter n))) (lifted (finish aim (letter n)))
   check_grows a aim (s.StringLiteral p bytes) =
@@ -240,22 +240,22 @@ mutual
       (lifted (finish aim (truth (t.Number (words.truth b)))))
   check_grows a aim (s.Parenthesis p e) = check_grows a aim e
   check_grows a aim (s.Reference (s.LeftOf x ss)) =
-      bind (named_grows a x) (λ m. bind (walk_grows a Read x.place (reached m) ss) (λ r. bind (value_grows aim x.place r.0 r.1) (λ y. lifted (finish aim y))))
-  check_grows a aim (s.Constructor p items) = aims aim wrong (λ k q. construct_grows a k q p items)
-  check_grows a aim (s.Raised r) = bind (raise_grows a r) (λ x. bind (value_grows aim x.0 x.0 x.1) (λ y. lifted (finish aim y)))
+      bind (named_grows a x) (λ m. bind (walk_grows a Read x.place (reached m) ss) (λ r. bind (value_grows aim r.0 r.1) (λ y. lifted (finish aim y))))
+  check_grows a aim (s.Constructor p items) = aims aim (λ q. wrong) (λ k q. construct_grows a k q p items)
+  check_grows a aim (s.Raised r) = bind (raise_grows a r) (λ x. bind (value_grows aim x.0 x.1) (λ y. lifted (finish aim y)))
 
   sums_grow : (a : Around) (os : t.Operations) (k : PlainType) (literal : Bool) (ss : s.Operations) → Grows (sums a os k literal ss)
   sums_grow a os k literal s.NoOperation = done
-  sums_grow a os k literal (s.AndOperation o p e ss) = bind (check_grows a Free e) (λ r. bind (lifted (step o p k literal r)) (λ x.
+  sums_grow a os k literal (s.AndOperation o p e ss) = bind (check_grows a (Free (first e)) e) (λ r. bind (lifted (step o p k literal r)) (λ x.
       sums_grow a (and_operation os (t.Then x.left x.operator x.right)) x.kind false ss))
 
   truths_grow : (a : Around) (fits : Bool) (ss : s.Operations) → Grows (truths a fits ss)
   truths_grow a fits s.NoOperation = done
   truths_grow a fits (s.AndOperation o p e ss) =
-      bind (check_grows a Free e) (λ r. bind (lifted (truth_operand fits p r)) (λ x. bind (truths_grow a true ss) (λ es. done)))
+      bind (check_grows a (Free (first e)) e) (λ r. bind (lifted (truth_operand fits p r)) (λ x. bind (truths_grow a true ss) (λ es. done)))
 
   interval_grows : (a : Around) (i : s.Interval) → Grows (interval a i)
-  interval_grows a (s.Between p x low high y) = bind (check_grows a Free low) (λ l. bind (check_grows a Free high) (λ h. done))
+  interval_grows a (s.Between p x low high y) = bind (check_grows a (Free (first low)) low) (λ l. bind (check_grows a (Free (first high)) high) (λ h. done))
 
   walk_grows : (a : Around) (way : Use) (last : Place) (r : Reached) (ss : s.Suffixes) → Grows (walk a way last r ss)
   walk_grows a way last r s.NoSuffix = done
@@ -276,7 +276,7 @@ mutual
   apply_grows a last _ (s.BracketsOf p items ph) = wrong
 
   one_grows : (a : Around) (p : Place) (items : s.Items) → Grows (one a p items)
-  one_grows a p (s.InOrder (s.AndExpr e s.NoExprs)) = bind (check_grows a Free e) (λ x. done)
+  one_grows a p (s.InOrder (s.AndExpr e s.NoExprs)) = bind (check_grows a (Free (first e)) e) (λ x. done)
   one_grows a p _ = wrong
 
   construct_grows : (a : Around) (k : PlainType) (q p : Place) (items : s.Items) → Grows (construct a k q p items)

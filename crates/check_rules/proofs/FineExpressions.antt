@@ -41,21 +41,21 @@ module _ (L : TypeLaw) where
     unfolding check ReachedFine ItemFine MeaningFine FieldsHave KindsFine OfAim TypeWritten TypeNamed
 
     pub check_fine : (a : Around) → AroundFine L a → (aim : Aim) → AimFine L aim → (e : s.Expr) → Fine L (CheckedFine L aim) (check a aim e)
-    check_fine a g aim i (s.Run e ss) = bind (check_fine a g Free (free_fine L) e) (λ x h. bind {P = TypedFine L} (levels L (level_of ss) (done h.value)
+    check_fine a g aim i (s.Run e ss) = bind (check_fine a g (Free (first e)) (free_fine L (first e)) e) (λ x h. bind {P = TypedFine L} (levels L (level_of ss) (done h.value)
         (bind (sums_fine a g x.kind t.NoOperation x.kind h.value.kind (run_none L x.kind) x.literal ss) (λ r q. done (summed_fine L x h.value r q)))
         (bind (truths_fine a g (is_truth x.kind) ss) (λ es w. done (truth_fine L (t.AllOf (t.AndExpr x.value es)) (all_worth L (t.AndExpr x.value es)))))
         (bind (truths_fine a g (is_truth x.kind) ss) (λ es w. done (truth_fine L (t.SomeOf (t.AndExpr x.value es)) (some_worth L (t.AndExpr x.value es))))))
         (λ r q. finished L aim i r q))
-    check_fine a g aim i (s.Not p e) = bind (check_fine a g Free (free_fine L) e)
+    check_fine a g aim i (s.Not p e) = bind (check_fine a g (Free (first e)) (free_fine L (first e)) e)
         (λ x h. bind (lifted (TypedFine L) (not_of p x) (not_fine L p x)) (λ r q. finished L aim i r q))
     check_fine a g aim i (s.Compare d b o p e) =
-        bind (check_fine a g Free (free_fine L) d) (λ x h. bind (check_fine a g Free (free_fine L) e)
+        bind (check_fine a g (Free (first d)) (free_fine L (first d)) d) (λ x h. bind (check_fine a g (Free (first e)) (free_fine L (first e)) e)
         (λ y k. bind (lifted (TypedFine L) (compared b o p x y) (compared_fine L b o p x y)) (λ r q. finished L aim i r q)))
     check_fine a g aim i (s.Within e b p j) =
-        bind (check_fine a g Free (free_fine L) e) (λ x h. bind (interval_fine a g j)
+        bind (check_fine a g (Free (first e)) (free_fine L (first e)) e) (λ x h. bind (interval_fine a g j)
         (λ ends k. bind (lifted (TypedFine L) (within b p x ends) (within_fine L b p x ends)) (λ r q. finished L aim i r q)))
     check_fine a g aim i (s.Signed sign p e) =
-        bind (check_fine a g Free (free_fine L) e) (λ x h. bind (lifted (TypedFine L) (signed sign p x) (signed_fine L sign p x h.value)) (λ r q. finished L aim i r q))
+        bind (check_fine a g (Free (first e)) (free_fine L (first e)) e) (λ x h. bind (lifted (TypedFine L) (signed sign p x) (signed_fine L sign p x h.value)) (λ r q. finished L aim i r q))
     check_fine a g aim i (s.NumberLiteral p n) = spending 1 (λ u. lift (finish aim (number n))) (finished L aim i (number n) (number_fine L n))
     check_fine a g aim i (s.CharacterLiteral p n) = spending 1 (λ u. lift (finish aim (letter n))) (finished L aim i (letter n) (letter_fine L n))
     check_fine a g aim i (s.StringLiteral p bytes) =
@@ -66,27 +66,27 @@ module _ (L : TypeLaw) where
     check_fine a g aim i (s.Parenthesis p e) = check_fine a g aim i e
     check_fine a g aim i (s.Reference (s.LeftOf x ss)) =
         bind (named_fine a g x) (λ y h. bind (walk_fine a g Read x.place (reached y) (reached_fine L y h) ss)
-        (λ r q. bind (value_fine L aim x.place r.0 r.1 q) (λ z k. finished L aim i z k)))
-    check_fine a g aim i (s.Constructor p items) = aims L aim i wrong (λ k q e h. subst (λ aim. Fine L (CheckedFine L aim) (construct a k q p items)) (sym e)
+        (λ r q. bind (value_fine L aim r.0 r.1 q) (λ z k. finished L aim i z k)))
+    check_fine a g aim i (s.Constructor p items) = aims L aim i (λ q. wrong) (λ k q e h. subst (λ aim. Fine L (CheckedFine L aim) (construct a k q p items)) (sym e)
         (construct_fine a g k h q p items))
-    check_fine a g aim i (s.Raised r) = bind (raise_fine a g r) (λ x q. bind (value_fine L aim x.0 x.0 x.1 q) (λ z k. finished L aim i z k))
+    check_fine a g aim i (s.Raised r) = bind (raise_fine a g r) (λ x q. bind (value_fine L aim x.0 x.1 q) (λ z k. finished L aim i z k))
 
     sums_fine : (a : Around) → AroundFine L a → (j : PlainType) (os : t.Operations) (k : PlainType) → L.Kept k → RunFine L j os k → (literal : Bool)
         (ss : s.Operations) → Fine L (λ (r : t.Operations × PlainType). L.Kept r.1 × RunFine L j r.0 r.1) (sums a os k literal ss)
     sums_fine a g j os k h f literal s.NoOperation = done (h, f)
     sums_fine a g j os k h f literal (s.AndOperation o p e ss) =
-        bind (check_fine a g Free (free_fine L) e) (λ r q. bind (lifted (DoneFine L) (step o p k literal r) (step_fine L o p k literal r)) (λ x i.
+        bind (check_fine a g (Free (first e)) (free_fine L (first e)) e) (λ r q. bind (lifted (DoneFine L) (step o p k literal r) (step_fine L o p k literal r)) (λ x i.
         sums_fine a g j (and_operation os (t.Then x.left x.operator x.right)) x.kind i.kind (run_more L j k x.kind h os x.left x.operator x.right i.gives f) false
         ss))
 
     truths_fine : (a : Around) → AroundFine L a → (fits : Bool) (ss : s.Operations) → Fine L Good (truths a fits ss)
     truths_fine a g fits s.NoOperation = done tt
     truths_fine a g fits (s.AndOperation o p e ss) =
-        bind (check_fine a g Free (free_fine L) e) (λ r q. bind (any_lifted (truth_operand fits p r)) (λ x w. bind (truths_fine a g true ss) (λ es w. done tt)))
+        bind (check_fine a g (Free (first e)) (free_fine L (first e)) e) (λ r q. bind (any_lifted (truth_operand fits p r)) (λ x w. bind (truths_fine a g true ss) (λ es w. done tt)))
 
     interval_fine : (a : Around) → AroundFine L a → (i : s.Interval) → Fine L (EndsFine L) (interval a i)
     interval_fine a g (s.Between p x low high y) =
-        bind (check_fine a g Free (free_fine L) low) (λ l h. bind (check_fine a g Free (free_fine L) high) (λ r k.
+        bind (check_fine a g (Free (first low)) (free_fine L (first low)) low) (λ l h. bind (check_fine a g (Free (first high)) (free_fine L (first high)) high) (λ r k.
         done (record { low = h.value.kind; high = k.value.kind })))
 
     walk_fine : (a : Around) → AroundFine L a → (way : Use) (last : Place) (r : Reached) → ReachedFine L r → (ss : s.Suffixes)
@@ -116,7 +116,7 @@ module _ (L : TypeLaw) where
     apply_fine a g last _ h (s.BracketsOf p items ph) = wrong
 
     one_fine : (a : Around) → AroundFine L a → (p : Place) (items : s.Items) → Fine L Good (one a p items)
-    one_fine a g p (s.InOrder (s.AndExpr e s.NoExprs)) = bind (check_fine a g Free (free_fine L) e) (λ x h. done tt)
+    one_fine a g p (s.InOrder (s.AndExpr e s.NoExprs)) = bind (check_fine a g (Free (first e)) (free_fine L (first e)) e) (λ x h. done tt)
     one_fine a g p _ = wrong
 
     construct_fine : (a : Around) → AroundFine L a → (k : PlainType) → L.Kept k → (q p : Place) (items : s.Items)

@@ -118,8 +118,8 @@ module _ (L : TypeLaw) where
   -- ---- values that go to their target
   pub finish_fine : (aim : Aim) → AimFine L aim → (x : Typed) → TypedFine L x → IfOk (finish aim x) (CheckedFine L aim)
   unfolding finish AimFine OfAim
-  finish_fine Free a x h = record { value = h; aimed = tt }
-  finish_fine Several a x h = record { value = h; aimed = tt }
+  finish_fine (Free p) a x h = record { value = h; aimed = tt }
+  finish_fine (Several p) a x h = record { value = h; aimed = tt }
   finish_fine (Into k p) a x h = fit (conforms x.kind k) refl
     where
       fit : (b : Bool) → conforms x.kind k ≡ b → IfOk (fitted_if b k p x) (CheckedFine L (Into k p))
@@ -226,24 +226,24 @@ module _ (L : TypeLaw) where
       → TypedFine L (record { value = e; kind = v.Integer; literal = false; gave = gave })
   several_fine e h gave = record { kind = L.integer; worth = none_of (L.Worth v.Integer) (constant e) h }
 
-  pub results_fine : (aim : Aim) (start : Place) (e : t.Expr) → constant e ≡ None → (fs : List PlainField) → FieldsHave L.Kept fs
-      → IfOk (results aim start e fs) (TypedFine L)
+  pub results_fine : (aim : Aim) (e : t.Expr) → constant e ≡ None → (fs : List PlainField) → FieldsHave L.Kept fs
+      → IfOk (results aim e fs) (TypedFine L)
   unfolding FieldsHave
-  results_fine aim start e d (f ∷ []) h = record { kind = h.0; worth = none_of (L.Worth f.kind) (constant e) d }
-  results_fine Several start e d [] h = several_fine e d (Some [])
-  results_fine Free start e d [] h = tt
-  results_fine (Into k p) start e d [] h = tt
-  results_fine Several start e d (f ∷ (g ∷ fs)) h = several_fine e d (Some (f ∷ (g ∷ fs)))
-  results_fine Free start e d (f ∷ (g ∷ fs)) h = tt
-  results_fine (Into k p) start e d (f ∷ (g ∷ fs)) h = tt
+  results_fine aim e d (f ∷ []) h = record { kind = h.0; worth = none_of (L.Worth f.kind) (constant e) d }
+  results_fine (Several p) e d [] h = several_fine e d (Some [])
+  results_fine (Free p) e d [] h = tt
+  results_fine (Into k p) e d [] h = tt
+  results_fine (Several p) e d (f ∷ (g ∷ fs)) h = several_fine e d (Some (f ∷ (g ∷ fs)))
+  results_fine (Free p) e d (f ∷ (g ∷ fs)) h = tt
+  results_fine (Into k p) e d (f ∷ (g ∷ fs)) h = tt
 
-  pub value_fine : (aim : Aim) (start last : Place) (r : Reached) → ReachedFine L r → Fine L (TypedFine L) (value aim start last r)
+  pub value_fine : (aim : Aim) (last : Place) (r : Reached) → ReachedFine L r → Fine L (TypedFine L) (value aim last r)
   unfolding value ReachedFine constant
-  value_fine aim start last (Variable x ss k) h =
+  value_fine aim last (Variable x ss k) h =
       spending (words_of k) (λ u. pure (typed k (t.Variable x ss (words_of k)))) (done (record { kind = h; worth = tt }))
-  value_fine aim start last (Value n e k) h = spending n (λ u. pure (typed k e)) (done (record { kind = h.0; worth = h.1 }))
-  value_fine aim start last (Results e fs) h = lifted (TypedFine L) (results aim start e fs) (results_fine aim start e h.1 fs h.0)
-  value_fine aim start last (Named x) h = wrong
+  value_fine aim last (Value n e k) h = spending n (λ u. pure (typed k e)) (done (record { kind = h.0; worth = h.1 }))
+  value_fine aim last (Results e fs) h = lifted (TypedFine L) (results aim e fs) (results_fine aim e h.1 fs h.0)
+  value_fine aim last (Named x) h = wrong
 
   pub length_fine : (x : Identifier) (n : ℕ) (e : t.Expr) → IfOk (length_of x n e) (ReachedFine L)
   unfolding ReachedFine constant
@@ -344,11 +344,11 @@ module _ (L : TypeLaw) where
   levels Alls h i j k = j
   levels Somes h i j k = k
 
-  pub aims : {A : Type 0} {P : A → Type 0} (aim : Aim) → AimFine L aim → {x : Check A} {y : PlainType → Place → Check A} → Fine L P x
-      → ((k : PlainType) (p : Place) → aim ≡ Into k p → L.Kept k → Fine L P (y k p)) → Fine L P (by_aim aim x y)
+  pub aims : {A : Type 0} {P : A → Type 0} (aim : Aim) → AimFine L aim → {x : Place → Check A} {y : PlainType → Place → Check A}
+      → ((p : Place) → Fine L P (x p)) → ((k : PlainType) (p : Place) → aim ≡ Into k p → L.Kept k → Fine L P (y k p)) → Fine L P (by_aim aim x y)
   unfolding AimFine
-  aims Free g h k = h
-  aims Several g h k = h
+  aims (Free p) g h k = h p
+  aims (Several p) g h k = h p
   aims (Into j p) g h k = k j p refl g
 
   -- statements in a scope of their own leave the scopes
@@ -388,9 +388,9 @@ module _ (L : TypeLaw) where
   unfolding AimFine
   into_fine k h p = h
 
-  pub free_fine : AimFine L Free
+  pub free_fine : (p : Place) → AimFine L (Free p)
   unfolding AimFine
-  free_fine = tt
+  free_fine p = tt
 
   pub call_none : (c : t.Callee) (ns : List ℕ) (es : t.Exprs) (n : ℕ) (ph : t.Phrase) → constant (t.Call c ns es n ph) ≡ None
   unfolding constant

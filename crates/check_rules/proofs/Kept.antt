@@ -67,19 +67,19 @@ levels Sums h i j k = i
 levels Alls h i j k = j
 levels Somes h i j k = k
 
-aims : {Stands : Place → Type 0} {A : Type 0} {P : A → Type 0} (aim : Aim) {x : Check A} {y : PlainType → Place → Check A} → AimStands Stands aim
-    → Keeps Stands P x → ((k : PlainType) (p : Place) → Stands p → Keeps Stands P (y k p)) → Keeps Stands P (by_aim aim x y)
-aims Free g h k = h
-aims Several g h k = h
+aims : {Stands : Place → Type 0} {A : Type 0} {P : A → Type 0} (aim : Aim) {x : Place → Check A} {y : PlainType → Place → Check A}
+    → AimStands Stands aim → ((p : Place) → Stands p → Keeps Stands P (x p)) → ((k : PlainType) (p : Place) → Stands p → Keeps Stands P (y k p)) → Keeps Stands P (by_aim aim x y)
+aims (Free p) g h k = h p g
+aims (Several p) g h k = h p g
 aims (Into j p) g h k = k j p g
 
 bound_aim_stands : (Stands : Place → Type 0) (k : Option PlainType) (p : Place) → Stands p → AimStands Stands (bound_aim k p)
 bound_aim_stands Stands (Some k) p h = h
-bound_aim_stands Stands None p h = tt
+bound_aim_stands Stands None p h = h
 
 spare_size : (aim : Aim) → spare aim ≤ 1
-spare_size Free = omega arith
-spare_size Several = omega arith
+spare_size (Free p) = omega arith
+spare_size (Several p) = omega arith
 spare_size (Into k p) = omega arith
 
 looped_size : (n : Counted) (l : t.Loop) → tn.stmt_nodes (looped n l) ≡ 1 + counted_nodes n + tn.loop_nodes l
@@ -102,28 +102,28 @@ module _ (Stands : Place → Type 0) where
     pub check_kept : (a : Around) → ConstantStands Stands a.constant → (aim : Aim) → AimStands Stands aim → (e : s.Expr) → Have Stands (places.of_expr e)
         → Keeps Stands (Fits aim (sn.expr_nodes e)) (check a aim e)
     check_kept a c aim g (s.Run e ss) h =
-        bind (check_kept a c Free tt e (before Stands _ _ h)) (λ x q.
+        bind (check_kept a c (Free (first e)) (first_stands Stands e (before Stands _ _ h)) e (before Stands _ _ h)) (λ x q.
         bind {P = λ (r : Typed). tn.expr_nodes r.value + 1 ≤ 2 * (sn.expr_nodes e + sn.operations_nodes ss)} (levels (level_of ss) (give (omega arith))
         (bind (sums_kept a c t.NoOperation x.kind x.literal ss (behind Stands _ _ h)) (λ r w. give (omega arith)))
         (bind (truths_kept a c (is_truth x.kind) ss (behind Stands _ _ h)) (λ es w. give (omega arith)))
         (bind (truths_kept a c (is_truth x.kind) ss (behind Stands _ _ h)) (λ es w. give (omega arith)))) (λ r w.
         finished Stands aim g (sn.expr_nodes (s.Run e ss)) r w))
     check_kept a c aim g (s.Not p e) h =
-        bind (check_kept a c Free tt e h.1) (λ x q.
+        bind (check_kept a c (Free (first e)) (first_stands Stands e h.1) e h.1) (λ x q.
         bind (lifting (not_kept Stands p h.0 x)) (λ r w.
         finished Stands aim g (sn.expr_nodes (s.Not p e)) r (omega arith)))
     check_kept a c aim g (s.Compare d b o p e) h =
-        bind (check_kept a c Free tt d (before Stands _ _ h)) (λ x q.
-        bind (check_kept a c Free tt e (behind Stands (places.of_expr d) (p ∷ places.of_expr e) h).1) (λ y r.
+        bind (check_kept a c (Free (first d)) (first_stands Stands d (before Stands _ _ h)) d (before Stands _ _ h)) (λ x q.
+        bind (check_kept a c (Free (first e)) (first_stands Stands e (behind Stands (places.of_expr d) (p ∷ places.of_expr e) h).1) e (behind Stands (places.of_expr d) (p ∷ places.of_expr e) h).1) (λ y r.
         bind (lifting (compared_kept Stands b o p (behind Stands (places.of_expr d) (p ∷ places.of_expr e) h).0 x y)) (λ z w.
         finished Stands aim g (sn.expr_nodes (s.Compare d b o p e)) z (omega arith))))
     check_kept a c aim g (s.Within e b p i) h =
-        bind (check_kept a c Free tt e (before Stands _ _ h)) (λ x q.
+        bind (check_kept a c (Free (first e)) (first_stands Stands e (before Stands _ _ h)) e (before Stands _ _ h)) (λ x q.
         bind (interval_kept a c i (behind Stands (places.of_expr e) (p ∷ places.of_interval i) h).1) (λ ends r.
         bind (lifting (within_kept Stands b p (behind Stands (places.of_expr e) (p ∷ places.of_interval i) h).0 x ends)) (λ z w.
         finished Stands aim g (sn.expr_nodes (s.Within e b p i)) z (omega arith))))
     check_kept a c aim g (s.Signed sign p e) h =
-        bind (check_kept a c Free tt e h.1) (λ x q.
+        bind (check_kept a c (Free (first e)) (first_stands Stands e h.1) e h.1) (λ x q.
         bind (lifting (signed_kept Stands sign p h.0 x)) (λ r w.
         finished Stands aim g (sn.expr_nodes (s.Signed sign p e)) r (omega arith)))
     check_kept a c aim g (s.NumberLiteral p n) h = after_spending 1 (λ u. lift (finish aim (number n))) (finished Stands aim g 1 (number n) (number_size n))
@@ -137,13 +137,13 @@ module _ (Stands : Place → Type 0) where
     check_kept a c aim g (s.Reference (s.LeftOf x ss)) h =
         bind (named_kept Stands a c x h.0) (λ m w.
         bind (walk_kept a c Read x.place h.0 (reached m) ss h.1) (λ r q.
-        bind (value_kept Stands aim x.place r.0 h.0 q.0 r.1) (λ y z.
+        bind (value_kept Stands aim g r.0 q.0 r.1) (λ y z.
         finished Stands aim g (1 + sn.suffixes_nodes ss) y (omega (arith, q.1, reached_size m)))))
     check_kept a c aim g (s.Constructor p items) h =
-        aims aim g (refusing h.0) (λ k q w. weaker (construct_kept a c k q w p h.0 items h.1) (λ x z. omega (arith, spare_size aim)))
+        aims aim g (λ q w. refusing w) (λ k q w. weaker (construct_kept a c k q w p h.0 items h.1) (λ x z. omega (arith, spare_size aim)))
     check_kept a c aim g (s.Raised r) h =
         bind (raise_kept a c r h) (λ x q.
-        bind (value_kept Stands aim x.0 x.0 q.0 q.0 x.1) (λ y z.
+        bind (value_kept Stands aim g x.0 q.0 x.1) (λ y z.
         finished Stands aim g (sn.raise_nodes r) y (omega (arith, q.1))))
 
     pub sums_kept : (a : Around) → ConstantStands Stands a.constant → (done : t.Operations) (kind : PlainType) (literal : Bool) (ss : s.Operations)
@@ -152,7 +152,7 @@ module _ (Stands : Place → Type 0) where
         (sums a done kind literal ss)
     sums_kept a c done kind literal s.NoOperation h = give (omega arith)
     sums_kept a c done kind literal (s.AndOperation o p e ss) h =
-        bind (check_kept a c Free tt e (before Stands _ _ h.1)) (λ r q.
+        bind (check_kept a c (Free (first e)) (first_stands Stands e (before Stands _ _ h.1)) e (before Stands _ _ h.1)) (λ r q.
         bind (lifting (step_kept Stands o p h.0 kind literal r)) (λ x w.
         weaker (sums_kept a c (and_operation done (t.Then x.left x.operator x.right)) x.kind false ss (behind Stands _ _ h.1)) (λ z y.
         omega (arith, operations_more done x.left x.operator x.right))))
@@ -161,7 +161,7 @@ module _ (Stands : Place → Type 0) where
         → Keeps Stands (λ (es : t.Exprs). tn.count_of es + tn.exprs_nodes es ≤ 2 * sn.operations_nodes ss) (truths a fits ss)
     truths_kept a c fits s.NoOperation h = give (omega arith)
     truths_kept a c fits (s.AndOperation o p e ss) h =
-        bind (check_kept a c Free tt e (before Stands _ _ h.1)) (λ r q.
+        bind (check_kept a c (Free (first e)) (first_stands Stands e (before Stands _ _ h.1)) e (before Stands _ _ h.1)) (λ r q.
         bind (lifting (operand_kept Stands fits p h.0 r)) (λ x w.
         bind (truths_kept a c true ss (behind Stands _ _ h.1)) (λ es z.
         give (omega (arith, ap tn.expr_nodes w)))))
@@ -169,8 +169,8 @@ module _ (Stands : Place → Type 0) where
     pub interval_kept : (a : Around) → ConstantStands Stands a.constant → (i : s.Interval) → Have Stands (places.of_interval i)
         → Keeps Stands (EndsFit (sn.interval_nodes i)) (interval a i)
     interval_kept a c (s.Between p open_low low high open_high) h =
-        bind (check_kept a c Free tt low (before Stands _ _ h.1)) (λ x q.
-        bind (check_kept a c Free tt high (behind Stands _ _ h.1)) (λ y r.
+        bind (check_kept a c (Free (first low)) (first_stands Stands low (before Stands _ _ h.1)) low (before Stands _ _ h.1)) (λ x q.
+        bind (check_kept a c (Free (first high)) (first_stands Stands high (behind Stands _ _ h.1)) high (behind Stands _ _ h.1)) (λ y r.
         give (omega arith)))
 
     pub walk_kept : (a : Around) → ConstantStands Stands a.constant → (way : Use) (last : Place) → Stands last → (r : Reached) (ss : s.Suffixes)
@@ -215,7 +215,7 @@ module _ (Stands : Place → Type 0) where
     pub one_kept : (a : Around) → ConstantStands Stands a.constant → (p : Place) → Stands p → (items : s.Items) → Have Stands (places.of_items items)
         → Keeps Stands (λ (y : Place × Typed). Stands y.0 × (tn.expr_nodes y.1.value + 1 ≤ 2 * sn.items_nodes items)) (one a p items)
     one_kept a c p l (s.InOrder (s.AndExpr e s.NoExprs)) h =
-        bind (check_kept a c Free tt e (before Stands _ _ h)) (λ x q. give (first_stands Stands e (before Stands _ _ h), omega arith))
+        bind (check_kept a c (Free (first e)) (first_stands Stands e (before Stands _ _ h)) e (before Stands _ _ h)) (λ x q. give (first_stands Stands e (before Stands _ _ h), omega arith))
     one_kept a c p l _ h = refusing l
 
     pub construct_kept : (a : Around) → ConstantStands Stands a.constant → (k : PlainType) (q : Place) → Stands q → (p : Place) → Stands p → (items : s.Items)
@@ -380,7 +380,7 @@ module _ (Stands : Place → Type 0) where
         bind (check_kept a c (Into x.kind (first e)) (first_stands Stands e (behind Stands _ _ h)) e (behind Stands _ _ h)) (λ y w.
         give (omega arith))))
     statement_kept a c (s.Extract p ts e) h = whole_kept Stands a c p h.0 (in_targets ts || holds e) _ (λ a c.
-        bind (check_kept a c Several tt e (behind Stands _ _ h.1)) (λ x q.
+        bind (check_kept a c (Several (first e)) (first_stands Stands e (behind Stands _ _ h.1)) e (behind Stands _ _ h.1)) (λ x q.
         bind (lifting (source_kept Stands (first e) (first_stands Stands e (behind Stands _ _ h.1)) x)) (λ from w.
         bind (targets_kept a c p h.0 (first e) (first_stands Stands e (behind Stands _ _ h.1)) from.fields ts (before Stands _ _ h.1)) (λ xs z.
         give (omega (arith, ap tn.expr_nodes w))))))
@@ -399,7 +399,7 @@ module _ (Stands : Place → Type 0) where
         bind (otherwise_kept a c other (behind Stands _ _ (behind Stands (places.of_expr e) (places.of_stmt body ++ places.of_other other) h.1))) (λ o z.
         give (omega arith)))))
     statement_kept a c (s.Select p e cs other) h = whole_kept Stands a c p h.0 (holds e || in_cases cs) _ (λ a c.
-        bind (check_kept a c Free tt e (before Stands _ _ h.1)) (λ x q.
+        bind (check_kept a c (Free (first e)) (first_stands Stands e (before Stands _ _ h.1)) e (before Stands _ _ h.1)) (λ x q.
         after_hiding 1 (λ u. cases a x cs >>= (λ f. otherwise a other >>= (λ o. pure (t.Select x.value (f (t.Otherwise o)))))) (
         bind (cases_kept a c x cs (before Stands _ _ (behind Stands (places.of_expr e) (places.of_cases cs ++ places.of_other other) h.1))) (λ f w.
         bind (otherwise_kept a c other (behind Stands _ _ (behind Stands (places.of_expr e) (places.of_cases cs ++ places.of_other other) h.1))) (λ o z.
@@ -506,12 +506,12 @@ module _ (Stands : Place → Type 0) where
         → Keeps Stands (λ (ts : t.Tests). tn.tests_nodes ts ≤ 2 * sn.tests_nodes xs) (tests a x xs)
     tests_kept a c x s.NoTests h = give (omega arith)
     tests_kept a c x (s.Value e ts) h =
-        bind (check_kept a c Free tt e (before Stands _ _ h)) (λ y q.
+        bind (check_kept a c (Free (first e)) (first_stands Stands e (before Stands _ _ h)) e (before Stands _ _ h)) (λ y q.
         bind (lifting (tested_kept Stands false t.Equal (first e) (first_stands Stands e (before Stands _ _ h)) x y)) (λ put w.
         bind (tests_kept a c x ts (behind Stands _ _ h)) (λ ts z.
         give (omega (arith, w ts)))))
     tests_kept a c x (s.Compared b o p e ts) h =
-        bind (check_kept a c Free tt e (before Stands _ _ h.1)) (λ y q.
+        bind (check_kept a c (Free (first e)) (first_stands Stands e (before Stands _ _ h.1)) e (before Stands _ _ h.1)) (λ y q.
         bind (lifting (tested_kept Stands b o p h.0 x y)) (λ put w.
         bind (tests_kept a c x ts (behind Stands _ _ h.1)) (λ ts z.
         give (omega (arith, w ts)))))

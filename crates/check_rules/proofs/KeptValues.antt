@@ -33,13 +33,13 @@ use Rattle.check_rules.proofs.KeptNames.{ConstantStands, of_interface_kept}
 -- a check of a target leaves room for one node
 abbrev pub spare : Aim → ℕ
 spare (Into k p) = 0
-spare Free = 1
-spare Several = 1
+spare (Free p) = 1
+spare (Several p) = 1
 
 abbrev pub AimStands : (Place → Type 0) → Aim → Type 0
 AimStands Stands (Into k p) = Stands p
-AimStands Stands Free = Unit {0}
-AimStands Stands Several = Unit {0}
+AimStands Stands (Free p) = Stands p
+AimStands Stands (Several p) = Stands p
 
 abbrev pub Fits : Aim → ℕ → Typed → Type 0
 Fits aim n x = tn.expr_nodes x.value + spare aim ≤ 2 * n
@@ -208,8 +208,8 @@ module _ (Stands : Place → Type 0) where
 
   pub finished : (aim : Aim) → AimStands Stands aim → (n : ℕ) (x : Typed) → tn.expr_nodes x.value + 1 ≤ 2 * n → Keeps Stands (Fits aim n) (lift (finish aim x))
   unfolding finish
-  finished Free a n x h = lifting (all_right h)
-  finished Several a n x h = lifting (all_right h)
+  finished (Free p) a n x h = lifting (all_right h)
+  finished (Several p) a n x h = lifting (all_right h)
   finished (Into k p) a n x h = lifting (fitted_kept (conforms x.kind k) k p a n x h)
 
   pub not_kept : (p : Place) → Stands p → (x : Typed) → Gives Stands (UpTo (1 + tn.expr_nodes x.value)) (not_of p x)
@@ -276,22 +276,21 @@ module _ (Stands : Place → Type 0) where
   no_phrase_kept (s.Catch p arms) h = refused h.0
 
   -- the value of what was reached
-  results_kept : (aim : Aim) (start : Place) → Stands start → (e : t.Expr) (fs : List PlainField)
-      → Gives Stands (UpTo (tn.expr_nodes e)) (results aim start e fs)
-  results_kept aim start h e (f ∷ []) = all_right (omega arith)
-  results_kept Several start h e [] = all_right (omega arith)
-  results_kept Free start h e [] = refused h
-  results_kept (Into k p) start h e [] = refused h
-  results_kept Several start h e (f ∷ (g ∷ fs)) = all_right (omega arith)
-  results_kept Free start h e (f ∷ (g ∷ fs)) = refused h
-  results_kept (Into k p) start h e (f ∷ (g ∷ fs)) = refused h
+  results_kept : (aim : Aim) → AimStands Stands aim → (e : t.Expr) (fs : List PlainField) → Gives Stands (UpTo (tn.expr_nodes e)) (results aim e fs)
+  results_kept aim h e (f ∷ []) = all_right (omega arith)
+  results_kept (Several p) h e [] = all_right (omega arith)
+  results_kept (Free p) h e [] = refused h
+  results_kept (Into k p) h e [] = refused h
+  results_kept (Several p) h e (f ∷ (g ∷ fs)) = all_right (omega arith)
+  results_kept (Free p) h e (f ∷ (g ∷ fs)) = refused h
+  results_kept (Into k p) h e (f ∷ (g ∷ fs)) = refused h
 
-  pub value_kept : (aim : Aim) (start last : Place) → Stands start → Stands last → (r : Reached) → Keeps Stands (UpTo (size r)) (value aim start last r)
+  pub value_kept : (aim : Aim) → AimStands Stands aim → (last : Place) → Stands last → (r : Reached) → Keeps Stands (UpTo (size r)) (value aim last r)
   unfolding value tn.expr_nodes
-  value_kept aim start last h k (Variable x ss j) = after_spending (words_of j) (λ u. pure (typed j (t.Variable x ss (words_of j)))) (give (omega arith))
-  value_kept aim start last h k (Value n e j) = after_spending n (λ u. pure (typed j e)) (give (omega arith))
-  value_kept aim start last h k (Results e fs) = lifting (results_kept aim start h e fs)
-  value_kept aim start last h k (Named x) = refusing k
+  value_kept aim h last k (Variable x ss j) = after_spending (words_of j) (λ u. pure (typed j (t.Variable x ss (words_of j)))) (give (omega arith))
+  value_kept aim h last k (Value n e j) = after_spending n (λ u. pure (typed j e)) (give (omega arith))
+  value_kept aim h last k (Results e fs) = lifting (results_kept aim h e fs)
+  value_kept aim h last k (Named x) = refusing k
 
   length_kept : (x : Identifier) → Stands x.place → (n : ℕ) (e : t.Expr) → Gives Stands (λ r. size r ≤ 1 + tn.expr_nodes e) (length_of x n e)
   unfolding tn.expr_nodes

@@ -25,6 +25,8 @@ rows =
     ∷ wrong UnknownName (codes "P: PROCEDURE [x: ARRAY [0..1024] OF INTEGER] = BEGIN ^y _ 1; END;")
     ∷ wrong WrongCount (codes "P: PROCEDURE [n, m: INTEGER] = BEGIN END; P^[m: 1];")
     ∷ wrong TypeMismatch (codes "x: INTEGER; x _ ^TRUE;")
+    ∷ wrong TypeMismatch (codes "x: INTEGER; F: PROCEDURE = BEGIN END; x _ 2 + ^(F[]);")
+    ∷ wrong TypeMismatch (codes "x: INTEGER; x _ ^([1]) + 2;")
     ∷ wrong TypeMismatch (codes "c: INTEGER = F[^TRUE]; F: PROCEDURE [n: INTEGER] RETURNS [INTEGER] = BEGIN RETURN[n] END;")
     ∷ []
 

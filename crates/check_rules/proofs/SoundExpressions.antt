@@ -16,7 +16,7 @@ use Rattle.interface_records.specs.PlainTypes as v
 use Rattle.interface_records.specs.PlainTypes.{PlainType}
 use Rattle.check_rules.specs.Steps.{Check, lift}
 use Rattle.check_rules.specs.Around.{Around}
-use Rattle.check_rules.specs.Parts.{and_operation}
+use Rattle.check_rules.specs.Parts.{first, and_operation}
 use Rattle.check_rules.specs.Ranges.{Typed, typed, Aim, Free, finish}
 use Rattle.check_rules.specs.Phrases.{holds, in_steps, in_interval}
 use Rattle.check_rules.specs.Values.{number, letter, truth, number_in, string, is_truth, not_of, signed, compared, within, Done, step, by_level, level_of, summed, truth_operand}
@@ -46,7 +46,7 @@ module _ (W : World) where
   unfolding check holds ExprWritten CheckedIn AimIn
   check_not q e c = record {
     by = λ flat p a aim.
-        bind W flat (under W flat (λ pre. (part (λ h. h) (λ w. w) pre.0, tt)) (c.by flat p a Free)) (λ x s h.
+        bind W flat (under W flat (λ pre. (part (λ h. h) (λ w. w) pre.0, tt)) (c.by flat p a (Free (first e)))) (λ x s h.
         bind W flat (plainly W flat {P = λ r. ValueIn W p r s h} (not_of q x) (λ pre. values.not_in W p q x s h pre.1)) (λ r m n.
         into flat p aim r s h m n (λ pre. pre.0.0.1) (λ pre. pre.1)));
   }
@@ -55,7 +55,7 @@ module _ (W : World) where
   unfolding check holds ExprWritten CheckedIn AimIn
   check_signed sign q e c = record {
     by = λ flat p a aim.
-        bind W flat (under W flat (λ pre. (part (λ h. h) (λ w. w) pre.0, tt)) (c.by flat p a Free)) (λ x s h.
+        bind W flat (under W flat (λ pre. (part (λ h. h) (λ w. w) pre.0, tt)) (c.by flat p a (Free (first e)))) (λ x s h.
         bind W flat (plainly W flat {P = λ r. ValueIn W p r s h} (signed sign q x) (λ pre. values.signed_in W p sign q x s h pre.1)) (λ r m n.
         into flat p aim r s h m n (λ pre. pre.0.0.1) (λ pre. pre.1)));
   }
@@ -68,8 +68,8 @@ module _ (W : World) where
   unfolding check holds ExprWritten CheckedIn AimIn
   check_compare d b o q e c k = record {
     by = λ flat p a aim.
-        bind W flat (under W flat (λ pre. (part (or_left (holds d) (holds e)) (λ w. w.0) pre.0, tt)) (c.by flat p a Free)) (λ x s h.
-        bind W flat (under W flat (λ pre. (part (or_right (holds d) (holds e)) (λ w. w.1) pre.0.0, tt)) (k.by flat p a Free)) (λ y m n.
+        bind W flat (under W flat (λ pre. (part (or_left (holds d) (holds e)) (λ w. w.0) pre.0, tt)) (c.by flat p a (Free (first d)))) (λ x s h.
+        bind W flat (under W flat (λ pre. (part (or_right (holds d) (holds e)) (λ w. w.1) pre.0.0, tt)) (k.by flat p a (Free (first e)))) (λ y m n.
         bind W flat (plainly W flat {P = λ r. ValueIn W p r (s + m) (h + n)} (compared b o q x y)
         (λ pre. values.compared_in W p b o q x y s h m n pre.0.1 pre.1)) (λ r i j.
         ended W flat (finish aim r) (λ pre. values.finished W p aim r (s + (m + (i + 0))) (h + (n + (j + 0))) pre.0.0.0.1
@@ -80,7 +80,7 @@ module _ (W : World) where
   unfolding check holds ExprWritten CheckedIn AimIn
   check_within e b q i c k = record {
     by = λ flat p a aim.
-        bind W flat (under W flat (λ pre. (part (or_left (holds e) (in_interval i)) (λ w. w.0) pre.0, tt)) (c.by flat p a Free)) (λ x s h.
+        bind W flat (under W flat (λ pre. (part (or_left (holds e) (in_interval i)) (λ w. w.0) pre.0, tt)) (c.by flat p a (Free (first e)))) (λ x s h.
         bind W flat (under W flat (λ pre. part (or_right (holds e) (in_interval i)) (λ w. w.1) pre.0.0) (k.by flat p a)) (λ ends m n.
         bind W flat (plainly W flat {P = λ r. ValueIn W p r (s + m) (h + n)} (within b q x ends)
         (λ pre. values.within_in W p b q x ends s h m n pre.0.1 pre.1))
@@ -94,8 +94,8 @@ module _ (W : World) where
   unfolding interval in_interval IntervalWritten CheckedIn AimIn
   check_interval q open_low low high open_high c k = record {
     by = λ flat p a.
-        bind W flat (under W flat (λ pre. (part (or_left (holds low) (holds high)) (λ w. w.0) pre, tt)) (c.by flat p a Free)) (λ x s h.
-        bind W flat (under W flat (λ pre. (part (or_right (holds low) (holds high)) (λ w. w.1) pre.0, tt)) (k.by flat p a Free)) (λ y m n.
+        bind W flat (under W flat (λ pre. (part (or_left (holds low) (holds high)) (λ w. w.0) pre, tt)) (c.by flat p a (Free (first low)))) (λ x s h.
+        bind W flat (under W flat (λ pre. (part (or_right (holds low) (holds high)) (λ w. w.1) pre.0, tt)) (k.by flat p a (Free (first high)))) (λ y m n.
         given W flat (record { open_low = open_low; low = x; high = y; open_high = open_high }) (λ pre. record {
           low = (pre.0.1).value;
           low_kind = (pre.0.1).kind;
@@ -204,7 +204,7 @@ module _ (W : World) where
   unfolding sums in_steps StepsWritten CheckedIn AimIn
   sums_more o q e ss c k = record {
     by = λ flat p a done kind literal.
-        bind W flat (under W flat (λ pre. (part (or_left (holds e) (in_steps ss)) (λ w. w.0) pre, tt)) (c.by flat p a Free)) (λ r s h.
+        bind W flat (under W flat (λ pre. (part (or_left (holds e) (in_steps ss)) (λ w. w.0) pre, tt)) (c.by flat p a (Free (first e)))) (λ r s h.
         bind W flat (plainly W flat {P = λ x. StepIn W p kind x s h} (step o q kind literal r)
         (λ pre. values.step_in W p o q kind literal r s h pre.1)) (λ x m n.
         run_more flat p a done kind o q e ss x s h m n k));
@@ -227,7 +227,7 @@ module _ (W : World) where
   unfolding truths in_steps StepsWritten CheckedIn AimIn sound.WordsIn operands_of hidden_exprs count_of
   truths_more o q e ss c k = record {
     by = λ flat p a fits.
-        bind W flat (under W flat (λ pre. (part (or_left (holds e) (in_steps ss)) (λ w. w.0) pre, tt)) (c.by flat p a Free)) (λ r s h.
+        bind W flat (under W flat (λ pre. (part (or_left (holds e) (in_steps ss)) (λ w. w.0) pre, tt)) (c.by flat p a (Free (first e)))) (λ r s h.
         bind W flat (plainly W flat {P = λ x. TruthIn W p fits x s h} (truth_operand fits q r) (λ pre. values.truth_in W p fits q r s h pre.1))
         (λ x m n.
         bind W flat (under W flat (λ pre. part (or_right (holds e) (in_steps ss)) (λ w. w.1) pre.0.0) (k.by flat p a true)) (λ es i j.
@@ -285,7 +285,7 @@ module _ (W : World) where
   unfolding check holds ExprWritten CheckedIn AimIn
   check_run e ss c k l = record {
     by = λ flat p a aim.
-        bind W flat (under W flat (λ pre. (part (or_left (holds e) (in_steps ss)) (λ w. w.0) pre.0, tt)) (c.by flat p a Free)) (λ x s h.
+        bind W flat (under W flat (λ pre. (part (or_left (holds e) (in_steps ss)) (λ w. w.0) pre.0, tt)) (c.by flat p a (Free (first e)))) (λ x s h.
         bind W flat {P = λ r m n. ValueIn W p r (s + m) (h + n)} (by_steps ss _ _ _ _
         (given W flat x (λ pre. values.more W p x s h (s + 0) (h + 0) (omega arith) (omega arith) pre.1))
         (λ stepped. bind W flat (under W flat (λ pre. part (or_right (holds e) (in_steps ss)) (λ w. w.1) pre.0.0)

@@ -364,7 +364,7 @@ module _ (W : World) where
   unfolding statement StatementWritten CheckedIn AimIn
   statement_extract q ts e k l = record {
     by = λ p a. whole_statement W (in_targets ts || holds e) p a q _ (λ o b mark.
-        bind W false (under W false (λ pre. (part (or_right (in_targets ts) (holds e)) (λ w. w.1) pre, tt)) (l.by false o b Several)) (λ x c g.
+        bind W false (under W false (λ pre. (part (or_right (in_targets ts) (holds e)) (λ w. w.1) pre, tt)) (l.by false o b (Several (first e)))) (λ x c g.
         bind W false (plainly W false {P = λ y. SourceIn W o y c g} (source (first e) x) (λ pre. source_in o (first e) x c g pre.1)) (λ y i j.
         bind W false (under W false (λ pre. (part (or_left (in_targets ts) (holds e)) (λ w. w.0) pre.0.0, (pre.1).types)) (k.by o b q (first e) y.fields))
         (λ us d h.

@@ -276,7 +276,7 @@ module _ (W : World) where
           → Rule W flat (Ready W flat p a (in_exprs (s.AndExpr e es)) (ExprsWritten (s.AndExpr e es))) (λ x n h. ValueIn W p x.1 n h)
           (one_item a q (s.InOrder (s.AndExpr e es)))
       single s.NoExprs flat p a q =
-          bind W flat (under W flat (λ pre. (part (or_left (holds e) false) (λ w. w.0) pre, tt)) (l.by flat p a Free)) (λ x c g.
+          bind W flat (under W flat (λ pre. (part (or_left (holds e) false) (λ w. w.0) pre, tt)) (l.by flat p a (Free (first e)))) (λ x c g.
           given W flat (first e, x) (λ pre. rules.more W p x c g (c + 0) (g + 0) (omega arith) (omega arith) pre.1))
       single (s.AndExpr d ds) flat p a q = failed W flat WrongCount q
 
@@ -538,7 +538,7 @@ module _ (W : World) where
         bind W flat (name_is_seen W flat a x (λ pre. (pre.0).around)) (λ y c g.
         bind W flat (under W flat (λ pre. (part (λ h. h) (λ w. w) pre.0.0, reaches.name_reached W p flat y 0 0 pre.1))
         (k.by flat p a Read x.place (reached y) 0 0)) (λ r i j.
-        bind W flat (under W flat (λ pre. pre.1) (reaches.value_in W p flat aim x.place r.0 r.1 (0 + i) (0 + j))) (λ z m n.
+        bind W flat (under W flat (λ pre. pre.1) (reaches.value_in W p flat aim r.0 r.1 (0 + i) (0 + j))) (λ z m n.
         ended W flat (finish aim z) (λ pre. rules.finished_several W p aim z (c + (i + (m + 0))) (g + (j + (n + 0))) pre.0.0.0.1
         (rules.more_fresh W p aim z (0 + i + m) (0 + j + n) (c + (i + (m + 0))) (g + (j + (n + 0))) (omega arith) (omega arith) pre.1)))));
   }
@@ -548,7 +548,7 @@ module _ (W : World) where
   check_raised r k = record {
     by = λ flat p a aim.
         bind W flat (under W flat (λ pre. part (λ h. h) (λ w. w) pre.0) (k.by flat p a)) (λ x i j.
-        bind W flat (under W flat (λ pre. pre.1) (reaches.value_in W p flat aim x.0 x.0 x.1 i j)) (λ z m n.
+        bind W flat (under W flat (λ pre. pre.1) (reaches.value_in W p flat aim x.0 x.1 i j)) (λ z m n.
         ended W flat (finish aim z) (λ pre. rules.finished_several W p aim z (i + (m + 0)) (j + (n + 0)) pre.0.0.1
         (rules.more_fresh W p aim z (i + m) (j + n) (i + (m + 0)) (j + (n + 0)) (omega arith) (omega arith) pre.1))));
   }
@@ -559,6 +559,6 @@ module _ (W : World) where
     where
       by : (flat : Bool) (p : Spot) (a : Around) (aim : Aim) → Rule W flat (Ready W flat p a (holds (s.Constructor q items))
           (ExprWritten (s.Constructor q items)) × AimIn aim) (CheckedIn W p aim) (check a aim (s.Constructor q items))
-      by flat p a Free = failed W flat TypeMismatch q
-      by flat p a Several = failed W flat TypeMismatch q
+      by flat p a (Free r) = failed W flat TypeMismatch r
+      by flat p a (Several r) = failed W flat TypeMismatch r
       by flat p a (Into j r) = under W flat (λ pre. (part (λ h. h) (λ w. w) pre.0, pre.1)) (k.construct flat p a j r q)

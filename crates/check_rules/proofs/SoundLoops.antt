@@ -108,7 +108,7 @@ module _ (W : World) where
   unfolding tests in_tests TestsWritten CheckedIn AimIn
   tests_value e ts k l = record {
     by = λ p a x.
-        bind W false (under W false (λ pre. (part (or_left (holds e) (in_tests ts)) (λ w. w.0) pre, tt)) (k.by false p a Free)) (λ y c g.
+        bind W false (under W false (λ pre. (part (or_left (holds e) (in_tests ts)) (λ w. w.0) pre, tt)) (k.by false p a (Free (first e)))) (λ y c g.
         bind W false (plainly W false {P = λ f. PutIn W p x f c g} (tested false t.Equal (first e) x y)
         (λ pre. tested_in p false t.Equal (first e) x y c g pre.1)) (λ f i j.
         bind W false (under W false (λ pre. part (or_right (holds e) (in_tests ts)) (λ w. w.1) pre.0.0) (l.by p a x)) (λ us m n.
@@ -120,7 +120,7 @@ module _ (W : World) where
   unfolding tests in_tests TestsWritten CheckedIn AimIn
   tests_compared b o q e ts k l = record {
     by = λ p a x.
-        bind W false (under W false (λ pre. (part (or_left (holds e) (in_tests ts)) (λ w. w.0) pre, tt)) (k.by false p a Free)) (λ y c g.
+        bind W false (under W false (λ pre. (part (or_left (holds e) (in_tests ts)) (λ w. w.0) pre, tt)) (k.by false p a (Free (first e)))) (λ y c g.
         bind W false (plainly W false {P = λ f. PutIn W p x f c g} (tested b o q x y) (λ pre. tested_in p b o q x y c g pre.1)) (λ f i j.
         bind W false (under W false (λ pre. part (or_right (holds e) (in_tests ts)) (λ w. w.1) pre.0.0) (l.by p a x)) (λ us m n.
         put_given W false (f us) (λ pre. put_tests p x f ts (s.Compared b o q e ts) us c g m n (c + (i + (m + 0))) (g + (j + (n + 0))) pre.0.1 pre.1
@@ -168,7 +168,7 @@ module _ (W : World) where
       hidden_cases
   statement_select q e cs other k l n = record {
     by = λ p a. whole_statement W (holds e || in_cases cs) p a q _ (λ o b mark.
-        bind W false (under W false (λ pre. (part (or_left (holds e) (in_cases cs)) (λ w. w.0) pre, tt)) (k.by false o b Free)) (λ x c g.
+        bind W false (under W false (λ pre. (part (or_left (holds e) (in_cases cs)) (λ w. w.0) pre, tt)) (k.by false o b (Free (first e)))) (λ x c g.
         bind W false (hidden_words W false 1) (λ u i j.
         bind W false (under W false (λ pre. part (or_right (holds e) (in_cases cs)) (λ w. w.1) pre.0.0) (l.by o b x)) (λ f d h.
         bind W false (under W false (λ pre. ((pre.0.0.0).around, (pre.0.0.0).written.2)) (n.by o b)) (λ y e' h'.

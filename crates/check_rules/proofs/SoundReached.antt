@@ -455,42 +455,42 @@ module _ (W : World) (p : Spot) where
       x.value) x.operands_are x.hidden_are)
 
   -- ---- values, stores
-  results_in : (aim : Aim) (start : Place) (e : t.Expr) (fs : List PlainField) (s g : ℕ) → ResultsReached W p e fs s g
-      → IfOk (results aim start e fs) (λ r. FreshIn W p aim r s g)
+  results_in : (aim : Aim) (e : t.Expr) (fs : List PlainField) (s g : ℕ) → ResultsReached W p e fs s g
+      → IfOk (results aim e fs) (λ r. FreshIn W p aim r s g)
   unfolding FreshIn GaveIn FieldsIn kinds_of one
-  results_in aim start e (f ∷ []) s g r = by aim
+  results_in aim e (f ∷ []) s g r = by aim
     where
       single : ValueIn W p (record { value = e; kind = f.kind; literal = false; gave = Some (f ∷ []) }) s g
       single = record { value = r.value; kind = (r.kinds).0; operands_are = r.operands_are; hidden_are = r.hidden_are; gave = (r.call, r.value, r.kinds) }
 
       by : (aim : Aim) → FreshIn W p aim (record { value = e; kind = f.kind; literal = false; gave = Some (f ∷ []) }) s g
-      by Free = single
+      by (Free q) = single
       by (Into k q) = single
-      by Several = values.several_of W p _ s g single
-  results_in Several start e [] s g r = record {
+      by (Several q) = values.several_of W p _ s g single
+  results_in (Several q) e [] s g r = record {
     single = λ d. no_truth d;
     kind = plain_types.0;
     operands_are = r.operands_are;
     hidden_are = r.hidden_are;
     gave = (r.call, r.value, r.kinds);
   }
-  results_in Several start e (f ∷ d ∷ fs) s g r = record {
+  results_in (Several q) e (f ∷ d ∷ fs) s g r = record {
     single = λ d. no_truth d;
     kind = plain_types.0;
     operands_are = r.operands_are;
     hidden_are = r.hidden_are;
     gave = (r.call, r.value, r.kinds);
   }
-  results_in Free start e [] s g r = tt
-  results_in Free start e (f ∷ d ∷ fs) s g r = tt
-  results_in (Into k q) start e [] s g r = tt
-  results_in (Into k q) start e (f ∷ d ∷ fs) s g r = tt
+  results_in (Free q) e [] s g r = tt
+  results_in (Free q) e (f ∷ d ∷ fs) s g r = tt
+  results_in (Into k q) e [] s g r = tt
+  results_in (Into k q) e (f ∷ d ∷ fs) s g r = tt
 
   fresh_in : (aim : Aim) (r : Typed) (s g : ℕ) → ValueIn W p r s g → FreshIn W p aim r s g
   unfolding FreshIn
-  fresh_in Free r s g x = x
+  fresh_in (Free q) r s g x = x
   fresh_in (Into k q) r s g x = x
-  fresh_in Several r s g x = values.several_of W p r s g x
+  fresh_in (Several q) r s g x = values.several_of W p r s g x
 
   variable_value : (h : t.Home) (ss : t.Suffixes) (k : PlainType) (s g m n : ℕ) → m ≡ words_of k → VariableReached W p h ss k s g
       → ValueIn W p (typed k (t.Variable h ss (words_of k))) (s + (m + 0)) (g + (n + 0))
@@ -513,22 +513,22 @@ module _ (W : World) (p : Spot) where
     gave = tt;
   }
 
-  pub value_in : (flat : Bool) (aim : Aim) (start last : Place) (r : Reached) (s g : ℕ)
-      → Rule W flat (ReachedIn W flat p r s g) (λ y m n. FreshIn W p aim y (s + m) (g + n)) (value aim start last r)
+  pub value_in : (flat : Bool) (aim : Aim) (last : Place) (r : Reached) (s g : ℕ)
+      → Rule W flat (ReachedIn W flat p r s g) (λ y m n. FreshIn W p aim y (s + m) (g + n)) (value aim last r)
   unfolding value ReachedIn
-  value_in flat aim start last (Variable h ss k) s g = bind W flat (spent_words W flat (words_of k)) (λ u m n.
+  value_in flat aim last (Variable h ss k) s g = bind W flat (spent_words W flat (words_of k)) (λ u m n.
       given W flat (typed k (t.Variable h ss (words_of k))) (λ pre. fresh_in aim _ (s + (m + 0)) (g + (n + 0)) (variable_value h ss k s g m n pre.1 pre.0)))
-  value_in flat aim start last (Value c e k) s g = bind W flat (spent_words W flat c) (λ u m n.
+  value_in flat aim last (Value c e k) s g = bind W flat (spent_words W flat c) (λ u m n.
       given W flat (typed k e) (λ pre. fresh_in aim _ (s + (m + 0)) (g + (n + 0)) (value_value c e k s g m n pre.1 pre.0)))
-  value_in flat aim start last (Results e fs) s g = ended W flat (results aim start e fs) (λ pre.
-      results_in aim start e fs (s + 0) (g + 0) (record {
+  value_in flat aim last (Results e fs) s g = ended W flat (results aim e fs) (λ pre.
+      results_in aim e fs (s + 0) (g + 0) (record {
         call = pre.call;
         value = pre.value;
         kinds = pre.kinds;
         operands_are = omega (arith, pre.operands_are);
         hidden_are = omega (arith, pre.hidden_are);
       }))
-  value_in flat aim start last (Named a) s g = failed W flat _ last
+  value_in flat aim last (Named a) s g = failed W flat _ last
 
   pub stored_in : (flat : Bool) (last : Place) (r : Reached) (s g : ℕ) → Rule W flat (ReachedIn W flat p r s g) (λ y m n. TargetIn W p y (s + m) (g + n))
       (stored last r)

@@ -111,15 +111,15 @@ module _ (W : World) (p : Spot) where
 
   pub finished : (aim : Aim) (r : Typed) (s h : ℕ) → AimIn aim → ValueIn W p r s h → IfOk (finish aim r) (λ y. CheckedIn W p aim y s h)
   unfolding finish AimIn CheckedIn
-  finished Free r s h i x = x
+  finished (Free q) r s h i x = x
   finished (Into k q) r s h i x = fitted_in k q r s h i x
-  finished Several r s h i x = several_of r s h x
+  finished (Several q) r s h i x = several_of r s h x
 
   pub finished_several : (aim : Aim) (r : Typed) (s h : ℕ) → AimIn aim → FreshIn W p aim r s h → IfOk (finish aim r) (λ y. CheckedIn W p aim y s h)
   unfolding finish AimIn CheckedIn FreshIn
-  finished_several Free r s h i x = x
+  finished_several (Free q) r s h i x = x
   finished_several (Into k q) r s h i x = fitted_in k q r s h i x
-  finished_several Several r s h i x = x
+  finished_several (Several q) r s h i x = x
 
   -- with more words counted
   pub more : (r : Typed) (s h s' h' : ℕ) → s ≤ s' → h ≤ h' → ValueIn W p r s h → ValueIn W p r s' h'
@@ -133,9 +133,9 @@ module _ (W : World) (p : Spot) where
 
   pub more_fresh : (aim : Aim) (r : Typed) (s h s' h' : ℕ) → s ≤ s' → h ≤ h' → FreshIn W p aim r s h → FreshIn W p aim r s' h'
   unfolding FreshIn
-  more_fresh Free r s h s' h' m n x = more r s h s' h' m n x
+  more_fresh (Free q) r s h s' h' m n x = more r s h s' h' m n x
   more_fresh (Into k q) r s h s' h' m n x = more r s h s' h' m n x
-  more_fresh Several r s h s' h' m n x = record {
+  more_fresh (Several q) r s h s' h' m n x = record {
     single = x.single;
     kind = x.kind;
     operands_are = omega (arith, m, x.operands_are);

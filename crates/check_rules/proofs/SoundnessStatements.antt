@@ -146,14 +146,14 @@ pub record SeveralIn (W : World) (p : Spot) (r : Typed) (spent hid : ℕ) : Type
   pub gave : GaveIn W p r.value r.gave
 
 unfoldable pub CheckedIn : World → Spot → Aim → Typed → ℕ → ℕ → Type 0
-CheckedIn W p Free r s h = ValueIn W p r s h
+CheckedIn W p (Free q) r s h = ValueIn W p r s h
 CheckedIn W p (Into k q) r s h = ValueIn W p r s h × (r.kind ≡ k)
-CheckedIn W p Several r s h = SeveralIn W p r s h
+CheckedIn W p (Several q) r s h = SeveralIn W p r s h
 
 unfoldable pub AimIn : Aim → Type 0
 AimIn (Into k q) = TypeIn k
-AimIn Free = Unit {0}
-AimIn Several = Unit {0}
+AimIn (Free q) = Unit {0}
+AimIn (Several q) = Unit {0}
 
 unfoldable pub Stepped : s.Operations → Type 0
 Stepped s.NoOperation = ⊥
@@ -245,8 +245,8 @@ pub record PerformedIn (W : World) (p : Spot) (e : t.Expr) (spent hid : ℕ) : T
 
 -- the value that was reached, before it is given to a target
 unfoldable pub FreshIn : World → Spot → Aim → Typed → ℕ → ℕ → Type 0
-FreshIn W p Several r s h = SeveralIn W p r s h
-FreshIn W p Free r s h = ValueIn W p r s h
+FreshIn W p (Several q) r s h = SeveralIn W p r s h
+FreshIn W p (Free q) r s h = ValueIn W p r s h
 FreshIn W p (Into k q) r s h = ValueIn W p r s h
 
 -- ---- values of parameters, results or fields

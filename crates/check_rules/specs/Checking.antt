@@ -27,28 +27,28 @@ unfoldable mutual
   -- Expressions.
   pub check : Around → Aim → s.Expr → Check Typed
   check a aim (s.Run e ss) = do
-    x ← check a Free e
+    x ← check a (Free (first e)) e
     r ← by_level (level_of ss) (pure x)
         (sums a t.NoOperation x.kind x.literal ss >>= (λ r. pure (summed x r)))
         (truths a (is_truth x.kind) ss >>= (λ es. pure (truth (t.AllOf (t.AndExpr x.value es)))))
         (truths a (is_truth x.kind) ss >>= (λ es. pure (truth (t.SomeOf (t.AndExpr x.value es)))))
     lift (finish aim r)
   check a aim (s.Not p e) = do
-    x ← check a Free e
+    x ← check a (Free (first e)) e
     r ← lift (not_of p x)
     lift (finish aim r)
   check a aim (s.Compare d b o p e) = do
-    x ← check a Free d
-    y ← check a Free e
+    x ← check a (Free (first d)) d
+    y ← check a (Free (first e)) e
     r ← lift (compared b o p x y)
     lift (finish aim r)
   check a aim (s.Within e b p i) = do
-    x ← check a Free e
+    x ← check a (Free (first e)) e
     ends ← interval a i
     r ← lift (within b p x ends)
     lift (finish aim r)
   check a aim (s.Signed sign p e) = do
-    x ← check a Free e
+    x ← check a (Free (first e)) e
     r ← lift (signed sign p x)
     lift (finish aim r)
   check a aim (s.NumberLiteral p n) = spend 1 >>= (λ _. lift (finish aim (number n)))
@@ -62,19 +62,19 @@ unfoldable mutual
   check a aim (s.Reference (s.LeftOf x ss)) = do
     m ← named a x
     r ← walk a Read x.place (reached m) ss
-    x ← value aim x.place r.0 r.1
+    x ← value aim r.0 r.1
     lift (finish aim x)
-  check a aim (s.Constructor p items) = by_aim aim (fail TypeMismatch p) (λ k q. construct a k q p items)
+  check a aim (s.Constructor p items) = by_aim aim (fail TypeMismatch) (λ k q. construct a k q p items)
   check a aim (s.Raised r) = do
     x ← raise a r
-    x ← value aim x.0 x.0 x.1
+    x ← value aim x.0 x.1
     lift (finish aim x)
 
   -- the operators of a run behind those that are done, and the type of it all
   pub sums : Around → t.Operations → PlainType → Bool → s.Operations → Check (t.Operations × PlainType)
   sums a done kind literal s.NoOperation = pure (done, kind)
   sums a done kind literal (s.AndOperation o p e ss) = do
-    r ← check a Free e
+    r ← check a (Free (first e)) e
     x ← lift (step o p kind literal r)
     sums a (and_operation done (t.Then x.left x.operator x.right)) x.kind false ss
 
@@ -82,15 +82,15 @@ unfoldable mutual
   pub truths : Around → Bool → s.Operations → Check t.Exprs
   truths a fits s.NoOperation = pure t.NoExprs
   truths a fits (s.AndOperation o p e ss) = do
-    r ← check a Free e
+    r ← check a (Free (first e)) e
     x ← lift (truth_operand fits p r)
     es ← truths a true ss
     pure (t.AndExpr x es)
 
   pub interval : Around → s.Interval → Check Ends
   interval a (s.Between p open_low low high open_high) = do
-    x ← check a Free low
-    y ← check a Free high
+    x ← check a (Free (first low)) low
+    y ← check a (Free (first high)) high
     pure (record { open_low = open_low; low = x; high = y; open_high = open_high })
 
   -- where the suffixes of a name lead, and the place of the last name
@@ -130,7 +130,7 @@ unfoldable mutual
 
   -- one item in order, where it begins and what it is
   pub one : Around → Place → s.Items → Check (Place × Typed)
-  one a p (s.InOrder (s.AndExpr e s.NoExprs)) = check a Free e >>= (λ x. pure (first e, x))
+  one a p (s.InOrder (s.AndExpr e s.NoExprs)) = check a (Free (first e)) e >>= (λ x. pure (first e, x))
   one a p items = fail WrongCount p
 
   -- a record of all its fields or an array of all its elements; any other type is refused at q
@@ -280,7 +280,7 @@ unfoldable mutual
     y ← check a (Into x.kind (first e)) e
     pure (t.Assign x.home x.suffixes y.value))
   statement a (s.Extract p ts e) = whole a p (in_targets ts || holds e) (λ a. do
-    x ← check a Several e
+    x ← check a (Several (first e)) e
     from ← lift (source (first e) x)
     ts ← targets a p (first e) from.fields ts
     pure (t.Extract from.of_record ts from.value))
@@ -299,7 +299,7 @@ unfoldable mutual
     o ← otherwise a other
     pure (t.If x.value b o))
   statement a (s.Select p e cs other) = whole a p (holds e || in_cases cs) (λ a. do
-    x ← check a Free e
+    x ← check a (Free (first e)) e
     _ ← hide 1
     cs ← cases a x cs
     o ← otherwise a other
@@ -387,12 +387,12 @@ unfoldable mutual
   pub tests : Around → Typed → s.Tests → Check t.Tests
   tests a x s.NoTests = pure t.NoTests
   tests a x (s.Value e ts) = do
-    y ← check a Free e
+    y ← check a (Free (first e)) e
     put ← lift (tested false t.Equal (first e) x y)
     ts ← tests a x ts
     pure (put ts)
   tests a x (s.Compared b o p e ts) = do
-    y ← check a Free e
+    y ← check a (Free (first e)) e
     put ← lift (tested b o p x y)
     ts ← tests a x ts
     pure (put ts)

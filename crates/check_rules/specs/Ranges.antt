@@ -19,12 +19,12 @@ pub record Typed : Type 0 where
 abbrev pub typed : PlainType → t.Expr → Typed
 typed kind value = record { value = value; kind = kind; literal = false; gave = None }
 
--- what a value is for: it stands free; or goes to a target of this type, in an expression that begins here; or to an
--- extractor, which takes what a call gives, one result or more or none
+-- what a value is for, and where it begins as it is written, its parentheses included: it stands free; or goes to a target of
+-- this type; or to an extractor, which takes what a call gives, one result or more or none
 pub data Aim : Type 0 where
-  Free : Aim
+  Free : Place → Aim
   Into : PlainType → Place → Aim
-  Several : Aim
+  Several : Place → Aim
 
 -- the values of a list, and which parameter, result or field each is for; without places they stand in order
 pub record Arguments : Type 0 where

@@ -11,7 +11,7 @@ use Rattle.check_rules.specs.Meanings as m
 use Rattle.check_rules.specs.Around.{Around}
 use Rattle.check_rules.specs.Names.{of_interface}
 use Rattle.check_rules.specs.Parts.{Found, field_named, and_suffix, and_part}
-use Rattle.check_rules.specs.Ranges.{Typed, typed, range_between, Aim, Several}
+use Rattle.check_rules.specs.Ranges.{Typed, typed, range_between, Aim, Free, Into, Several}
 use Rattle.check_rules.specs.declared.fault.Cause.TheVariants.{UnknownName, TypeMismatch, WrongCount}
 use Rattle.interface_records.specs.PlainTypes.{PlainField, PlainItem, PlainType, array_parts, base_of, bounds, elements_of, fields, is_text, one_base, sign_of, words_of, words_of_fields}
 
@@ -41,20 +41,21 @@ abbrev pub settled : Reached → Reached
 settled (Results e (f ∷ [])) = Value 0 e f.kind
 settled r = r
 
-abbrev pub several : Aim → Place → t.Expr → List PlainField → Checked Typed
-several Several start e fs = Ok (record { value = e; kind = v.Integer; literal = false; gave = Some fs })
-several _ start e fs = refuse TypeMismatch start
+abbrev pub several : Aim → t.Expr → List PlainField → Checked Typed
+several (Several start) e fs = Ok (record { value = e; kind = v.Integer; literal = false; gave = Some fs })
+several (Free start) e fs = refuse TypeMismatch start
+several (Into k start) e fs = refuse TypeMismatch start
 
-abbrev pub results : Aim → Place → t.Expr → List PlainField → Checked Typed
-results aim start e (f ∷ []) = Ok (record { value = e; kind = f.kind; literal = false; gave = Some (f ∷ []) })
-results aim start e fs = several aim start e fs
+abbrev pub results : Aim → t.Expr → List PlainField → Checked Typed
+results aim e (f ∷ []) = Ok (record { value = e; kind = f.kind; literal = false; gave = Some (f ∷ []) })
+results aim e fs = several aim e fs
 
--- the value of what was reached, in an expression that begins at `start`; `last` is the place of the last name
-unfoldable pub value : Aim → Place → Place → Reached → Check Typed
-value aim start last (Variable h ss k) = spend (words_of k) >>= (λ _. pure (typed k (t.Variable h ss (words_of k))))
-value aim start last (Value n e k) = spend n >>= (λ _. pure (typed k e))
-value aim start last (Results e fs) = lift (results aim start e fs)
-value aim start last (Named m) = fail TypeMismatch last
+-- the value of what was reached; `last` is the place of the last name
+unfoldable pub value : Aim → Place → Reached → Check Typed
+value aim last (Variable h ss k) = spend (words_of k) >>= (λ _. pure (typed k (t.Variable h ss (words_of k))))
+value aim last (Value n e k) = spend n >>= (λ _. pure (typed k e))
+value aim last (Results e fs) = lift (results aim e fs)
+value aim last (Named m) = fail TypeMismatch last
 
 abbrev pub is_length : Identifier → Bool
 is_length x = bytes_eq x.name (codes "length")

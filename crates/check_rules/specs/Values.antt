@@ -16,7 +16,7 @@ use Rattle.syntax_trees.specs.declared.syntax.Sign.TheVariants.{Positive, Negati
 use Rattle.check_rules.specs.Meanings.{Meaning}
 use Rattle.check_rules.specs.Meanings as m
 use Rattle.check_rules.specs.Operators.{Sort, Number, Truth, Meeting, Applied, sort_of, operation, related, turned, number_type}
-use Rattle.check_rules.specs.Ranges.{Typed, typed, Aim, Free, Into, checked, Arguments}
+use Rattle.check_rules.specs.Ranges.{Typed, typed, Aim, Free, Into, Several, checked, Arguments}
 use Rattle.check_rules.specs.Parts.{complete, places_of}
 use Rattle.check_rules.specs.Reached.{Reached, Results, Shape, OfFields, OfElements, NoShape, shape_of}
 use Rattle.check_rules.specs.Statements.{Ends, bases, between, lies_in}
@@ -136,9 +136,10 @@ by_shape (OfFields fs) x y z = x fs
 by_shape (OfElements n k) x y z = y n k
 by_shape NoShape x y z = z
 
-abbrev pub by_aim : {A : Type 0} → Aim → A → (PlainType → Place → A) → A
+abbrev pub by_aim : {A : Type 0} → Aim → (Place → A) → (PlainType → Place → A) → A
 by_aim (Into k p) x y = y k p
-by_aim _ x y = x
+by_aim (Free p) x y = x p
+by_aim (Several p) x y = x p
 
 abbrev pub made : PlainType → Arguments → Typed
 made k a = typed k (t.Construct a.places a.values)
@@ -168,7 +169,7 @@ has_parts k q = by_shape (shape_of k) (λ fs. Ok tt) (λ n j. Ok tt) (refuse Typ
 -- a bound is one of the type that a word before its interval says
 abbrev pub bound_aim : Option PlainType → Place → Aim
 bound_aim (Some k) p = Into k p
-bound_aim None p = Free
+bound_aim None p = Free p
 
 -- a signal or error that is raised by the word of its declaration
 pub record Raises : Type 0 where

@@ -28,16 +28,16 @@ settled_other e [] h = refl
 settled_other e (f ∷ []) h = no_one f.kind (sym h)
 settled_other e (f ∷ g ∷ fs) h = refl
 
-pub results_one : (aim : Aim) (p : Place) (e : t.Expr) (fs : List PlainField) (k : PlainType) → alone fs ≡ Some k
-    → results aim p e fs ≡ Ok (record { value = e; kind = k; literal = false; gave = Some fs })
-results_one aim p e [] k h = no_one k h
-results_one aim p e (f ∷ []) k h = ap (λ j. Ok (record { value = e; kind = j; literal = false; gave = Some (f ∷ []) })) (some_one f.kind k h)
-results_one aim p e (f ∷ g ∷ fs) k h = no_one k h
+pub results_one : (aim : Aim) (e : t.Expr) (fs : List PlainField) (k : PlainType) → alone fs ≡ Some k
+    → results aim e fs ≡ Ok (record { value = e; kind = k; literal = false; gave = Some fs })
+results_one aim e [] k h = no_one k h
+results_one aim e (f ∷ []) k h = ap (λ j. Ok (record { value = e; kind = j; literal = false; gave = Some (f ∷ []) })) (some_one f.kind k h)
+results_one aim e (f ∷ g ∷ fs) k h = no_one k h
 
-pub results_other : (aim : Aim) (p : Place) (e : t.Expr) (fs : List PlainField) → alone fs ≡ None → results aim p e fs ≡ several aim p e fs
-results_other aim p e [] h = refl
-results_other aim p e (f ∷ []) h = no_one f.kind (sym h)
-results_other aim p e (f ∷ g ∷ fs) h = refl
+pub results_other : (aim : Aim) (e : t.Expr) (fs : List PlainField) → alone fs ≡ None → results aim e fs ≡ several aim e fs
+results_other aim e [] h = refl
+results_other aim e (f ∷ []) h = no_one f.kind (sym h)
+results_other aim e (f ∷ g ∷ fs) h = refl
 
 pub alone_one : (fs : List FieldType) (f : FieldType) → 1 ≤ length fs → length fs < 2 → f ≡ get_or fs 0 f → alone (map plain_field fs) ≡ Some (plain (out-FieldType f).kind)
 alone_one [] f many few here = absurd (omega (arith, many))

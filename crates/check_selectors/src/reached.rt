@@ -139,16 +139,15 @@ fn gave_of(head: Option<Shared<Item>>) -> Gave
     }
 }
 
-/// The value of what a call or a raise gave, in an expression that begins at `start`.
+/// The value of what a call or a raise gave.
 #[tactic(auto, using(check_state::proofs::TypeForms::type_forms, crate::proofs::ReachedLaws::results_one, crate::proofs::ReachedLaws::results_other))]
 fn results(
     alloc: Global,
     aim: Aim<'_>,
-    start: Place,
     value: TypedExpr,
     head: Option<Shared<Item>>,
 ) -> Result<Typed, CheckFault>
-    ensures { GivesOnly words.typed (spec.results (words.aim aim.entry) start (expr value) (view.results head)) result }
+    ensures { GivesOnly words.typed (spec.results (words.aim aim.entry) (expr value) (view.results head)) result }
 {
     let only = alone(alloc, &head);
     let ((value, head), only) = both((value, head), only)?;
@@ -159,30 +158,29 @@ fn results(
             literal: false,
             gave: gave_of(head),
         }),
-        (None, Aim::Several) => Ok(Typed {
+        (None, Aim::Several(_)) => Ok(Typed {
             value,
             kind: TypeTree::Integer,
             literal: false,
             gave: gave_of(head),
         }),
-        (None, Aim::Free) | (None, Aim::Into(_, _)) => {
+        (None, Aim::Free(start) | Aim::Into(_, start)) => {
             (value, head).let_go();
             Err(CheckFault::At(Cause::TypeMismatch, start))
         }
     }
 }
 
-/// The value of what was reached, in an expression that begins at `start`; `last` is the place of the last name.
+/// The value of what was reached; `last` is the place of the last name.
 #[tactic(auto, unfolding(check_rules::specs::Reached::value))]
 pub fn value(
     alloc: Global,
     state: &mut State,
     aim: Aim<'_>,
-    start: Place,
     last: Place,
     r: Reached,
 ) -> Result<Typed, CheckFault>
-    ensures { Gives words.typed (spec.value (words.aim aim.entry) start last (view.reached r) (words.state state.old)) result (words.state state.new) }
+    ensures { Gives words.typed (spec.value (words.aim aim.entry) last (view.reached r) (words.state state.old)) result (words.state state.new) }
 {
     match r {
         Reached::Variable(home, suffixes, kind) => {
@@ -195,7 +193,7 @@ pub fn value(
             let ((value, kind), _) = both((value, kind), state.spend(words))?;
             Ok(of_kind(kind, value))
         }
-        Reached::Results(value, head) => results(alloc, aim, start, value, head),
+        Reached::Results(value, head) => results(alloc, aim, value, head),
         Reached::Named(meaning) => {
             let_meaning_go(meaning);
             Err(CheckFault::At(Cause::TypeMismatch, last))

@@ -32,10 +32,11 @@ use Rattle.check_rules.specs.Typed as t
 use Rattle.check_rules.specs.Around.{Around}
 use Rattle.check_rules.specs.Checking as spec
 use Rattle.check_rules.specs.Parts.{first}
-use Rattle.check_rules.specs.Ranges.{Typed, Free}
+use Rattle.check_rules.specs.Ranges.{Typed}
 use Rattle.check_rules.specs.Statements.{tested, tested_inside}
 use Rattle.check_rules.specs.Steps.{Checked, State, and_then, ◌>>=◌, lift}
 use Rattle.check_jumps.proofs.Tests.{at_drop}
+use Rattle.check_operands.specs.Runs.{freely}
 use Rattle.check_expressions.proofs.Folding.{in_turn}
 use Rattle.check_simple_statements.specs.Rules.{first_test}
 use Rattle.check_simple_statements.proofs.Chains.{onto, before_rest, onto_one}
@@ -52,10 +53,10 @@ module _ (a : Around) (sel : Typed) where
   unfolding spec.check first_test
   split_form (Test-F.Value e) x h rest σ =
       rw (test_at (Test-F.Value e) h)
-      (sym (in_turn (spec.check a Free (plain.expr e) σ) (λ y. and_then (tested false t.Equal (first (plain.expr e)) sel y.0) (λ put. Ok (put, y.1))) (then_rest rest)))
+      (sym (in_turn (freely a (plain.expr e) σ) (λ y. and_then (tested false t.Equal (first (plain.expr e)) sel y.0) (λ put. Ok (put, y.1))) (then_rest rest)))
   split_form (Test-F.Compared b o p e) x h rest σ =
       rw (test_at (Test-F.Compared b o p e) h)
-      (sym (in_turn (spec.check a Free (plain.expr e) σ) (λ y. and_then (tested b o p sel y.0) (λ put. Ok (put, y.1))) (then_rest rest)))
+      (sym (in_turn (freely a (plain.expr e) σ) (λ y. and_then (tested b o p sel y.0) (λ put. Ok (put, y.1))) (then_rest rest)))
   split_form (Test-F.Inside b p i) x h rest σ =
       rw (test_at (Test-F.Inside b p i) h)
       (sym (in_turn (spec.interval a (plain.interval i) σ) (λ y. and_then (tested_inside b p sel y.0) (λ put. Ok (put, y.1))) (then_rest rest)))

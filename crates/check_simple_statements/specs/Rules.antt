@@ -10,12 +10,13 @@ use Rattle.check_rules.specs.Names.{named}
 use Rattle.check_rules.specs.Parts.{Found, field_named, first, first_of_interval}
 use Rattle.interface_records.specs.PlainTypes as v
 use Rattle.interface_records.specs.PlainTypes.{PlainField, words_of}
-use Rattle.check_rules.specs.Ranges.{Typed, Free, Into, Several}
+use Rattle.check_rules.specs.Ranges.{Typed, Into, Several}
 use Rattle.check_rules.specs.Reached.{Perform, reached, performed}
 use Rattle.check_rules.specs.Scopes.{Scope}
 use Rattle.check_rules.specs.Statements.{By, Counted, Rounds, counter, given, rounds, extracted, returned, source, tested, tested_inside}
 use Rattle.check_rules.specs.Steps.{Check, Checked, and_then, ◌>>=◌, ensure, hide, lift, only, or_refuse, pure}
 use Rattle.check_rules.specs.declared.fault.Cause.TheVariants.{TwiceDeclared, WrongCount}
+use Rattle.check_operands.specs.Runs.{freely}
 
 -- what is stored
 unfoldable pub assigned : Around → s.Left → s.Expr → Check t.Stmt
@@ -27,7 +28,7 @@ assigned a l e = do
 -- what an extractor takes apart
 unfoldable pub taken : Around → Place → s.Targets → s.Expr → Check t.Stmt
 taken a p ts e = do
-  x ← spec.check a Several e
+  x ← spec.check a (Several (first e)) e
   from ← lift (source (first e) x)
   ts ← spec.targets a p (first e) from.fields ts
   pure (t.Extract from.of_record ts from.value)
@@ -101,6 +102,6 @@ keyed_target a q fs taken x l = do
 -- the first of some tests
 unfoldable pub first_test : Around → Typed → s.Tests → Check (t.Tests → t.Tests)
 first_test a x s.NoTests = pure (λ ts. ts)
-first_test a x (s.Value e ts) = spec.check a Free e >>= (λ y. lift (tested false t.Equal (first e) x y))
-first_test a x (s.Compared b o p e ts) = spec.check a Free e >>= (λ y. lift (tested b o p x y))
+first_test a x (s.Value e ts) = freely a e >>= (λ y. lift (tested false t.Equal (first e) x y))
+first_test a x (s.Compared b o p e ts) = freely a e >>= (λ y. lift (tested b o p x y))
 first_test a x (s.Inside b p i ts) = spec.interval a i >>= (λ ends. lift (tested_inside b p x ends))

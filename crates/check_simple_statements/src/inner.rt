@@ -85,7 +85,7 @@ pub(crate) fn taken<P: Phrases>(
     ensures { Gives stmt (rules.taken (words.around around.now) place (plain.targets all.now) (plain.expr e.now) (words.state state.old)) result (words.state state.new) }
 {
     let start = first(e);
-    let found = checker.check(e, around, state, Aim::Several)?;
+    let found = checker.check(e, around, state, Aim::Several(start))?;
     let from = source_of(start, found)?;
     let made = targets(checker, all, around, state, (place, start), from.fields());
     let (from, made) = both(from, made)?;

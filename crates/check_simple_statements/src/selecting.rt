@@ -32,11 +32,12 @@ fn one_test<P: Phrases>(
 {
     match one {
         Test::Value(e) => {
-            let found = checker.check(e, around, state, Aim::Free)?;
+            let start = first(e);
+            let found = checker.check(e, around, state, Aim::Free(start))?;
             tested(
                 false,
                 Relation::Equal,
-                first(e),
+                start,
                 checker.alloc,
                 selector,
                 found,
@@ -48,7 +49,7 @@ fn one_test<P: Phrases>(
             place,
             right,
         } => {
-            let found = checker.check(right, around, state, Aim::Free)?;
+            let found = checker.check(right, around, state, Aim::Free(first(right)))?;
             tested(
                 *is_negated,
                 *relation,

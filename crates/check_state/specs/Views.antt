@@ -104,9 +104,9 @@ abbrev pub typed : Typed → range.Typed
 typed r = record { value = expr r.value; kind = plain r.kind; literal = r.literal; gave = gave r.gave }
 
 abbrev pub aim : Aim → range.Aim
-aim Free = range.Free
+aim (Free place) = range.Free place
 aim (Into target place) = range.Into (plain target.now) place
-aim Several = range.Several
+aim (Several place) = range.Several place
 
 -- the labels that are visible: those of the innermost block or loop hide the others
 abbrev pub labels_outside : Option (Bor (Scope place.Seen)) → Scope place.Seen

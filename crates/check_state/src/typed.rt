@@ -54,13 +54,13 @@ impl Typed {
     }
 }
 
-/// What a value is for: it stands free; or goes to a target of this type, in an expression that begins here; or to an extractor,
-/// which takes what a call gives, one result or more or none.
+/// What a value is for, and where it begins as it is written, its parentheses included: it stands free; or goes to a target of
+/// this type; or to an extractor, which takes what a call gives, one result or more or none.
 #[derive(Clone, Copy)]
 pub enum Aim<'a> {
-    Free,
+    Free(Place),
     Into(&'a TypeTree, Place),
-    Several,
+    Several(Place),
 }
 
 pub fn of_kind(kind: TypeTree, value: TypedExpr) -> Typed

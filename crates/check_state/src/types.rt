@@ -144,7 +144,7 @@ pub fn one_base(a: Option<&TypeTree>, b: Option<&TypeTree>) -> bool
 }
 
 /// Whether a value of the first type may be given to a target of the second.
-#[tactic(auto, unfolding(check_rules::specs::PlainTypes::conforms))]
+#[tactic(auto, unfolding(interface_records::specs::PlainTypes::conforms))]
 pub fn conforms(from: &TypeTree, to: &TypeTree) -> bool
     ensures { result ≡ spec.conforms (plain from.now) (plain to.now) }
 {
@@ -162,7 +162,7 @@ fn sign_by(base: Option<&TypeTree>) -> Base
 }
 
 /// How the words of a type are read as numbers.
-#[tactic(auto, unfolding(check_rules::specs::PlainTypes::sign_of))]
+#[tactic(auto, unfolding(interface_records::specs::PlainTypes::sign_of))]
 pub fn sign_of(t: &TypeTree) -> Base
     ensures { result ≡ spec.sign_of (plain t.now) }
 {

@@ -4,10 +4,10 @@ use Rattle.syntax_trees.specs.Syntax as s
 use Rattle.check_rules.specs.Typed as t
 use Rattle.check_rules.specs.Around.{Around, in_round, in_statement, inside, with_labels}
 use Rattle.check_rules.specs.Checking as spec
-use Rattle.check_rules.specs.Ranges.{Free}
 use Rattle.check_rules.specs.Scopes.{nothing}
 use Rattle.check_rules.specs.Statements.{Held, labels_of_exits, labels_of_repeats, looped}
 use Rattle.check_rules.specs.Steps.{Check, ◌>>=◌, pure, hide, in_scope}
+use Rattle.check_operands.specs.Runs.{freely}
 use Rattle.check_simple_statements.specs.Rules.{truth_of}
 use Rattle.check_statement_lists.specs.Turns.{statements_behind}
 
@@ -29,7 +29,7 @@ if_inside a e body other = do
 
 unfoldable pub select_inside : Around → s.Expr → s.Cases → s.MaybeStatement → Check t.Stmt
 select_inside a e cs other = do
-  x ← spec.check a Free e
+  x ← freely a e
   _ ← hide 1
   cs ← spec.cases a x cs
   o ← spec.otherwise a other

@@ -13,6 +13,7 @@ ghost use Rattle.check_statements.specs.Views as views;
 
 use crate::checker::StatementChecker;
 use crate::making::{case_of, choice, nothing, selection};
+use check_operands::first;
 use check_phrases::holds;
 use check_rules::CheckFault;
 use check_simple_statements::{Whole, cases_hold, tests, truth_of};
@@ -137,7 +138,8 @@ impl<N: Nested> StatementChecker<N> {
         requires { N.ask self.now.expressions.phrases.nested }
         ensures { Gives tree.stmt (rules.select_inside (view.around around.now) (plain.expr selector.now) (plain.cases cases.now) (plain.maybe_statement other.now) (view.state state.old)) result (view.state state.new) }
     {
-        let selector = self.expressions.check(selector, around, state, Aim::Free)?;
+        let aim = Aim::Free(first(selector));
+        let selector = self.expressions.check(selector, around, state, aim)?;
         let (selector, _) = both(selector, state.hide(1))?;
         let cases = self.cases(cases, around, state, &selector);
         let (selector, cases) = both(selector, cases)?;

@@ -5,9 +5,9 @@ mod operators;
 mod targets;
 mod values;
 
-pub use operators::{Applied, Meeting, Sort, operation, related, sort_of, turned};
+pub use operators::{Applied, Meeting, Sort, number_type, operation, related, sort_of, turned};
 pub use targets::{checked, finish, range_for};
 pub use values::{
-    Done, Ends, compared, is_truth, letter, not_of, number, signed, step, string, truth,
-    truth_operand, within,
+    Done, Ends, bases, compared, is_truth, letter, lies_in, not_of, number, signed, step, string,
+    truth, truth_operand, within,
 };

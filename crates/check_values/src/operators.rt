@@ -95,6 +95,7 @@ pub fn meet(left: Base, left_is_literal: bool, right: Base, right_is_literal: bo
     Meeting { base, left, right }
 }
 
+/// The type of numbers that are read so.
 #[tactic(auto, using(check_state::proofs::TypeForms::type_forms))]
 pub fn number_type(base: Base) -> TypeTree
     ensures { plain result ≡ spec.number_type base }

@@ -99,7 +99,7 @@ pub fn finish(alloc: Global, aim: Aim<'_>, r: Typed) -> Result<Typed, CheckFault
     ensures { GivesOnly view.typed (spec.finish (view.aim aim.entry) (view.typed r)) result }
 {
     match aim {
-        Aim::Free | Aim::Several => Ok(r),
+        Aim::Free(_) | Aim::Several(_) => Ok(r),
         Aim::Into(target, place) => {
             if !conforms(&r.kind, target) {
                 r.let_go();

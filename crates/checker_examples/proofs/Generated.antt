@@ -286,7 +286,7 @@ last : (p : Place) → string (texts 65536 0) p (name 65535) ≡ refuse GlobalsT
 unfolding string
 last p = ap (λ o. and_then (or_refuse o GlobalsTooLarge p) (λ n. Ok (typed v.String (t.Literal n)))) (numbered 65535 0 0 0)
 
-a_literal_too_many : (a : Around) (p : Place) (s : State) → a.known.strings ≡ texts 65536 0
-    → check a Free (syntax.StringLiteral p (name 65535)) s ≡ refuse GlobalsTooLarge p
+a_literal_too_many : (a : Around) (p q : Place) (s : State) → a.known.strings ≡ texts 65536 0
+    → check a (Free q) (syntax.StringLiteral p (name 65535)) s ≡ refuse GlobalsTooLarge p
 unfolding check
-a_literal_too_many a p s all = rw all (rw (last p) refl)
+a_literal_too_many a p q s all = rw all (rw (last p) refl)

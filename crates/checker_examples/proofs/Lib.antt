@@ -7,6 +7,7 @@ mod LongHeads
 mod Mixtures
 mod Names
 mod Orders
+mod Parentheses
 mod Readings
 mod Statements
 mod Trees
