@@ -56,8 +56,8 @@ fn place_for(image: &Image, table: &[Row], count: usize, owner: usize, offset: u
     requires low { owner < count }
     ensures { result ≡ place_in image.now table.now count owner offset }
 {
-    for back in 1..count - owner {
-        let place = count - back;
+    for back in 0..count - owner - 1 {
+        let place = count - 1 - back;
         if has_offset(image, row_of(table, place), owner, offset) {
             return place;
         }
