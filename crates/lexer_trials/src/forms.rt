@@ -114,7 +114,7 @@ fn marks(rt: HostRuntime) -> Result<(), Fail> {
         Mark::LeftParenthesis,
         Mark::RightParenthesis,
     ];
-    assert!(rt; reads(alloc, b"=> = > ; : , . [ ] ( )", &first.map(Is::Mark))?);
+    assert!(rt; reads_marks(alloc, b"=> = > ; : , . [ ] ( )", &first)?);
     let others = [
         Mark::LeftBrace,
         Mark::RightBrace,
