@@ -351,7 +351,7 @@ stands = record {
 }
 
 wants_the_host : WantsTheHost image
-wants_the_host n w is = absurd (none_there n w is)
+wants_the_host n w l = absurd (omega (arith, l))
 
 -- Both run.
 

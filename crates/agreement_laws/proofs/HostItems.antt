@@ -1,6 +1,7 @@
 -- The host's procedures among the items of the built-in interface: which one an item stands for is said by its types.
-use Rattle.std.proofs.Common.{◌≡◌, ℕ, zero, suc, ◌<◌, List, [], ◌∷◌, map, get_or, Option, Some, None, refl, sym, ap, ◌∙◌, arith}
-use Rattle.std.specs.Prelude.{option_and_then, codes}
+use Rattle.std.proofs.Common.{◌≡◌, ℕ, zero, suc, ◌<◌, List, [], ◌∷◌, map, get_or, Option, Some, None, refl, sym, ap, ◌∙◌, subst, arith}
+use Rattle.std.specs.Prelude.{option_and_then, slice_get, codes, Any}
+use Rattle.std.proofs.lemmas.Option.{slice_get_within, get_or_from_slice_get}
 use Rattle.mesa_types.specs.declared.faces.Import.{Import}
 use Rattle.mesa_types.specs.declared.faces.Item.{Item}
 use Rattle.mesa_types.specs.declared.faces.ItemKind.TheVariants as item
@@ -14,6 +15,7 @@ use Rattle.mesa_types.specs.Shapes.{one}
 use Rattle.mesa_types.specs.Typed.{Kind, Kinds, NoKinds, Ordinal, Texts}
 use Rattle.mesa_types.specs.Types.{types_in}
 use Rattle.interface_records.specs.Faces.{io_items}
+use Rattle.interface_records.specs.Hosts.{SameItem, IsHostItem}
 use Rattle.interface_records.specs.declared.wanted.Wanted.{Wanted}
 use Rattle.object_files.specs.declared.image.Image.{Image}
 use Rattle.source_meaning.specs.Program.{Host, WriteChar, WriteString, WriteDecimal, ReadChar, EndOfInput}
@@ -131,18 +133,26 @@ named_by (suc (suc (suc (suc zero)))) other EndOfInput lt kind t g = refl
 named_by (suc (suc (suc (suc (suc zero))))) other h lt kind t g = absurd (let z : ⊥ = cc in z)
 named_by (suc (suc (suc (suc (suc (suc k)))))) other h lt kind t g = absurd (omega (arith, lt))
 
+host_item : (image : Image) → WantsTheHost image → (n : ℕ) (w : Wanted) → slice_get image.wanted n ≡ Some w → IsHostItem w
+host_item image wants n w is = subst IsHostItem (get_or_from_slice_get image.wanted n w w is) (wants n w (slice_get_within image.wanted n w is))
+
+-- that of the interface which an item is by name, kind and types is the host's procedure of these types
+named_alike : (a : Item) (h : Host) → Any (SameItem a) io_items → a.kind ≡ item.Procedure → types_in a.takes ≡ host_takes h → types_in a.gives ≡ host_gives h
+    → host_named a.name ≡ Some (the_host h)
+named_alike a h (k, x, lt, is, same) kind takes gives =
+    ap host_named (same.0 ∙ sym (ap (λ (i : Item). i.name) is))
+    ∙ named_by k x h lt (ap (λ (i : Item). i.kind) is ∙ sym same.1.0 ∙ kind)
+    (ap (λ (i : Item). size_of (types_in i.takes)) is ∙ ap size_of (sym same.1.1 ∙ takes) ∙ host_taken h)
+    (ap (λ (i : Item). size_of (types_in i.gives)) is ∙ ap size_of (sym same.1.2 ∙ gives) ∙ host_given h)
+
 -- a wanted item of the host's types is that procedure
 pub host_there : (image : Image) → WantsTheHost image → (import : Import) (i : Item) (n : ℕ) (h : Host) → IsWanted image import i n → i.kind ≡ item.Procedure
     → types_in i.takes ≡ host_takes h → types_in i.gives ≡ host_gives h → host_of image n ≡ Some (the_host h)
 unfolding host_of
 host_there image wants import i n h is kind takes gives =
-    let c = (wants n is.entry is.is_there).2 in
-    let same : item_at c.0 is.entry.item ≡ i = c.2 ∙ is.its_item in
-    let named = named_by c.0 is.entry.item h c.1 (ap (λ (x : Item). x.kind) same ∙ kind)
-    (ap (λ (x : Item). size_of (types_in x.takes)) same ∙ ap size_of takes ∙ host_taken h)
-    (ap (λ (x : Item). size_of (types_in x.gives)) same ∙ ap size_of gives ∙ host_given h) in
     ap (λ o. option_and_then (λ (w : Wanted). host_named w.item.name) o) is.is_there
-    ∙ ap (λ (x : Item). host_named x.name) (is.its_item ∙ sym same) ∙ named
+    ∙ named_alike is.entry.item h (host_item image wants n is.entry is.is_there).2 (is.its_item.1.0 ∙ kind)
+    (is.its_item.1.1 ∙ takes) (is.its_item.1.2 ∙ gives)
 
 -- The kinds of what it takes and gives.
 

@@ -1,11 +1,11 @@
 -- Which image stands for a program (rule of this project).
-use Rattle.std.specs.Prelude.{◌≡◌, ℕ, ◌<◌, ◌≤◌, List, length, All, Option, Some, slice_get, Contains}
+use Rattle.std.specs.Prelude.{◌≡◌, ℕ, ◌<◌, ◌≤◌, List, length, All, Option, Some, slice_get}
 use Rattle.mesa_types.specs.Links.{imported, IsUsed}
 use Rattle.mesa_types.specs.declared.faces.Import.{Import}
 use Rattle.mesa_types.specs.declared.faces.Item.{Item}
 use Rattle.source_meaning.specs.Program.{Target, ToProcedure, ToHost, ToSignal, SignalOf, BoundsFault, ZeroDivisor, NoInput, Unnamed, Program}
 use Rattle.source_meaning.specs.Program as source
-use Rattle.interface_records.specs.Faces.{iodefs}
+use Rattle.interface_records.specs.Hosts.{SameItem, IsHostItem}
 use Rattle.interface_records.specs.declared.wanted.Wanted.{Wanted as WantedItem}
 use Rattle.object_files.specs.declared.image.Image.{Image}
 use Rattle.object_files.specs.declared.image.Instance.{Instance}
@@ -17,13 +17,13 @@ use Rattle.machine_rules.specs.LookUps.{bound_to}
 use Rattle.code_rules.specs.Links.{link_number}
 use Rattle.code_rules.specs.Modules.{CodeFor}
 
--- an entry of the wanted items with the name and stamp of the import's interface, and the item
+-- an entry of the wanted items with the name and stamp of the import's interface, and with the name, kind and types of the item
 pub record IsWanted (image : Image) (import : Import) (item : Item) (n : ℕ) : Type 0 where
   pub entry : WantedItem
   pub is_there : slice_get image.wanted n ≡ Some entry
   pub face : entry.face ≡ import.face.name
   pub stamp : entry.stamp ≡ import.face.stamp
-  pub its_item : entry.item ≡ item
+  pub its_item : SameItem entry.item item
 
 -- a link is bound to that for which the used item stands in the program; an item of the host is wanted
 abbrev pub BoundTo : Image → Import → Item → Target → Option Link → Type 0
@@ -62,7 +62,6 @@ pub record Stands (P : Program) (image : Image) : Type 0 where
   pub valid : HasValidCode image
   pub texts : TextsFit image
 
--- each wanted item is one of the built-in interface
+-- each wanted item is one that the host has
 abbrev pub WantsTheHost : Image → Type 0
-WantsTheHost image = (n : ℕ) (w : WantedItem) → slice_get image.wanted n ≡ Some w
-    → (w.face ≡ iodefs.face.name) × (w.stamp ≡ iodefs.face.stamp) × Contains iodefs.face.items w.item
+WantsTheHost image = All IsHostItem image.wanted

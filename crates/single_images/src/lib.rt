@@ -8,7 +8,4 @@ mod objects;
 mod wanted;
 
 pub use image::image_of;
-pub use law::{
-    images_are_in_order, images_stand, images_want_the_host, singles_are_lawful,
-    wanted_items_are_hosts,
-};
+pub use law::{images_are_in_order, images_stand, images_want_the_host, singles_are_lawful};

@@ -1,14 +1,11 @@
-use Rattle.std.proofs.Common.{All}
 use Rattle.mesa_types.specs.Plain.{plain}
-use Rattle.object_files.specs.declared.image.Image.{Image}
 use Rattle.code_forms.specs.Valid.{Valid}
 use Rattle.source_meaning.specs.Program.{single}
 use Rattle.agreement_rules.specs.Stands.{Stands, WantsTheHost}
-use Rattle.machine_ready.specs.Hosts.{IsHostItem}
 use Rattle.machine_ready.specs.Order.{ImageInOrder}
 use Rattle.single_images.specs.Image.{image_of}
 use Rattle.single_images.proofs.Bound.{images_stand}
-use Rattle.single_images.proofs.Hosted.{images_want_the_host, wanted_items_are_hosts}
+use Rattle.single_images.proofs.Hosted.{images_want_the_host}
 use Rattle.single_images.proofs.Ordered.{images_are_in_order}
 use Rattle.single_images.proofs.Using.{of_this}
 use Rattle.single_images.proofs.image.image_of.Goals as goal
@@ -33,9 +30,3 @@ returns-clause-order c =
     let m = plain c.args.«module».now in
     of_this c.made.result (image_of m c.args.code) ImageInOrder (Valid c.args.code) c.made.ensures.image c.made.ensures.valid
     (λ valid. images_are_in_order m c.args.code c.requires.code)
-
-pub returns-clause-offered : goal.returns-clause-offered
-returns-clause-offered c =
-    let m = plain c.args.«module».now in
-    of_this c.made.result (image_of m c.args.code) (λ (i : Image). All IsHostItem i.wanted) (Valid c.args.code) c.made.ensures.image c.made.ensures.valid
-    (λ valid. wanted_items_are_hosts m c.args.code c.requires.host)
