@@ -1,3 +1,2 @@
-pub mod GlobalWords
 pub mod NameLaws
 pub mod VariableLoops

@@ -1,10 +1,9 @@
 //! Variables, with numbers in the order in which they are declared.
-ghost use Rattle.std.specs.Prelude.{◌≡◌, ◌+◌, ◌*◌, ◌<◌, IsTrue, map, nat_le};
-ghost use Rattle.mesa_base.specs.declared.limits.TheConstants.{GLOBAL_WORDS, OPERAND_WORDS};
-ghost use Rattle.mesa_types.specs.Shapes.{words_in_all};
+ghost use Rattle.std.specs.Prelude.{◌≡◌, ◌+◌, map, nat_le};
+ghost use Rattle.mesa_base.specs.declared.limits.TheConstants.{OPERAND_WORDS};
 ghost use Rattle.check_rules.specs.Names.{settle};
 ghost use Rattle.check_rules.specs.Parts as parts;
-ghost use Rattle.interface_records.specs.PlainTypes.{plain, words_of as type_words};
+ghost use Rattle.interface_records.specs.PlainTypes.{plain};
 ghost use Rattle.check_rules.specs.Statements as spec;
 ghost use Rattle.check_rules.specs.Steps.{only};
 ghost use Rattle.check_rules.specs.declared.fault.Cause.TheVariants.{FrameTooLarge};
@@ -14,7 +13,7 @@ ghost use Rattle.check_declared.specs.Naming.{declared};
 
 use check_jumps::next_local;
 use check_rules::{Cause, CheckFault};
-use check_state::{Around, Meaning, State, narrow, words_of};
+use check_state::{Around, Meaning, State, narrow};
 use mesa_base::limits::{GLOBAL_WORDS, OPERAND_WORDS};
 use mesa_base::{Identifier, List, Place};
 use mesa_types::{Home, Homes, TypeTree};
@@ -129,17 +128,8 @@ fn name_variables(
     Ok(())
 }
 
-/// Whether the globals and so many more of a type have more words than a module may have. It is asked before they have numbers, since
-/// a number has 16 bits.
-#[tactic(auto, unfolding(check_state::specs::Views::state), using(crate::proofs::GlobalWords::too_many_words))]
-fn are_too_many(count: usize, kind: &TypeTree, state: &State) -> bool
-    ensures { IsTrue result → GLOBAL_WORDS < words_in_all (view.state state.now).globals + count * type_words (plain kind.now) }
-{
-    let words = (count as u64).saturating_mul(u64::from(words_of(kind)));
-    state.globals.words().saturating_add(words) > u64::from(GLOBAL_WORDS)
-}
-
-fn declare_few(
+/// Variables of a type, visible from here on.
+pub fn declare_variables(
     names: &[Identifier],
     kind: &TypeTree,
     alloc: Global,
@@ -152,21 +142,4 @@ fn declare_few(
     few_globals(state, first_name(names))?;
     name_variables(names, homes.as_slice(), kind, alloc, state)?;
     Ok(homes)
-}
-
-/// Variables of a type, visible from here on.
-#[tactic(auto, unfolding(check_state::specs::Views::around), using(crate::proofs::GlobalWords::too_large))]
-pub fn declare_variables(
-    names: &[Identifier],
-    kind: &TypeTree,
-    alloc: Global,
-    around: &Around<'_>,
-    state: &mut State,
-) -> Result<Homes, CheckFault>
-    ensures { Gives (λ hs. hs) (declared (view.around around.now) names.now (plain kind.now) (view.state state.old)) result (view.state state.new) }
-{
-    if around.is_outermost && are_too_many(names.len(), kind, state) {
-        return Err(CheckFault::At(Cause::GlobalsTooLarge, first_name(names)));
-    }
-    declare_few(names, kind, alloc, around, state)
 }

@@ -7,9 +7,8 @@ use Rattle.check_state.specs.Views.{fields, names}
 use Rattle.check_heads.specs.declared.definitions.AllDefined.{AllDefined}
 use Rattle.check_heads.specs.declared.heads.Heading.{Heading}
 
--- the names of parameters and results are put into the scope when it is asked for
 abbrev pub heading : Heading → program.Heading
-heading h = record { takes = fields h.takes; gives = fields h.gives; scope = program.own_scope (fields h.takes) (fields h.gives) (names h.elements) }
+heading h = record { takes = fields h.takes; gives = fields h.gives; scope = names h.scope }
 
 abbrev pub defined : AllDefined → definition.Defined
 defined d = record { items = map plain_item d.items; constants = map plain_constant d.constants; types = map plain_name d.types }

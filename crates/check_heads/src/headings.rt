@@ -1,5 +1,5 @@
 //! Heads of procedures, signals and errors: parameters and results, in a scope of their own.
-ghost use Rattle.std.specs.Prelude.{◌≡◌};
+ghost use Rattle.std.specs.Prelude.{◌≡◌, IfOk};
 ghost use Rattle.syntax_trees.specs.PlainSyntax as syntax;
 ghost use Rattle.check_rules.specs.Programs as spec;
 ghost use Rattle.check_rules.specs.Scopes.{outer};
@@ -9,13 +9,14 @@ ghost use Rattle.check_heads.specs.Forms as form;
 ghost use Rattle.check_heads.specs.Views as view;
 
 use crate::heads::Heading;
+use crate::naming::name_parameters;
 use check_expressions::{Checker, Phrases};
 use check_rules::CheckFault;
 use check_scopes::Names;
 use check_state::{Around, Meaning, State};
 use check_written_types::{and_fields, type_exp, unnamed_fields};
 use held_trees::both;
-use mesa_base::{Identifiers, List};
+use mesa_base::{Identifiers, List, OutOfMemory};
 use mesa_types::Fields;
 use std::alloc::Global;
 use std::mem::replace;
@@ -68,6 +69,23 @@ fn leave(alloc: Global, state: &mut State, outside: Names<Meaning>) -> Names<Mea
     inside
 }
 
+fn made(
+    alloc: Global,
+    takes: Fields,
+    gives: Fields,
+    mut scope: Names<Meaning>,
+) -> Result<Heading, OutOfMemory>
+    ensures { IfOk result (λ made. view.heading made ≡ record { takes = words.fields takes; gives = words.fields gives; scope = spec.own_scope (words.fields takes) (words.fields gives) (words.names scope) }) }
+{
+    let named = name_parameters(takes.as_slice(), gives.as_slice(), alloc, &mut scope);
+    let ((takes, gives), _) = both((takes, gives), named)?;
+    Ok(Heading {
+        takes,
+        gives,
+        scope,
+    })
+}
+
 /// The head of a procedure, signal or error. No name of its parameters and results stands twice; the types in it do not see
 /// them.
 #[tactic(auto, unfolding(check_rules::specs::Programs::heading))]
@@ -86,10 +104,6 @@ pub fn heading<P: Phrases>(
     let inner = around.inside();
     let takes = parameters(takes, checker, &inner, state)?;
     let (takes, gives) = both(takes, parameters(gives, checker, &inner, state))?;
-    let elements = leave(alloc, state, outside);
-    Ok(Heading {
-        takes,
-        gives,
-        elements,
-    })
+    let inside = leave(alloc, state, outside);
+    Ok(made(alloc, takes, gives, inside)?)
 }

@@ -11,15 +11,24 @@ use check_state::{ArmLabel, Around, Meaning, State, last_place, qualified};
 use mesa_base::{List, OutOfMemory, Place};
 use mesa_types::{Label, Labels, Raised};
 use std::alloc::Global;
+use std::mem::drop;
 use syntax_trees::syntax::{self, QualifiedName};
+
+fn signal_in(place: Place, meaning: &Meaning) -> Result<ArmLabel, CheckFault>
+    ensures { GivesOnly view.arm_label (spec.signal_by place (view.meaning meaning.now)) result }
+{
+    match meaning {
+        Meaning::Signal(raised, head) => Ok(ArmLabel::ForSignal(*raised, head.share()?)),
+        _ => Err(CheckFault::At(Cause::TypeMismatch, place)),
+    }
+}
 
 fn signal_by(place: Place, meaning: Meaning) -> Result<ArmLabel, CheckFault>
     ensures { GivesOnly view.arm_label (spec.signal_by place (view.meaning meaning)) result }
 {
-    match meaning {
-        Meaning::Signal(raised, head) => Ok(ArmLabel::ForSignal(raised, head)),
-        _ => Err(CheckFault::At(Cause::TypeMismatch, place)),
-    }
+    let label = signal_in(place, &meaning);
+    drop(meaning);
+    label
 }
 
 fn signal(

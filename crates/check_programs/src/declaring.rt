@@ -59,7 +59,11 @@ fn procedure_head(
     ensures scope { IfOk result (λ made. words.names made.scope ≡ (plain_heading head).scope) }
     ensures operands { IfOk result (λ made. made.operands ≡ operands) }
 {
-    let (takes, gives, scope) = head.into_scope(alloc)?;
+    let Heading {
+        takes,
+        gives,
+        scope,
+    } = head;
     let item = first_item(names, alloc, ItemKind::Procedure, takes, gives)?;
     let item = Shared::new(alloc, item)?;
     Ok(ProcedureHead {
@@ -179,7 +183,7 @@ fn declared_signals(
     let Heading {
         takes,
         gives,
-        elements: _,
+        scope: _,
     } = head;
     let head = first_item(names, alloc, kind, takes, gives)?;
     let items = renamed_all(names, alloc, &head)?;

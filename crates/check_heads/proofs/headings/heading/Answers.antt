@@ -1,8 +1,8 @@
-use Rattle.std.proofs.Common.{rules, refl}
+use Rattle.std.proofs.Common.{rules}
 use Rattle.syntax_trees.specs.PlainSyntax as plain
-use Rattle.check_rules.specs.Programs.{own_scope}
 use Rattle.check_jumps.proofs.ArmVariables.{names_nothing}
 use Rattle.check_state.specs.Views as words
+use Rattle.check_heads.specs.Views as view
 use Rattle.check_heads.proofs.HeadingLaws.{at_gives, at_takes, headed}
 use Rattle.check_heads.proofs.headings.heading.Goals as goal
 
@@ -20,10 +20,8 @@ returns-in_err-takes-2 g c =
 
 pub returns : goal.returns
 returns g c =
-    let fs = words.fields c.in_ok-takes-2.takes in let gs = words.fields c.in_ok-takes-2.gives in
     headed (words.around c.args.around.now) (words.around c.inside-inner.result) (plain.maybe_fields c.args.takes.now) (plain.maybe_fields c.args.gives.now)
     (words.state c.args.state.now) (words.state c.enter.new.self) (words.names c.new.result) c.inside-inner.ensures (names_nothing c.new.result c.new.ensures)
-    c.in_ok-outside.ensures.state fs (words.state c.parameters.new.state) (search rules) gs
-    (words.state c.parameters-2.new.state) (words.state c.leave-elements.new.state)
-    (record { takes = fs; gives = gs; scope = own_scope fs gs (words.names c.leave-elements.result) }) (words.names c.leave-elements.result)
-    (words.names c.in_ok-outside.outside) (search rules) c.in_ok-outside.ensures.coming c.leave-elements.ensures.names refl c.leave-elements.ensures.state
+    c.in_ok-outside.ensures.state (words.fields c.in_ok-takes-2.takes) (words.state c.parameters.new.state) (search rules) (words.fields c.in_ok-takes-2.gives)
+    (words.state c.parameters-2.new.state) (words.state c.leave-inside.new.state) (view.heading c.in_ok-made.field-0) (words.names c.leave-inside.result)
+    (words.names c.in_ok-outside.outside) (search rules) c.in_ok-outside.ensures.coming c.leave-inside.ensures.names c.in_ok-made.ensures c.leave-inside.ensures.state
