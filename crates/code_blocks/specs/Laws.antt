@@ -1,5 +1,6 @@
 -- The law of the code of a module.
 use Rattle.std.specs.Prelude.{◌≡◌, ℕ, ◌*◌, ◌<◌, ◌≤◌, List, length, take, All, Some, slice_get}
+use Rattle.mesa_base.specs.declared.limits.TheConstants.{TREE_NODES}
 use Rattle.mesa_types.specs.Typed.{Module}
 use Rattle.mesa_types.specs.Nodes.{nodes}
 use Rattle.mesa_types.specs.Sound.{Sound}
@@ -33,7 +34,7 @@ ModulesAreShort = (m : Module) → Sound m → procedures_bytes (module_code m).
 
 -- the instructions of each procedure of a sound module of at most so many nodes stand in order, one behind the other and within 32 bits
 abbrev pub ModulesAreInOrder : Type 0
-ModulesAreInOrder = (m : Module) → Sound m → nodes m ≤ 4194304 → All (λ (c : CodeProcedure). InOrder c.code) (module_code m).procedures
+ModulesAreInOrder = (m : Module) → Sound m → nodes m ≤ TREE_NODES → All (λ (c : CodeProcedure). InOrder c.code) (module_code m).procedures
 
 -- no range is empty; phrases stand in the order of their ranges, and two ranges lie one behind the other, or the later one in the other
 pub record RangesNest (phrases : List Phrase) : Type 0 where
@@ -118,7 +119,7 @@ StacksStand = (m : Module) → Sound m
 
 -- the code of each sound module of at most so many nodes keeps the counts and sizes that the code of each module keeps, valid or not
 abbrev pub RangesAreKept : Type 0
-RangesAreKept = (m : Module) → Sound m → nodes m ≤ 4194304
+RangesAreKept = (m : Module) → Sound m → nodes m ≤ TREE_NODES
     → let c : Parts = module_code m in KeepsRanges c.globals c.signals c.strings c.links c.procedures
 
 -- these parts of a code stand for the module, are valid with the depths beside the instructions, and are no longer than a file asks
@@ -131,4 +132,4 @@ pub record StandFor (m : Module) (c : Parts) : Type 0 where
 
 -- the code of each sound module of at most so many nodes stands for it
 abbrev pub ModulesAreTranslated : Type 0
-ModulesAreTranslated = (m : Module) → Sound m → nodes m ≤ 4194304 → StandFor m (module_code m)
+ModulesAreTranslated = (m : Module) → Sound m → nodes m ≤ TREE_NODES → StandFor m (module_code m)

@@ -1,5 +1,6 @@
 -- The code of sound modules is short, and never deep (rule of this project).
 use Rattle.std.specs.Prelude.{◌≡◌, ℕ, ◌<◌, ◌≤◌, ◌^◌, Some, slice_get}
+use Rattle.mesa_base.specs.declared.limits.TheConstants.{TREE_NODES}
 use Rattle.mesa_types.specs.Typed.{Module, Procedure}
 use Rattle.mesa_types.specs.Nodes.{nodes}
 use Rattle.mesa_types.specs.Sound.{Sound}
@@ -16,5 +17,5 @@ pub record CanBeWritten (b : Block) : Type 0 where
 
 -- so it is with each body of a sound module of at most so many nodes
 abbrev pub BodiesCanBeWritten : Type 0
-BodiesCanBeWritten = (m : Module) → Sound m → nodes m ≤ 4194304
+BodiesCanBeWritten = (m : Module) → Sound m → nodes m ≤ TREE_NODES
     → (k : ℕ) (p : Procedure) → slice_get (procedures_of m) k ≡ Some p → CanBeWritten (body_block m p)

@@ -1,5 +1,6 @@
 //! The procedures of a module, its body first.
 ghost use Rattle.std.specs.Prelude.{◌≡◌, ◌≤◌, length, map, slice_get, Some, IfOk};
+ghost use Rattle.mesa_base.specs.declared.limits.TheConstants.{TREE_NODES};
 ghost use Rattle.mesa_types.specs.Nodes.{nodes};
 ghost use Rattle.mesa_types.specs.Plain.{plain};
 ghost use Rattle.mesa_types.specs.Sound.{Sound};
@@ -51,7 +52,7 @@ fn procedure<'a>(
     number: usize,
 ) -> Result<CodeProcedure, OutOfMemory>
     requires sound { Sound (plain «module».now) }
-    requires few { nodes (plain «module».now) ≤ 4194304 }
+    requires few { nodes (plain «module».now) ≤ TREE_NODES }
     requires number { number ≤ length «module».now.procedures }
     requires routine { IsOf (plain «module».now) routine.old }
     ensures routine { IsOf (plain «module».now) routine.new }
@@ -80,7 +81,7 @@ fn routine_of<'a>(alloc: Global, module: &'a TypedModule) -> Result<Routine<'a>,
 /// The code of the body of a sound module of at most 4,194,304 nodes, and that of its procedures.
 pub fn procedures_in(alloc: Global, module: &TypedModule) -> Result<CodeProcedures, OutOfMemory>
     requires sound { Sound (plain «module».now) }
-    requires few { nodes (plain «module».now) ≤ 4194304 }
+    requires few { nodes (plain «module».now) ≤ TREE_NODES }
     ensures { IfOk result (λ made. made ≡ map (procedure_code (plain «module».now)) (procedures_of (plain «module».now))) }
 {
     let mut routine = routine_of(alloc, module)?;

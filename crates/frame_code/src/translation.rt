@@ -1,5 +1,6 @@
 //! The code of a module.
 ghost use Rattle.std.specs.Prelude.{◌≡◌, ◌≤◌, map, IfOk};
+ghost use Rattle.mesa_base.specs.declared.limits.TheConstants.{TREE_NODES};
 ghost use Rattle.mesa_types.specs.Nodes.{nodes};
 ghost use Rattle.mesa_types.specs.Plain.{plain};
 ghost use Rattle.mesa_types.specs.Sound.{Sound};
@@ -25,7 +26,7 @@ pub fn assembled(
     procedures: CodeProcedures,
 ) -> Result<ValidCode, OutOfMemory>
     requires sound { Sound (plain «module».now) }
-    requires few { nodes (plain «module».now) ≤ 4194304 }
+    requires few { nodes (plain «module».now) ≤ TREE_NODES }
     requires procedures { procedures ≡ map (procedure_code (plain «module».now)) (procedures_of (plain «module».now)) }
     ensures { IfOk result (λ made. IsCodeOf (plain «module».now) made) }
 {
@@ -47,7 +48,7 @@ pub fn assembled(
 /// The code that is chosen for a sound module of at most 4,194,304 nodes. The one refusal is want of memory.
 pub fn translate(alloc: Global, module: &TypedModule) -> Result<ValidCode, OutOfMemory>
     requires sound { Sound (plain «module».now) }
-    requires few { nodes (plain «module».now) ≤ 4194304 }
+    requires few { nodes (plain «module».now) ≤ TREE_NODES }
     ensures { IfOk result (λ code. IsCodeOf (plain «module».now) code) }
 {
     let procedures = procedures_in(alloc, module)?;

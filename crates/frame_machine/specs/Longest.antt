@@ -1,5 +1,6 @@
 -- How many instructions a run begins at most (rule of this project).
 use Rattle.std.specs.Prelude.{ℕ, suc, ◌+◌, ◌*◌, length}
+use Rattle.mesa_base.specs.declared.limits.TheConstants.{ACTIVATIONS}
 use Rattle.object_files.specs.declared.image.Image.{Image}
 use Rattle.machine_ready.specs.Sizes.{largest}
 
@@ -9,7 +10,7 @@ far turns heavy ahead A = (turns * 16385 + heavy) * suc A + ahead
 
 -- no more lies ahead of any state
 abbrev pub reach : Image → ℕ
-reach image = 8192 + suc (largest (λ q. length q.code) image.modules) + length image.control
+reach image = ACTIVATIONS + suc (largest (λ q. length q.code) image.modules) + length image.control
 
 -- no run begins more instructions
 abbrev pub most : Image → (turns : ℕ) → ℕ

@@ -1,6 +1,7 @@
 ghost use Rattle.std.specs.Prelude.{◌≡◌, ◌≤◌, ◌-◌, IfOk, IfSome, IsErrOf};
 ghost use Rattle.mesa_base.specs.Asked.{AskedOnce};
 ghost use Rattle.mesa_base.specs.Outside.{Rose};
+ghost use Rattle.mesa_base.specs.declared.limits.TheConstants.{TREE_NODES};
 ghost use Rattle.mesa_types.specs.Nodes.{nodes};
 ghost use Rattle.mesa_types.specs.Plain.{plain};
 ghost use Rattle.mesa_types.specs.Sound.{Sound};
@@ -107,7 +108,7 @@ pub fn run_module<S: Source, K: Sink, L: Ledger>(
     steps: &mut Steps<L>,
 ) -> Result<Outcome, ModuleFault>
     requires sound { Sound (plain «module».now) }
-    requires few { nodes (plain «module».now) ≤ 4194304 }
+    requires few { nodes (plain «module».now) ≤ TREE_NODES }
     requires host { ImportsTheHostAlone (plain «module».now) }
     ensures ran { IfOk result (λ outcome. IfSome (S.left input.old) AreBytes
         → Ran (single (plain «module».now)) turns outcome (S.left input.old) (S.left input.new) (K.written out.old) (K.written out.new)) }

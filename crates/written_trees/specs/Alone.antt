@@ -1,6 +1,7 @@
 -- What checking gives of a text with the built-in interface for each item of its DIRECTORY (rule of this project).
 use Rattle.std.specs.Prelude.{◌≡◌, ℕ, ◌≤◌, List, replicate, IfOk}
 use Rattle.std.specs.List.{All}
+use Rattle.mesa_base.specs.declared.limits.TheConstants.{TREE_NODES}
 use Rattle.mesa_types.specs.declared.faces.Import.{Import}
 use Rattle.syntax_trees.specs.declared.syntax.Module.{Module}
 use Rattle.mesa_types.specs.Nodes.{nodes}
@@ -16,7 +17,7 @@ use Rattle.written_trees.specs.Laws.{IsTreeOf}
 -- but the built-in interface
 pub record StandsAlone (m : t.Module) : Type 0 where
   pub sound : Sound m
-  pub few : nodes m ≤ 4194304
+  pub few : nodes m ≤ TREE_NODES
   pub host : All (λ (i : Import). SameFace i.face iodefs.face) m.imports
 
 -- the built-in interface, so many times
