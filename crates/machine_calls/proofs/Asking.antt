@@ -1,5 +1,5 @@
 -- The source is asked for what comes.
-use Rattle.std.proofs.Common.{◌≡◌, ℕ, List, refl, sym, subst}
+use Rattle.std.proofs.Common.{◌≡◌, ℕ, List, refl, subst}
 use Rattle.std.specs.Prelude.{Option, Some, None, IfSome}
 use Rattle.mesa_base.specs.Outside.{raised, Takes}
 use Rattle.mesa_base.specs.Asked.{Asked}
