@@ -1,6 +1,5 @@
 -- Files can spell the built-in interface, by computing.
-use Rattle.std.specs.Prelude.{◌≡◌, ℕ, List, [], ◌∷◌, map, Option, Some, None}
-use Rattle.std.specs.List.{All}
+use Rattle.std.specs.Prelude.{◌≡◌, ℕ, List, [], ◌∷◌, map, Option, Some, None, codes}
 use Rattle.std.proofs.Common.{refl, sym, subst, inl, inr, arith}
 use Rattle.std.proofs.lemmas.List.Elements.{All-nil, All-cons}
 use Rattle.mesa_base.specs.Name.{IsName}
@@ -97,12 +96,12 @@ built_in_can_be_spelled = record {
     its_stamp = omega arith;
     count = omega arith;
     each = (
-      procedure_is _ _ _ refl (with_a_name _ _ refl character) no_field,
+      procedure_is _ (parameter (codes "c") tree.Character) [] refl (with_a_name (codes "c") _ refl character) no_field,
       (
-        procedure_is _ _ _ refl (with_a_name _ _ refl string) no_field,
+        procedure_is _ (parameter (codes "s") tree.String) [] refl (with_a_name (codes "s") _ refl string) no_field,
         (
-          procedure_is _ _ _ refl (with_a_name _ _ refl integer) no_field,
-          (procedure_is _ _ _ refl no_field (without _ character), (procedure_is _ _ _ refl no_field (without _ boolean), (error_is _ refl, tt))),
+          procedure_is _ (parameter (codes "n") tree.Integer) [] refl (with_a_name (codes "n") _ refl integer) no_field,
+          (procedure_is _ [] (unnamed tree.Character) refl no_field (without _ character), (procedure_is _ [] (unnamed tree.Boolean) refl no_field (without _ boolean), (error_is _ refl, tt))),
         ),
       ),
     );
