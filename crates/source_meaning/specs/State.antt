@@ -1,6 +1,7 @@
 -- States, answers and runs, and the few ways in which runs are made of runs. Nothing else touches the turns, the
 -- activations, the input or the output (rules of this project on turns, activations and the host).
 use Rattle.std.specs.Prelude.{ℕ, zero, suc, ◌+◌, ◌-◌, List, [], ◌∷◌, ◌++◌, Bool, true, false, ◌&&◌, nat_eq, nat_lt}
+use Rattle.mesa_base.specs.declared.limits.TheConstants.{ACTIVATIONS}
 use Rattle.mesa_types.specs.Typed.{Point, Start, After, At, Leave}
 use Rattle.source_meaning.specs.Value.{Value, Word, Values, one, nth, word}
 use Rattle.source_meaning.specs.Program.{Signal}
@@ -87,7 +88,7 @@ enter_if false m σ = give FrameLimit σ
 enter_if true m σ = leave (m (record σ { standing = σ.standing + 1 }))
 
 unfoldable pub enter : Run → Run
-enter m σ = enter_if (nat_lt σ.standing 8192) m σ
+enter m σ = enter_if (nat_lt σ.standing ACTIVATIONS) m σ
 
 unfoldable pub put : List ℕ → Run → Run
 put text m σ = m (record σ { output = σ.output ++ text })
