@@ -7,6 +7,5 @@ pub mod Moves
 pub mod Signals
 pub mod State
 pub mod Steps
-pub mod Unwinding
 pub mod Words
 pub mod Working
