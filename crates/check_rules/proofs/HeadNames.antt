@@ -1,6 +1,6 @@
 -- The signals and procedures of a checked module have names: each is declared under a name of the text.
 use Rattle.std.proofs.Common.{◌≡◌, ℕ, ◌+◌, List, [], ◌∷◌, ◌++◌, length, refl, sym, subst}
-use Rattle.std.specs.Prelude.{◌≢◌, Option, Some, None, Ok, Err, IfOk, map, nat_le}
+use Rattle.std.specs.Prelude.{◌≢◌, true, Option, Some, None, Ok, Err, IfOk, map, nat_le}
 use Rattle.std.specs.List.{All}
 use Rattle.std.proofs.lemmas.List.Elements.{All-nil, All-cons, All-head, All-tail, All-append, All-map}
 use Rattle.mesa_base.specs.Name.{IsName}
@@ -17,7 +17,7 @@ use Rattle.interface_records.specs.PlainTypes.{PlainItem, PlainInterface, item_o
 use Rattle.check_rules.specs.Typed as t
 use Rattle.check_rules.specs.Meanings as m
 use Rattle.check_rules.specs.Names.{announce, settle}
-use Rattle.check_rules.specs.Steps.{State, Check, Checked, and_then, ensure, measured}
+use Rattle.check_rules.specs.Steps.{State, Checked, and_then, ensure, measured}
 use Rattle.check_rules.specs.Around.{Around, body_of, with_labels}
 use Rattle.check_rules.specs.Parts.{first_name}
 use Rattle.check_rules.specs.Phrases.{is_catch}
