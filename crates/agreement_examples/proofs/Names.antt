@@ -34,7 +34,7 @@ takes_one : (name : List ℕ) → types_in (parameter name Character) ≡ Charac
 takes_one name = ap (λ (f : FieldType-F TypeTree FieldType). f.kind ∷ []) (out-roll-FieldType (record { name = Some name; kind = Character }))
 
 same_item : SameItem (write_char (codes "letter")) (write_char (codes "c"))
-same_item = (refl, (refl, (takes_one (codes "letter") ∙ sym (takes_one (codes "c")), refl)))
+same_item = (refl, (refl, takes_one (codes "letter") ∙ sym (takes_one (codes "c")), refl))
 
 -- it is the entry for the item under its own names
 is_wanted : IsWanted image import (write_char (codes "c")) 0
@@ -42,5 +42,5 @@ is_wanted = record { entry = record { face = codes "IODefs"; stamp = 1; item = w
 
 -- and the host has it
 wants_the_host : WantsTheHost image
-wants_the_host zero d l = (refl, (refl, (0, write_char (codes "c"), omega arith, refl, same_item)))
+wants_the_host zero d l = (refl, refl, (0, write_char (codes "c"), omega arith, refl, same_item))
 wants_the_host (suc k) d l = absurd (omega (arith, l))

@@ -59,7 +59,7 @@ bound m c sound hosts k n import item there its used =
     wanted : IsWanted (image_of m c) import item number
     wanted =
         let face = import_face m.imports hosts k import there in
-        record { entry = of_host item; is_there = wanted_at m number item is; face = ap (λ f. f.name) (sym face); stamp = ap (λ f. f.stamp) (sym face); its_item = (refl, (refl, (refl, refl))) }
+        record { entry = of_host item; is_there = wanted_at m number item is; face = ap (λ f. f.name) (sym face); stamp = ap (λ f. f.stamp) (sym face); its_item = (refl, (refl, refl, refl)) }
 
     by : (o : Option Host) → BoundTo (image_of m c) import item (host_target o) (bound_to (image_of m c) 0 number)
     by None = (number, linked m c number item is, wanted)
