@@ -9,7 +9,7 @@ use Rattle.machine_rules.proofs.Written.{arm, phrase, procedure, error, with_hos
 -- E is raised in C, caught where A calls B, and A goes on behind that call; C and B have UNWIND arms:
 -- C: BEGIN ENABLE UNWIND => WriteChar['c]; ERROR E END; B: BEGIN ENABLE UNWIND => WriteChar['b]; C[] END;
 -- A: BEGIN B[! E => BEGIN WriteChar['a]; CONTINUE END]; WriteChar['d] END; A[];
-abbrev unwinds : Written
+abbrev pub unwinds : Written
 unwinds = record {
   globals = 0;
   signals = error ∷ [];
@@ -80,7 +80,7 @@ unwinds_11 = refl
 
 -- the same with the phrase of E round the call as an ENABLE of A, and an UNWIND arm of A within it, which is of the target's own frame:
 -- A: BEGIN ENABLE E => BEGIN WriteChar['a]; CONTINUE END; BEGIN ENABLE UNWIND => WriteChar['x]; B[] END END; A[]; WriteChar['d];
-abbrev unwinds_own : Written
+abbrev pub unwinds_own : Written
 unwinds_own = record {
   globals = 0;
   signals = error ∷ [];
@@ -126,7 +126,7 @@ retries_17 = refl
 
 -- D: ERROR T; C: BEGIN ENABLE UNWIND => D[]; ERROR E END; B: BEGIN C[! T => BEGIN WriteChar['t]; CONTINUE END]; WriteChar['b] END;
 -- A: BEGIN B[! E => BEGIN WriteChar['a]; CONTINUE END]; WriteChar['d] END; A[]; the jump to B replaces the one to A
-abbrev replaces : Written
+abbrev pub replaces : Written
 replaces = record {
   globals = 0;
   signals = error ∷ error ∷ [];

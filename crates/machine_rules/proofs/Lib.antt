@@ -3,6 +3,7 @@ pub mod Below
 pub mod CallExamples
 pub mod Calling
 pub mod Departing
+pub mod Due
 pub mod Going
 pub mod Holding
 pub mod Kept
@@ -12,10 +13,13 @@ pub mod Measure
 pub mod Nearer
 pub mod OneResult
 pub mod Onward
+pub mod Over
 pub mod Placing
 pub mod Searching
 pub mod SignalExamples
 pub mod Standing
 pub mod Unstuck
+pub mod Unwinding
+pub mod UnwindingExamples
 pub mod WorkingExamples
 pub mod Written

@@ -7,5 +7,6 @@ pub mod Moves
 pub mod Signals
 pub mod State
 pub mod Steps
+pub mod Unwinding
 pub mod Words
 pub mod Working

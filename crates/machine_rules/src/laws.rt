@@ -1,4 +1,5 @@
 ghost use Rattle.machine_rules.specs.Laws.{EndsAtMostOnce, HasOneResult, IsNeverStuck};
+ghost use Rattle.machine_rules.specs.Unwinding.{JumpsUnwind, JumpsOfRunsUnwind};
 
 /// From any state of any image, its code valid or not, the machine comes to at most one end.
 #[tactic(auto, using(crate::proofs::OneResult::ends_at_most_once))]
@@ -17,4 +18,18 @@ pub fn one_result()
 /// needs is there.
 pub fn never_stuck()
     ensures { IsNeverStuck }
+{}
+
+/// A jump out of arms runs the first UNWIND arm of each phrase that is enabled in an activation which it gives up, innermost
+/// first and from the topmost activation down, those of its target's own frame aside; each once, and then it comes to its
+/// target. Or else one of them does not come to its end: the run stops in it, or another jump takes the place of this one.
+#[tactic(auto, using(crate::proofs::Unwinding::jumps_unwind))]
+pub fn jumps_unwind()
+    ensures { JumpsUnwind }
+{}
+
+/// So it is wherever a run of an image whose code is valid comes to a jump out of arms.
+#[tactic(auto, using(crate::proofs::Unwinding::jumps_of_runs_unwind))]
+pub fn jumps_of_runs_unwind()
+    ensures { JumpsOfRunsUnwind }
 {}

@@ -5,4 +5,4 @@ mod end;
 mod laws;
 
 pub use end::End;
-pub use laws::{ends_at_most_once, never_stuck, one_result};
+pub use laws::{ends_at_most_once, jumps_of_runs_unwind, jumps_unwind, never_stuck, one_result};
