@@ -44,7 +44,6 @@ pub fn checked_definitions_are_in_order()
 {}
 
 /// The signals and procedures of a module that checking gives of a text have names.
-#[tactic(auto, using(crate::proofs::LawProofs::texts_have_names))]
 pub fn checked_texts_have_names()
     ensures { CheckedTextsHaveNames }
 {}
