@@ -1,0 +1,11 @@
+pub mod Answered
+pub mod Deeper
+pub mod Ending
+pub mod Forms
+pub mod Keep
+pub mod Lead
+pub mod OneNode
+pub mod Shorter
+pub mod SmallTexts
+pub mod Steps
+pub mod Whole
