@@ -1,0 +1,10 @@
+pub mod Answers
+pub mod Binding
+pub mod DifferingFaces
+pub mod Entries
+pub mod FirstFaults
+pub mod Made
+pub mod Members
+pub mod Rows
+pub mod Templates
+pub mod Written

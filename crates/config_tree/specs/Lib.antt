@@ -1,0 +1,10 @@
+pub mod Components
+pub mod Exporters
+pub mod Grown
+pub mod InOrder
+pub mod Laws
+pub mod Outgoing
+pub mod Resolves
+pub mod Template
+pub mod Through
+pub mod Tree
