@@ -1,1 +1,2 @@
+pub mod PhraseClauses
 pub mod PhraseLoops

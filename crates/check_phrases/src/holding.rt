@@ -10,7 +10,7 @@ use syntax_trees::syntax::{
 
 /// Whether a catch phrase stands in an expression.
 #[cycle(phrases)]
-#[tactic(auto, using(syntax_trees::proofs::PlainForms::expr_forms), unfolding(check_rules::specs::Phrases::holds, check_rules::specs::Phrases::in_items))]
+#[tactic(auto, using(syntax_trees::proofs::PlainForms::expr_forms, crate::proofs::PhraseClauses::expr_clauses))]
 pub fn holds(e: &Expr) -> bool
     ensures { result ≡ spec.holds (plain.expr e.now) }
 {
@@ -61,7 +61,7 @@ pub fn interval_holds(interval: &Interval) -> bool
 
 /// Whether a catch phrase stands in a name with what follows it.
 #[cycle(phrases)]
-#[tactic(auto, using(syntax_trees::proofs::PlainForms::parts), unfolding(check_rules::specs::Phrases::in_left))]
+#[tactic(auto, using(syntax_trees::proofs::PlainForms::parts, crate::proofs::PhraseClauses::name_clauses))]
 pub fn left_holds(left: &Left) -> bool
     ensures { result ≡ spec.in_left (plain.left left.now) }
 {
@@ -81,7 +81,7 @@ fn suffixes_hold(suffixes: &[Suffix]) -> bool
 }
 
 #[cycle(phrases)]
-#[tactic(auto, using(syntax_trees::proofs::PlainForms::suffix_forms), unfolding(check_rules::specs::Phrases::in_suffixes))]
+#[tactic(auto, using(syntax_trees::proofs::PlainForms::suffix_forms, crate::proofs::PhraseClauses::name_clauses))]
 fn suffix_holds(suffix: &Suffix) -> bool
     ensures { (rest : Suffixes) → spec.in_suffixes (plain.suffix suffix.now rest) ≡ (result || spec.in_suffixes rest) }
 {
@@ -92,7 +92,7 @@ fn suffix_holds(suffix: &Suffix) -> bool
 }
 
 #[cycle(phrases)]
-#[tactic(auto, using(syntax_trees::proofs::PlainForms::parts), unfolding(check_rules::specs::Phrases::in_brackets))]
+#[tactic(auto, using(syntax_trees::proofs::PlainForms::parts, crate::proofs::PhraseClauses::bracket_clauses))]
 fn brackets_hold(brackets: &Brackets) -> bool
     ensures { result ≡ spec.in_brackets (plain.brackets brackets.now) }
 {
@@ -107,7 +107,7 @@ fn brackets_hold(brackets: &Brackets) -> bool
 }
 
 /// Whether a catch phrase stands in a list of values.
-#[tactic(auto, unfolding(check_rules::specs::Phrases::in_items))]
+#[tactic(auto, using(crate::proofs::PhraseClauses::item_clauses))]
 pub fn items_hold(items: &Entries<Expr>) -> bool
     ensures { result ≡ spec.in_items (plain.items items.now) }
 {
@@ -144,7 +144,7 @@ fn keyed_hold(values: &[Keyed<Expr>]) -> bool
 
 /// Whether a catch phrase stands in a raise.
 #[cycle(phrases)]
-#[tactic(auto, using(syntax_trees::proofs::PlainForms::raise_forms), unfolding(check_rules::specs::Phrases::in_raise, check_rules::specs::Phrases::in_maybe))]
+#[tactic(auto, using(syntax_trees::proofs::PlainForms::raise_forms, crate::proofs::PhraseClauses::raise_clauses))]
 pub fn raise_holds(raise: &Raise) -> bool
     ensures { result ≡ spec.in_raise (plain.raise raise.now) }
 {

@@ -2,10 +2,11 @@
 
 ghost use Rattle.std.specs.Prelude.{◌≡◌, IfOk};
 
-use crate::faces::{copy_exports, copy_imports, copy_items};
+use crate::faces::{Exports, Imports, Items, copy_exports, copy_imports, copy_items};
 use crate::typed_tree::{TypedBody, TypedModule, TypedProcedure, TypedProcedures};
-use crate::types::copy_fields;
-use mesa_base::{List, OutOfMemory, Texts};
+use crate::types::{Fields, copy_fields};
+use held_trees::both;
+use mesa_base::{List, Name, OutOfMemory, Texts};
 use std::alloc::Global;
 
 fn copy_strings(alloc: Global, strings: &Texts) -> Result<Texts, OutOfMemory>
@@ -53,20 +54,57 @@ fn copy_procedures(
     Ok(copy)
 }
 
+fn copy_outside(
+    alloc: Global,
+    module: &TypedModule,
+) -> Result<(Name, (Imports, Exports)), OutOfMemory>
+    ensures { IfOk result (λ copy. (copy.0 ≡ module.now.name) × ((copy.1.0 ≡ module.now.imports) × (copy.1.1 ≡ module.now.exports))) }
+{
+    let name = module.name.copy(alloc)?;
+    let (name, imports) = both(name, copy_imports(alloc, &module.imports))?;
+    let (imports, exports) = both(imports, copy_exports(alloc, &module.exports))?;
+    Ok((name, (imports, exports)))
+}
+
+fn copy_data(alloc: Global, module: &TypedModule) -> Result<(Fields, (Items, Texts)), OutOfMemory>
+    ensures { IfOk result (λ copy. (copy.0 ≡ module.now.globals) × ((copy.1.0 ≡ module.now.signals) × (copy.1.1 ≡ module.now.strings))) }
+{
+    let strings = copy_strings(alloc, &module.strings)?;
+    let signals = copy_items(alloc, &module.signals)?;
+    let (signals, globals) = both(signals, copy_fields(alloc, &module.globals))?;
+    Ok((globals, (signals, strings)))
+}
+
+fn copy_code(
+    alloc: Global,
+    module: &TypedModule,
+) -> Result<(TypedProcedures, TypedBody), OutOfMemory>
+    ensures { IfOk result (λ copy. (copy.0 ≡ module.now.procedures) × (copy.1 ≡ module.now.body)) }
+{
+    let procedures = copy_procedures(alloc, &module.procedures)?;
+    both(procedures, module.body.copy(alloc))
+}
+
 impl TypedModule {
     /// The same module. Its statements get one more owner, whatever their number.
     pub fn copy(&self, alloc: Global) -> Result<TypedModule, OutOfMemory>
         ensures { IfOk result (λ copy. copy ≡ self.now) }
     {
+        let code = copy_code(alloc, self)?;
+        let (code, outside) = both(code, copy_outside(alloc, self))?;
+        let ((code, outside), data) = both((code, outside), copy_data(alloc, self))?;
+        let (name, (imports, exports)) = outside;
+        let (globals, (signals, strings)) = data;
+        let (procedures, body) = code;
         Ok(TypedModule {
-            name: self.name.copy(alloc)?,
-            imports: copy_imports(alloc, &self.imports)?,
-            exports: copy_exports(alloc, &self.exports)?,
-            globals: copy_fields(alloc, &self.globals)?,
-            signals: copy_items(alloc, &self.signals)?,
-            strings: copy_strings(alloc, &self.strings)?,
-            procedures: copy_procedures(alloc, &self.procedures)?,
-            body: self.body.copy(alloc)?,
+            name,
+            imports,
+            exports,
+            globals,
+            signals,
+            strings,
+            procedures,
+            body,
         })
     }
 }

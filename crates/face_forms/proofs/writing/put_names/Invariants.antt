@@ -1,0 +1,7 @@
+use Rattle.std.proofs.Common.{◌≡◌, ◌++◌, [], take}
+use Rattle.file_forms.specs.Forms.{spell_each}
+use Rattle.file_forms.specs.Names.{fresh_name}
+use Rattle.face_forms.proofs.writing.put_names.Given as goal
+
+abbrev pub invariant-names : goal.invariant-names
+invariant-names l = l.out ≡ l.fn.out ++ spell_each fresh_name [] (take l.name-index l.names)

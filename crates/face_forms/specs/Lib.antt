@@ -1,0 +1,4 @@
+pub mod Layers
+pub mod TypeForms
+pub mod FaceForms
+pub mod Sorts

@@ -1,0 +1,221 @@
+//! Types that hold types.
+ghost use Rattle.std.specs.Prelude.{◌≡◌};
+ghost use Rattle.file_forms.specs.Reads.{Reads};
+ghost use Rattle.file_forms.specs.Forms.{several};
+ghost use Rattle.file_forms.specs.Seen.{Shows};
+ghost use Rattle.face_forms.specs.Sorts.{takes};
+ghost use Rattle.face_forms.specs.TypeForms as form;
+
+use crate::labels::{add_label, label, origin};
+use crate::ordinals::bounds;
+use crate::sort::Sort;
+use file_forms::{FileCursor, Seen, Stopped};
+use mesa_base::limits::{ENUMERATION_ELEMENTS, TYPE_WORDS};
+use mesa_base::{Field, List, Shared};
+use mesa_types::{FieldType, Fields, TypeTree, size_words};
+use std::alloc::Global;
+
+fn basic(tag: u8) -> TypeTree
+    ensures { result ≡ form.basic tag }
+{
+    match tag {
+        1 => TypeTree::Integer,
+        2 => TypeTree::Cardinal,
+        3 => TypeTree::Boolean,
+        4 => TypeTree::Character,
+        _ => TypeTree::String,
+    }
+}
+
+#[tactic(auto, unfolding(crate::specs::TypeForms::too_deep))]
+fn too_deep(input: &mut FileCursor<'_>) -> Result<TypeTree, Stopped>
+    ensures { Reads (form.too_deep.read input.old.rest.now) result input.new.rest.now }
+{
+    let left = input.rest.len();
+    input.u8()?;
+    Err(Stopped::Bad(Field::TypeTag, left))
+}
+
+#[tactic(auto, unfolding(crate::specs::TypeForms::tag))]
+fn tag(input: &mut FileCursor<'_>, version: u8, sort: Sort) -> Result<u8, Stopped>
+    ensures { Reads ((form.tag version (takes sort)).read input.old.rest.now) result input.new.rest.now }
+{
+    let left = input.rest.len();
+    let tag = input.u8()?;
+    if tag < 1 || tag > 9 || !sort.takes(tag) {
+        return Err(Stopped::Bad(Field::TypeTag, left));
+    }
+    Ok(tag)
+}
+
+#[tactic(auto, unfolding(crate::specs::TypeForms::enumeration))]
+fn enumeration(alloc: Global, input: &mut FileCursor<'_>) -> Result<TypeTree, Stopped>
+    ensures { Reads (form.enumeration.read input.old.rest.now) result input.new.rest.now }
+{
+    let origin = origin(alloc, input)?;
+    let count = input.count_between(1, ENUMERATION_ELEMENTS)?;
+    let names = input.distinct_names(alloc, count)?;
+    Ok(TypeTree::Enumeration(origin, Shared::new(alloc, names)?))
+}
+
+/// A type of the sort, in which so many types may stand in one another.
+#[cycle(types)]
+#[tactic(auto, using(crate::proofs::TypeLaws::inside, crate::proofs::TypeLaws::outside))]
+pub fn type_tree(
+    alloc: Global,
+    input: &mut FileCursor<'_>,
+    version: u8,
+    levels: u32,
+    sort: Sort,
+) -> Result<TypeTree, Stopped>
+    ensures { Reads ((form.type_form version levels (takes sort)).read input.old.rest.now) result input.new.rest.now }
+{
+    if levels == 0 {
+        return too_deep(input);
+    }
+    typed(alloc, input, version, levels - 1, sort)
+}
+
+// A type, inside which so many may stand in one another.
+#[cycle(types)]
+#[tactic(auto, unfolding(crate::specs::TypeForms::typed))]
+fn typed(
+    alloc: Global,
+    input: &mut FileCursor<'_>,
+    version: u8,
+    levels: u32,
+    sort: Sort,
+) -> Result<TypeTree, Stopped>
+    ensures { Reads ((form.typed version (form.type_form version levels) (takes sort)).read input.old.rest.now) result input.new.rest.now }
+{
+    let left = input.rest.len();
+    let tag = tag(input, version, sort)?;
+    let t = tagged(alloc, input, version, levels, tag)?;
+    if size_words(&t) > TYPE_WORDS {
+        return Err(Stopped::Bad(Field::TypeTag, left));
+    }
+    Ok(t)
+}
+
+#[cycle(types)]
+#[tactic(auto, unfolding(crate::specs::TypeForms::tagged))]
+fn tagged(
+    alloc: Global,
+    input: &mut FileCursor<'_>,
+    version: u8,
+    levels: u32,
+    tag: u8,
+) -> Result<TypeTree, Stopped>
+    ensures { Reads ((form.tagged (form.type_form version levels) tag).read input.old.rest.now) result input.new.rest.now }
+{
+    match tag {
+        6 => enumeration(alloc, input),
+        7 => subrange(alloc, input, version, levels),
+        8 => array(alloc, input, version, levels),
+        9 => record(alloc, input, version, levels),
+        _ => Ok(basic(tag)),
+    }
+}
+
+#[cycle(types)]
+#[tactic(auto, unfolding(crate::specs::TypeForms::subrange))]
+fn subrange(
+    alloc: Global,
+    input: &mut FileCursor<'_>,
+    version: u8,
+    levels: u32,
+) -> Result<TypeTree, Stopped>
+    ensures { Reads ((form.subrange (form.type_form version levels)).read input.old.rest.now) result input.new.rest.now }
+{
+    let base = type_tree(alloc, input, version, levels, Sort::Base)?;
+    let (first, last) = bounds(input, &base)?;
+    Ok(TypeTree::Subrange(Shared::new(alloc, base)?, first, last))
+}
+
+#[cycle(types)]
+#[tactic(auto, unfolding(crate::specs::TypeForms::array))]
+fn array(
+    alloc: Global,
+    input: &mut FileCursor<'_>,
+    version: u8,
+    levels: u32,
+) -> Result<TypeTree, Stopped>
+    ensures { Reads ((form.array (form.type_form version levels)).read input.old.rest.now) result input.new.rest.now }
+{
+    let index = type_tree(alloc, input, version, levels, Sort::Index)?;
+    let element = type_tree(alloc, input, version, levels, Sort::Any)?;
+    let index = Shared::new(alloc, index)?;
+    Ok(TypeTree::Array(index, Shared::new(alloc, element)?))
+}
+
+#[cycle(types)]
+#[tactic(auto, unfolding(crate::specs::TypeForms::record_of))]
+fn record(
+    alloc: Global,
+    input: &mut FileCursor<'_>,
+    version: u8,
+    levels: u32,
+) -> Result<TypeTree, Stopped>
+    ensures { Reads ((form.record_of (form.type_form version levels)).read input.old.rest.now) result input.new.rest.now }
+{
+    let origin = origin(alloc, input)?;
+    let fields = fields(alloc, input, version, levels, 1)?;
+    Ok(TypeTree::Record(origin, Shared::new(alloc, fields)?))
+}
+
+/// So many fields at least, inside whose types so many may stand in one another.
+#[cycle(types)]
+#[tactic(auto, unfolding(crate::specs::TypeForms::fields_form))]
+pub fn fields(
+    alloc: Global,
+    input: &mut FileCursor<'_>,
+    version: u8,
+    levels: u32,
+    least: u32,
+) -> Result<Fields, Stopped>
+    ensures { Reads ((form.fields_form (form.type_form version levels form.any) least).read input.old.rest.now) result input.new.rest.now }
+{
+    let count = input.count_from(least)?;
+    each_field(alloc, input, version, levels, count)
+}
+
+#[cycle(types)]
+fn each_field(
+    alloc: Global,
+    input: &mut FileCursor<'_>,
+    version: u8,
+    levels: u32,
+    count: u32,
+) -> Result<Fields, Stopped>
+    ensures { Reads ((several count (form.field_form (form.type_form version levels form.any))).read input.old.rest.now) result input.new.rest.now }
+{
+    let mut all = List::new(alloc);
+    let mut seen = Seen::new(alloc);
+    'fields: for _ in 0..count {
+        let field = match field(alloc, input, version, levels, &all, &seen) {
+            Ok(field) => field,
+            Err(why) => return Err(why),
+        };
+        add_label(alloc, &mut seen, &field)?;
+        all.push(field)?;
+    }
+    Ok(all)
+}
+
+#[cycle(types)]
+#[tactic(auto, unfolding(crate::specs::TypeForms::field_form))]
+fn field(
+    alloc: Global,
+    input: &mut FileCursor<'_>,
+    version: u8,
+    levels: u32,
+    before: &Fields,
+    seen: &Seen,
+) -> Result<FieldType, Stopped>
+    requires { Shows seen.now (form.labels before.now) }
+    ensures { Reads ((form.field_form (form.type_form version levels form.any) before.now).read input.old.rest.now) result input.new.rest.now }
+{
+    let name = label(alloc, input, before.as_slice(), seen)?;
+    let kind = type_tree(alloc, input, version, levels, Sort::Any)?;
+    Ok(FieldType { name, kind })
+}
