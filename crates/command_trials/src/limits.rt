@@ -39,7 +39,7 @@ fn ends_at(rt: &HostRuntime, inside: Inside<'_>, count: usize) -> Result<bool, F
     Ok(fits && status(rt, past.as_str())? == 4)
 }
 
-fn inside<'a>(before: &'a str, piece: &'a str, between: &'a str, closing: &'a str) -> Inside<'a> {
+fn nested<'a>(before: &'a str, piece: &'a str, between: &'a str, closing: &'a str) -> Inside<'a> {
     Inside {
         before,
         piece,
@@ -50,11 +50,11 @@ fn inside<'a>(before: &'a str, piece: &'a str, between: &'a str, closing: &'a st
 
 #[test]
 fn limits(rt: HostRuntime) -> Result<(), Fail> {
-    let loops = inside("a: INTEGER; ", "WHILE a = 1 DO ", "a ← a", " ENDLOOP");
-    assert!(rt; ends_at(&rt, inside("", "a", ": INTEGER;", ""), 255)?);
-    assert!(rt; ends_at(&rt, inside("a: INTEGER; a ← 1", " - 1", "", ""), 16_382)?);
+    let loops = nested("a: INTEGER; ", "WHILE a = 1 DO ", "a ← a", " ENDLOOP");
+    assert!(rt; ends_at(&rt, nested("", "a", ": INTEGER;", ""), 255)?);
+    assert!(rt; ends_at(&rt, nested("a: INTEGER; a ← 1", " - 1", "", ""), 16_382)?);
     assert!(rt; ends_at(&rt, loops, 198)?);
-    assert!(rt; ends_at(&rt, inside("", " ", "", ""), 1_048_552)?);
+    assert!(rt; ends_at(&rt, nested("", " ", "", ""), 1_048_552)?);
     Ok(())
 }
 
@@ -98,14 +98,14 @@ fn is_too_deep(
 
 #[test]
 fn nesting(rt: HostRuntime) -> Result<(), Fail> {
-    let blocks = inside("", "BEGIN ", "", "END ");
-    let parentheses = inside("x: INTEGER; x ← ", "(", "1", ")");
+    let blocks = nested("", "BEGIN ", "", "END ");
+    let parentheses = nested("x: INTEGER; x ← ", "(", "1", ")");
     assert!(rt; ends_at(&rt, blocks, 200)? && ends_at(&rt, parentheses, 198)?);
     assert!(rt; is_too_deep(&rt, blocks, 201, "M.mesa:1:1220: TooDeep\n")?);
     assert!(rt;
         is_too_deep(
             &rt,
-            inside("", "BEGIN ", "", ""),
+            nested("", "BEGIN ", "", ""),
             1_000,
             "M.mesa:1:1220: TooDeep\n"
         )?
@@ -114,7 +114,7 @@ fn nesting(rt: HostRuntime) -> Result<(), Fail> {
     assert!(rt;
         is_too_deep(
             &rt,
-            inside("", "IF a THEN ", "", ""),
+            nested("", "IF a THEN ", "", ""),
             200,
             "M.mesa:1:2013: TooDeep\n"
         )?
@@ -122,7 +122,7 @@ fn nesting(rt: HostRuntime) -> Result<(), Fail> {
     assert!(rt;
         is_too_deep(
             &rt,
-            inside("x: ", "ARRAY T OF ", "", ""),
+            nested("x: ", "ARRAY T OF ", "", ""),
             200,
             "M.mesa:1:2218: TooDeep\n"
         )?
