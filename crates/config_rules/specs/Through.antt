@@ -9,12 +9,12 @@ use Rattle.check_scopes.specs.Scopes.{Scope, nothing, with_name, find, innermost
 use Rattle.cmesa_grammar.specs.Syntax.{Place, Identifier, Configuration, Configured, Statements, NoStatements, AndDeclare, AndInstance}
 use Rattle.cmesa_grammar.specs.declared.syntax.Heading.{Heading}
 use Rattle.cmesa_grammar.specs.declared.syntax.Instantiation.{Instantiation}
-use Rattle.config_tree.specs.Components.{names_of, own_name}
-use Rattle.config_tree.specs.Template.{Part, Template, Gone, Parts, NoParts, AndModule, AndNested, heading_in, instance_names, exported}
-use Rattle.config_tree.specs.declared.fault.TreeCause.{TreeCause}
-use Rattle.config_tree.specs.declared.fault.TreeCause.TheVariants.{UnknownComponent, TwiceNamed, CountDiffers, RecordClash, UnknownRecord, UnknownControl, TooNested}
-use Rattle.config_tree.specs.declared.fault.TreeFault.{TreeFault}
-use Rattle.config_tree.specs.declared.fault.TreeFault.TheVariants.{At}
+use Rattle.config_rules.specs.Components.{names_of, own_name}
+use Rattle.config_rules.specs.Template.{Part, Template, Gone, Parts, NoParts, AndModule, AndNested, heading_in, instance_names, exported}
+use Rattle.config_rules.specs.declared.fault.TreeCause.{TreeCause}
+use Rattle.config_rules.specs.declared.fault.TreeCause.TheVariants.{UnknownComponent, TwiceNamed, CountDiffers, RecordClash, UnknownRecord, UnknownControl, TooNested}
+use Rattle.config_rules.specs.declared.fault.TreeFault.{TreeFault}
+use Rattle.config_rules.specs.declared.fault.TreeFault.TheVariants.{At}
 
 abbrev pub Answer : Type 0 → Type 0
 Answer A = Result A TreeFault

@@ -1,10 +1,10 @@
 -- An item is not bad exactly where it binds.
 use Rattle.std.proofs.Common.{◌≡◌, inl, inr, ℕ, List, [], ◌∷◌, filter, Bool, true, false, bytes_eq, Option, Some, None, refl, sym, ap, ◌∙◌, if◌then◌else◌}
 use Rattle.mesa_types.specs.declared.faces.Face.{Face}
-use Rattle.config_tree.specs.declared.tree.Tree.{Tree}
-use Rattle.config_tree.specs.Exporters.{Spot, Outlet, exporters}
-use Rattle.config_tree.specs.Resolves.{looked_up, OtherInterface, OtherStamp, under, chosen, resolved_at, resolved, is_bad}
-use Rattle.config_tree.specs.Laws.{HasOneExporter, Binds, ItemsBind}
+use Rattle.config_rules.specs.declared.tree.Tree.{Tree}
+use Rattle.config_rules.specs.Exporters.{Spot, Outlet, exporters}
+use Rattle.config_rules.specs.Resolves.{looked_up, OtherInterface, OtherStamp, under, chosen, resolved_at, resolved, is_bad}
+use Rattle.config_rules.specs.Laws.{HasOneExporter, Binds, ItemsBind}
 
 one : (face : Face) (name : List ℕ) (same all : List Outlet) → is_bad (chosen face name same all) ≡ false → (o : Outlet) × (same ≡ o ∷ [])
 unfolding chosen is_bad

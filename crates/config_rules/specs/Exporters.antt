@@ -5,11 +5,11 @@ use Rattle.mesa_types.specs.declared.faces.Export.{Export}
 use Rattle.mesa_types.specs.declared.faces.Face.{Face}
 use Rattle.mesa_types.specs.declared.faces.Item.{Item}
 use Rattle.mesa_types.specs.declared.faces.Pair.{Pair}
-use Rattle.config_tree.specs.declared.tree.Exporter.{Exporter}
-use Rattle.config_tree.specs.declared.tree.RecordPair.{RecordPair}
-use Rattle.config_tree.specs.declared.tree.TreeScope.{TreeScope}
-use Rattle.config_tree.specs.declared.tree.TreeInstance.{TreeInstance}
-use Rattle.config_tree.specs.declared.tree.Tree.{Tree}
+use Rattle.config_rules.specs.declared.tree.Exporter.{Exporter}
+use Rattle.config_rules.specs.declared.tree.RecordPair.{RecordPair}
+use Rattle.config_rules.specs.declared.tree.TreeScope.{TreeScope}
+use Rattle.config_rules.specs.declared.tree.TreeInstance.{TreeInstance}
+use Rattle.config_rules.specs.declared.tree.Tree.{Tree}
 
 -- a record of a scope
 pub record Spot : Type 0 where

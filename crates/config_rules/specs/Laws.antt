@@ -2,13 +2,13 @@
 use Rattle.std.specs.Prelude.{◌≡◌, ◌↔◌, ◌⊎◌, ℕ, List, [], ◌∷◌, map, filter, false, Some, None, Ok}
 use Rattle.mesa_types.specs.declared.faces.Face.{Face}
 use Rattle.cmesa_grammar.specs.Syntax.{Configuration}
-use Rattle.config_tree.specs.declared.tree.Tree.{Tree}
-use Rattle.config_tree.specs.Through.{Module}
-use Rattle.config_tree.specs.Tree.{made}
-use Rattle.config_tree.specs.Exporters.{Spot, Outlet, exporters}
-use Rattle.config_tree.specs.Resolves.{looked_up, under, resolved, is_bad}
-use Rattle.config_tree.specs.Outgoing.{outgoing, entries_for, exporters_in, visible}
-use Rattle.config_tree.specs.InOrder.{IsInward, TreeIn}
+use Rattle.config_rules.specs.declared.tree.Tree.{Tree}
+use Rattle.config_rules.specs.Through.{Module}
+use Rattle.config_rules.specs.Tree.{made}
+use Rattle.config_rules.specs.Exporters.{Spot, Outlet, exporters}
+use Rattle.config_rules.specs.Resolves.{looked_up, under, resolved, is_bad}
+use Rattle.config_rules.specs.Outgoing.{outgoing, entries_for, exporters_in, visible}
+use Rattle.config_rules.specs.InOrder.{IsInward, TreeIn}
 
 abbrev pub TreesAreInOrder : Type 0
 TreesAreInOrder = (modules : List Module) (c : Configuration) (t : Tree) → made modules c ≡ Ok t → TreeIn (map (λ (m : Module). m.shape) modules) t

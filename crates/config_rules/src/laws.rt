@@ -1,4 +1,4 @@
-ghost use Rattle.config_tree.specs.Laws.{EntriesAreExporters, ItemsBind, TreesAreInOrder};
+ghost use Rattle.config_rules.specs.Laws.{EntriesAreExporters, ItemsBind, TreesAreInOrder};
 
 /// A law: a tree that is made is in order. Its instances have the shapes of their components, there are not too many, scopes
 /// lie inward of those around them, and CONTROL numbers are those of instances.

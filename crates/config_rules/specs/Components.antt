@@ -7,7 +7,7 @@ use Rattle.check_scopes.specs.Scopes.{has}
 use Rattle.cmesa_grammar.specs.Syntax.{Place, Identifier, Config, Configuration, Configured, Statements, NoStatements, AndDeclare, AndInstance}
 use Rattle.cmesa_grammar.specs.declared.syntax.Heading.{Heading}
 use Rattle.cmesa_grammar.specs.declared.syntax.ComponentFile.{ComponentFile}
-use Rattle.config_tree.specs.declared.tree.Component.{Component}
+use Rattle.config_rules.specs.declared.tree.Component.{Component}
 
 abbrev pub names_of : List Identifier → List (List ℕ)
 names_of is = map (λ (i : Identifier). i.name) is

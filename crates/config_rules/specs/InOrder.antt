@@ -8,9 +8,9 @@ use Rattle.mesa_types.specs.declared.faces.Import.{Import}
 use Rattle.mesa_types.specs.declared.faces.Item.{Item}
 use Rattle.mesa_types.specs.declared.faces.Pair.{Pair}
 use Rattle.mesa_types.specs.declared.faces.Shape.{Shape}
-use Rattle.config_tree.specs.declared.tree.Tree.{Tree}
-use Rattle.config_tree.specs.declared.tree.TreeInstance.{TreeInstance}
-use Rattle.config_tree.specs.declared.tree.TreeScope.{TreeScope}
+use Rattle.config_rules.specs.declared.tree.Tree.{Tree}
+use Rattle.config_rules.specs.declared.tree.TreeInstance.{TreeInstance}
+use Rattle.config_rules.specs.declared.tree.TreeScope.{TreeScope}
 
 -- no two items of an interface have one name
 abbrev pub NamesDiffer : Face → Type 0

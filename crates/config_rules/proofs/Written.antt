@@ -11,14 +11,14 @@ use Rattle.mesa_types.specs.declared.faces.Shape.{Shape}
 use Rattle.check_scopes.specs.Scopes.{has}
 use Rattle.cmesa_grammar.specs.Syntax.{Place, Identifier, Config, Configuration, Configured, Statements, NoStatements, AndInstance}
 use Rattle.cmesa_grammar.specs.declared.syntax.Instantiation.{Instantiation}
-use Rattle.config_tree.specs.Components.{heading_of, mentions, mentions_in, first_mentions, file_of, components}
-use Rattle.config_tree.specs.Template.{heading_in, parts_in, instance_names, exported, modules_of, modules_below, scopes_of, scopes_below, depth_of, depth_below}
-use Rattle.config_tree.specs.Through.{Answer, ◌>>=◌, unless, found_module, found_as, listed, name_or, instance, add, each_name, each_control, headed, through, statements}
-use Rattle.config_tree.specs.Grown.{pairs, scopes_in, inner_scopes, no_shape, shape_in, instances_in, inner_instances, started_by, is_in, once, control_of, starts, grown}
-use Rattle.config_tree.specs.Tree.{too_nested, too_many, unless_there, made, modules_with}
-use Rattle.config_tree.specs.Exporters.{outside_of, stepped, step_in, goes_on, reach, outlets_of, outlets_from, is_named, is_given, exporters}
-use Rattle.config_tree.specs.Resolves.{from_outside, source, Resolution, given_for, chosen, resolved_at, resolved, Want, want, wants_of, wants, is_bad, first_bad}
-use Rattle.config_tree.specs.declared.tree.Tree.{Tree}
+use Rattle.config_rules.specs.Components.{heading_of, mentions, mentions_in, first_mentions, file_of, components}
+use Rattle.config_rules.specs.Template.{heading_in, parts_in, instance_names, exported, modules_of, modules_below, scopes_of, scopes_below, depth_of, depth_below}
+use Rattle.config_rules.specs.Through.{Answer, ◌>>=◌, unless, found_module, found_as, listed, name_or, instance, add, each_name, each_control, headed, through, statements}
+use Rattle.config_rules.specs.Grown.{pairs, scopes_in, inner_scopes, no_shape, shape_in, instances_in, inner_instances, started_by, is_in, once, control_of, starts, grown}
+use Rattle.config_rules.specs.Tree.{too_nested, too_many, unless_there, made, modules_with}
+use Rattle.config_rules.specs.Exporters.{outside_of, stepped, step_in, goes_on, reach, outlets_of, outlets_from, is_named, is_given, exporters}
+use Rattle.config_rules.specs.Resolves.{from_outside, source, Resolution, given_for, chosen, resolved_at, resolved, Want, want, wants_of, wants, is_bad, first_bad}
+use Rattle.config_rules.specs.declared.tree.Tree.{Tree}
 
 -- ---- names and statements
 

@@ -8,12 +8,12 @@ use Rattle.check_scopes.specs.Scopes.{Scope, nothing, find, innermost, outer}
 use Rattle.cmesa_grammar.specs.Syntax.{Identifier, Configuration, Configured, Statements, NoStatements, AndDeclare, AndInstance}
 use Rattle.cmesa_grammar.specs.declared.syntax.Heading.{Heading}
 use Rattle.cmesa_grammar.specs.declared.syntax.Instantiation.{Instantiation}
-use Rattle.config_tree.specs.Components.{names_of, own_name}
-use Rattle.config_tree.specs.Template.{Part, Template, Gone, Parts, NoParts, AndModule, AndNested, heading_in}
-use Rattle.config_tree.specs.Through.{Answer, ◌>>=◌, unless, Module, Nested, declare, Thing, AModule, ANested, Found, interfaces_imported, interfaces_exported, found_module, found_as, found, listed, Made, instance, add, headed, through, statements}
-use Rattle.config_tree.specs.declared.fault.TreeCause.TheVariants.{UnknownComponent}
-use Rattle.config_tree.proofs.Answers.{went, err_ok, ok_same, passed, not_false}
-use Rattle.config_tree.proofs.Members.{mapped_length}
+use Rattle.config_rules.specs.Components.{names_of, own_name}
+use Rattle.config_rules.specs.Template.{Part, Template, Gone, Parts, NoParts, AndModule, AndNested, heading_in}
+use Rattle.config_rules.specs.Through.{Answer, ◌>>=◌, unless, Module, Nested, declare, Thing, AModule, ANested, Found, interfaces_imported, interfaces_exported, found_module, found_as, found, listed, Made, instance, add, headed, through, statements}
+use Rattle.config_rules.specs.declared.fault.TreeCause.TheVariants.{UnknownComponent}
+use Rattle.config_rules.proofs.Answers.{went, err_ok, ok_same, passed, not_false}
+use Rattle.config_rules.proofs.Members.{mapped_length}
 
 pub record IsOf (modules : List Module) (c : ℕ) (is es : List (List ℕ)) : Type 0 where
   pub its : Module

@@ -4,9 +4,9 @@ use Rattle.mesa_types.specs.declared.faces.Face.{Face}
 use Rattle.mesa_types.specs.declared.faces.Import.{Import}
 use Rattle.mesa_types.specs.declared.faces.Item.{Item}
 use Rattle.mesa_types.specs.declared.faces.Pair.{Pair}
-use Rattle.config_tree.specs.declared.tree.TreeInstance.{TreeInstance}
-use Rattle.config_tree.specs.declared.tree.Tree.{Tree}
-use Rattle.config_tree.specs.Exporters.{Spot, Step, Stays, Goes, Leaves, step, Outlet, is_named, exporters}
+use Rattle.config_rules.specs.declared.tree.TreeInstance.{TreeInstance}
+use Rattle.config_rules.specs.declared.tree.Tree.{Tree}
+use Rattle.config_rules.specs.Exporters.{Spot, Step, Stays, Goes, Leaves, step, Outlet, is_named, exporters}
 
 unfoldable pub from_outside : (here : Spot) → Step → (Spot → Option Spot) → Option Spot
 from_outside a Stays f = Some a

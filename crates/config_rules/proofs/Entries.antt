@@ -2,15 +2,15 @@
 use Rattle.std.proofs.Common.{◌≡◌, ℕ, zero, suc, ◌<◌, ◌≤◌, Bool, true, false, ◌&&◌, ◌||◌, List, [], ◌∷◌, ◌++◌, length, map, filter, bytes_eq, nat_eq, eqb-true, append_assoc, length-append, Option, Some, None, slice_get, refl, sym, ap, ◌∙◌, arith, if◌then◌else◌}
 use Rattle.std.specs.List.{list_any}
 use Rattle.mesa_types.specs.declared.faces.Export.{Export}
-use Rattle.config_tree.specs.declared.tree.Exporter.{Exporter}
-use Rattle.config_tree.specs.declared.tree.Outgoing.{Outgoing}
-use Rattle.config_tree.specs.declared.tree.Tree.{Tree}
-use Rattle.config_tree.specs.declared.tree.TreeInstance.{TreeInstance}
-use Rattle.config_tree.specs.declared.tree.TreeScope.{TreeScope}
-use Rattle.config_tree.specs.Exporters.{Spot, same_spot, Step, Stays, Goes, Leaves, outside_of, stepped, step_in, step, goes_on, reach, reached, Outlet, outlets_of, outlets_from, outlets, is_given, goes_to, exporters}
-use Rattle.config_tree.specs.Outgoing.{outgoing_at, entries_of, spot_of, export_in, export_of, gives_by, gives, entries_for, exporters_in}
-use Rattle.config_tree.specs.InOrder.{IsInward}
-use Rattle.config_tree.specs.Laws.{EntriesAreExporters}
+use Rattle.config_rules.specs.declared.tree.Exporter.{Exporter}
+use Rattle.config_rules.specs.declared.tree.Outgoing.{Outgoing}
+use Rattle.config_rules.specs.declared.tree.Tree.{Tree}
+use Rattle.config_rules.specs.declared.tree.TreeInstance.{TreeInstance}
+use Rattle.config_rules.specs.declared.tree.TreeScope.{TreeScope}
+use Rattle.config_rules.specs.Exporters.{Spot, same_spot, Step, Stays, Goes, Leaves, outside_of, stepped, step_in, step, goes_on, reach, reached, Outlet, outlets_of, outlets_from, outlets, is_given, goes_to, exporters}
+use Rattle.config_rules.specs.Outgoing.{outgoing_at, entries_of, spot_of, export_in, export_of, gives_by, gives, entries_for, exporters_in}
+use Rattle.config_rules.specs.InOrder.{IsInward}
+use Rattle.config_rules.specs.Laws.{EntriesAreExporters}
 
 are_both : (a b : Bool) → a && b ≡ true → (a ≡ true) × (b ≡ true)
 are_both true true h = (refl, refl)

@@ -1,11 +1,11 @@
 -- Where exports go: what the code keeps, so that it finds exporters without going through all exports (a rule of this project).
 use Rattle.std.specs.Prelude.{ℕ, Bool, false, ◌&&◌, List, map, filter, flat_map, Option, Some, None, slice_get}
 use Rattle.mesa_types.specs.declared.faces.Export.{Export}
-use Rattle.config_tree.specs.declared.tree.Exporter.{Exporter}
-use Rattle.config_tree.specs.declared.tree.Outgoing.{Outgoing}
-use Rattle.config_tree.specs.declared.tree.Tree.{Tree}
-use Rattle.config_tree.specs.declared.tree.TreeInstance.{TreeInstance}
-use Rattle.config_tree.specs.Exporters.{Spot, same_spot, Outlet, outlets, reached, is_given, exporters}
+use Rattle.config_rules.specs.declared.tree.Exporter.{Exporter}
+use Rattle.config_rules.specs.declared.tree.Outgoing.{Outgoing}
+use Rattle.config_rules.specs.declared.tree.Tree.{Tree}
+use Rattle.config_rules.specs.declared.tree.TreeInstance.{TreeInstance}
+use Rattle.config_rules.specs.Exporters.{Spot, same_spot, Outlet, outlets, reached, is_given, exporters}
 
 abbrev pub outgoing_at : Outlet → Spot → Outgoing
 outgoing_at o b = record { scope = b.scope; record_name = b.record_name; exporter = o.exporter }

@@ -3,13 +3,13 @@ use Rattle.std.specs.Prelude.{ℕ, ◌+◌, Bool, false, ◌||◌, List, [], ◌
 use Rattle.mesa_types.specs.declared.faces.Shape.{Shape}
 use Rattle.cmesa_grammar.specs.Syntax.{Identifier}
 use Rattle.cmesa_grammar.specs.declared.syntax.Heading.{Heading}
-use Rattle.config_tree.specs.Components.{names_of}
-use Rattle.config_tree.specs.Template.{Part, Template, Gone, Parts, NoParts, AndModule, AndNested, heading_in, modules_of, scopes_of}
-use Rattle.config_tree.specs.Through.{Module}
-use Rattle.config_tree.specs.declared.tree.RecordPair.{RecordPair}
-use Rattle.config_tree.specs.declared.tree.TreeScope.{TreeScope}
-use Rattle.config_tree.specs.declared.tree.TreeInstance.{TreeInstance}
-use Rattle.config_tree.specs.declared.tree.Tree.{Tree}
+use Rattle.config_rules.specs.Components.{names_of}
+use Rattle.config_rules.specs.Template.{Part, Template, Gone, Parts, NoParts, AndModule, AndNested, heading_in, modules_of, scopes_of}
+use Rattle.config_rules.specs.Through.{Module}
+use Rattle.config_rules.specs.declared.tree.RecordPair.{RecordPair}
+use Rattle.config_rules.specs.declared.tree.TreeScope.{TreeScope}
+use Rattle.config_rules.specs.declared.tree.TreeInstance.{TreeInstance}
+use Rattle.config_rules.specs.declared.tree.Tree.{Tree}
 
 unfoldable pub pairs : (inside outside : List (List ℕ)) → List RecordPair
 pairs [] _ = []

@@ -1,10 +1,10 @@
 -- Answers one after the other: what an Ok at the end says of each.
 use Rattle.std.proofs.Common.{◌≡◌, Bool, true, false, not, Option, Some, None, Ok, Err, refl, ap, subst}
 use Rattle.cmesa_grammar.specs.Syntax.{Place}
-use Rattle.config_tree.specs.Through.{Answer, ◌>>=◌, unless}
-use Rattle.config_tree.specs.Tree.{unless_there}
-use Rattle.config_tree.specs.declared.fault.TreeCause.{TreeCause}
-use Rattle.config_tree.specs.declared.fault.TreeFault.{TreeFault}
+use Rattle.config_rules.specs.Through.{Answer, ◌>>=◌, unless}
+use Rattle.config_rules.specs.Tree.{unless_there}
+use Rattle.config_rules.specs.declared.fault.TreeCause.{TreeCause}
+use Rattle.config_rules.specs.declared.fault.TreeFault.{TreeFault}
 
 pub record Went {A B : Type 0} (x : Answer A) (f : A → Answer B) (b : B) : Type 0 where
   pub value : A

@@ -7,15 +7,15 @@ use Rattle.mesa_types.specs.declared.faces.Export.{Export}
 use Rattle.mesa_types.specs.declared.faces.Shape.{Shape}
 use Rattle.interface_records.specs.Faces.{SameFace, iodefs}
 use Rattle.cmesa_grammar.specs.Syntax.{Place, Config, Configuration}
-use Rattle.config_tree.specs.Components.{components}
-use Rattle.config_tree.specs.Template.{Parts, NoParts, AndModule, AndNested, parts_in, depth_of, modules_of, scopes_of}
-use Rattle.config_tree.specs.Through.{Answer, ◌>>=◌, Module, through, interfaces_imported, interfaces_exported}
-use Rattle.config_tree.specs.Grown.{grown}
-use Rattle.config_tree.specs.declared.fault.TreeCause.{TreeCause}
-use Rattle.config_tree.specs.declared.fault.TreeCause.TheVariants.{TooNested, TooManyInstances, InterfaceDiffers}
-use Rattle.config_tree.specs.declared.fault.TreeFault.TheVariants.{At}
-use Rattle.config_tree.specs.declared.tree.Component.{Component}
-use Rattle.config_tree.specs.declared.tree.Tree.{Tree}
+use Rattle.config_rules.specs.Components.{components}
+use Rattle.config_rules.specs.Template.{Parts, NoParts, AndModule, AndNested, parts_in, depth_of, modules_of, scopes_of}
+use Rattle.config_rules.specs.Through.{Answer, ◌>>=◌, Module, through, interfaces_imported, interfaces_exported}
+use Rattle.config_rules.specs.Grown.{grown}
+use Rattle.config_rules.specs.declared.fault.TreeCause.{TreeCause}
+use Rattle.config_rules.specs.declared.fault.TreeCause.TheVariants.{TooNested, TooManyInstances, InterfaceDiffers}
+use Rattle.config_rules.specs.declared.fault.TreeFault.TheVariants.{At}
+use Rattle.config_rules.specs.declared.tree.Component.{Component}
+use Rattle.config_rules.specs.declared.tree.Tree.{Tree}
 
 -- the first outermost statement under which a path has too many names
 unfoldable pub too_nested : Parts → Option Place

@@ -5,17 +5,17 @@ use Rattle.std.proofs.lemmas.Option.{none-some, same_Some, slice_get-get_or}
 use Rattle.mesa_base.specs.declared.limits.TheConstants.{INSTANCES}
 use Rattle.mesa_types.specs.declared.faces.Shape.{Shape}
 use Rattle.cmesa_grammar.specs.Syntax.{Place, Identifier}
-use Rattle.config_tree.specs.Template.{Part, Template, Gone, Parts, NoParts, AndModule, AndNested, heading_in, parts_in, modules_of, modules_below, scopes_of, scopes_below}
-use Rattle.config_tree.specs.Through.{Module}
-use Rattle.config_tree.specs.Grown.{scope_for, scopes_in, inner_scopes, shape_in, shape_of, instances_in, inner_instances, Starts, started_by, is_in, once, control_of, starts, grown}
-use Rattle.config_tree.specs.Tree.{too_many, made}
-use Rattle.config_tree.specs.InOrder.{InstanceIn, TreeIn}
-use Rattle.config_tree.specs.Laws.{TreesAreInOrder}
-use Rattle.config_tree.specs.declared.tree.TreeScope.{TreeScope}
-use Rattle.config_tree.specs.declared.tree.TreeInstance.{TreeInstance}
-use Rattle.config_tree.proofs.Answers.{went, ok_same, no_place}
-use Rattle.config_tree.proofs.Members.{Mem, mem_get, mem_split, map_get, flat_mem}
-use Rattle.config_tree.proofs.Templates.{IsOf, TemplateIn, PartsIn, outermost_in}
+use Rattle.config_rules.specs.Template.{Part, Template, Gone, Parts, NoParts, AndModule, AndNested, heading_in, parts_in, modules_of, modules_below, scopes_of, scopes_below}
+use Rattle.config_rules.specs.Through.{Module}
+use Rattle.config_rules.specs.Grown.{scope_for, scopes_in, inner_scopes, shape_in, shape_of, instances_in, inner_instances, Starts, started_by, is_in, once, control_of, starts, grown}
+use Rattle.config_rules.specs.Tree.{too_many, made}
+use Rattle.config_rules.specs.InOrder.{InstanceIn, TreeIn}
+use Rattle.config_rules.specs.Laws.{TreesAreInOrder}
+use Rattle.config_rules.specs.declared.tree.TreeScope.{TreeScope}
+use Rattle.config_rules.specs.declared.tree.TreeInstance.{TreeInstance}
+use Rattle.config_rules.proofs.Answers.{went, ok_same, no_place}
+use Rattle.config_rules.proofs.Members.{Mem, mem_get, mem_split, map_get, flat_mem}
+use Rattle.config_rules.proofs.Templates.{IsOf, TemplateIn, PartsIn, outermost_in}
 
 -- ---- instances
 

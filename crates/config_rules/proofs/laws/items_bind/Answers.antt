@@ -1,0 +1,5 @@
+use Rattle.config_rules.proofs.Binding.{items_bind}
+use Rattle.config_rules.proofs.laws.items_bind.Goals as goal
+
+pub returns : goal.returns
+returns c = items_bind

@@ -1,5 +1,0 @@
-use Rattle.config_tree.proofs.Entries.{entries_are_exporters}
-use Rattle.config_tree.proofs.laws.entries_are_exporters.Goals as goal
-
-pub returns : goal.returns
-returns c = entries_are_exporters
