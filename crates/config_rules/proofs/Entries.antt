@@ -12,25 +12,25 @@ use Rattle.config_rules.specs.Outgoing.{outgoing_at, entries_of, spot_of, export
 use Rattle.config_rules.specs.InOrder.{IsInward}
 use Rattle.config_rules.specs.Laws.{EntriesAreExporters}
 
-are_both : (a b : Bool) → a && b ≡ true → (a ≡ true) × (b ≡ true)
+pub are_both : (a b : Bool) → a && b ≡ true → (a ≡ true) × (b ≡ true)
 are_both true true h = (refl, refl)
 are_both true false h = absurd cc
 are_both false b h = absurd cc
 
 -- ---- what a filter keeps
 
-abbrev pick : Bool → Exporter → List Exporter
+abbrev pub pick : Bool → Exporter → List Exporter
 pick true e = e ∷ []
 pick false e = []
 
-filtered : {A : Type 0} (f : A → Exporter) (q : A → Bool) (x : A) (xs : List A) → map f (filter q (x ∷ xs)) ≡ pick (q x) (f x) ++ map f (filter q xs)
+pub filtered : {A : Type 0} (f : A → Exporter) (q : A → Bool) (x : A) (xs : List A) → map f (filter q (x ∷ xs)) ≡ pick (q x) (f x) ++ map f (filter q xs)
 filtered {A} f q x xs = by (q x)
   where
     by : (b : Bool) → map f (if b then x ∷ filter q xs else filter q xs) ≡ pick b (f x) ++ map f (filter q xs)
     by true = refl
     by false = refl
 
-filter_split : {A : Type 0} (f : A → Exporter) (q : A → Bool) (xs ys : List A) → map f (filter q (xs ++ ys)) ≡ map f (filter q xs) ++ map f (filter q ys)
+pub filter_split : {A : Type 0} (f : A → Exporter) (q : A → Bool) (xs ys : List A) → map f (filter q (xs ++ ys)) ≡ map f (filter q xs) ++ map f (filter q ys)
 filter_split f q [] ys = refl
 filter_split f q (x ∷ xs) ys =
     filtered f q x (xs ++ ys) ∙ ap (λ l. pick (q x) (f x) ++ l) (filter_split f q xs ys)
@@ -38,11 +38,11 @@ filter_split f q (x ∷ xs) ys =
 
 -- ---- scopes fall outward, so that an export reaches each scope at most once
 
-abbrev Falling : ℕ → List Spot → Type 0
+abbrev pub Falling : ℕ → List Spot → Type 0
 Falling n [] = Unit {0}
 Falling n (b ∷ bs) = (b.scope < n) × Falling b.scope bs
 
-lower : (a : Spot) (n : ℕ) (bs : List Spot) → Falling n bs → n ≤ a.scope → list_any (same_spot a) bs ≡ false
+pub lower : (a : Spot) (n : ℕ) (bs : List Spot) → Falling n bs → n ≤ a.scope → list_any (same_spot a) bs ≡ false
 lower a n [] h l = refl
 lower a n (b ∷ bs) h l = by (nat_eq a.scope b.scope) refl (lower a b.scope bs h.1 (omega (arith, l, h.0)))
   where
@@ -86,7 +86,7 @@ module _ (t : Tree) (inward : IsInward t) where
       by None e g = absurd (let s : Stays ≡ Goes b = g in cc)
       by (Some s) e g = inward a.scope b.scope s e (around_goes s.around (outside_of s.exports a.record_name) b g)
 
-  falls : (n : ℕ) (a : Spot) → Falling (suc a.scope) (reach n t a)
+  pub falls : (n : ℕ) (a : Spot) → Falling (suc a.scope) (reach n t a)
   unfolding reach
   falls zero a = tt
   falls (suc n) a = (omega arith, falls_on n a (falls n) (step (λ s. s.exports) t a) (λ b h. steps_down a b h))
@@ -118,7 +118,7 @@ module _ (t : Tree) (a : Spot) (name : List ℕ) where
 
 -- ---- the number of an export is where it is found
 
-abbrev AllFound : Tree → List Outlet → Type 0
+abbrev pub AllFound : Tree → List Outlet → Type 0
 AllFound t [] = Unit {0}
 AllFound t (o ∷ os) = (export_of t o.exporter ≡ Some o.gives) × AllFound t os
 
@@ -149,7 +149,7 @@ module _ (t : Tree) where
       (found_of i 0 x.scope x x.exports [] x.shape.exports (ap (λ l. slice_get l i) whole ∙ ap (λ k. slice_get (before ++ x ∷ xs) k) number ∙ seam before x xs) refl refl)
       (found_from (before ++ x ∷ []) xs (suc i) (whole ∙ sym (append_assoc before (x ∷ []) xs)) (omega (arith, number, length-append before (x ∷ []))))
 
-  all_found : AllFound t (outlets t)
+  pub all_found : AllFound t (outlets t)
   all_found = found_from [] t.instances 0 refl refl
 
   module _ (inward : IsInward t) (a : Spot) (name : List ℕ) where

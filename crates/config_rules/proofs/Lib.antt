@@ -1,5 +1,5 @@
 pub mod Answers
-pub mod Binding
+pub mod Choosing
 pub mod DifferingFaces
 pub mod Entries
 pub mod FirstFaults

@@ -54,10 +54,10 @@ module _ (modules : List Module) where
   mutual
     unfolding instances_in inner_instances modules_of modules_below
 
-    template_length : (path : List (List ℕ)) (s n : ℕ) (t : Template) → length (instances_in modules path s n t) ≡ modules_of t
+    pub template_length : (path : List (List ℕ)) (s n : ℕ) (t : Template) → length (instances_in modules path s n t) ≡ modules_of t
     template_length path s n (Gone h ps) = parts_length path s n ps
 
-    parts_length : (path : List (List ℕ)) (s n : ℕ) (ps : Parts) → length (inner_instances modules path s n ps) ≡ modules_below ps
+    pub parts_length : (path : List (List ℕ)) (s n : ℕ) (ps : Parts) → length (inner_instances modules path s n ps) ≡ modules_below ps
     parts_length path s n NoParts = refl
     parts_length path s n (AndModule p c ps) = let h = parts_length path s n ps in omega (arith, h)
     parts_length path s n (AndNested p t ps) =
@@ -143,10 +143,10 @@ get_cases (y ∷ xs) ys (suc k) x e = ⊎_elim (λ h. inl h) (λ h. inr (h.0, om
 mutual
   unfolding scopes_in inner_scopes scopes_of scopes_below
 
-  scopes_length : (around next : ℕ) (t : Template) → length (scopes_in around next t) ≡ scopes_of t
+  pub scopes_length : (around next : ℕ) (t : Template) → length (scopes_in around next t) ≡ scopes_of t
   scopes_length around next (Gone h ps) = inner_length around next ps
 
-  inner_length : (around next : ℕ) (ps : Parts) → length (inner_scopes around next ps) ≡ scopes_below ps
+  pub inner_length : (around next : ℕ) (ps : Parts) → length (inner_scopes around next ps) ≡ scopes_below ps
   inner_length around next NoParts = refl
   inner_length around next (AndModule p c ps) = inner_length around next ps
   inner_length around next (AndNested p t ps) =

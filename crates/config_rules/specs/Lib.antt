@@ -1,3 +1,4 @@
+pub mod Bindings
 pub mod Components
 pub mod Exporters
 pub mod Grown

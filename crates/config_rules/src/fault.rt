@@ -1,4 +1,4 @@
-use mesa_base::Place;
+use mesa_base::{OutOfMemory, Place};
 
 /// Why a configuration has no tree.
 #[derive(Clone, Copy)]
@@ -19,4 +19,15 @@ pub enum TreeCause {
 pub enum TreeFault {
     At(TreeCause, Place),
     Memory,
+}
+
+impl From<OutOfMemory> for TreeFault {
+    ghost use Rattle.std.specs.Prelude.{◌≡◌};
+    ghost use Rattle.config_rules.specs.declared.fault.TreeFault.TheVariants.{Memory};
+
+    ghost from_gives = { λ _ fault. fault ≡ Memory };
+
+    fn from(_: OutOfMemory) -> TreeFault {
+        TreeFault::Memory
+    }
 }

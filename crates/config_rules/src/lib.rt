@@ -4,11 +4,12 @@
 
 mod fault;
 mod laws;
+mod letting;
 mod tree;
 
 pub use fault::{TreeCause, TreeFault};
 pub use laws::{entries_are_exporters, items_bind, trees_are_in_order};
 pub use tree::{
-    Component, Components, Exporter, Outgoing, RecordPair, RecordPairs, Tree, TreeInstance,
-    TreeInstances, TreeScope, TreeScopes,
+    Binding, BindingList, BindingLists, Component, Components, Exporter, Outgoing, RecordPair,
+    RecordPairs, Shapes, Tree, TreeInstance, TreeInstances, TreeScope, TreeScopes,
 };

@@ -11,6 +11,9 @@ pub struct Component {
 
 pub type Components = List<Component>;
 
+/// What is known of components, in the order of their first mention.
+pub type Shapes = List<Shape>;
+
 /// A record of a scope, and the one that stands for it in the scope around.
 #[derive(Drop)]
 pub struct RecordPair {
@@ -65,3 +68,17 @@ pub struct Outgoing {
     pub record_name: Name,
     pub exporter: Exporter,
 }
+
+/// What a link of an instance is bound to: nothing yet, so that it is left to the loader; or the procedure, or the signal, of
+/// this number of an instance (the instance's number comes first).
+#[derive(Clone, Copy)]
+pub enum Binding {
+    Left,
+    To(u32, u32),
+}
+
+/// The links of an instance, in the order of its module's links.
+pub type BindingList = List<Binding>;
+
+/// For each instance, in order, its links.
+pub type BindingLists = List<BindingList>;

@@ -1,4 +1,4 @@
-use Rattle.config_rules.proofs.Binding.{items_bind}
+use Rattle.config_rules.proofs.Choosing.{items_bind}
 use Rattle.config_rules.proofs.laws.items_bind.Goals as goal
 
 pub returns : goal.returns
