@@ -1,0 +1,10 @@
+pub mod AnswerLaws
+pub mod Counting
+pub mod GoingLaws
+pub mod HeadingLaws
+pub mod InstanceLaws
+pub mod ListingLaws
+pub mod MentionLaws
+pub mod ModuleLaws
+pub mod PlaceLaws
+pub mod Turns

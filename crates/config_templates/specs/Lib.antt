@@ -1,0 +1,12 @@
+pub mod Answers
+pub mod Clipped
+pub mod Coding
+pub mod Falls
+pub mod Found
+pub mod Going
+pub mod Known
+pub mod Mentioned
+pub mod Modules
+pub mod Places
+pub mod Shown
+pub mod Size
