@@ -1,0 +1,12 @@
+pub mod Ending
+pub mod Going
+pub mod Growths
+pub mod Halfway
+pub mod LateFaults
+pub mod NotedShapes
+pub mod Noting
+pub mod Outlets
+pub mod Pairing
+pub mod Pairs
+pub mod SingleTrees
+pub mod Starting

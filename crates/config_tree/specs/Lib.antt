@@ -1,0 +1,9 @@
+pub mod Ended
+pub mod FaceKeys
+pub mod Going
+pub mod Growing
+pub mod Noted
+pub mod Outlines
+pub mod Outward
+pub mod Places
+pub mod Started
