@@ -1,0 +1,13 @@
+pub mod Answered
+pub mod Bound
+pub mod Found
+pub mod Holding
+pub mod Indexing
+pub mod Linking
+pub mod Looping
+pub mod Numbering
+pub mod Ordered
+pub mod Outlets
+pub mod Putting
+pub mod Single
+pub mod Sources

@@ -1,0 +1,9 @@
+pub mod Bindings
+pub mod Choosing
+pub mod Exporting
+pub mod InOrder
+pub mod Index
+pub mod Keys
+pub mod Laws
+pub mod Looking
+pub mod Places
