@@ -1,0 +1,15 @@
+pub mod Chosen
+pub mod Elements
+pub mod Entries
+pub mod Kept
+pub mod Lawful
+pub mod Likeness
+pub mod Modules
+pub mod Ordered
+pub mod Rows
+pub mod Running
+pub mod Single
+pub mod Standing
+pub mod Using
+pub mod Wanted
+pub mod Wanting
