@@ -1,0 +1,6 @@
+//! The run of an image that is linked from a configuration's tree, in the words of what the tree's program means.
+#![tactic(auto)]
+
+mod running;
+
+pub use running::{TypedModules, run_image};
