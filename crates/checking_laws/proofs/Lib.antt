@@ -1,0 +1,17 @@
+pub mod Constants
+pub mod Declarations
+pub mod Expressions
+pub mod FacesBack
+pub mod Heads
+pub mod Lists
+pub mod Marks
+pub mod Modules
+pub mod Names
+pub mod Noticed
+pub mod Once
+pub mod Stamps
+pub mod Statements
+pub mod Uses
+pub mod Using
+pub mod Values
+pub mod Written
