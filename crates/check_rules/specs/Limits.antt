@@ -1,12 +1,14 @@
 -- Which types keep their limits, inside and out: words, depth and elements (rule of this project).
 use Rattle.std.specs.Prelude.{◌≡◌, ◌≤◌, List, [], ◌∷◌, length, Some}
 use Rattle.mesa_base.specs.declared.limits.TheConstants.{TYPE_WORDS, TYPE_DEPTH, ENUMERATION_ELEMENTS}
-use Rattle.interface_records.specs.PlainTypes.{PlainType, Integer, Cardinal, Boolean, Character, String, Enumeration, Subrange, Array, Record, Parts, NoPart, AndPart, PlainField, PlainItem, PlainConstant, PlainName, PlainInterface, base_of, words_of, depth_of}
+use Rattle.interface_records.specs.PlainTypes.{PlainType, Integer, Cardinal, LongInteger, LongCardinal, Boolean, Character, String, Enumeration, Subrange, Array, Record, Parts, NoPart, AndPart, PlainField, PlainItem, PlainConstant, PlainName, PlainInterface, base_of, words_of, depth_of}
 
 unfoldable mutual
   pub KeepsLimits : PlainType → Type 0
   KeepsLimits Integer = Unit {0}
   KeepsLimits Cardinal = Unit {0}
+  KeepsLimits LongInteger = Unit {0}
+  KeepsLimits LongCardinal = Unit {0}
   KeepsLimits Boolean = Unit {0}
   KeepsLimits Character = Unit {0}
   KeepsLimits String = Unit {0}

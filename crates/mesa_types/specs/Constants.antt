@@ -1,8 +1,10 @@
 -- Which expressions are constant (Language Manual, chapter 2): a literal, and an operator over constants that raises nothing.
--- A constant's name, TRUE and FALSE are numbers in the typed tree already; a string's literal has no word.
+-- A constant's name, TRUE and FALSE are numbers in the typed tree already; a string's literal has no word. The value of an
+-- ordinal constant is its word, that of a LONG one its number as its two words spell it.
 use Rattle.std.specs.Prelude.{ℕ, Bool, true, false, not, ◌&&◌, ◌||◌, Option, Some, None}
-use Rattle.mesa_types.specs.Typed.{Expr, Number, Checked, Operate, Negate, Relate, Within, Not, AllOf, SomeOf, Exprs, NoExprs, AndExpr, Operations, NoOperation, Then, Between}
+use Rattle.mesa_types.specs.Typed.{Expr, Number, LongNumber, Checked, Converted, Operate, OperateLong, Negate, NegateLong, Relate, RelateLong, Within, WithinLong, Not, AllOf, SomeOf, Exprs, NoExprs, AndExpr, Operations, NoOperation, Then, Between}
 use Rattle.mesa_types.specs.Operators.{Tried, Fine, Faulty, opposite, truth, is_true, related, lies_in, checked, tried}
+use Rattle.mesa_types.specs.Longs.{opposite_long, related_long, lies_in_long, tried_long, converted}
 
 infixl 10 ◌>>=◌
 abbrev pub ◌>>=◌ : {A B : Type 0} → Option A → (A → Option B) → Option B
@@ -17,15 +19,25 @@ fine (Faulty f) = None
 unfoldable mutual
   pub constant : Expr → Option ℕ
   constant (Number n) = Some n
+  constant (LongNumber n) = Some n
   constant (Checked r e) = constant e >>= λ x. fine (checked r x)
+  constant (Converted c e) = constant e >>= λ x. fine (converted c x)
   constant (Operate e os) = constant e >>= constant_run os
+  constant (OperateLong e os) = constant e >>= constant_long_run os
   constant (Negate e) = constant e >>= λ x. Some (opposite x)
+  constant (NegateLong e) = constant e >>= λ x. Some (opposite_long x)
   constant (Relate b o d e) = constant d >>= λ x. constant e >>= λ y. Some (truth (related o b x y))
+  constant (RelateLong b o d e) = constant d >>= λ x. constant e >>= λ y. Some (truth (related_long o b x y))
   constant (Within b e (Between f p g q)) = do
     x ← constant e
     y ← constant f
     z ← constant g
     Some (truth (lies_in b x p y q z))
+  constant (WithinLong b e (Between f p g q)) = do
+    x ← constant e
+    y ← constant f
+    z ← constant g
+    Some (truth (lies_in_long b x p y q z))
   constant (Not e) = constant e >>= λ x. Some (truth (not (is_true x)))
   constant (AllOf es) = all_true es >>= λ b. Some (truth b)
   constant (SomeOf es) = some_true es >>= λ b. Some (truth b)
@@ -39,6 +51,14 @@ unfoldable mutual
     y ← constant e
     z ← fine (tried o x y)
     constant_run os z
+
+  -- of a run over LONG numbers, in which nothing is checked
+  pub constant_long_run : Operations → ℕ → Option ℕ
+  constant_long_run NoOperation x = Some x
+  constant_long_run (Then r o e os) x = do
+    y ← constant e
+    z ← fine (tried_long o x y)
+    constant_long_run os z
 
   -- AND and OR are over constants too, so that each of their operands is one
   pub all_true : Exprs → Option Bool
