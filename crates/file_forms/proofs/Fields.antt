@@ -1,18 +1,15 @@
 -- The laws of fields: numbers, bytes as they are, what takes no bytes.
-use Rattle.std.proofs.Common.{◌≡◌, ℕ, zero, suc, ◌+◌, ◌*◌, ◌^◌, ◌<◌, ◌≤◌, ◌⊎◌, inl, inr, Bool, true, false, cond, ltb, List, [], ◌∷◌, ◌++◌, length, get_or, take, drop, Option, Some, None, Result, Ok, Err, refl, sym, ap, subst, ◌∙◌, append_assoc, arith}
-use Rattle.std.specs.Prelude.{IsTrue, IsSomeAnd}
+use Rattle.std.proofs.Common.{◌≡◌, ℕ, ◌^◌, ◌<◌, ◌≤◌, inl, inr, cond, ltb, List, ◌++◌, length, take, drop, Ok, Err, refl, sym, ap, subst, ◌∙◌, arith}
 use Rattle.std.proofs.lemmas.Bool.{ltb-false, ltb-true, le-ltb, lt-ltb}
-use Rattle.std.proofs.lemmas.List.{take_at, drop_at, take-append-drop, length-append, length-take, append-nil}
+use Rattle.std.proofs.lemmas.List.{take_at, drop_at, take-append-drop, length-append, length-take}
 use Rattle.std.specs.Int.{bytes_high_first}
-use Rattle.mesa_base.specs.declared.file_fault.Field.{Field}
-use Rattle.mesa_base.specs.declared.file_fault.Field.TheVariants.{Length}
 use Rattle.file_forms.specs.declared.stopped.Stopped.{Stopped}
-use Rattle.file_forms.specs.declared.stopped.Stopped.TheVariants.{Cut, Bad}
-use Rattle.file_forms.specs.Forms.{Reading, ◌>>=◌, Form, Spells, Past, AreBytes, IsShort, number_in, number, raw, always, pair, led, ruled, built, spell_some, variant, FitEach, spell_each, read_each, BreakEach, several, list, choose}
+use Rattle.file_forms.specs.declared.stopped.Stopped.TheVariants.{Cut}
+use Rattle.file_forms.specs.Forms.{Spells, AreBytes, IsShort, number_in, number, raw, always}
 use Rattle.file_forms.specs.Lawful.{Lawful}
 use Rattle.file_forms.specs.Opening.{left_of}
-use Rattle.file_forms.proofs.Numbers.{bytes-drop, bytes-take, bytes-behind, length-number, number-again, number-below, number-bytes}
-use Rattle.file_forms.proofs.Steps.{bind_ok, bind_err, tested, ok_is, err_is, never, never_err, spelled_behind, shorter, read_spelled}
+use Rattle.file_forms.proofs.Numbers.{bytes-take, length-number, number-again, number-below, number-bytes}
+use Rattle.file_forms.proofs.Steps.{tested, ok_is, err_is, never, never_err}
 
 short_stops : {A : Type 0} (size : ℕ) (bytes : List ℕ) (x : A) (why : Stopped) → cond (ltb (length bytes) size) (Err Cut) (Ok x) ≡ Err why → IsShort size bytes why
 short_stops size bytes x why e =

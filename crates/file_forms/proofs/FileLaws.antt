@@ -1,5 +1,5 @@
 -- Bytes are a file of one value in one version, or have one first fault.
-use Rattle.std.proofs.Common.{◌≡◌, ℕ, ◌+◌, ◌-◌, ◌≤◌, ◌<◌, ◌⊎◌, inl, inr, Bool, true, false, cond, ltb, nat_eq, Result, Ok, Err, List, [], ◌∷◌, ◌++◌, length, take, drop, refl, sym, ap, subst, ◌∙◌, arith}
+use Rattle.std.proofs.Common.{◌≡◌, ℕ, ◌-◌, ◌≤◌, ◌<◌, true, false, cond, ltb, nat_eq, Result, Ok, Err, List, [], length, take, drop, refl, sym, ap, subst, ◌∙◌, arith}
 use Rattle.std.specs.Cmp.Lexicographic.{bytes_decides}
 use Rattle.std.proofs.lemmas.Bool.{le-ltb, lt-ltb}
 use Rattle.std.proofs.lemmas.List.{length-take, length-drop, length-append}
@@ -12,7 +12,7 @@ use Rattle.file_forms.specs.declared.stopped.Stopped.{Stopped}
 use Rattle.file_forms.specs.declared.stopped.Stopped.TheVariants as stop
 use Rattle.mesa_base.specs.declared.file_fault.FileFault.{FileFault}
 use Rattle.mesa_base.specs.declared.file_fault.FileFault.TheVariants.{BadMagic, TooLong, Cut, BadField, TrailingBytes, Memory}
-use Rattle.file_forms.specs.Forms.{Form, Spells, AreBytes, number, ruled}
+use Rattle.file_forms.specs.Forms.{Form, AreBytes, number, ruled}
 use Rattle.file_forms.specs.Opening.{left_of, HasLetters, OpensFault}
 use Rattle.file_forms.proofs.Numbers.{bytes-drop}
 use Rattle.file_forms.specs.Files.{is_version, versioned, IsFile, agrees, fault_of, FirstFault, too_long, bad_magic, ends, field, trailing}

@@ -8,4 +8,5 @@ pub mod OneSpelling
 pub mod NameLaws
 pub mod SeenNames
 pub mod FileLaws
+pub mod WrittenLaws
 pub mod Loops

@@ -1,7 +1,7 @@
 -- The turns of a loop over the elements of a list: what is still read from here is what is read from the start.
-use Rattle.std.proofs.Common.{◌≡◌, ℕ, zero, suc, ◌+◌, ◌-◌, ◌<◌, ◌≤◌, List, [], ◌∷◌, ◌++◌, Result, Ok, Err, refl, sym, ap, ◌∙◌, arith}
+use Rattle.std.proofs.Common.{◌≡◌, ℕ, suc, ◌+◌, ◌-◌, ◌<◌, ◌≤◌, List, [], ◌∷◌, ◌++◌, Ok, Err, refl, sym, ap, ◌∙◌, arith}
 use Rattle.file_forms.specs.declared.stopped.Stopped.{Stopped}
-use Rattle.file_forms.specs.Forms.{Reading, ◌>>=◌, Form, read_each}
+use Rattle.file_forms.specs.Forms.{Reading, Form, read_each}
 
 abbrev cut : {A : Type 0} → Stopped → Reading A
 cut why = Err why

@@ -1,18 +1,13 @@
 -- The laws of forms with a rule on the whole, of values made of parts, and of a choice between forms.
-use Rattle.std.proofs.Common.{◌≡◌, ℕ, zero, suc, ◌+◌, ◌*◌, ◌^◌, ◌<◌, ◌≤◌, ◌⊎◌, inl, inr, Bool, true, false, cond, ltb, List, [], ◌∷◌, ◌++◌, length, get_or, take, drop, Option, Some, None, Result, Ok, Err, refl, sym, ap, subst, ◌∙◌, append_assoc, arith}
-use Rattle.std.specs.Prelude.{IsTrue, IsSomeAnd}
-use Rattle.std.proofs.lemmas.Bool.{ltb-false, ltb-true, le-ltb, lt-ltb}
-use Rattle.std.proofs.lemmas.List.{take_at, drop_at, take-append-drop, length-append, length-take, append-nil}
-use Rattle.std.specs.Int.{bytes_high_first}
+use Rattle.std.proofs.Common.{◌≡◌, ℕ, ◌≤◌, inl, inr, Bool, true, false, cond, List, ◌++◌, length, Option, Some, None, Result, Ok, Err, refl, sym, ap, subst, ◌∙◌, arith}
+use Rattle.std.specs.Prelude.{IsSomeAnd}
 use Rattle.mesa_base.specs.declared.file_fault.Field.{Field}
-use Rattle.mesa_base.specs.declared.file_fault.Field.TheVariants.{Length}
 use Rattle.file_forms.specs.declared.stopped.Stopped.{Stopped}
-use Rattle.file_forms.specs.declared.stopped.Stopped.TheVariants.{Cut, Bad}
-use Rattle.file_forms.specs.Forms.{Reading, ◌>>=◌, Form, Spells, Past, AreBytes, IsShort, number_in, number, raw, always, pair, led, ruled, built, spell_some, variant, FitEach, spell_each, read_each, BreakEach, several, list, choose}
+use Rattle.file_forms.specs.declared.stopped.Stopped.TheVariants.{Bad}
+use Rattle.file_forms.specs.Forms.{◌>>=◌, Form, Spells, AreBytes, ruled, built, spell_some, variant, choose}
 use Rattle.file_forms.specs.Lawful.{Lawful}
 use Rattle.file_forms.specs.Opening.{left_of}
-use Rattle.file_forms.proofs.Numbers.{bytes-drop, bytes-take, bytes-behind, length-number, number-again, number-below, number-bytes}
-use Rattle.file_forms.proofs.Steps.{bind_ok, bind_err, tested, ok_is, err_is, never, never_err, spelled_behind, shorter, read_spelled}
+use Rattle.file_forms.proofs.Steps.{bind_ok, bind_err, tested, ok_is, err_is, never, never_err, read_spelled}
 
 module _ {A : Type 0} (f : Form A) (test : A → Bool) (field : Field) (law : Lawful f) where
   abbrev judged : ℕ → A × List ℕ → Result (A × List ℕ) Stopped

@@ -1,5 +1,5 @@
 -- The laws of names in files.
-use Rattle.std.proofs.Common.{◌≡◌, ℕ, List, length}
+use Rattle.std.proofs.Common.{ℕ, List, length}
 use Rattle.std.specs.Prelude.{not}
 use Rattle.mesa_base.specs.Name.{is_name}
 use Rattle.mesa_base.specs.declared.file_fault.Field.TheVariants as field

@@ -1,18 +1,10 @@
 -- The laws of a form behind another, which the first may tell.
-use Rattle.std.proofs.Common.{◌≡◌, ℕ, zero, suc, ◌+◌, ◌*◌, ◌^◌, ◌<◌, ◌≤◌, ◌⊎◌, inl, inr, Bool, true, false, cond, ltb, List, [], ◌∷◌, ◌++◌, length, get_or, take, drop, Option, Some, None, Result, Ok, Err, refl, sym, ap, subst, ◌∙◌, append_assoc, arith}
-use Rattle.std.specs.Prelude.{IsTrue, IsSomeAnd}
-use Rattle.std.proofs.lemmas.Bool.{ltb-false, ltb-true, le-ltb, lt-ltb}
-use Rattle.std.proofs.lemmas.List.{take_at, drop_at, take-append-drop, length-append, length-take, append-nil}
-use Rattle.std.specs.Int.{bytes_high_first}
-use Rattle.mesa_base.specs.declared.file_fault.Field.{Field}
-use Rattle.mesa_base.specs.declared.file_fault.Field.TheVariants.{Length}
+use Rattle.std.proofs.Common.{◌≡◌, ℕ, ◌≤◌, inl, inr, List, ◌++◌, length, Result, Ok, Err, refl, sym, ap, subst, ◌∙◌, append_assoc, arith}
 use Rattle.file_forms.specs.declared.stopped.Stopped.{Stopped}
-use Rattle.file_forms.specs.declared.stopped.Stopped.TheVariants.{Cut, Bad}
-use Rattle.file_forms.specs.Forms.{Reading, ◌>>=◌, Form, Spells, Past, AreBytes, IsShort, number_in, number, raw, always, pair, led, ruled, built, spell_some, variant, FitEach, spell_each, read_each, BreakEach, several, list, choose}
+use Rattle.file_forms.specs.Forms.{◌>>=◌, Form, Spells, Past, AreBytes, pair, led}
 use Rattle.file_forms.specs.Lawful.{Lawful}
 use Rattle.file_forms.specs.Opening.{left_of}
-use Rattle.file_forms.proofs.Numbers.{bytes-drop, bytes-take, bytes-behind, length-number, number-again, number-below, number-bytes}
-use Rattle.file_forms.proofs.Steps.{bind_ok, bind_err, tested, ok_is, err_is, never, never_err, spelled_behind, shorter, read_spelled}
+use Rattle.file_forms.proofs.Steps.{bind_ok, bind_err, ok_is, never, spelled_behind, shorter, read_spelled}
 
 module _ {A B : Type 0} (f : Form A) (g : A → Form B) (law : Lawful f) (laws : (a : A) → f.fits a → Lawful (g a)) where
   past_stops : (bytes : List ℕ) (why : Stopped) (a : A) (rest : List ℕ) → AreBytes bytes → f.read bytes ≡ Ok (a, rest) → (g a).read rest ≡ Err why → Past f bytes (λ a rest. (g a).breaks rest why)

@@ -1,17 +1,10 @@
 -- The steps of which readings are made, taken apart.
-use Rattle.std.proofs.Common.{◌≡◌, ℕ, zero, suc, ◌+◌, ◌*◌, ◌^◌, ◌<◌, ◌≤◌, ◌⊎◌, inl, inr, Bool, true, false, cond, ltb, List, [], ◌∷◌, ◌++◌, length, get_or, take, drop, Option, Some, None, Result, Ok, Err, refl, sym, ap, subst, ◌∙◌, append_assoc, arith}
-use Rattle.std.specs.Prelude.{IsTrue, IsSomeAnd}
-use Rattle.std.proofs.lemmas.Bool.{ltb-false, ltb-true, le-ltb, lt-ltb}
-use Rattle.std.proofs.lemmas.List.{take_at, drop_at, take-append-drop, length-append, length-take, append-nil}
-use Rattle.std.specs.Int.{bytes_high_first}
-use Rattle.mesa_base.specs.declared.file_fault.Field.{Field}
-use Rattle.mesa_base.specs.declared.file_fault.Field.TheVariants.{Length}
+use Rattle.std.proofs.Common.{◌≡◌, ℕ, ◌≤◌, ◌⊎◌, inl, inr, Bool, true, false, cond, List, length, Result, Ok, Err, refl, ap, subst, ◌∙◌, arith}
+use Rattle.std.proofs.lemmas.List.{length-append}
 use Rattle.file_forms.specs.declared.stopped.Stopped.{Stopped}
-use Rattle.file_forms.specs.declared.stopped.Stopped.TheVariants.{Cut, Bad}
-use Rattle.file_forms.specs.Forms.{Reading, ◌>>=◌, Form, Spells, Past, AreBytes, IsShort, number_in, number, raw, always, pair, led, ruled, built, spell_some, variant, FitEach, spell_each, read_each, BreakEach, several, list, choose}
+use Rattle.file_forms.specs.Forms.{◌>>=◌, Form, Spells, AreBytes}
 use Rattle.file_forms.specs.Lawful.{Lawful}
-use Rattle.file_forms.specs.Opening.{left_of}
-use Rattle.file_forms.proofs.Numbers.{bytes-drop, bytes-take, bytes-behind, length-number, number-again, number-below, number-bytes}
+use Rattle.file_forms.proofs.Numbers.{bytes-behind}
 
 pub bind_ok : {A B : Type 0} (r : Result A Stopped) (f : A → Result B Stopped) (y : B) → (r >>= f) ≡ Ok y → (x : A) × (r ≡ Ok x) × (f x ≡ Ok y)
 bind_ok (Ok x) f y e = (x, refl, e)

@@ -1,5 +1,5 @@
 -- Whole files: three letters, a version, a value in that version's form, and nothing behind it (rule of this project).
-use Rattle.std.specs.Prelude.{◌≡◌, ◌≢◌, ℕ, ◌+◌, ◌-◌, ◌≤◌, ◌<◌, Bool, true, false, ◌||◌, ◌==◌, List, [], ◌∷◌, ◌++◌, length, take, drop, bytes_eq}
+use Rattle.std.specs.Prelude.{◌≡◌, ℕ, ◌-◌, ◌≤◌, ◌<◌, Bool, true, false, ◌||◌, ◌==◌, List, [], length, take, drop, bytes_eq}
 use Rattle.mesa_base.specs.declared.limits.TheConstants.{FILE_BYTES}
 use Rattle.mesa_base.specs.declared.file_fault.Field.TheVariants.{Version}
 use Rattle.file_forms.specs.declared.stopped.Stopped.{Stopped}

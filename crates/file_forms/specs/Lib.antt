@@ -5,3 +5,4 @@ pub mod Files
 pub mod Opening
 pub mod Lawful
 pub mod Seen
+pub mod Written

@@ -1,4 +1,3 @@
-use Rattle.std.proofs.Common.{arith, refl}
 use Rattle.file_forms.specs.Names.{fresh_name}
 use Rattle.file_forms.proofs.Loops.{each_goes_on, each_is_cut, each_is_done}
 use Rattle.file_forms.proofs.cursor.FileCursor.distinct_names.Goals as goal
