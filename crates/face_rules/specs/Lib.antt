@@ -1,0 +1,5 @@
+pub mod FaceForms
+pub mod InterfaceForms
+pub mod Layers
+pub mod Sorts
+pub mod TypeForms
