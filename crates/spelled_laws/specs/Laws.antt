@@ -1,0 +1,42 @@
+-- What checking says that a file can spell is exactly what the forms of files fit, in either version (rule of this project).
+use Rattle.std.specs.Prelude.{ℕ, ◌↔◌, ◌≡◌, true, List, map, is_some}
+use Rattle.mesa_types.specs.declared.types.TypeTree.{TypeTree}
+use Rattle.mesa_types.specs.declared.types.FieldType.{FieldType}
+use Rattle.mesa_types.specs.declared.faces.Item.{Item}
+use Rattle.mesa_types.specs.declared.faces.Face.{Face}
+use Rattle.interface_records.specs.Faces.{iodefs}
+use Rattle.interface_records.specs.PlainTypes.{base_of, plain, plain_field, plain_item, plain_interface}
+use Rattle.interface_records.specs.Spelled.{TypeCanBeSpelled, FieldsCanBeSpelled, NamesCanBeSpelled, ItemCanBeSpelled, FaceCanBeSpelled, InterfaceCanBeSpelled}
+use Rattle.interface_records.specs.declared.interface.Interface.{Interface}
+use Rattle.face_rules.specs.TypeForms.{any, is_ordinal, types, fields}
+use Rattle.face_rules.specs.FaceForms.{item, face}
+use Rattle.face_rules.specs.InterfaceForms.{interface}
+
+-- a type, anywhere in a file
+abbrev pub TypesFit : Type 0
+TypesFit = (version : ℕ) (t : TypeTree) → TypeCanBeSpelled (plain t) ↔ (types version any).fits t
+
+-- and where an ordinal one is wanted
+abbrev pub OrdinalTypesFit : Type 0
+OrdinalTypesFit = (version : ℕ) (t : TypeTree) → (TypeCanBeSpelled (plain t) × (is_some (base_of (plain t)) ≡ true)) ↔ (types version is_ordinal).fits t
+
+-- fields, parameters or results
+abbrev pub FieldsFit : Type 0
+FieldsFit = (version : ℕ) (fs : List FieldType)
+    → (FieldsCanBeSpelled (map plain_field fs) × NamesCanBeSpelled (map plain_field fs)) ↔ (fields version).fits fs
+
+abbrev pub ItemsFit : Type 0
+ItemsFit = (version : ℕ) (i : Item) → ItemCanBeSpelled (plain_item i) ↔ (item version).fits i
+
+abbrev pub FacesFit : Type 0
+FacesFit = (version : ℕ) (f : Face) → FaceCanBeSpelled f.name f.stamp (map plain_item f.items) ↔ (face version).fits f
+
+abbrev pub InterfacesFit : Type 0
+InterfacesFit = (version : ℕ) (i : Interface) → InterfaceCanBeSpelled (plain_interface i) ↔ (interface version).fits i
+
+-- the face of an interface that fits does too
+abbrev pub FacesOfInterfacesFit : Type 0
+FacesOfInterfacesFit = (version : ℕ) (i : Interface) → (interface version).fits i → (face version).fits i.face
+
+abbrev pub BuiltInFits : Type 0
+BuiltInFits = (version : ℕ) → (interface version).fits iodefs
