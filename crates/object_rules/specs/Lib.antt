@@ -1,0 +1,10 @@
+pub mod CatchForms
+pub mod Exact
+pub mod Filling
+pub mod ImageFiles
+pub mod ImageForms
+pub mod Instructions
+pub mod ModuleForms
+pub mod Numbers
+pub mod ObjectFiles
+pub mod Parts
