@@ -1,0 +1,50 @@
+//! The pieces of a line.
+
+ghost use Rattle.std.specs.Prelude.{◌≡◌, ◌≤◌, IsTrue, false};
+ghost use Rattle.line_pieces.specs.Outputs.{stream, PrintsAll, PrintsPrefix, HasFaulted, Receives};
+ghost use Rattle.line_pieces.specs.Joined.{bytes_of, joined};
+
+use crate::sending::{send, send_dotted, send_path};
+use crate::stamps::stamp_digits;
+use mesa_base::{Decimal, Name, Sink};
+
+/// A piece of a line.
+#[derive(Clone, Copy)]
+pub enum Piece<'a> {
+    Text(&'a str),
+    Bytes(&'a [u8]),
+    Number(u64),
+    /// The number of a stamp, as 12 hexadecimal digits, upper case.
+    Digits(u64),
+    /// A path: its names with dots between.
+    Names(&'a [Name]),
+    /// Names, each with a dot behind it.
+    Dotted(&'a [Name]),
+}
+
+/// The pieces in order, each only where those before were taken.
+pub fn say_all<E: Sink>(pieces: &[Piece<'_>], err: &mut E)
+    ensures { Receives (joined pieces.now) (stream (E.written err.old) (E.faults err.old)) (stream (E.written err.new) (E.faults err.new)) }
+{
+    for piece in pieces {
+        if !send_piece(*piece, err) {
+            break;
+        }
+    }
+}
+
+fn send_piece<E: Sink>(piece: Piece<'_>, err: &mut E) -> bool
+    ensures whole { IsTrue result → PrintsAll (bytes_of piece.entry) (stream (E.written err.old) (E.faults err.old)) (stream (E.written err.new) (E.faults err.new)) }
+    ensures cut { result ≡ false → PrintsPrefix (bytes_of piece.entry) (stream (E.written err.old) (E.faults err.old)) (stream (E.written err.new) (E.faults err.new)) }
+    ensures fault { result ≡ false → HasFaulted (stream (E.written err.old) (E.faults err.old)) (stream (E.written err.new) (E.faults err.new)) }
+    ensures faults_stay { E.faults err.old ≤ E.faults err.new }
+{
+    match piece {
+        Piece::Text(text) => send(text.as_bytes(), err),
+        Piece::Bytes(bytes) => send(bytes, err),
+        Piece::Number(number) => send(Decimal::of(number).as_bytes(), err),
+        Piece::Digits(stamp) => send(&stamp_digits(stamp), err),
+        Piece::Names(path) => send_path(path, err),
+        Piece::Dotted(names) => send_dotted(names, err),
+    }
+}
