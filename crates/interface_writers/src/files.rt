@@ -28,7 +28,7 @@ fn put_file(out: &mut FileWriter, interface: &Interface) -> Result<(), OutOfMemo
 }
 
 /// The file of the interface, in version 2. TooLarge, want of memory aside, exactly where the file would have more than
-/// 536,870,912 bytes; then it takes no more memory than such a file and ends soon, also where the interface spells far more.
+/// 536,870,912 bytes; then it ends soon, and none of the bytes are kept, also where the interface spells far more.
 pub fn write_interface(alloc: Global, interface: &Interface) -> Result<Bytes, WriteFault>
     requires { (form.interface 2).fits interface.now }
     ensures ok { IfOk result (λ bytes. form.IsInterfaceFile 2 interface.now bytes) }
