@@ -1,0 +1,3 @@
+pub mod CodeBytes
+pub mod ObjectBytes
+pub mod Spelling
