@@ -1,0 +1,4 @@
+pub mod CodeFits
+pub mod Modules
+pub mod ObjectFits
+pub mod Opcodes
