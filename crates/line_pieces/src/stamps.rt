@@ -4,12 +4,15 @@ ghost use Rattle.std.specs.Prelude.{◌≡◌, ◌<◌};
 ghost use Rattle.line_pieces.specs.Texts as text;
 ghost use Rattle.line_pieces.specs.Texts.{hexadecimal_digit, stamp_text};
 
-
 fn digit(value: u8) -> u8
     requires { value < 16 }
     ensures { result ≡ hexadecimal_digit value }
 {
-    if value < 10 { b'0' + value } else { b'7' + value }
+    if value < 10 {
+        b'0' + value
+    } else {
+        b'7' + value
+    }
 }
 
 /// The digit that counts these units.

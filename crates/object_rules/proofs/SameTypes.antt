@@ -84,7 +84,7 @@ origin_same : (a b : Origin) → same_origin a b ≡ true → a ≡ b
 origin_same a b e =
     let r = both_right (bytes_eq a.«module» b.«module») _ e in
     built a.«module» b.«module» (bytes_same a.«module» b.«module» (both_left _ _ e)) a.stamp b.stamp (stamp_same a.stamp b.stamp (both_left _ _ r))
-      a.number b.number (eqb-true a.number b.number (both_right (same_stamp a.stamp b.stamp) _ r))
+    a.number b.number (eqb-true a.number b.number (both_right (same_stamp a.stamp b.stamp) _ r))
   where
     built : (m n : List ℕ) → m ≡ n → (s r : Option ℕ) → s ≡ r → (i j : ℕ) → i ≡ j
         → let x : Origin = record { «module» = m; stamp = s; number = i } in let y : Origin = record { «module» = n; stamp = r; number = j } in x ≡ y
@@ -198,8 +198,8 @@ type_back : (x : TypeTree) → tree_of (plain x) ≡ x
 unfolding plain
 type_back x =
     ind-TypeTree TypeBack FieldBack
-      (λ x y is. subst (λ z. TypeBack (roll-TypeTree z)) is (type_here y))
-      (λ x y is. subst (λ z. FieldBack (roll-FieldType z)) is (field_here y)) x
+    (λ x y is. subst (λ z. TypeBack (roll-TypeTree z)) is (type_here y))
+    (λ x y is. subst (λ z. FieldBack (roll-FieldType z)) is (field_here y)) x
 
 pub type_same : (a b : TypeTree) → same (plain a) (plain b) ≡ true → a ≡ b
 type_same a b e = sym (type_back a) ∙ ap tree_of (plain_same (plain a) (plain b) e) ∙ type_back b
@@ -240,10 +240,11 @@ kind_self item.Error = refl
 -- the test of signatures tells those that are the same
 pub signature_same : (a b : Item) → same_signature a b ≡ true → SameSignature a b
 signature_same a b e =
-    let r = both_right (same_kind a.kind b.kind) (same_types a.takes b.takes && same_types a.gives b.gives) e in
-    ( kind_same a.kind b.kind (both_left _ _ e)
-    , types_same a.takes b.takes (both_left _ (same_types a.gives b.gives) r)
-    , types_same a.gives b.gives (both_right (same_types a.takes b.takes) _ r) )
+    let r = both_right (same_kind a.kind b.kind) (same_types a.takes b.takes && same_types a.gives b.gives) e in (
+      kind_same a.kind b.kind (both_left _ _ e),
+      types_same a.takes b.takes (both_left _ (same_types a.gives b.gives) r),
+      types_same a.gives b.gives (both_right (same_types a.takes b.takes) _ r),
+    )
 
 pub signature_alike : (a b : Item) → SameSignature a b → same_signature a b ≡ true
 signature_alike a b h =
