@@ -1,0 +1,4 @@
+pub mod Loops
+pub mod ElementLaws
+pub mod WholeLaws
+pub mod VersionLaws
