@@ -25,7 +25,7 @@ use Rattle.object_rules.specs.ImageForms.{path, has_path, instance_form, module_
 use Rattle.object_rules.specs.Parts.{parts_of}
 use Rattle.spelled_laws.proofs.Names.{name_fits}
 use Rattle.object_rules.proofs.SameTypes.{names_same}
-use Rattle.linked_files.specs.Laws.{PathCanBeSpelled}
+use Rattle.spelled_trees.specs.Paths.{PathCanBeSpelled}
 use Rattle.linked_files.proofs.Known.{World, object_for, shape_spelled}
 use Rattle.linked_files.proofs.Links.{each_of, modules, instances, kept_at, module_is, few_instances}
 
@@ -124,7 +124,7 @@ module _ (W : World) where
       let r = had (take k (instances W)) x.path e in
       let t = taken (instances W) k r.place r.its r.there in
       let y = get_map (instance_of W.tree.instances) W.tree.instances r.place r.its t.1 in
-      let same : r.place ≡ k = W.can.spelled.differ r.place k y.0 x y.1 at (ap (λ (i : Instance). i.path) y.2 ∙ r.same) in
+      let same : r.place ≡ k = W.can.spelled.named.differ r.place k y.0 x y.1 at (ap (λ (i : Instance). i.path) y.2 ∙ r.same) in
       let less = t.0 in
       omega (arith, same, less))
 
@@ -133,7 +133,7 @@ module _ (W : World) where
   instance_fits k x at =
       let less = module_there k x at in
       let few = few_modules in (
-        (path_fits x.path (there PathOf W.tree.instances k x W.can.spelled.paths at), not_from_false (has_path (take k (instances W)) x.path) (new_path k x at)),
+        (path_fits x.path (there PathOf W.tree.instances k x W.can.spelled.named.paths at), not_from_false (has_path (take k (instances W)) x.path) (new_path k x at)),
         (omega (arith, less, few), lt-ltb (many_kept W.tree.instances 0 x.component) (length (modules W)) less),
       )
 
@@ -177,4 +177,4 @@ module _ (W : World) where
       let p = map_mem (offer_of q.0.inside) (filter (goes_to W.tree (in_outermost q.0.inside)) (outlets W.tree)) o q.2 in
       let f = mem_filter (goes_to W.tree (in_outermost q.0.inside)) (outlets W.tree) p.0 p.1 in
       subst (offer (modules W) (instances W)).fits p.2
-      (offer_fits q.0 (all_mem (λ (r : RecordPair). IsName r.inside) (outermost_exports W.tree.scopes) W.can.spelled.records q.0 q.1) p.0 f.0)
+      (offer_fits q.0 (all_mem (λ (r : RecordPair). IsName r.inside) (outermost_exports W.tree.scopes) W.can.spelled.named.records q.0 q.1) p.0 f.0)

@@ -1,32 +1,21 @@
 -- An image that is linked from objects which files can spell has a file (rule of this project).
-use Rattle.std.specs.Prelude.{◌≡◌, ℕ, ◌≤◌, List, length, map, All, None, Some, slice_get}
-use Rattle.mesa_base.specs.Name.{IsName}
-use Rattle.mesa_base.specs.declared.limits.TheConstants.{CONFIGURATION_DEPTH}
+use Rattle.std.specs.Prelude.{◌≡◌, ℕ, List, length, map, All, None}
 use Rattle.mesa_types.specs.declared.faces.Shape.{Shape}
 use Rattle.object_files.specs.declared.object.Object.{Object}
-use Rattle.config_rules.specs.declared.tree.RecordPair.{RecordPair}
 use Rattle.config_rules.specs.declared.tree.Tree.{Tree}
-use Rattle.config_rules.specs.declared.tree.TreeInstance.{TreeInstance}
 use Rattle.config_rules.specs.InOrder.{TreeIn}
 use Rattle.config_rules.specs.Resolves.{wants, first_bad}
 use Rattle.config_rules.specs.Tree.{Agree, all_faces}
-use Rattle.link_tables.specs.Linked.{outermost_exports, wanted_of, offers, image_of}
+use Rattle.link_tables.specs.Linked.{wanted_of, offers, image_of}
 use Rattle.interface_records.specs.Spelled.{InFourBytes}
 use Rattle.object_rules.specs.ImageForms.{parts_of_image, image_form}
 use Rattle.object_rules.specs.ModuleForms.{module_form}
 use Rattle.object_rules.specs.Parts.{parts_of}
+use Rattle.spelled_trees.specs.Paths.{PathsAndRecords}
 
--- a path has 1 to 32 names
-pub record PathCanBeSpelled (path : List (List ℕ)) : Type 0 where
-  pub some : 1 ≤ length path
-  pub few : length path ≤ CONFIGURATION_DEPTH
-  pub names : All IsName path
-
--- no two instances have one path, records have names, and files can count what is wanted, offered and started
+-- paths and records that files can spell, and no more is wanted, offered and started than files can count
 pub record TreeCanBeSpelled (t : Tree) : Type 0 where
-  pub paths : All (λ (x : TreeInstance). PathCanBeSpelled x.path) t.instances
-  pub differ : (j k : ℕ) (x y : TreeInstance) → slice_get t.instances j ≡ Some x → slice_get t.instances k ≡ Some y → x.path ≡ y.path → j ≡ k
-  pub records : All (λ (r : RecordPair). IsName r.inside) (outermost_exports t.scopes)
+  pub named : PathsAndRecords t
   pub wanted : InFourBytes (length (wanted_of (wants t)))
   pub offered : InFourBytes (length (offers t))
   pub started : InFourBytes (length t.control)

@@ -1,0 +1,3 @@
+pub mod Lean
+pub mod Operands
+pub mod Whole

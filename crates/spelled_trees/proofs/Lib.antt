@@ -1,0 +1,5 @@
+pub mod Apart
+pub mod Beneath
+pub mod Gone
+pub mod Parsed
+pub mod Trees
