@@ -1,0 +1,4 @@
+pub mod Views
+pub mod Raising
+pub mod Stepping
+pub mod Alike

@@ -1,0 +1,7 @@
+//! The law of images that differ in the depths alone.
+ghost use Rattle.depth_laws.specs.Laws.{DepthsDoNotMatter};
+
+/// A law: the machine runs images that differ in the depths beside their instructions alone to one output and one end, counting the same.
+pub fn depths_do_not_matter()
+    ensures { DepthsDoNotMatter }
+{}

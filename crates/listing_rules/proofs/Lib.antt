@@ -1,0 +1,4 @@
+pub mod TypeLaws
+pub mod PathLaws
+pub mod SameListing
+mod Examples
