@@ -44,11 +44,9 @@ fn words_of(alloc: Global, line: &str) -> Result<Words, OutOfMemory> {
     Ok(words)
 }
 
-/// The objects in memory that a call is made on.
+/// The streams in memory that a call is made on.
 #[derive(Drop)]
-struct Objects {
-    words: Words,
-    folder: MemoryFolder,
+struct Streams {
     input: MemorySource,
     out: MemorySink,
     err: MemorySink,
@@ -71,22 +69,20 @@ fn sink_of(alloc: Global, failing: &[u32]) -> Result<MemorySink, OutOfMemory> {
     MemorySink::new(alloc, 4096, failing)
 }
 
-fn objects_of(alloc: Global, call: &Call<'_>) -> Result<Objects, OutOfMemory> {
-    let words = words_of(alloc, call.words)?;
-    let folder = folder_with(alloc, call)?;
+fn streams_of(alloc: Global, call: &Call<'_>) -> Result<Streams, OutOfMemory> {
     let input = source_of(alloc, call)?;
     let out = sink_of(alloc, call.out)?;
     let err = sink_of(alloc, call.err)?;
-    Ok(Objects {
-        words,
-        folder,
-        input,
-        out,
-        err,
-    })
+    Ok(Streams { input, out, err })
 }
 
-fn counted<L: Ledger>(alloc: Global, blank: Blank, objects: &mut Objects) -> Status
+fn counted<L: Ledger>(
+    alloc: Global,
+    blank: Blank,
+    words: &Words,
+    folder: &mut MemoryFolder,
+    streams: &mut Streams,
+) -> Status
     requires name { blank.name ≡ L.name }
     requires parts { blank.parts ≡ L.parts }
     requires some { 0 < blank.parts }
@@ -94,18 +90,18 @@ fn counted<L: Ledger>(alloc: Global, blank: Blank, objects: &mut Objects) -> Sta
     let mut steps = Steps::<L>::new(blank);
     mesa(
         alloc,
-        &objects.words,
-        &mut objects.folder,
-        &mut objects.input,
-        &mut objects.out,
-        &mut objects.err,
+        words,
+        folder,
+        &mut streams.input,
+        &mut streams.out,
+        &mut streams.err,
         &mut steps,
     )
 }
 
-fn left_in(alloc: Global, status: Status, objects: &Objects) -> Result<Left, OutOfMemory> {
-    let out = List::from_slice(alloc, objects.out.bytes())?;
-    let err = List::from_slice(alloc, objects.err.bytes())?;
+fn left_in(alloc: Global, status: Status, streams: &Streams) -> Result<Left, OutOfMemory> {
+    let out = List::from_slice(alloc, streams.out.bytes())?;
+    let err = List::from_slice(alloc, streams.err.bytes())?;
     Ok(Left {
         status: status.code(),
         out,
@@ -113,10 +109,38 @@ fn left_in(alloc: Global, status: Status, objects: &Objects) -> Result<Left, Out
     })
 }
 
+fn called_on(
+    alloc: Global,
+    folder: &mut MemoryFolder,
+    call: &Call<'_>,
+) -> Result<Left, OutOfMemory> {
+    let words = words_of(alloc, call.words)?;
+    let mut streams = streams_of(alloc, call)?;
+    let status = counted::<Brand>(alloc, Blank::new(1), &words, folder, &mut streams);
+    left_in(alloc, status, &streams)
+}
+
 pub fn called(alloc: Global, call: &Call<'_>) -> Result<Left, OutOfMemory> {
-    let mut objects = objects_of(alloc, call)?;
-    let status = counted::<Brand>(alloc, Blank::new(1), &mut objects);
-    left_in(alloc, status, &objects)
+    let mut folder = folder_with(alloc, call)?;
+    called_on(alloc, &mut folder, call)
+}
+
+/// A call on this folder, without input, in which no call on the outside fails.
+pub fn left_on(
+    rt: &HostRuntime,
+    folder: &mut MemoryFolder,
+    words: &str,
+) -> Result<Left, OutOfMemory> {
+    let made = Call {
+        words,
+        text: &[],
+        bytes: &[],
+        folder: &[],
+        input: &[],
+        out: &[],
+        err: &[],
+    };
+    called_on(rt.alloc(), folder, &made)
 }
 
 /// A call without input, in which no call on the outside fails.

@@ -1,8 +1,10 @@
-//! Trials of `mesa` over objects in memory: limits, and calls that fail.
+//! Trials of `mesa` over objects in memory: configurations over several files, limits, and calls that fail.
 #![tactic(auto)]
 
 #[cfg(test)]
 mod calls;
+#[cfg(test)]
+mod configurations;
 #[cfg(test)]
 mod failing;
 #[cfg(test)]

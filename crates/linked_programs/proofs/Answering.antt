@@ -13,7 +13,7 @@ use Rattle.config_tree.proofs.Ending.{not_memory}
 use Rattle.bound_images.specs.Programs.{shape_of}
 use Rattle.linked_programs.specs.Laws.{IsOfShapes}
 use Rattle.linked_programs.specs.Modules.{AllCanBeLinked, CanBeLinked, shapes_of}
-use Rattle.linked_programs.proofs.Refusing.{shapes_in_order}
+use Rattle.linked_programs.proofs.Making.{shapes_in_order}
 use Rattle.linked_programs.proofs.InOrder.{in_order}
 use Rattle.linked_programs.proofs.OneTree.{singles_are_of, trees_are_of}
 

@@ -2,20 +2,20 @@
 //! file is touched.
 #![tactic(auto)]
 
-mod fault;
+mod binding;
 mod laws;
 mod linking;
+mod machines;
 mod objects;
-mod program;
 mod shapes;
 mod trees;
 
-pub use fault::LinkFault;
+pub use binding::{bound, let_bindings_go};
 pub use laws::{
     linkable_shapes_are_in_order, linked_images_are_built, linked_names_agree,
     singles_are_of_their_shape, singles_are_one, trees_are_of_their_shapes, trees_are_one,
 };
-pub use linking::{linked_image, readied};
+pub use linking::linked_image;
+pub use machines::{machine_of, readied};
 pub use objects::objects_of;
-pub use program::{LinkedProgram, linked_program};
 pub use trees::{config_tree_of, module_tree_of};

@@ -1,100 +1,108 @@
--- What comes of a file, whose bytes were read up to a byte past the limit.
-use Rattle.std.proofs.Common.{◌≡◌, ◌≢◌, ℕ, ◌≤◌, List, length, take, min, Option, Some, None, IfSome, refl, sym, ◌∙◌, ap, subst, arith}
-use Rattle.std.proofs.lemmas.List.{length-take, take_min}
-use Rattle.std.proofs.Math.Seq.{take-length}
-use Rattle.mesa_base.specs.Outside.{Files, Reads as FileReads}
-use Rattle.mesa_types.specs.Typed.{Module}
-use Rattle.syntax_trees.specs.declared.syntax.Module as syntax
-use Rattle.mesa_lexer.specs.Tokens.{HasLexFault, text_too_long, no_token, not_in_text, open_text, too_large, too_long}
-use Rattle.mesa_lexer.specs.declared.fault.SyntaxFault.{SyntaxFault}
-use Rattle.mesa_lexer.specs.declared.fault.LexFault.{LexFault}
-use Rattle.mesa_lexer.specs.declared.fault.LexFault.TheVariants as lex
-use Rattle.written_trees.specs.Laws.{IsTreeOf}
-use Rattle.module_texts.specs.declared.text_fault.TextFault.TheVariants as f
-use Rattle.module_texts.specs.declared.text_fault.TextFault.{TextFault}
-use Rattle.module_texts.specs.Texts.{Reads, HasSyntaxFault, HasFault, lexical, syntactic, not_yet, wrong}
-use Rattle.mesa_command.specs.Worlds.{Shelf, shelf}
-use Rattle.mesa_command.specs.Comes.{Refuses, fault, memory as want, HasModule}
-use Rattle.mesa_command.specs.Case.{Case, Refused, Memory}
+-- From what the parts of a call tell to the case that comes of its words.
+use Rattle.std.proofs.Common.{◌≡◌, ℕ, ◌+◌, ◌<◌, ◌^◌, Bool, true, false, ◌&&◌, ◌==◌, cond, List, [], ◌∷◌, ◌++◌, length, Option, Some, None, IfSome, All, refl, sym, ap, subst, ◌∙◌, arith}
+use Rattle.std.proofs.lemmas.Bool.Decides.{nat_tests}
+use Rattle.std.proofs.lemmas.List.{append-nil}
+use Rattle.std.specs.Str.Parse.{digits_value}
+use Rattle.mesa_base.specs.Outside.{Files, Writes, ChangesOnly}
+use Rattle.mesa_base.specs.Stamp.{all_hexadecimal, stamp_of}
+use Rattle.mesa_base.proofs.Hexadecimal.{whole_stamp_fits}
+use Rattle.interface_records.specs.Hosts.{IsHostItem}
+use Rattle.interface_records.specs.Spelled.{InSixBytes}
+use Rattle.interface_records.specs.declared.interface.Interface.{Interface}
+use Rattle.config_rules.specs.Components.{is_file_base}
+use Rattle.command_laws.specs.Laws.{WordsHaveOneForm}
+use Rattle.command_rules.specs.Case.{Case, Memory}
+use Rattle.command_rules.specs.Comes.{Written, stored, too_large, failed, memory, Stores, Spoils, Defines, not_defined, defined, Goes, Comes, goes, defines}
+use Rattle.command_rules.specs.Comes as rules
+use Rattle.command_rules.specs.Configurations.{Configured, source_in}
+use Rattle.command_rules.specs.Forms.{Form, Go, Define, HasForm, go, define, Source, module_file, interface_file}
+use Rattle.command_rules.specs.Modules.{interface_in}
+use Rattle.command_rules.specs.Passes.{Has, Trail}
+use Rattle.command_rules.specs.Passing.{Fails, Gives}
+use Rattle.command_rules.specs.Passing as passing
+use Rattle.command_rules.specs.Reading.{CalledAll, Onward}
+use Rattle.command_rules.specs.Worlds.{Shelf, Scene}
+use Rattle.command_rules.proofs.Passing.{called_both, onward_both, onward_same, rose_from}
+use Rattle.command_passes.specs.Stops.{stop_case}
+use Rattle.command_passes.specs.declared.stop.Stop.{Stop}
+use Rattle.command_passes.specs.declared.stop.Stop.TheVariants as stop
+use Rattle.command_sources.specs.Bound.{Unready}
+use Rattle.command_sources.specs.Bound as bound
+use Rattle.mesa_command.specs.Forms.{ComesOfForm, IsDefinition, IsWellFormed}
+use Rattle.mesa_command.specs.Ran.{GoesOn, unresolved, no_memory, ran}
 
--- a text that was read up to a byte past the limit is the whole one, or is no text at all
+-- ---- what the forms say of their parts
 
-is-whole : (part whole : List ℕ) → part ≡ take 1048577 whole → length part ≤ 1048576 → part ≡ whole
-is-whole part whole e few =
-    let short : length whole ≤ 1048576 = omega (arith, ap length e ∙ length-take 1048577 whole) in
-    let all : min 1048577 (length whole) ≡ length whole = omega arith in
-    e ∙ sym (take_min 1048577 whole) ∙ ap (λ n. take n whole) all ∙ take-length whole
+both_true : (a b : Bool) → (a && b) ≡ true → (a ≡ true) × (b ≡ true)
+both_true true b e = (refl, e)
+both_true false b e = absurd cc
 
--- a text with another lexical fault is not too long
-lexical-short : (text : List ℕ) (why : LexFault) → HasLexFault text why → (why ≡ lex.TextTooLong → ⊥) → length text ≤ 1048576
-lexical-short text lex.TextTooLong (text_too_long long) other = absurd (other refl)
-lexical-short text (lex.BadByte _) (no_token stops none) other = stops.not_long
-lexical-short text (lex.BadByte _) (not_in_text stops longest within) other = stops.not_long
-lexical-short text (lex.OpenString _) (open_text stops longest last) other = stops.not_long
-lexical-short text (lex.NumberTooLarge _) (too_large stops longest large) other = stops.not_long
-lexical-short text (lex.TokenTooLong _) (too_long stops longest long) other = stops.not_long
-lexical-short text lex.Memory x other = elim x [ ]
+chosen : (b : Bool) (v stamp : ℕ) → cond b (Some v) None ≡ Some stamp → (b ≡ true) × (v ≡ stamp)
+chosen true v stamp e = (refl, cc)
+chosen false v stamp e = absurd cc
 
-lexical-moves : (part whole : List ℕ) (why : LexFault) → part ≡ take 1048577 whole → (why ≡ lex.TextTooLong → ⊥) →
-    HasLexFault part why → HasLexFault whole why
-lexical-moves part whole why e other h = subst (λ t. HasLexFault t why) (is-whole part whole e (lexical-short part why h other)) h
+stamp_small : (word : List ℕ) (stamp : ℕ) → stamp_of word ≡ Some stamp → InSixBytes stamp
+stamp_small word stamp e =
+    let c = chosen ((length word == 12) && all_hexadecimal word) (digits_value 16 word) stamp e in
+    let b = both_true (length word == 12) (all_hexadecimal word) c.0 in
+    let long : length word ≡ 12 = let h = b.0 in grind (arith, nat_tests) in
+    subst InSixBytes c.1 (whole_stamp_fits word b.1 long)
 
-lexical-whole : (part whole : List ℕ) (why : LexFault) → part ≡ take 1048577 whole → HasLexFault part why → HasLexFault whole why
-lexical-whole part whole lex.TextTooLong e (text_too_long long) =
-    text_too_long (omega (arith, long, ap length e ∙ length-take 1048577 whole))
-lexical-whole part whole (lex.BadByte place) e h = lexical-moves part whole (lex.BadByte place) e (λ no. cc) h
-lexical-whole part whole (lex.OpenString place) e h = lexical-moves part whole (lex.OpenString place) e (λ no. cc) h
-lexical-whole part whole (lex.NumberTooLarge place) e h = lexical-moves part whole (lex.NumberTooLarge place) e (λ no. cc) h
-lexical-whole part whole (lex.TokenTooLong place) e h = lexical-moves part whole (lex.TokenTooLong place) e (λ no. cc) h
-lexical-whole part whole lex.Memory e x = elim x [ ]
+pub well_formed : (words : List (List ℕ)) (f : Form) → HasForm words f → IsWellFormed f
+well_formed _ _ (go source base turns named bounded) = named
+well_formed _ _ (define base word stamp named is) = record { named = named; six = stamp_small word stamp is }
 
-tree-whole : (part whole : List ℕ) (tree : syntax.Module) → part ≡ take 1048577 whole → IsTreeOf part tree → IsTreeOf whole tree
-tree-whole part whole tree e h = subst (λ t. IsTreeOf t tree) (is-whole part whole e h.are_its_own.not_long) h
+-- a form of words that have one of definitions is one
+pub is_definition : WordsHaveOneForm → (words : List (List ℕ)) (f : Form) (base : List ℕ) (stamp : ℕ) → HasForm words f → HasForm words (Define base stamp) → IsDefinition f
+is_definition one words f base stamp has also = subst IsDefinition (sym (one words f (Define base stamp) has also)) tt
 
-syntax-whole : (part whole : List ℕ) (why : SyntaxFault) → part ≡ take 1048577 whole → HasSyntaxFault part why → HasSyntaxFault whole why
-syntax-whole part whole why e h = subst (λ t. HasSyntaxFault t why) (is-whole part whole e h.has_tokens.not_long) h
+pub comes_of : (words : List (List ℕ)) (f : Form) (s t : Shelf) (old new : Scene) (case : Case) → HasForm words f → ComesOfForm f s t old new case
+    → Comes words s t old new case
+comes_of words (Go source base turns) s t old new case has h = goes source base turns case has h
+comes_of words (Define base stamp) s t old new case has h = defines base stamp case has h.0 h.1
 
-fault-whole : (part whole : List ℕ) (why : TextFault) → part ≡ take 1048577 whole → HasFault part why → HasFault whole why
-fault-whole part whole (f.Lexical _) e (lexical why h) = lexical why (lexical-whole part whole why e h)
-fault-whole part whole (f.Syntactic _) e (syntactic why h) = syntactic why (syntax-whole part whole why e h)
-fault-whole part whole f.NotYet e (not_yet tree h none) = not_yet tree (tree-whole part whole tree e h) none
-fault-whole part whole (f.Wrong _ _) e (wrong tree why h alone is) = wrong tree why (tree-whole part whole tree e h) alone is
-fault-whole part whole f.Memory e x = elim x [ ]
+-- ---- `compile NAME STAMP`
 
-reads-whole : (part whole : List ℕ) (m : Module) → part ≡ take 1048577 whole → Reads part m → Reads whole m
-reads-whole part whole m e r =
-    record { tree = r.tree; is_tree = tree-whole part whole r.tree e r.is_tree; alone = r.alone; is_checked = r.is_checked }
+pub no_room : (base : List ℕ) (stamp : ℕ) (s : Shelf) (why : Stop) → why ≡ stop.Memory → Defines base stamp s s (stop_case why)
+no_room base stamp s why e = subst (λ w. Defines base stamp s s (stop_case w)) (sym e) (not_defined Memory passing.memory (onward_same s))
 
-pub file-has : (file part : List ℕ) (files : Option Files) (faults misses : List ℕ → ℕ) (m : Module) →
-    IfSome files (λ all. FileReads all file 1048576 part) → Reads part m → HasModule file (shelf files faults misses) m
-file-has file part None faults misses m given r = record { text = part; holds = tt; reads = r }
-file-has file part (Some all) faults misses m given r =
-    record { text = given.whole; holds = given.is_there; reads = reads-whole part given.whole m given.bytes_are r }
+module _ (base text : List ℕ) (stamp : ℕ) (named : text ≡ module_file base) where
+  pub not_defined_so : (s t : Shelf) (case : Case) → Fails (interface_in text stamp) s t case → Onward s t → Defines base stamp s t case
+  not_defined_so s t case f on = not_defined case (subst (λ name. Fails (interface_in name stamp) s t case) named f) on
 
-refuses-part : (file part : List ℕ) (files : Option Files) (faults misses : List ℕ → ℕ) (folder' : Shelf) (why : TextFault) →
-    IfSome files (λ all. FileReads all file 1048576 part) → HasFault part why →
-    Refuses file (shelf files faults misses) folder' (Refused file why)
-refuses-part file part None faults misses folder' why given h = fault part why tt h
-refuses-part file part (Some all) faults misses folder' why given h =
-    fault given.whole why given.is_there (fault-whole part given.whole why given.bytes_are h)
+  module _ (s m : Shelf) (i : Interface) (g : Gives (interface_in text stamp) s m i) where
+    stores : (file bytes : List ℕ) (t : Shelf) → Stores file bytes m t → Stores file bytes s t
+    stores file bytes t h = subst (λ files. IfSome files (λ all. Writes all file bytes t.files)) g.asked.onward.files h
 
-refuses-as : (file part : List ℕ) (files : Option Files) (faults misses : List ℕ → ℕ) (folder' : Shelf) (why : TextFault) (case : Case) →
-    IfSome files (λ all. FileReads all file 1048576 part) → (why ≢ f.Memory → HasFault part why) →
-    (why ≢ f.Memory → case ≡ Refused file why) → why ≢ f.Memory → Refuses file (shelf files faults misses) folder' case
-refuses-as file part files faults misses folder' why case given has shown other =
-    subst (Refuses file (shelf files faults misses) folder') (sym (shown other))
-    (refuses-part file part files faults misses folder' why given (has other))
+    spoils : (file : List ℕ) (t : Shelf) → Spoils file m t → Spoils file s t
+    spoils file t h = subst (λ files. IfSome files (λ all. ChangesOnly all file t.files)) g.asked.onward.files h
 
-pub file-refuses : (file part : List ℕ) (files : Option Files) (faults misses : List ℕ → ℕ) (folder' : Shelf) (why : TextFault) (case : Case) →
-    IfSome files (λ all. FileReads all file 1048576 part) → (why ≢ f.Memory → HasFault part why) → (why ≡ f.Memory → case ≡ Memory) →
-    (why ≢ f.Memory → case ≡ Refused file why) → Refuses file (shelf files faults misses) folder' case
-file-refuses file part files faults misses folder' f.Memory case given has memory shown =
-    subst (Refuses file (shelf files faults misses) folder') (sym (memory refl)) want
-file-refuses file part files faults misses folder' (f.Lexical why) case given has memory shown =
-    refuses-as file part files faults misses folder' (f.Lexical why) case given has shown (λ no. cc)
-file-refuses file part files faults misses folder' (f.Syntactic why) case given has memory shown =
-    refuses-as file part files faults misses folder' (f.Syntactic why) case given has shown (λ no. cc)
-file-refuses file part files faults misses folder' f.NotYet case given has memory shown =
-    refuses-as file part files faults misses folder' f.NotYet case given has shown (λ no. cc)
-file-refuses file part files faults misses folder' (f.Wrong cause place) case given has memory shown =
-    refuses-as file part files faults misses folder' (f.Wrong cause place) case given has shown (λ no. cc)
+    called : (more : Trail) (t : Shelf) → CalledAll more m.calls t.calls → CalledAll (g.trail ++ more) s.calls t.calls
+    called more t h = called_both g.trail more s.calls m.calls t.calls g.asked.called h
+
+    behind : (file : List ℕ) (t : Shelf) (case : Case) → Written file i [] m t case → Written file i g.trail s t case
+    behind file t _ (stored bytes is st c) = stored bytes is (stores file bytes t st) (called (file ∷ []) t c)
+    behind file t _ (too_large more asked) = too_large more (record {
+      onward = onward_both s m t g.asked.onward asked.onward;
+      called = subst (λ names. CalledAll names s.calls t.calls) (append-nil g.trail) (called [] t asked.called);
+    })
+    behind file t _ (failed rose sp c) =
+        failed (rose_from (s.faults file) (m.faults file) (t.faults file) (g.asked.onward.faults file) rose) (spoils file t sp) (called (file ∷ []) t c)
+    behind file t _ (memory sp) = memory (spoils file t sp)
+
+    pub defined_so : (file : List ℕ) (t : Shelf) (case : Case) → file ≡ interface_file base → Written file i [] m t case → Defines base stamp s t case
+    defined_so file t case also w =
+        defined i g.trail case (subst (λ name. (interface_in name stamp).comes s.files g.trail (Has i)) named g.comes)
+        (subst (λ name. Written name i g.trail s t case) also (behind file t case w))
+
+-- ---- `go`
+
+pub goes_on : (source : Source) (base : List ℕ) (turns : ℕ) (s t : Shelf) (old new : Scene) (c : Configured) (case : Case) → Gives (source_in source base) s t c
+    → GoesOn c base turns old new case → Goes source base turns s t old new case
+goes_on source base turns s t old new c _ g (unresolved i h same) = rules.unresolved c i g h same
+goes_on source base turns s t old new c _ g (no_memory same) = rules.no_memory c g same
+goes_on source base turns s t old new c _ g (ran case hosts ends) = rules.ran c case g hosts ends
+
+pub goes_unready : (c : Configured) (base : List ℕ) (turns : ℕ) (old : Scene) (case : Case) → Unready c base case → GoesOn c base turns old old case
+goes_unready c base turns old _ (bound.unresolved i h) = unresolved i h refl
+goes_unready c base turns old _ bound.no_memory = no_memory refl

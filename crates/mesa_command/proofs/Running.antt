@@ -1,27 +1,32 @@
--- How a run ends, from what the run of a module ensures.
-use Rattle.std.proofs.Common.{◌≡◌, ℕ, ◌+◌, ◌-◌, ◌<◌, ◌≤◌, List, ◌++◌, length, get_or, Result, Ok, Err, refl, sym, ap, subst, ◌∙◌, codes, arith}
-use Rattle.std.proofs.lemmas.Option.{slice_get-get_or}
-use Rattle.std.specs.Prelude.{IfOk, IsErrOf}
+-- How a run ends, from what the run of an image ensures.
+use Rattle.std.proofs.Common.{◌≡◌, ℕ, zero, suc, ◌+◌, ◌-◌, ◌<◌, ◌≤◌, List, [], ◌∷◌, length, Result, Ok, Err, Option, Some, None, refl, sym, ap, subst, ◌∙◌, arith}
+use Rattle.std.specs.Prelude.{IfOk, IsErrOf, IsSome, option_and_then, option_map, slice_get}
+use Rattle.std.proofs.lemmas.Bool.{false≢true}
 use Rattle.mesa_base.specs.Outside.{Rose}
 use Rattle.mesa_types.specs.declared.faces.Item.{Item}
-use Rattle.mesa_types.specs.Typed.{Module}
-use Rattle.source_meaning.specs.Program.{Signal, SignalOf, BoundsFault, ZeroDivisor, NoInput, Unnamed, instance_of, module_of, or_else, single}
+use Rattle.source_meaning.specs.Program.{Program, Signal, SignalOf, BoundsFault, ZeroDivisor, NoInput, Unnamed, instance_of, module_of}
 use Rattle.source_meaning.specs.State.{Answer, Normal, Gives, Go, Resumed, Rejected, Retried, Continued, Uncaught, Spent, FrameLimit, Broken}
 use Rattle.agreement_rules.specs.Agreement.{EndsAs, id_of}
 use Rattle.machine_rules.specs.declared.end.End.{End}
 use Rattle.machine_rules.specs.declared.end.End.TheVariants as end
+use Rattle.code_forms.specs.declared.module_code.ModuleCode.{ModuleCode}
+use Rattle.machine_rules.specs.LookUps as look
 use Rattle.machine_rules.specs.State as machine
+use Rattle.object_files.specs.declared.image.Image.{Image}
+use Rattle.object_files.specs.declared.image.Instance.{Instance}
+use Rattle.frame_machine.specs.Running.{Completes, BreaksAtInput, BreaksAtOutput}
 use Rattle.frame_machine.specs.declared.outcome.Outcome.{Outcome}
-use Rattle.module_runs.specs.declared.fault.ModuleFault.{ModuleFault}
-use Rattle.module_runs.specs.declared.fault.ModuleFault.TheVariants as fault
-use Rattle.module_runs.specs.Coded.{BreaksInCode, CompletesInCode, CutsInCode}
-use Rattle.mesa_command.specs.Case as c
-use Rattle.mesa_command.specs.Case.{status_of, IsBeforeRun}
-use Rattle.mesa_command.specs.Shown.{name_in, shown, IsShownAs, signal_of, case_of_end}
-use Rattle.mesa_command.specs.Outputs.{HasFaulted}
-use Rattle.mesa_command.specs.Worlds.{Scene}
-use Rattle.mesa_command.specs.Ends.{Ends, RanIn, TellsBytes, BrokenOffIn, CutOffIn, ended, read_fault, write_fault, no_memory}
-use Rattle.mesa_command.specs.Reply.{case_of_run}
+use Rattle.frame_machine.specs.declared.outcome.RunFault.{RunFault}
+use Rattle.frame_machine.specs.declared.outcome.RunFault.TheVariants as fault
+use Rattle.line_pieces.specs.Outputs.{HasFaulted}
+use Rattle.line_pieces.specs.Texts.{dotted}
+use Rattle.command_rules.specs.Case as c
+use Rattle.command_rules.specs.Case.{status_of, IsBeforeRun}
+use Rattle.command_rules.specs.Configurations.{Configured}
+use Rattle.command_rules.specs.Ends.{Ends, RanAs, TellsBytes, BrokenOffAs, CutOffAs, IsImageOf, program, ended, read_fault, write_fault}
+use Rattle.command_rules.specs.Shown.{name_in, shown, IsShownAs, signal_of, case_of_end}
+use Rattle.command_rules.specs.Worlds.{Scene}
+use Rattle.mesa_command.specs.Ran.{case_of_run}
 
 back : (s : Signal) → signal_of (id_of s) ≡ s
 unfolding id_of
@@ -38,64 +43,79 @@ unbroken : (e : End) → ◌≡◌ {A = machine.Ending} (machine.Ended e) machin
 unbroken e is = cc
 
 -- the machine's end is shown as the meaning's
-pub ends-as : (m : Module) (a : Answer) (e : End) → EndsAs a (machine.Ended e) → IsShownAs (single m) a (case_of_end m e)
+pub ends-as : (P : Program) (a : Answer) (e : End) → EndsAs a (machine.Ended e) → IsShownAs P a (case_of_end P e)
 unfolding EndsAs
-ends-as m Normal e is = ap (case_of_end m) (inner e end.Done is)
-ends-as m (Uncaught s) e is = ap (case_of_end m) (inner e (end.Uncaught (id_of s)) is) ∙ ap (λ z. c.Uncaught (shown (single m) z)) (back s)
-ends-as m Spent e is = ap (case_of_end m) (inner e end.Spent is)
-ends-as m FrameLimit e is = ap (case_of_end m) (inner e end.FrameLimit is)
-ends-as m Broken e is = absurd (unbroken e is)
-ends-as m (Gives vs) e is = absurd is
-ends-as m (Go f p) e is = absurd is
-ends-as m (Resumed vs) e is = absurd is
-ends-as m Rejected e is = absurd is
-ends-as m (Retried n) e is = absurd is
-ends-as m (Continued n) e is = absurd is
+ends-as P Normal e is = ap (case_of_end P) (inner e end.Done is)
+ends-as P (Uncaught s) e is = ap (case_of_end P) (inner e (end.Uncaught (id_of s)) is) ∙ ap (λ z. c.Uncaught (shown P z)) (back s)
+ends-as P Spent e is = ap (case_of_end P) (inner e end.Spent is)
+ends-as P FrameLimit e is = ap (case_of_end P) (inner e end.FrameLimit is)
+ends-as P Broken e is = absurd (unbroken e is)
+ends-as P (Gives vs) e is = absurd is
+ends-as P (Go f p) e is = absurd is
+ends-as P (Resumed vs) e is = absurd is
+ends-as P Rejected e is = absurd is
+ends-as P (Retried n) e is = absurd is
+ends-as P (Continued n) e is = absurd is
 
--- what the line calls a signal of the module
-pub own-shown : (m : Module) (j k : ℕ) (d : Item) (whose name : List ℕ) → j ≡ 0 → k < length m.signals → whose ≡ m.name →
-    name ≡ (get_or m.signals k d).name → whose ++ (codes "." ++ name) ≡ shown (single m) (SignalOf j k)
-unfolding instance_of module_of or_else single
-own-shown m j k d whose name first within w n =
-    subst (λ i. whose ++ (codes "." ++ name) ≡ shown (single m) (SignalOf i k)) (sym first)
-    (ap (λ z. z ++ (codes "." ++ name)) w
-    ∙ ap (λ z. m.name ++ (codes "." ++ z)) (n ∙ ap name_in (sym (slice_get-get_or m.signals k d within))))
+some_is : {A : Type 0} (a b : A) → Some a ≡ Some b → a ≡ b
+some_is a b e = cc
 
-module _ (m : Module) (turns : ℕ) (old new : Scene) where
+-- what the line calls a signal of an instance, by the machine's names for both
+pub own-shown : (P : Program) (j k : ℕ) (path : List (List ℕ)) (name : List ℕ) (item : Item) (o : Option (List (List ℕ))) (q : Option (List ℕ))
+    → o ≡ Some path → o ≡ Some (instance_of P j).path → slice_get (module_of P j).signals k ≡ Some item → q ≡ Some name → q ≡ Some item.name
+    → dotted path name ≡ shown P (SignalOf j k)
+own-shown P j k path name item o q at is there called its =
+    ap (λ p. dotted p name) (some_is path (instance_of P j).path (sym at ∙ is))
+    ∙ ap (λ n. dotted (instance_of P j).path n) (some_is name item.name (sym called ∙ its) ∙ ap name_in (sym there))
+
+module _ (C : Configured) (image : Image) (turns : ℕ) (old new : Scene) where
   -- the steps that were counted since
   risen : old.steps ≤ new.steps → new.steps ≡ old.steps + (new.steps - old.steps)
   risen stay = omega (arith, stay)
 
-  pub run-ends : (r : Result Outcome ModuleFault) →
-      IfOk r (λ o. TellsBytes old → RanIn m turns o old new) →
-      IfOk r (λ o. CompletesInCode m turns o (new.steps - old.steps) old.input.left new.input.left old.out.holds new.out.holds) →
-      (IsErrOf r fault.ReadFault → BrokenOffIn m turns old new) →
-      (IsErrOf r fault.WriteFault → TellsBytes old → CutOffIn m turns old new) →
-      (IsErrOf r fault.ReadFault →
-      BreaksInCode m turns (new.steps - old.steps) old.input.left new.input.left old.out.holds new.out.holds) →
-      (IsErrOf r fault.WriteFault →
-      CutsInCode m turns (new.steps - old.steps) old.input.left new.input.left old.out.holds new.out.holds) →
+  pub run-ends : IsImageOf C image → (r : Result Outcome RunFault) →
+      IfOk r (λ o. TellsBytes old → RanAs (program C) turns o old new) →
+      IfOk r (λ o. Completes image turns o (new.steps - old.steps) old.input.left new.input.left old.out.holds new.out.holds) →
+      (IsErrOf r fault.ReadFault → BrokenOffAs (program C) turns old new) →
+      (IsErrOf r fault.WriteFault → TellsBytes old → CutOffAs (program C) turns old new) →
+      (IsErrOf r fault.ReadFault → BreaksAtInput image turns (new.steps - old.steps) old.input.left new.input.left old.out.holds new.out.holds) →
+      (IsErrOf r fault.WriteFault → BreaksAtOutput image turns (new.steps - old.steps) old.input.left new.input.left old.out.holds new.out.holds) →
       (IsErrOf r fault.ReadFault → Rose old.input.faults new.input.faults) →
       (IsErrOf r fault.WriteFault → HasFaulted old.out new.out) →
-      (IsErrOf r fault.Memory → new ≡ old) → old.steps ≤ new.steps → Ends m turns old new (case_of_run m r)
-  run-ends (Ok o) ran counts broken cut breaks cuts reads writes same stay =
-      ended o (case_of_end m o.end) refl (λ bytes. record { ran = ran bytes; is_case = ends-as m (ran bytes).answer o.end (ran bytes).its_end })
+      old.steps ≤ new.steps → Ends C turns old new (case_of_run (program C) r)
+  run-ends its (Ok o) ran counts broken cut breaks cuts reads writes stay =
+      ended image o (case_of_end (program C) o.end) its refl
+      (λ bytes. record { ran = ran bytes; is_case = ends-as (program C) (ran bytes).answer o.end (ran bytes).its_end })
       (new.steps - old.steps, risen stay, counts)
-  run-ends (Err fault.ReadFault) ran counts broken cut breaks cuts reads writes same stay =
-      read_fault (reads refl) (broken refl) (new.steps - old.steps, risen stay, breaks refl)
-  run-ends (Err fault.WriteFault) ran counts broken cut breaks cuts reads writes same stay =
-      write_fault (writes refl) (cut refl) (new.steps - old.steps, risen stay, cuts refl)
-  run-ends (Err fault.Memory) ran counts broken cut breaks cuts reads writes same stay = no_memory (same refl)
+  run-ends its (Err fault.ReadFault) ran counts broken cut breaks cuts reads writes stay =
+      read_fault image its (reads refl) (broken refl) (new.steps - old.steps, risen stay, breaks refl)
+  run-ends its (Err fault.WriteFault) ran counts broken cut breaks cuts reads writes stay =
+      write_fault image its (writes refl) (cut refl) (new.steps - old.steps, risen stay, cuts refl)
 
-end-in-run : (m : Module) (e : End) → IsBeforeRun (status_of (case_of_end m e)) → ⊥
-end-in-run m end.Done h = h
-end-in-run m (end.Uncaught s) h = h
-end-in-run m end.Spent h = h
-end-in-run m end.FrameLimit h = h
+end-in-run : (P : Program) (e : End) → IsBeforeRun (status_of (case_of_end P e)) → ⊥
+end-in-run P end.Done h = h
+end-in-run P (end.Uncaught s) h = h
+end-in-run P end.Spent h = h
+end-in-run P end.FrameLimit h = h
 
--- only where memory was wanting nothing was run
-pub before-run : (m : Module) (r : Result Outcome ModuleFault) → IsBeforeRun (status_of (case_of_run m r)) → IsErrOf r fault.Memory
-before-run m (Ok o) h = absurd (end-in-run m o.end h)
-before-run m (Err fault.ReadFault) h = absurd h
-before-run m (Err fault.WriteFault) h = absurd h
-before-run m (Err fault.Memory) h = refl
+-- what was run has run
+pub has-run : (P : Program) (r : Result Outcome RunFault) → IsBeforeRun (status_of (case_of_run P r)) → ⊥
+has-run P (Ok o) h = end-in-run P o.end h
+has-run P (Err fault.ReadFault) h = h
+has-run P (Err fault.WriteFault) h = h
+
+-- an instance whose signal is there is there
+there : {A B C : Type 0} (f : B → Option C) (g : ℕ → Option B) (h : A → ℕ) (o : Option A) → IsSome (option_and_then f (option_and_then g (option_map h o))) → IsSome o
+there f g h (Some a) is = refl
+there f g h None is = is
+
+is_there : {A : Type 0} (xs : List A) (k : ℕ) → IsSome (slice_get xs k) → k < length xs
+is_there [] k h = absurd (false≢true h)
+is_there (x ∷ xs) zero h = omega arith
+is_there (x ∷ xs) (suc k) h = let l = is_there xs k h in omega (arith, l)
+
+pub instance-there : (image : Image) (j k : ℕ) → IsSome (look.signal_of image j k) → j < length image.instances
+unfolding look.signal_of look.code_of look.code_in look.module_number
+instance-there image j k h =
+    is_there image.instances j
+    (there (λ (m : ModuleCode). slice_get m.signals k) (look.code_in image) (λ (i : Instance). i.module) (slice_get image.instances j) h)

@@ -1,26 +1,25 @@
--- The forms of a command line (rule of this project).
-use Rattle.std.specs.Prelude.{◌≡◌, ℕ, ◌<◌, ◌^◌, Bool, true, ◌&&◌, ◌||◌, List, [], ◌∷◌, ◌++◌, length, nat_eq, nat_lt, codes, decimal}
-use Rattle.std.specs.List.{list_all}
-use Rattle.mesa_base.specs.Name.{is_letter_or_digit, begins_with_letter}
+-- What comes of a form of the words (rule of this project).
+use Rattle.std.specs.Prelude.{◌≡◌, ℕ, List, true}
+use Rattle.interface_records.specs.Spelled.{InSixBytes}
+use Rattle.config_rules.specs.Components.{is_file_base}
+use Rattle.command_rules.specs.Case.{Case}
+use Rattle.command_rules.specs.Comes.{Goes, Defines}
+use Rattle.command_rules.specs.Forms.{Form, Go, Define}
+use Rattle.command_rules.specs.Worlds.{Shelf, Scene}
 
--- letters, digits, `-` and `_`
-abbrev pub is_base_byte : ℕ → Bool
-is_base_byte b = is_letter_or_digit b || (nat_eq b 45 || nat_eq b 95)
+pub record CanBeDefined (base : List ℕ) (stamp : ℕ) : Type 0 where
+  pub named : is_file_base base ≡ true
+  pub six : InSixBytes stamp
 
--- NAME: a letter, then letters, digits, `-` or `_`, 1 to 64 bytes
-abbrev pub is_base : List ℕ → Bool
-is_base bytes = begins_with_letter bytes && (list_all is_base_byte bytes && nat_lt (length bytes) 65)
+-- what is so of the parts of each form that words have
+abbrev pub IsWellFormed : Form → Type 0
+IsWellFormed (Go source base turns) = is_file_base base ≡ true
+IsWellFormed (Define base stamp) = CanBeDefined base stamp
 
--- the file of a module text
-abbrev pub file_of : List ℕ → List ℕ
-file_of base = base ++ codes ".mesa"
+abbrev pub IsDefinition : Form → Type 0
+IsDefinition (Go source base turns) = ⊥
+IsDefinition (Define base stamp) = Unit {0}
 
--- go NAME.mesa TURNS: the turns in decimal digits without a leading zero, at most 2^64 - 1
-pub record IsGo (words : List (List ℕ)) (base : List ℕ) (turns : ℕ) : Type 0 where
-  pub named : is_base base ≡ true
-  pub bounded : turns < 2 ^ 64
-  pub are : words ≡ codes "go" ∷ file_of base ∷ decimal turns ∷ []
-
--- every other command line
-abbrev pub HasNoForm : List (List ℕ) → Type 0
-HasNoForm words = (base : List ℕ) (turns : ℕ) → IsGo words base turns → ⊥
+abbrev pub ComesOfForm : Form → (folder folder' : Shelf) → (old new : Scene) → Case → Type 0
+ComesOfForm (Go source base turns) folder folder' old new case = Goes source base turns folder folder' old new case
+ComesOfForm (Define base stamp) folder folder' old new case = Defines base stamp folder folder' case × (new ≡ old)

@@ -1,9 +1,2 @@
-pub mod Case
-pub mod Comes
-pub mod Complete
-pub mod Ends
 pub mod Forms
-pub mod Outputs
-pub mod Reply
-pub mod Shown
-pub mod Worlds
+pub mod Ran

@@ -1,38 +1,31 @@
-//! The call, its cases, and the run of a module.
+//! The call.
 
-ghost use Rattle.std.specs.Prelude.{◌≡◌, ℕ, List, IfOk};
+ghost use Rattle.std.specs.Prelude.{◌≡◌, ℕ, List};
 ghost use Rattle.mesa_base.specs.Asked.{AskedOnce};
-ghost use Rattle.mesa_base.specs.Outside.{Called};
-ghost use Rattle.mesa_types.specs.Plain.{plain};
-ghost use Rattle.source_meaning.specs.Program.{single};
-ghost use Rattle.written_trees.specs.Alone.{StandsAlone};
-ghost use Rattle.module_runs.specs.Ends.{IsEndOf, IsSignalOf};
-ghost use Rattle.mesa_command.specs.Case.{Case, IsBeforeRun};
-ghost use Rattle.mesa_command.specs.Comes.{Comes};
-ghost use Rattle.mesa_command.specs.Complete.{Answered, Tells};
-ghost use Rattle.mesa_command.specs.Ends.{Ends};
-ghost use Rattle.mesa_command.specs.Forms.{IsGo, file_of};
-ghost use Rattle.mesa_command.specs.Outputs.{stream};
-ghost use Rattle.mesa_command.specs.Reply.{called, reply_case, case_of_run};
-ghost use Rattle.mesa_command.specs.Shown.{shown, case_of_end, signal_of};
-ghost use Rattle.mesa_command.specs.Worlds.{feed, scene, shelf, world};
+ghost use Rattle.command_rules.specs.Case.{Case, IsBeforeRun};
+ghost use Rattle.command_rules.specs.Comes.{Comes};
+ghost use Rattle.command_rules.specs.Complete.{Answered, Tells};
+ghost use Rattle.command_rules.specs.Forms.{Define, HasForm, HasNoForm};
+ghost use Rattle.command_rules.specs.Worlds.{feed, scene, shelf, world};
+ghost use Rattle.command_lines.specs.Words.{form_in};
+ghost use Rattle.mesa_command.specs.Forms.{ComesOfForm, IsDefinition, IsWellFormed};
+ghost use Rattle.line_pieces.specs.Outputs.{stream};
 
-use crate::forms::go_form;
-use crate::passes::module_of_file;
-use crate::reply::{Reply, UncaughtSignal, told};
-use frame_machine::Outcome;
-use held_trees::LetGo;
-use machine_rules::End;
-use mesa_base::{Boxed, Folder, Sink, Source, Status, Steps, Words};
-use mesa_types::TypedModule;
-use module_runs::{ModuleFault, run_module};
-use module_texts::{one_fault, one_module, read_texts_have_no_fault};
-use signaller::SignalId;
+use crate::defining::define;
+use crate::going::go;
+use command_laws::{cases_are_answers, words_have_one_form};
+use command_lines::{Form, form_of, told_usage};
+use mesa_base::{Folder, Sink, Source, Status, Steps, Words};
 use std::alloc::Global;
 use std::sync::ledger::Ledger;
 
-/// What the program does with its words. The form so far is `go NAME.mesa TURNS`: the module's text in NAME.mesa is run
-/// with a bound of so many turns. The line of the answer goes to `err`.
+/// What the program does with its words:
+///
+/// - `go NAME.mesa TURNS`: runs the module in NAME.mesa with a bound of so many turns;
+/// - `go NAME.config TURNS`: binds the configuration in NAME.config, with the modules of its components, and runs it;
+/// - `compile NAME STAMP`: writes the interface of the definitions in NAME.mesa to NAME.mif.
+///
+/// The interfaces that a text names are read from their files. The line of the answer goes to `err`.
 pub fn mesa<F: Folder, S: Source, K: Sink, E: Sink, L: Ledger>(
     alloc: Global,
     words: &Words,
@@ -45,10 +38,10 @@ pub fn mesa<F: Folder, S: Source, K: Sink, E: Sink, L: Ledger>(
     // The status is that of a case that comes of the words, the folder, the input and `out`, and `err` receives its line; which case
     // must come is said beside it. What a run does is told in the words of its source where the input tells bytes.
     ensures answered { Answered words.now
-        (world (shelf (F.files folder.old) (F.faults folder.old) (F.misses folder.old))
+        (world (shelf (F.files folder.old) (F.calls folder.old) (F.faults folder.old) (F.misses folder.old))
         (scene (feed (S.left input.old) (S.faults input.old)) (stream (K.written out.old) (K.faults out.old)) steps.old)
         (stream (E.written err.old) (E.faults err.old)))
-        (world (shelf (F.files folder.new) (F.faults folder.new) (F.misses folder.new))
+        (world (shelf (F.files folder.new) (F.calls folder.new) (F.faults folder.new) (F.misses folder.new))
         (scene (feed (S.left input.new) (S.faults input.new)) (stream (K.written out.new) (K.faults out.new)) steps.new)
         (stream (E.written err.new) (E.faults err.new)))
         result }
@@ -58,19 +51,16 @@ pub fn mesa<F: Folder, S: Source, K: Sink, E: Sink, L: Ledger>(
     ensures before_run_input { IsBeforeRun result → input.new ≡ input.old }
     ensures before_run_output { IsBeforeRun result → out.new ≡ out.old }
     ensures before_run_steps { IsBeforeRun result → steps.new ≡ steps.old }
-    // The folder is asked once where the words are `go`, for the file that they name, and not at all where they have no form. No file is
-    // changed.
-    ensures one_read { (base : List ℕ) (turns : ℕ) → IsGo words.now base turns → Called (file_of base) (F.calls folder.old) (F.calls folder.new) }
+    ensures define_input { (base : List ℕ) (stamp : ℕ) → HasForm words.now (Define base stamp) → input.new ≡ input.old }
+    ensures define_output { (base : List ℕ) (stamp : ℕ) → HasForm words.now (Define base stamp) → out.new ≡ out.old }
+    // No file was asked for where the words have no form.
     ensures usage_folder { result ≡ Status.Usage → folder.new ≡ folder.old }
-    ensures files { F.files folder.new ≡ F.files folder.old }
 {
-    one_module();
-    one_fault();
-    read_texts_have_no_fault();
+    cases_are_answers();
     answer(alloc, words, folder, input, out, err, steps)
 }
 
-/// The words, the module, and its run.
+/// The answer to the form that the words have.
 #[tactic(auto, using(mesa_base::proofs::Asked::not_asked))]
 fn answer<F: Folder, S: Source, K: Sink, E: Sink, L: Ledger>(
     alloc: Global,
@@ -82,7 +72,8 @@ fn answer<F: Folder, S: Source, K: Sink, E: Sink, L: Ledger>(
     steps: &mut Steps<L>,
 ) -> Status
     ensures comes { (case : Case)
-        × Comes words.now (shelf (F.files folder.old) (F.faults folder.old) (F.misses folder.old)) (shelf (F.files folder.new) (F.faults folder.new) (F.misses folder.new))
+        × Comes words.now (shelf (F.files folder.old) (F.calls folder.old) (F.faults folder.old) (F.misses folder.old))
+        (shelf (F.files folder.new) (F.calls folder.new) (F.faults folder.new) (F.misses folder.new))
         (scene (feed (S.left input.old) (S.faults input.old)) (stream (K.written out.old) (K.faults out.old)) steps.old)
         (scene (feed (S.left input.new) (S.faults input.new)) (stream (K.written out.new) (K.faults out.new)) steps.new) case
         × Tells case (stream (E.written err.old) (E.faults err.old)) (stream (E.written err.new) (E.faults err.new)) result }
@@ -90,32 +81,32 @@ fn answer<F: Folder, S: Source, K: Sink, E: Sink, L: Ledger>(
     ensures before_run_input { IsBeforeRun result → input.new ≡ input.old }
     ensures before_run_output { IsBeforeRun result → out.new ≡ out.old }
     ensures before_run_steps { IsBeforeRun result → steps.new ≡ steps.old }
-    ensures one_read { (base : List ℕ) (turns : ℕ) → IsGo words.now base turns → Called (file_of base) (F.calls folder.old) (F.calls folder.new) }
-    ensures usage_folder { result ≡ Status.Usage → folder.new ≡ folder.old }
-    ensures files { F.files folder.new ≡ F.files folder.old }
+    ensures define_input { (base : List ℕ) (stamp : ℕ) → HasForm words.now (Define base stamp) → input.new ≡ input.old }
+    ensures define_output { (base : List ℕ) (stamp : ℕ) → HasForm words.now (Define base stamp) → out.new ≡ out.old }
+    ensures formless_folder { HasNoForm words.now → folder.new ≡ folder.old }
 {
-    let Some(go) = go_form(words) else {
-        return told(Reply::Usage, err);
-    };
-    match module_of_file(alloc, folder, go.file) {
-        Err(reply) => told(reply, err),
-        Ok(typed) => run(alloc, typed, go.turns, input, out, err, steps),
+    words_have_one_form();
+    match form_of(words) {
+        Some(form) => to_form(alloc, form, folder, input, out, err, steps),
+        None => told_usage(err),
     }
 }
 
-/// Runs a module that may spend so many turns, writes the line of its end, and lets it go.
-fn run<S: Source, K: Sink, E: Sink, L: Ledger>(
+/// The answer to a form.
+#[tactic(auto, using(mesa_base::proofs::Asked::not_asked))]
+fn to_form<F: Folder, S: Source, K: Sink, E: Sink, L: Ledger>(
     alloc: Global,
-    typed: Boxed<TypedModule>,
-    turns: u64,
+    form: Form<'_>,
+    folder: &mut F,
     input: &mut S,
     out: &mut K,
     err: &mut E,
     steps: &mut Steps<L>,
 ) -> Status
-    requires alone { StandsAlone (plain typed) }
-    ensures ends { (case : Case)
-        × Ends (plain typed) turns
+    requires { IsWellFormed (form_in form) }
+    ensures comes { (case : Case)
+        × ComesOfForm (form_in form.entry) (shelf (F.files folder.old) (F.calls folder.old) (F.faults folder.old) (F.misses folder.old))
+        (shelf (F.files folder.new) (F.calls folder.new) (F.faults folder.new) (F.misses folder.new))
         (scene (feed (S.left input.old) (S.faults input.old)) (stream (K.written out.old) (K.faults out.old)) steps.old)
         (scene (feed (S.left input.new) (S.faults input.new)) (stream (K.written out.new) (K.faults out.new)) steps.new) case
         × Tells case (stream (E.written err.old) (E.faults err.old)) (stream (E.written err.new) (E.faults err.new)) result }
@@ -123,51 +114,15 @@ fn run<S: Source, K: Sink, E: Sink, L: Ledger>(
     ensures before_run_input { IsBeforeRun result → input.new ≡ input.old }
     ensures before_run_output { IsBeforeRun result → out.new ≡ out.old }
     ensures before_run_steps { IsBeforeRun result → steps.new ≡ steps.old }
+    ensures definition_input { IsDefinition (form_in form.entry) → input.new ≡ input.old }
+    ensures definition_output { IsDefinition (form_in form.entry) → out.new ≡ out.old }
 {
-    let ended = run_module(alloc, typed.get(), turns, input, out, steps);
-    // The line names the module and its signal, so the module stands until it is written.
-    let status = told(reply_to(typed.get(), ended), err);
-    typed.let_go();
-    status
-}
-
-fn reply_to(module: &TypedModule, ended: Result<Outcome, ModuleFault>) -> Reply<'_>
-    requires { IfOk ended (λ outcome. IsEndOf (plain «module».now) outcome.end) }
-    ensures { reply_case result ≡ case_of_run (plain «module».entry.now) ended }
-{
-    match ended {
-        Ok(outcome) => ended_with(module, outcome.end),
-        Err(ModuleFault::ReadFault) => Reply::ReadFault,
-        Err(ModuleFault::WriteFault) => Reply::WriteFault,
-        Err(ModuleFault::Memory) => Reply::Memory,
-    }
-}
-
-fn ended_with(module: &TypedModule, end: End) -> Reply<'_>
-    requires { IsEndOf (plain «module».now) end }
-    ensures { reply_case result ≡ case_of_end (plain «module».entry.now) end }
-{
-    match end {
-        End::Done => Reply::Done,
-        End::Uncaught(signal) => Reply::Uncaught(uncaught_signal(module, signal)),
-        End::Spent => Reply::Spent,
-        End::FrameLimit => Reply::FrameLimit,
-    }
-}
-
-/// What a line calls the signal: the module's one instance has the module's name as its path.
-fn uncaught_signal(module: &TypedModule, signal: SignalId) -> UncaughtSignal<'_>
-    requires { IsSignalOf (plain «module».now) signal }
-    ensures { called result ≡ shown (single (plain «module».entry.now)) (signal_of signal) }
-{
-    match signal {
-        SignalId::Own(_, number) => UncaughtSignal::Own(
-            module.name.bytes(),
-            module.signals.as_slice()[number as usize].name.bytes(),
-        ),
-        SignalId::BoundsFault => UncaughtSignal::Predeclared("BoundsFault"),
-        SignalId::ZeroDivisor => UncaughtSignal::Predeclared("ZeroDivisor"),
-        SignalId::NoInput => UncaughtSignal::Predeclared("IODefs.NoInput"),
-        SignalId::Unnamed => UncaughtSignal::Predeclared("ERROR"),
+    match form {
+        Form::Go {
+            source,
+            base,
+            turns,
+        } => go(alloc, folder, source, base, turns, input, out, err, steps),
+        Form::Define { base, stamp } => define(alloc, folder, base, stamp, err),
     }
 }

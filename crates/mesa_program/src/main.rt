@@ -4,7 +4,7 @@
 ghost use Rattle.std.specs.Prelude.{◌≡◌, ◌<◌, [], IsUtf8};
 
 use mesa_base::{DirFolder, InSource, OutOfMemory, OutSink, Status, Steps, Words};
-use mesa_command::{Reply, mesa};
+use mesa_command::{Stop, mesa, tell_stop};
 use std::alloc::Global;
 use std::env::FillError;
 use std::io::Input;
@@ -29,7 +29,7 @@ fn command<L: Ledger>(rt: HostRuntime, blank: Blank) -> Status
     let alloc = rt.alloc();
     let mut err = OutSink::new(rt.stderr());
     let Ok(words) = words_after_name(&rt, alloc) else {
-        Reply::Memory.tell(&mut err);
+        tell_stop(&Stop::Memory, &mut err);
         return Status::Memory;
     };
     let mut folder = DirFolder::new(rt);

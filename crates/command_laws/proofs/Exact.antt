@@ -1,0 +1,91 @@
+-- Each pass is exact.
+use Rattle.std.proofs.Common.{◌≡◌, ℕ, List, [], ◌∷◌, map, Option, Some, None}
+use Rattle.syntax_trees.specs.PlainSyntax.{syntax}
+use Rattle.mesa_types.specs.Typed.{Module}
+use Rattle.interface_records.specs.Faces.{iodefs}
+use Rattle.cmesa_grammar.specs.Syntax.{Config}
+use Rattle.config_rules.specs.Components.{components}
+use Rattle.config_rules.specs.Through as through
+use Rattle.config_rules.specs.Tree.{IsTree, IsSingle}
+use Rattle.config_rules.specs.declared.tree.Tree.{Tree}
+use Rattle.bound_images.specs.Programs.{shape_of}
+use Rattle.checked_texts.specs.Asked.{asks}
+use Rattle.checked_texts.specs.declared.purpose.Purpose.{Purpose}
+use Rattle.checked_texts.specs.declared.purpose.Purpose.TheVariants.{Program, Interface}
+use Rattle.checked_texts.specs.Laws.{TextsBeginOnce, ProgramsComeToOne, DefinitionsComeToOne}
+use Rattle.linked_programs.specs.Laws.{TreesAreOne, SinglesAreOne}
+use Rattle.command_rules.specs.Case.{Absent}
+use Rattle.command_rules.specs.Configurations.{config_in, source_in, binding, component_in, modules_of, configuration_of, Grows, Binds, Configures}
+use Rattle.command_rules.specs.Forms.{Source, OfModule, OfConfig, module_file, config_file, interface_file}
+use Rattle.command_rules.specs.Modules as m
+use Rattle.command_rules.specs.Modules.{interface_for, interfaces_for, Begun, begun_for, module_in, interface_in, definitions_of, Checks, Defines, Decodes, Begins}
+use Rattle.command_rules.specs.Passes.{IsExact, decided}
+use Rattle.command_rules.proofs.PassLaws.{decided_exact, given_exact, from_file_exact, and_then_exact, each_exact}
+use Rattle.command_laws.specs.Laws.{PassesAreExact}
+use Rattle.command_laws.proofs.Parts.{decodes_one, begins_one, checks_one, defines_one, configures_one, grows_one, binds_one}
+
+interface_exact : (asked : Option (List ℕ)) → IsExact (interface_for asked)
+unfolding interface_for
+interface_exact None = given_exact iodefs
+interface_exact (Some base) = from_file_exact (interface_file base) (Absent (interface_file base)) (Decodes (interface_file base)) (decodes_one (interface_file base))
+
+config_exact : (file : List ℕ) → IsExact (config_in file)
+unfolding config_in
+config_exact file = from_file_exact file (Absent file) (Configures file) (configures_one file)
+
+binding_exact : (file : List ℕ) (is_tree : through.Answer Tree → Type 0) (modules : List Module)
+    → ((a b : through.Answer Tree) → is_tree a → is_tree b → a ≡ b) → IsExact (binding file is_tree modules)
+unfolding binding
+binding_exact file is_tree modules one =
+    and_then_exact (decided (Grows file is_tree)) _ (decided_exact (Grows file is_tree) (grows_one file is_tree one)) (λ t.
+    and_then_exact (decided (Binds file t)) _ (decided_exact (Binds file t) (binds_one file t)) (λ _.
+    given_exact (record { tree = t; modules = modules })))
+
+module _ (begin : TextsBeginOnce) (programs : ProgramsComeToOne) (definitions : DefinitionsComeToOne) (trees : TreesAreOne) (singles : SinglesAreOne) where
+  begun_exact : (file : List ℕ) (purpose : Purpose) → IsExact (begun_for file purpose)
+  begun_exact file purpose = from_file_exact file (Absent file) (Begins file purpose) (begins_one begin file purpose)
+
+  interfaces_exact : (b : Begun) → IsExact (interfaces_for b)
+  interfaces_exact b = each_exact interface_for interface_exact (asks (syntax b.1))
+
+  program_exact : (file : List ℕ) (b : Begun) → IsExact (m.program_of file b)
+  unfolding m.program_of
+  program_exact file b =
+      and_then_exact (interfaces_for b) _ (interfaces_exact b) (λ all. decided_exact (Checks file b.0 all) (checks_one programs file b.0 all))
+
+  module_exact : (file : List ℕ) → IsExact (module_in file)
+  unfolding module_in
+  module_exact file = and_then_exact (begun_for file Program) (m.program_of file) (begun_exact file Program) (program_exact file)
+
+  definition_exact : (file : List ℕ) (stamp : ℕ) (b : Begun) → IsExact (definitions_of file stamp b)
+  unfolding definitions_of
+  definition_exact file stamp b =
+      and_then_exact (interfaces_for b) _ (interfaces_exact b) (λ all. decided_exact (Defines file stamp b.0 all) (defines_one definitions file stamp b.0 all))
+
+  interface_in_exact : (file : List ℕ) (stamp : ℕ) → IsExact (interface_in file stamp)
+  unfolding interface_in
+  interface_in_exact file stamp =
+      and_then_exact (begun_for file (Interface stamp)) (definitions_of file stamp) (begun_exact file (Interface stamp)) (definition_exact file stamp)
+
+  configured_exact : (file : List ℕ) (k : Config) → IsExact (configuration_of file k)
+  unfolding configuration_of
+  configured_exact file k =
+      and_then_exact (modules_of k) _ (each_exact component_in (λ x. module_exact (module_file x.file)) (components k)) (λ modules.
+      binding_exact file (IsTree k (map shape_of modules)) modules (trees k (map shape_of modules)))
+
+  source_exact : (source : Source) (base : List ℕ) → IsExact (source_in source base)
+  unfolding source_in
+  source_exact OfModule base =
+      and_then_exact (module_in (module_file base)) _ (module_exact (module_file base)) (λ x.
+      binding_exact (module_file base) (IsSingle (shape_of x)) (x ∷ []) (singles (shape_of x)))
+  source_exact OfConfig base =
+      and_then_exact (config_in (config_file base)) (configuration_of (config_file base)) (config_exact (config_file base)) (configured_exact (config_file base))
+
+  pub passes_are_exact : PassesAreExact
+  passes_are_exact = record {
+    interfaces = interface_exact;
+    modules = module_exact;
+    definitions = interface_in_exact;
+    configurations = config_exact;
+    sources = source_exact;
+  }

@@ -1,0 +1,41 @@
+-- Each pass is exact, and what a call answers follows from its case (rule of this project).
+use Rattle.std.specs.Prelude.{◌≡◌, ℕ, List, Option}
+use Rattle.mesa_base.specs.Outside.{Rose}
+use Rattle.mesa_base.specs.declared.status.Status.{Status}
+use Rattle.command_rules.specs.Case.{Case}
+use Rattle.command_rules.specs.Comes.{Comes}
+use Rattle.command_rules.specs.Complete.{Answered, Tells}
+use Rattle.command_rules.specs.Configurations.{Configured, config_in, source_in}
+use Rattle.command_rules.specs.Ends.{Ends, TellsInput}
+use Rattle.command_rules.specs.Forms.{Form, HasForm, Source}
+use Rattle.command_rules.specs.Modules.{interface_for, interface_in, module_in}
+use Rattle.command_rules.specs.Passes.{IsExact}
+use Rattle.command_rules.specs.Worlds.{Scene, World}
+use Rattle.line_pieces.specs.Outputs.{HasFaulted}
+
+-- of files that are told one thing comes, after the same files
+pub record PassesAreExact : Type 0 where
+  pub interfaces : (asked : Option (List ℕ)) → IsExact (interface_for asked)
+  pub modules : (file : List ℕ) → IsExact (module_in file)
+  pub definitions : (file : List ℕ) (stamp : ℕ) → IsExact (interface_in file stamp)
+  pub configurations : (file : List ℕ) → IsExact (config_in file)
+  pub sources : (source : Source) (base : List ℕ) → IsExact (source_in source base)
+
+-- a command line has one form at most
+abbrev pub WordsHaveOneForm : Type 0
+WordsHaveOneForm = (words : List (List ℕ)) (f g : Form) → HasForm words f → HasForm words g → f ≡ g
+
+-- neither the input nor `out` failed
+pub record NoStreamFailed (old new : Scene) : Type 0 where
+  pub no_input_fault : ¬ (Rose old.input.faults new.input.faults)
+  pub no_out_fault : ¬ (HasFaulted old.out new.out)
+
+-- over an input of bytes that are told, the run of what was configured ends in one way where no call failed
+abbrev pub RunsEndOnce : Type 0
+RunsEndOnce = (k : Configured) (turns : ℕ) (old new last : Scene) (input : List ℕ) (x y : Case) → TellsInput old input → NoStreamFailed old new
+    → NoStreamFailed old last → Ends k turns old new x → Ends k turns old last y → x ≡ y
+
+-- a case that comes of the words, with its status and line, is an answer
+abbrev pub CasesAreAnswers : Type 0
+CasesAreAnswers = (words : List (List ℕ)) (before after : World) (s : Status)
+    → (case : Case) × Comes words before.folder after.folder before.scene after.scene case × Tells case before.err after.err s → Answered words before after s

@@ -1,0 +1,41 @@
+//! The laws above the cases of a call.
+ghost use Rattle.command_laws.specs.Laws.{CasesAreAnswers, PassesAreExact, RunsEndOnce, WordsHaveOneForm};
+ghost use Rattle.command_rules.specs.Complete.{OneCaseComes};
+
+use checked_texts::{definitions_come_to_one, programs_come_to_one, texts_begin_once};
+use linked_programs::{singles_are_one, trees_are_one};
+
+/// A law: where the files of a folder are told, one thing comes of each pass, and after the same files.
+pub fn passes_are_exact()
+    ensures { PassesAreExact }
+{
+    texts_begin_once();
+    programs_come_to_one();
+    definitions_come_to_one();
+    trees_are_one();
+    singles_are_one();
+}
+
+/// A law: a command line has one form at most.
+pub fn words_have_one_form()
+    ensures { WordsHaveOneForm }
+{}
+
+/// A law: over an input that is told, the run of what was configured ends in one way where no call failed.
+pub fn runs_end_once()
+    ensures { RunsEndOnce }
+{}
+
+/// A law: for words, files and an input that are told one case comes where no call failed, want of memory aside.
+pub fn one_case()
+    ensures { OneCaseComes }
+{
+    passes_are_exact();
+}
+
+/// A law: a case that comes of the words, with its status and line, is an answer to them.
+pub fn cases_are_answers()
+    ensures { CasesAreAnswers }
+{
+    passes_are_exact();
+}

@@ -1,0 +1,6 @@
+//! What is so of the answers of a command line. Laws; no call of the program is here.
+#![tactic(auto)]
+
+mod laws;
+
+pub use laws::{cases_are_answers, one_case, passes_are_exact, runs_end_once, words_have_one_form};

@@ -1,0 +1,4 @@
+mod Ended
+mod Forming
+mod Told
+mod Three

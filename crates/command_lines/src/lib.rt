@@ -1,0 +1,13 @@
+//! How a command line's words are read, and how a call of the program is answered: the line on `err`, and the status.
+#![tactic(auto)]
+
+mod causes;
+mod ending;
+mod form;
+mod items;
+mod refusals;
+mod stops;
+
+pub use ending::{Ending, UncaughtSignal, ending_status, tell_ending, told_ending, told_usage};
+pub use form::{Form, Source, form_of};
+pub use stops::{stop_status, tell_stop, told_stop};

@@ -1,0 +1,68 @@
+//! The line of a file that is refused.
+
+ghost use Rattle.std.specs.Prelude.{◌≡◌};
+ghost use Rattle.mesa_base.specs.declared.file_fault.FileFault.TheVariants.{BadField};
+ghost use Rattle.checked_texts.specs.TextFaults.{fault_name, fault_place};
+ghost use Rattle.line_pieces.specs.Outputs.{stream, Receives};
+ghost use Rattle.command_rules.specs.Lines.{file_cause, of_cause, of_file, refusal};
+
+use crate::causes::{field_name, tell_cause, tell_number, tell_place, tree_cause};
+use crate::items::{tell_item, tell_unresolved};
+use checked_texts::TextFault;
+use command_rules::Trouble;
+use line_pieces::{Piece, say_all};
+use mesa_base::{Field, FileFault, Sink};
+
+/// The line of a text's fault: at its place, where it has one.
+fn tell_fault<E: Sink>(file: &str, fault: TextFault, err: &mut E)
+    ensures { Receives (of_cause file.now (fault_place fault) (fault_name fault)) (stream (E.written err.old) (E.faults err.old)) (stream (E.written err.new) (E.faults err.new)) }
+{
+    match fault.place() {
+        Some(place) => tell_place(file, place, fault.name(), err),
+        None => tell_cause(file, fault.name(), err),
+    }
+}
+
+/// FILE: BadField NUMBER FIELD.
+fn tell_field<E: Sink>(file: &str, at: u64, field: Field, err: &mut E)
+    ensures { Receives (of_file file.now (file_cause (BadField at field))) (stream (E.written err.old) (E.faults err.old)) (stream (E.written err.new) (E.faults err.new)) }
+{
+    let name = field_name(field);
+    let pieces = [
+        Piece::Text(file),
+        Piece::Text(": BadField "),
+        Piece::Number(at),
+        Piece::Text(" "),
+        Piece::Text(name),
+        Piece::Text("\n"),
+    ];
+    say_all(&pieces, err);
+}
+
+/// The line of bytes that are no file of their kind.
+fn tell_file<E: Sink>(file: &str, fault: FileFault, err: &mut E)
+    ensures { Receives (of_file file.now (file_cause fault)) (stream (E.written err.old) (E.faults err.old)) (stream (E.written err.new) (E.faults err.new)) }
+{
+    match fault {
+        FileFault::BadMagic => tell_cause(file, "BadMagic", err),
+        FileFault::TooLong => tell_cause(file, "TooLong", err),
+        FileFault::Cut(at) => tell_number(file, "Cut ", at, err),
+        FileFault::BadField(at, field) => tell_field(file, at, field, err),
+        FileFault::TrailingBytes(at) => tell_number(file, "TrailingBytes ", at, err),
+        FileFault::Memory => tell_cause(file, "Memory", err),
+    }
+}
+
+/// The line of a file that is refused.
+pub(crate) fn tell_refusal<E: Sink>(file: &str, why: &Trouble, err: &mut E)
+    ensures { Receives (refusal file.now why.now) (stream (E.written err.old) (E.faults err.old)) (stream (E.written err.new) (E.faults err.new)) }
+{
+    match why {
+        Trouble::Text(fault) => tell_fault(file, *fault, err),
+        Trouble::Tree(cause, place) => tell_place(file, *place, tree_cause(*cause), err),
+        Trouble::File(fault) => tell_file(file, *fault, err),
+        Trouble::Item(fault) => tell_item(file, fault, err),
+        Trouble::Unresolved(item) => tell_unresolved(file, item, err),
+        Trouble::TooLarge => tell_cause(file, "TooLarge", err),
+    }
+}

@@ -1,0 +1,10 @@
+pub mod Bases
+pub mod Faults
+pub mod Files
+pub mod InterfaceBytes
+pub mod NotRead
+pub mod OneInterface
+pub mod OneProgram
+pub mod Passed
+pub mod Steps
+pub mod Texts

@@ -1,0 +1,3 @@
+pub mod Asking
+pub mod Shelves
+pub mod Stops

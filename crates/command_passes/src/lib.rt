@@ -1,0 +1,12 @@
+//! The passes of a command line over the files of a folder, to interfaces and modules.
+#![tactic(auto)]
+
+mod file_name;
+mod interfaces;
+mod modules;
+mod stop;
+
+pub use file_name::{FileName, file_named};
+pub use interfaces::{interface_of_file, interfaces_of};
+pub use modules::{faulty, module_of_file};
+pub use stop::{Stop, unfit, unread};

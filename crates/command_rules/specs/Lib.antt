@@ -1,0 +1,13 @@
+pub mod Case
+pub mod Comes
+pub mod Complete
+pub mod Configurations
+pub mod Ends
+pub mod Forms
+pub mod Lines
+pub mod Modules
+pub mod Passes
+pub mod Passing
+pub mod Reading
+pub mod Shown
+pub mod Worlds

@@ -1,0 +1,24 @@
+//! Why a file is refused.
+
+use checked_texts::TextFault;
+use config_rules::TreeCause;
+use import_binder::BindFault;
+use interface_records::WantedItem;
+use mesa_base::{FileFault, Place};
+
+/// Why a file is refused, with what its line shows.
+#[derive(Drop)]
+pub enum Trouble {
+    /// The first fault of a module's text, or a lexical or syntax fault of a configuration's.
+    Text(TextFault),
+    /// The first fault of a configuration's tree, or a FROM text of it that is no base of a file.
+    Tree(TreeCause, Place),
+    /// The bytes are no file of their kind.
+    File(FileFault),
+    /// The first bad item of a configuration.
+    Item(BindFault),
+    /// The image wants an item that the host has not.
+    Unresolved(WantedItem),
+    /// The file would have more than 536,870,912 bytes.
+    TooLarge,
+}

@@ -1,0 +1,4 @@
+pub mod Bound
+pub mod Laws
+pub mod Parsed
+pub mod Stops

@@ -1,0 +1,189 @@
+//! From the files of a configuration, or of one module alone, to its tree, in which every item binds.
+
+ghost use Rattle.std.specs.Prelude.{◌≡◌, ◌++◌, length, map, [], ◌∷◌, IfOk, codes};
+ghost use Rattle.std.specs.Str.{IsAscii};
+ghost use Rattle.cmesa_grammar.specs.Plain.{plain as plain_config};
+ghost use Rattle.mesa_types.specs.Plain.{plain};
+ghost use Rattle.config_rules.specs.Components.{components};
+ghost use Rattle.config_rules.specs.Tree.{IsTree, IsSingle};
+ghost use Rattle.linked_programs.specs.Laws.{IsOfShapes};
+ghost use Rattle.linked_programs.specs.Modules.{AllCanBeLinked, CanBeLinked, shapes_of};
+ghost use Rattle.bound_images.specs.Programs.{shape_of};
+ghost use Rattle.command_rules.specs.Configurations as rules;
+ghost use Rattle.command_rules.specs.Forms as form;
+ghost use Rattle.command_rules.specs.Reading.{Onward};
+ghost use Rattle.command_rules.specs.Worlds.{Shelf, shelf};
+ghost use Rattle.command_passes.specs.Shelves.{Passes};
+ghost use Rattle.command_sources.specs.Bound.{Binds, IsBound, configured};
+ghost use Rattle.command_sources.specs.Parsed.{IsPlanned};
+
+use crate::configurations::{Planned, config_of_file, modules_of};
+use crate::faults::{unbound, ungrown};
+use crate::laws::read_modules_can_be_linked;
+use built_runs::TypedModules;
+use command_passes::{FileName, Stop, file_named, module_of_file};
+use config_rules::Tree;
+use held_trees::LetGo;
+use import_binder::Bindings;
+use linked_programs::{bound, config_tree_of, let_bindings_go, module_tree_of};
+use mesa_base::{Folder, List};
+use mesa_types::TypedModule;
+use module_lists::{let_modules_go, with_module};
+use std::alloc::Global;
+
+/// A tree in which every item binds, with its modules and what its links are bound to.
+pub struct BoundSource {
+    pub tree: Tree,
+    pub modules: TypedModules,
+    pub bindings: Bindings,
+}
+
+impl LetGo for BoundSource {
+    fn let_go(self) {
+        let BoundSource {
+            tree,
+            modules,
+            bindings,
+        } = self;
+        tree.let_go();
+        let_modules_go(modules);
+        let_bindings_go(bindings);
+    }
+}
+
+/// The tree with its bindings, beside its modules; or what ends the call at the first item that is bad.
+fn bound_tree(
+    alloc: Global,
+    file: FileName,
+    tree: Tree,
+    modules: TypedModules,
+) -> Result<BoundSource, Stop>
+    requires shapes { IsOfShapes (shapes_of (map plain modules)) tree }
+    requires linkable { AllCanBeLinked (map plain modules) }
+    ensures { Binds file tree (map plain modules) result }
+{
+    match bound(alloc, &tree, &modules) {
+        Ok(bindings) => Ok(BoundSource {
+            tree,
+            modules,
+            bindings,
+        }),
+        Err(fault) => {
+            tree.let_go();
+            let_modules_go(modules);
+            Err(unbound(file, fault))
+        }
+    }
+}
+
+/// What is bound of a configuration's modules; or what ends the call, where they have no tree or an item is bad.
+fn config_bound(
+    alloc: Global,
+    file: FileName,
+    plan: &Planned,
+    modules: TypedModules,
+) -> Result<BoundSource, Stop>
+    requires as_many { length modules ≡ length (components (plain_config plan.now.config)) }
+    requires linkable { AllCanBeLinked (map plain modules) }
+    ensures bound { IfOk result IsBound }
+    ensures passes { (s : Shelf)
+        → Passes configured (rules.binding file (IsTree (plain_config plan.now.config) (map shape_of (map plain modules))) (map plain modules)) s s result }
+{
+    match config_tree_of(alloc, &plan.config, &modules) {
+        Ok(tree) => bound_tree(alloc, file, tree, modules),
+        Err(fault) => {
+            let_modules_go(modules);
+            Err(ungrown(file, fault))
+        }
+    }
+}
+
+/// The same of one module alone.
+fn module_bound(alloc: Global, file: FileName, module: TypedModule) -> Result<BoundSource, Stop>
+    requires { CanBeLinked (plain «module») }
+    ensures bound { IfOk result IsBound }
+    ensures passes { (s : Shelf)
+        → Passes configured (rules.binding file (IsSingle (shape_of (plain «module»))) (plain «module» ∷ [])) s s result }
+{
+    let modules = with_module(List::new(alloc), module)?;
+    let first = &modules.as_slice()[0];
+    match module_tree_of(alloc, first) {
+        Ok(tree) => bound_tree(alloc, file, tree, modules),
+        Err(fault) => {
+            let_modules_go(modules);
+            Err(ungrown(file, fault))
+        }
+    }
+}
+
+/// What `go NAME.mesa` runs: the module in the file of this base, alone with the built-in interface, where every item binds; or what ends the call.
+pub fn source_of_module<F: Folder>(
+    alloc: Global,
+    folder: &mut F,
+    base: &[u8],
+) -> Result<BoundSource, Stop>
+    requires { IsAscii base.now }
+    ensures bound { IfOk result IsBound }
+    ensures passes { Passes configured (rules.source_in form.OfModule base.now)
+        (shelf (F.files folder.old) (F.calls folder.old) (F.faults folder.old) (F.misses folder.old))
+        (shelf (F.files folder.new) (F.calls folder.new) (F.faults folder.new) (F.misses folder.new)) result }
+    ensures onward { Onward (shelf (F.files folder.old) (F.calls folder.old) (F.faults folder.old) (F.misses folder.old))
+        (shelf (F.files folder.new) (F.calls folder.new) (F.faults folder.new) (F.misses folder.new)) }
+{
+    let text = file_named(alloc, base, ".mesa")?;
+    let file = file_named(alloc, base, ".mesa")?;
+    read_modules_can_be_linked();
+    match module_of_file(alloc, folder, text) {
+        Ok(module) => module_bound(alloc, file, module.into_inner()),
+        Err(why) => Err(why),
+    }
+}
+
+/// What is bound of the files of a configuration's components.
+fn source_of_plan<F: Folder>(
+    alloc: Global,
+    folder: &mut F,
+    file: FileName,
+    plan: &Planned,
+) -> Result<BoundSource, Stop>
+    requires { IsPlanned plan.now }
+    ensures bound { IfOk result IsBound }
+    ensures passes { Passes configured (rules.configuration_of file (plain_config plan.now.config))
+        (shelf (F.files folder.old) (F.calls folder.old) (F.faults folder.old) (F.misses folder.old))
+        (shelf (F.files folder.new) (F.calls folder.new) (F.faults folder.new) (F.misses folder.new)) result }
+    ensures onward { Onward (shelf (F.files folder.old) (F.calls folder.old) (F.faults folder.old) (F.misses folder.old))
+        (shelf (F.files folder.new) (F.calls folder.new) (F.faults folder.new) (F.misses folder.new)) }
+{
+    read_modules_can_be_linked();
+    match modules_of(alloc, folder, plan.components.as_slice()) {
+        Ok(modules) => config_bound(alloc, file, plan, modules),
+        Err(why) => Err(why),
+    }
+}
+
+/// What `go NAME.config` runs: the configuration in the file of this base, with the modules of its components, where every item binds; or what ends
+/// the call.
+pub fn source_of_config<F: Folder>(
+    alloc: Global,
+    folder: &mut F,
+    base: &[u8],
+) -> Result<BoundSource, Stop>
+    requires { IsAscii base.now }
+    ensures bound { IfOk result IsBound }
+    ensures passes { Passes configured (rules.source_in form.OfConfig base.now)
+        (shelf (F.files folder.old) (F.calls folder.old) (F.faults folder.old) (F.misses folder.old))
+        (shelf (F.files folder.new) (F.calls folder.new) (F.faults folder.new) (F.misses folder.new)) result }
+    ensures onward { Onward (shelf (F.files folder.old) (F.calls folder.old) (F.faults folder.old) (F.misses folder.old))
+        (shelf (F.files folder.new) (F.calls folder.new) (F.faults folder.new) (F.misses folder.new)) }
+{
+    let text = file_named(alloc, base, ".config")?;
+    let file = file_named(alloc, base, ".config")?;
+    match config_of_file(alloc, folder, text) {
+        Ok(plan) => {
+            let source = source_of_plan(alloc, folder, file, &plan);
+            plan.let_go();
+            source
+        }
+        Err(why) => Err(why),
+    }
+}

@@ -1,2 +1,0 @@
-mod EndLaws
-mod Texts

@@ -1,3 +1,0 @@
-mod Alone
-mod Passing
-mod Verdicts

@@ -1,4 +1,0 @@
-pub mod Bound
-pub mod Hosted
-pub mod Ordered
-pub mod Using
