@@ -10,19 +10,19 @@ import time
 TOP = os.path.dirname(os.path.dirname(os.path.abspath(__file__)))
 PROGRAM = os.path.join(TOP, "crates", "mesa_program", "out", "mesa_program")
 HEAD, TAIL = "M: PROGRAM = BEGIN ", " END."
-# An interface that isn't read yet: such a text is refused directly after its syntax.
+# An interface whose file is not there: such a text is answered directly after its syntax.
 UNREAD = 'DIRECTORY Other: FROM "Other"; '
 TOKEN = re.compile(r"[A-Za-z][A-Za-z0-9]*|[0-9]+[A-Z]?|\.\.|=>|<=|>=|\S")
 COMMENT = re.compile(r"--.*?(?:--|\n|\Z)")
-DONE, SPENT, REFUSED = 0, 2, 4
+DONE, SPENT, REFUSED, ABSENT = 0, 2, 4, 5
 GROWTH, FLOOR = 2.8, 0.02
 
 
-def run(folder, turns, stack=None):
-    """Returns status, seconds and greatest memory in KiB of one run."""
+def run(folder, turns, stack=None, file="M.mesa"):
+    """Returns status, seconds and greatest memory in KiB of one run of this file."""
     limit = (lambda: resource.setrlimit(resource.RLIMIT_STACK, (stack, stack))) if stack else None
     start = time.perf_counter()
-    child = subprocess.Popen([PROGRAM, "go", "M.mesa", str(turns)], cwd=folder, preexec_fn=limit, stdout=subprocess.DEVNULL, stderr=subprocess.DEVNULL)
+    child = subprocess.Popen([PROGRAM, "go", file, str(turns)], cwd=folder, preexec_fn=limit, stdout=subprocess.DEVNULL, stderr=subprocess.DEVNULL)
     _, ended, usage = os.wait4(child.pid, 0)
     return os.waitstatus_to_exitcode(ended), time.perf_counter() - start, usage.ru_maxrss
 
