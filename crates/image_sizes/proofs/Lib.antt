@@ -1,0 +1,5 @@
+pub mod Images
+pub mod Kept
+pub mod Sums
+pub mod Totals
+pub mod Wants

@@ -1,0 +1,5 @@
+use Rattle.image_sizes.proofs.Sums as own
+use Rattle.image_sizes.proofs.laws.linked_images_are_short.Goals as goal
+
+pub returns : goal.returns
+returns c = own.linked_images_are_short

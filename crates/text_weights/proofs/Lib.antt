@@ -1,0 +1,5 @@
+pub mod Bodies
+pub mod LawProofs
+pub mod Lists
+pub mod Modules
+pub mod Texts
