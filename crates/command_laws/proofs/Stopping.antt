@@ -15,11 +15,13 @@ use Rattle.bound_images.specs.Programs.{shape_of}
 use Rattle.checked_texts.specs.Asked.{asks}
 use Rattle.checked_texts.specs.declared.purpose.Purpose.{Purpose}
 use Rattle.checked_texts.specs.declared.purpose.Purpose.TheVariants.{Program, Interface}
+use Rattle.command_rules.specs.Binding.{object_of, objects_of, binding_of, bound_in}
 use Rattle.command_rules.specs.Case.{Case, Absent, status_of}
-use Rattle.command_rules.specs.Configurations.{config_in, source_in, binding, component_in, modules_of, configuration_of, Grows, fault, Binds, bad, Configures, lexical, syntactic, no_base}
-use Rattle.command_rules.specs.Forms.{Source, OfModule, OfConfig, module_file, config_file, interface_file}
+use Rattle.command_rules.specs.Configurations.{config_in, source_in, tree_in, single_of, bases_of, component_in, modules_of, configuration_of, Grows, fault, Binds, bad, Configures, lexical, syntactic, no_base}
+use Rattle.command_rules.specs.Forms.{Source, OfModule, OfConfig, module_file, config_file, interface_file, object_file}
 use Rattle.command_rules.specs.Modules as m
-use Rattle.command_rules.specs.Modules.{interface_for, interfaces_for, Begun, begun_for, module_in, interface_in, definitions_of, Checks, checked, Defines, defined, Decodes, is_file, is_none, Begins, begun, refused}
+use Rattle.command_rules.specs.Modules.{interface_for, interfaces_for, Begun, begun_for, module_in, interface_in, definitions_of, Checks, checked, Defines, defined, Decodes, Begins, begun, refused}
+use Rattle.command_rules.specs.Objects.{HoldsObject, HoldsImage, object_in, image_in, shape_in}
 use Rattle.command_rules.specs.Passes.{Outcome, Has, Stops, Trail, Pass, decided, given, FromFile, held, missing, from_file, Follows, stopped, went, and_then, each}
 
 abbrev pub IsNoUsage : Case → Type 0
@@ -74,7 +76,13 @@ each_so q so (x ∷ xs) =
 -- ---- the parts
 
 decodes_so : (file bytes : List ℕ) → StopsSo (Decodes file bytes)
-decodes_so file bytes case (is_none why h) = refused_so
+decodes_so file bytes case (Decodes.is_none why h) = refused_so
+
+holds_object_so : (file bytes : List ℕ) → StopsSo (HoldsObject file bytes)
+holds_object_so file bytes case (HoldsObject.is_none why h) = refused_so
+
+holds_image_so : (file bytes : List ℕ) → StopsSo (HoldsImage file bytes)
+holds_image_so file bytes case (HoldsImage.is_none why h) = refused_so
 
 begins_so : (file : List ℕ) (purpose : Purpose) (bytes : List ℕ) → StopsSo (Begins file purpose bytes)
 begins_so file purpose bytes case (refused why h) = refused_so
@@ -113,7 +121,7 @@ program_so : (file : List ℕ) (b : Begun) → PassStopsSo (m.program_of file b)
 unfolding m.program_of
 program_so file b = and_then_so (interfaces_for b) _ (interfaces_so b) (λ all. decided_so (Checks file b.0 all) (checks_so file b.0 all))
 
-module_so : (file : List ℕ) → PassStopsSo (module_in file)
+pub module_so : (file : List ℕ) → PassStopsSo (module_in file)
 unfolding module_in
 module_so file = and_then_so (begun_for file Program) (m.program_of file) (begun_so file Program) (program_so file)
 
@@ -129,23 +137,47 @@ config_so : (file : List ℕ) → PassStopsSo (config_in file)
 unfolding config_in
 config_so file = from_file_so file (Configures file) (configures_so file)
 
-binding_so : (file : List ℕ) (is_tree : through.Answer Tree → Type 0) (modules : List Module) → PassStopsSo (binding file is_tree modules)
-unfolding binding
-binding_so file is_tree modules =
+tree_so : (file : List ℕ) (is_tree : through.Answer Tree → Type 0) → PassStopsSo (tree_in file is_tree)
+unfolding tree_in
+tree_so file is_tree =
     and_then_so (decided (Grows file is_tree)) _ (decided_so (Grows file is_tree) (grows_so file is_tree)) (λ t.
     and_then_so (decided (Binds file t)) _ (decided_so (Binds file t) (binds_so file t)) (λ _.
-    given_so (record { tree = t; modules = modules })))
+    given_so t))
 
 configured_so : (file : List ℕ) (k : Config) → PassStopsSo (configuration_of file k)
 unfolding configuration_of
 configured_so file k =
     and_then_so (modules_of k) _ (each_so component_in (λ x. module_so (module_file x.file)) (components k)) (λ modules.
-    binding_so file (IsTree k (map shape_of modules)) modules)
+    and_then_so (tree_in file (IsTree k (map shape_of modules))) _ (tree_so file (IsTree k (map shape_of modules))) (λ t.
+    given_so (record { tree = t; bases = bases_of k; modules = modules })))
+
+single_so : (base : List ℕ) (x : Module) → PassStopsSo (single_of base x)
+unfolding single_of
+single_so base x =
+    and_then_so (tree_in (module_file base) (IsSingle (shape_of x))) _ (tree_so (module_file base) (IsSingle (shape_of x))) (λ t.
+    given_so (record { tree = t; bases = base ∷ []; modules = x ∷ [] }))
 
 pub source_so : (source : Source) (base : List ℕ) → PassStopsSo (source_in source base)
 unfolding source_in
-source_so OfModule base =
-    and_then_so (module_in (module_file base)) _ (module_so (module_file base)) (λ x.
-    binding_so (module_file base) (IsSingle (shape_of x)) (x ∷ []))
+source_so OfModule base = and_then_so (module_in (module_file base)) (single_of base) (module_so (module_file base)) (single_so base)
 source_so OfConfig base =
     and_then_so (config_in (config_file base)) (configuration_of (config_file base)) (config_so (config_file base)) (configured_so (config_file base))
+
+object_so : (file : List ℕ) → PassStopsSo (object_in file)
+unfolding object_in
+object_so file = from_file_so file (HoldsObject file) (holds_object_so file)
+
+pub image_so : (file : List ℕ) → PassStopsSo (image_in file)
+unfolding image_in
+image_so file = from_file_so file (HoldsImage file) (holds_image_so file)
+
+binding_so : (file : List ℕ) (k : Config) → PassStopsSo (binding_of file k)
+unfolding binding_of
+binding_so file k =
+    and_then_so (objects_of k) _ (each_so object_of (λ x. object_so (object_file x.file)) (components k)) (λ parts.
+    and_then_so (tree_in file (IsTree k (map shape_in parts))) _ (tree_so file (IsTree k (map shape_in parts))) (λ t.
+    given_so (record { tree = t; parts = parts })))
+
+pub bound_so : (base : List ℕ) → PassStopsSo (bound_in base)
+unfolding bound_in
+bound_so base = and_then_so (config_in (config_file base)) (binding_of (config_file base)) (config_so (config_file base)) (binding_so (config_file base))

@@ -1,8 +1,9 @@
 //! The laws above the cases of a call.
-ghost use Rattle.command_laws.specs.Laws.{CasesAreAnswers, PassesAreExact, RunsEndOnce, WordsHaveOneForm};
+ghost use Rattle.command_laws.specs.Laws.{CasesAreAnswers, PassesAreExact, RunsAreMeant, RunsEndOnce, WordsHaveOneForm};
 ghost use Rattle.command_rules.specs.Complete.{OneCaseComes};
 
 use checked_texts::{definitions_come_to_one, programs_come_to_one, texts_begin_once};
+use depth_laws::depths_do_not_matter;
 use linked_programs::{singles_are_one, trees_are_one};
 
 /// A law: where the files of a folder are told, one thing comes of each pass, and after the same files.
@@ -26,11 +27,17 @@ pub fn runs_end_once()
     ensures { RunsEndOnce }
 {}
 
+/// A law: how the machine runs an image that is linked from checked modules is how the run of their program ends.
+pub fn runs_are_meant()
+    ensures { RunsAreMeant }
+{}
+
 /// A law: for words, files and an input that are told one case comes where no call failed, want of memory aside.
 pub fn one_case()
     ensures { OneCaseComes }
 {
     passes_are_exact();
+    depths_do_not_matter();
 }
 
 /// A law: a case that comes of the words, with its status and line, is an answer to them.
@@ -38,4 +45,5 @@ pub fn cases_are_answers()
     ensures { CasesAreAnswers }
 {
     passes_are_exact();
+    depths_do_not_matter();
 }
