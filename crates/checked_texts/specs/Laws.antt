@@ -11,6 +11,7 @@ use Rattle.interface_records.specs.Spelled.{InSixBytes, InterfaceCanBeSpelled, I
 use Rattle.syntax_trees.specs.Syntax as s
 use Rattle.check_rules.specs.Laws.{NamedThroughout, shape_of}
 use Rattle.check_rules.specs.Steps.{Fault}
+use Rattle.checking_laws.specs.UsedItems.{used_items}
 use Rattle.config_rules.specs.InOrder.{ShapeInOrder}
 use Rattle.checked_texts.specs.Asked.{Purpose, Program, Interface, fits}
 use Rattle.checked_texts.specs.TextFaults.{TextFault}
@@ -55,6 +56,7 @@ StampsNeedNoInterface = (purpose : Purpose) (m : s.Module) (is : List records.In
 pub record CanBeKept (m : t.Module) : Type 0 where
   pub sound : Sound m
   pub few : nodes m ≤ TREE_NODES
+  pub few_items : used_items m.imports ≤ nodes m
   pub shape : ShapeCanBeSpelled (shape_of m)
   pub named : NamedThroughout m
   pub in_order : ShapeInOrder (shape_of m)

@@ -1,4 +1,4 @@
-//! Which FROM texts name files.
+//! Which texts are bases of files, and which FROM texts name files.
 ghost use Rattle.std.specs.Prelude.{◌≡◌, bytes_eq};
 ghost use Rattle.std.specs.List.{list_all};
 ghost use Rattle.config_rules.specs.Components as file;
@@ -22,7 +22,8 @@ fn all_file_bytes(bytes: &[u8]) -> bool
     bytes.iter().all(|byte| is_file_byte(*byte))
 }
 
-fn is_file_base(bytes: &[u8]) -> bool
+/// Whether the bytes are the base of a file's name: a letter, then letters, digits, `-` and `_`, 64 bytes at most.
+pub fn is_file_base(bytes: &[u8]) -> bool
     ensures { result ≡ file.is_file_base bytes.now }
 {
     begins_with_letter(bytes) && (all_file_bytes(bytes) && bytes.len() <= FILE_BASE_BYTES)
@@ -35,7 +36,7 @@ pub fn is_built_in(item: &DirectoryItem) -> bool
     item.name.name.bytes() == b"IODefs".as_slice()
 }
 
-/// Whether an item takes the built-in interface or names a file: a letter, then letters, digits, `-` and `_`, 64 bytes at most.
+/// Whether an item takes the built-in interface or names a file.
 pub fn names_file(item: &DirectoryItem) -> bool
     ensures { result ≡ spec.names_file item.now }
 {

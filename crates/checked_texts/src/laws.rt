@@ -1,6 +1,7 @@
 ghost use Rattle.checked_texts.specs.Laws.{DefinedInterfacesCanBeSpelled, DefinitionsComeToOne, FaultsComeInOrder, ProgramsComeToOne, ReadModulesCanBeKept, StampsNeedNoInterface, TextsBeginOnce};
 
 use check_rules::laws::spelled_interfaces_are_in_order;
+use checking_laws::laws::used_items_are_few;
 use written_trees::{
     checked_texts_are_sound, checked_texts_can_be_spelled, checked_texts_have_names,
 };
@@ -38,6 +39,7 @@ pub fn read_modules_can_be_kept()
     checked_texts_can_be_spelled();
     checked_texts_have_names();
     spelled_interfaces_are_in_order();
+    used_items_are_few();
 }
 
 /// Files can spell the interface of a text under a stamp of six bytes, where they can spell the interfaces given.

@@ -1,63 +1,103 @@
 -- What a call answers, from its case and its line.
-use Rattle.std.proofs.Common.{◌≡◌, ◌≢◌, ℕ, ◌≤◌, ◌⊎◌, ◌↔◌, List, length, All, Some, refl, sym, ◌∙◌, ap, subst, inl, inr, arith}
+use Rattle.std.proofs.Common.{◌≡◌, ◌≢◌, ℕ, ◌⊎◌, ◌↔◌, List, All, Some, refl, sym, ◌∙◌, ap, subst, inl, inr}
 use Rattle.mesa_base.specs.Outside.{Files}
-use Rattle.mesa_base.specs.declared.limits.TheConstants.{FILE_BYTES}
 use Rattle.mesa_base.specs.declared.status.Status.{Status}
 use Rattle.mesa_base.specs.declared.status.Status.TheVariants as status
-use Rattle.interface_records.specs.Hosts.{IsHostItem}
-use Rattle.interface_records.specs.declared.interface.Interface.{Interface}
-use Rattle.interface_records.specs.declared.wanted.WantedItem.{WantedItem}
-use Rattle.machine_ready.specs.Hosts.{IsFirstUnresolved}
-use Rattle.machine_ready.proofs.Offered.{one_unresolved, none_unresolved}
-use Rattle.face_rules.specs.InterfaceForms.{IsInterfaceFile}
-use Rattle.interface_writers.specs.Whole.{interface_file as whole_file}
-use Rattle.line_pieces.specs.Outputs.{Stream, PrintsAll}
-use Rattle.command_rules.specs.Case.{Case, Done, Memory, Refused, status_of}
-use Rattle.command_rules.specs.declared.trouble.Trouble.TheVariants.{Unresolved}
-use Rattle.command_rules.specs.Comes.{Stores, Written, stored, too_large, failed as write_failed, memory as no_room, Defines, not_defined, defined, Goes, not_configured, unresolved, no_memory as no_room_to_run, ran, Comes, usage, goes, defines}
-use Rattle.command_rules.specs.Complete.{NoFault, Tells, IsAnswer, Does, IsComplete, IsRefused, IsUnresolved, IsDefined, IsNotDefined, Answered}
-use Rattle.command_rules.specs.Configurations.{Configured, left_to_loader, source_in}
-use Rattle.command_rules.specs.Forms.{Source, Go, Define, HasForm, HasNoForm, module_file, interface_file, image_file}
-use Rattle.command_rules.specs.Modules.{interface_in}
-use Rattle.command_rules.specs.Passes.{Has, Stops, Trail, Pass}
+use Rattle.depth_laws.specs.Laws.{DepthsDoNotMatter}
+use Rattle.line_pieces.specs.Outputs.{Stream}
+use Rattle.command_rules.specs.Binding.{bound_in}
+use Rattle.command_rules.specs.Case.{Case, Absent, Done, Memory, Refused, Usage, status_of}
+use Rattle.command_rules.specs.declared.trouble.Trouble.TheVariants.{TooLarge}
+use Rattle.command_rules.specs.Comes.{Compiles, not_compiled, compiled, Defines, not_defined, defined, Binds, not_bound, bound, Loads, not_read, Goes, not_configured, Comes}
+use Rattle.command_rules.specs.Complete.{NoFault, Tells, IsAnswer, IsCall, StopsOver, MakesOver, IsRefused, IsTooLarge, IsUnresolved, IsNotLoaded, IsCompileOrBind, IsStored, IsComplete, IsRun, Answered}
+use Rattle.command_rules.specs.Configurations.{program, source_in}
+use Rattle.command_rules.specs.Forms.{Source, Form, Compile, Define, Bind, Run, Go, HasNoForm, module_file, image_file}
+use Rattle.command_rules.specs.Modules.{interface_in, module_in}
+use Rattle.command_rules.specs.Objects.{image_in}
+use Rattle.command_rules.specs.Passes.{Trail, Pass}
 use Rattle.command_rules.specs.Passing.{Fails, refused, failed, memory}
+use Rattle.command_rules.specs.Shown.{image_names, program_names}
 use Rattle.command_rules.specs.Worlds.{Shelf, Scene, World}
-use Rattle.command_laws.specs.Laws.{PassesAreExact, CasesAreAnswers, NoStreamFailed}
-use Rattle.command_laws.proofs.OneCase.{Came, same_stop, same_value, never_both, streams, Loads, lacks, runs, Ran, halted, went, no_run, clean_run, Kept, large, whole, Made, stopped, wrote, no_memory, clean_definition, Meets, no_form, of_form, meets, of_its_form}
-use Rattle.command_laws.proofs.OneEnd.{does, run_used}
-use Rattle.command_laws.proofs.Stopping.{PassStopsSo, source_so, interface_in_so}
+use Rattle.command_rules.specs.Writing.{Target, IsSmall, IsFirstTooLarge, NotStored, StoresAll, Written}
+use Rattle.command_rules.proofs.Stopping.{IsOfFiles, PassStopsSo, source_so, module_so, interface_in_so, bound_so, image_so}
+use Rattle.command_laws.specs.Laws.{PassesAreExact, CasesAreAnswers}
+use Rattle.command_laws.proofs.Came.{streams}
+use Rattle.command_laws.proofs.Going.{goes_so, went_stopped, went_large, went_lacking, went_whole}
+use Rattle.command_laws.proofs.Loading.{loads_so, loaded_stopped, loaded_lacking, loaded_run}
+use Rattle.command_laws.proofs.Making.{OfCompile, OfDefine, OfBind, compile_made, define_made, bind_made, compiles_likely, defines_likely, binds_likely, made_stopped, made_large, made_whole}
+use Rattle.command_laws.proofs.OneCase.{FormComes, Meets, no_form, of_form, meets, of_its_form}
+use Rattle.command_laws.proofs.OneEnd.{run_used}
+use Rattle.command_laws.proofs.Sizes.{is_first, are_small}
 
 -- ---- Usage
 
+of_files_used : (case : Case) → IsOfFiles case → status_of case ≢ status.Usage
+of_files_used (Refused file why) h e = cc
+of_files_used (Absent file) h e = cc
+of_files_used Usage h e = h
+of_files_used _ h e = cc
+
 fails_used : {A : Type 0} (p : Pass Case A) → PassStopsSo p → (folder folder' : Shelf) (case : Case) → Fails p folder folder' case → status_of case ≢ status.Usage
-fails_used p so folder folder' case (refused trail _ comes missed called) e = so folder.files trail case comes e
+fails_used p so folder folder' case (refused trail _ comes missed called) e = of_files_used case (so folder.files trail case comes) e
 fails_used p so folder folder' case (failed trail file asks rose called) e = cc
 fails_used p so folder folder' case memory e = cc
+
+not_stored_used : (targets : List Target) (trail : Trail) (folder folder' : Shelf) (case : Case) → NotStored targets trail folder folder' case
+    → status_of case ≢ status.Usage
+not_stored_used targets trail folder folder' case (NotStored.failed before after t is files rose called) e = cc
+not_stored_used targets trail folder folder' case (NotStored.memory before after t is files) e = cc
+
+written_used : (targets : List Target) (trail : Trail) (folder folder' : Shelf) (case : Case) → Written targets trail folder folder' case
+    → status_of case ≢ status.Usage
+written_used targets trail folder folder' case (Written.too_large file first asked) e = cc
+written_used targets trail folder folder' case (Written.no_memory asked) e = cc
+written_used targets trail folder folder' case (Written.stored s) e = cc
+written_used targets trail folder folder' case (Written.not_stored _ small it) e = not_stored_used targets trail folder folder' case it e
+
+compiles_used : (base : List ℕ) (folder folder' : Shelf) (case : Case) → Compiles base folder folder' case → status_of case ≢ status.Usage
+compiles_used base folder folder' case (not_compiled _ why onward) e =
+    fails_used (module_in (module_file base)) (module_so (module_file base)) folder folder' case why e
+compiles_used base folder folder' case (compiled m o trail _ comes is written) e = written_used _ trail folder folder' case written e
+
+defines_used : (base : List ℕ) (stamp : ℕ) (folder folder' : Shelf) (case : Case) → Defines base stamp folder folder' case → status_of case ≢ status.Usage
+defines_used base stamp folder folder' case (not_defined _ why onward) e =
+    fails_used (interface_in (module_file base) stamp) (interface_in_so (module_file base) stamp) folder folder' case why e
+defines_used base stamp folder folder' case (defined i trail _ comes written) e = written_used _ trail folder folder' case written e
+
+binds_used : (base : List ℕ) (folder folder' : Shelf) (case : Case) → Binds base folder folder' case → status_of case ≢ status.Usage
+binds_used base folder folder' case (not_bound _ why onward) e = fails_used (bound_in base) (bound_so base) folder folder' case why e
+binds_used base folder folder' case (bound b image trail _ comes is written) e = written_used _ trail folder folder' case written e
+
+loads_used : (base : List ℕ) (turns : ℕ) (folder folder' : Shelf) (old new : Scene) (case : Case) → Loads base turns folder folder' old new case
+    → status_of case ≢ status.Usage
+loads_used base turns folder folder' old new case (not_read _ why onward same) e =
+    fails_used (image_in (image_file base)) (image_so (image_file base)) folder folder' case why e
+loads_used base turns folder folder' old new case (Loads.unresolved parts i gives first same) e = cc
+loads_used base turns folder folder' old new case (Loads.no_memory parts gives same) e = cc
+loads_used base turns folder folder' old new case (Loads.ran parts image _ gives is all it) e = run_used (image_names image) image turns old new case it e
 
 goes_used : (source : Source) (base : List ℕ) (turns : ℕ) (folder folder' : Shelf) (old new : Scene) (case : Case) → Goes source base turns folder folder' old new case
     → status_of case ≢ status.Usage
 goes_used source base turns folder folder' old new case (not_configured _ why onward same) e =
     fails_used (source_in source base) (source_so source base) folder folder' case why e
-goes_used source base turns folder folder' old new case (ran k _ gives all ends) e = run_used k turns old new case ends e
-goes_used source base turns folder folder' old new case (unresolved k i gives first same) e = cc
-goes_used source base turns folder folder' old new case (no_room_to_run k gives same) e = cc
+goes_used source base turns folder folder' old new case (Goes.too_large trail m file first asked same) e = cc
+goes_used source base turns folder folder' old new case (Goes.unresolved trail m i small first asked same) e = cc
+goes_used source base turns folder folder' old new case (Goes.no_memory k gives same) e = cc
+goes_used source base turns folder folder' old new case (Goes.not_stored trail m _ small all it same) e = not_stored_used _ trail folder folder' case it e
+goes_used source base turns folder folder' old new case (Goes.ran trail m _ all stored ends) e =
+    run_used (program_names (program m.configured)) _ turns old new case ends.machine e
 
-written_used : (file : List ℕ) (i : Interface) (trail : Trail) (folder folder' : Shelf) (case : Case) → Written file i trail folder folder' case → status_of case ≢ status.Usage
-written_used file i trail folder folder' case (stored bytes is_file stores called) e = cc
-written_used file i trail folder folder' case (too_large more asked) e = cc
-written_used file i trail folder folder' case (write_failed rose spoils called) e = cc
-written_used file i trail folder folder' case (no_room spoils) e = cc
+form_used : (form : Form) (folder folder' : Shelf) (old new : Scene) (case : Case) → FormComes form folder folder' old new case → status_of case ≢ status.Usage
+form_used (Compile base) folder folder' old new case it e = compiles_used base folder folder' case it e
+form_used (Define base stamp) folder folder' old new case it e = defines_used base stamp folder folder' case it e
+form_used (Bind base) folder folder' old new case it e = binds_used base folder folder' case it e
+form_used (Run base turns) folder folder' old new case it e = loads_used base turns folder folder' old new case it e
+form_used (Go source base turns) folder folder' old new case it e = goes_used source base turns folder folder' old new case it e
 
-defines_used : (base : List ℕ) (stamp : ℕ) (folder folder' : Shelf) (case : Case) → Defines base stamp folder folder' case → status_of case ≢ status.Usage
-defines_used base stamp folder folder' case (not_defined _ why onward) e =
-    fails_used (interface_in (module_file base) stamp) (interface_in_so (module_file base) stamp) folder folder' case why e
-defines_used base stamp folder folder' case (defined i trail _ comes written) e = written_used (interface_file base) i trail folder folder' case written e
-
-usage_only : (words : List (List ℕ)) (folder folder' : Shelf) (old new : Scene) (case : Case) → Comes words folder folder' old new case
+usage_only : (words : List (List ℕ)) (folder folder' : Shelf) (old new : Scene) (case : Case) → Meets words folder folder' old new case
     → status_of case ≡ status.Usage → HasNoForm words
-usage_only words folder folder' old new case (usage none here same) e = none
-usage_only words folder folder' old new case (goes source base turns _ form it) e = absurd (goes_used source base turns folder folder' old new case it e)
-usage_only words folder folder' old new case (defines base stamp _ form it same) e = absurd (defines_used base stamp folder folder' case it e)
+usage_only words folder folder' old new case (no_form none) e = none
+usage_only words folder folder' old new case (of_form form _ has it) e = absurd (form_used form folder folder' old new case it e)
 
 used : (words : List (List ℕ)) (folder folder' : Shelf) (old new : Scene) (case : Case) → HasNoForm words → Meets words folder folder' old new case → status_of case ≡ status.Usage
 used words folder folder' old new case none (no_form _) = refl
@@ -67,7 +107,8 @@ used words folder folder' old new case none (of_form form _ has it) = absurd (no
 usage_exact : (words : List (List ℕ)) (folder folder' : Shelf) (old new : Scene) (case : Case) → Comes words folder folder' old new case
     → (status_of case ≡ status.Usage) ↔ HasNoForm words
 usage_exact words folder folder' old new case comes =
-    (usage_only words folder folder' old new case comes, λ none. used words folder folder' old new case none (meets words folder folder' old new case comes))
+    let met = meets words folder folder' old new case comes in
+    (usage_only words folder folder' old new case met, λ none. used words folder folder' old new case none met)
 
 -- ---- answers
 
@@ -80,111 +121,117 @@ told : (case c : Case) (R : Type 0) (said said' : Stream) (s : Status) → Tells
 told case c R said said' s tells (inl it) = inl (subst (λ x. Tells x said said' s) it.0 tells, it.1)
 told case c R said said' s tells (inr e) = inr (tells.status_is ∙ ap status_of e)
 
-abbrev Whole : Interface → (file : List ℕ) → Shelf → Shelf → Type 0
-Whole i file folder folder' = (bytes : List ℕ) × IsInterfaceFile 2 i bytes × Stores file bytes folder folder'
+told_both : (case c : Case) (R Q : Type 0) (said said' : Stream) (s : Status) → Tells case said said' s → ((case ≡ c) × R × Q) ⊎ (case ≡ Memory)
+    → (Tells c said said' s × R × Q) ⊎ (s ≡ status.Memory)
+told_both case c R Q said said' s tells (inl it) = inl (subst (λ x. Tells x said said' s) it.0 tells, it.1, it.2)
+told_both case c R Q said said' s tells (inr e) = inr (tells.status_is ∙ ap status_of e)
 
-kept_whole : (file : List ℕ) (i : Interface) (folder folder' : Shelf) (case : Case) → length (whole_file i) ≤ FILE_BYTES → Kept file i folder folder' case
-    → (case ≡ Done) × Whole i file folder folder'
-kept_whole file i folder folder' case few (large more) = absurd (omega (arith, few, more))
-kept_whole file i folder folder' case few (whole bytes is_file stores) = (refl, (bytes, is_file, stores))
+module _ (exact : PassesAreExact) (law : DepthsDoNotMatter) where
+  -- what stops a form, over files that are told and without faults
+  form_stopped : (form : Form) (folder folder' : Shelf) (old new : Scene) (files : Files) (case c : Case) → folder.files ≡ Some files
+      → NoFault folder folder' old new → StopsOver form files c → FormComes form folder folder' old new case → (case ≡ Memory) ⊎ (case ≡ c)
+  form_stopped (Compile base) folder folder' old new files case c e calm it x =
+      made_stopped (module_in (module_file base)) (OfCompile base) files (exact.modules (module_file base)) (compiles_likely base) folder folder' case c
+      (record { trail = it.0; comes = it.1 }) (compile_made base files folder folder' case e calm.no_folder_fault x)
+  form_stopped (Define base stamp) folder folder' old new files case c e calm it x =
+      made_stopped (interface_in (module_file base) stamp) (OfDefine base) files (exact.definitions (module_file base) stamp) (defines_likely base) folder folder' case c
+      (record { trail = it.0; comes = it.1 }) (define_made base stamp files folder folder' case e calm.no_folder_fault x)
+  form_stopped (Bind base) folder folder' old new files case c e calm it x =
+      made_stopped (bound_in base) (OfBind base) files (exact.bound base) (binds_likely base) folder folder' case c
+      (record { trail = it.0; comes = it.1 }) (bind_made base files folder folder' case e calm.no_folder_fault x)
+  form_stopped (Run base turns) folder folder' old new files case c e calm it x =
+      loaded_stopped law base turns files (exact.images (image_file base)) old new case c
+      (record { trail = it.0; comes = it.1 }) (loads_so base turns files folder folder' old new case e calm.no_folder_fault x)
+  form_stopped (Go source base turns) folder folder' old new files case c e calm it x =
+      went_stopped source base turns files (exact.sources source base) folder folder' old new case c
+      (record { trail = it.0; comes = it.1 }) (goes_so source base turns files folder folder' old new case e calm.no_folder_fault x)
 
--- what was configured, and binds
+  -- the first file that would be too large
+  form_large : (form : Form) (folder folder' : Shelf) (old new : Scene) (files : Files) (case : Case) (targets : List Target) (file : List ℕ) → folder.files ≡ Some files
+      → NoFault folder folder' old new → MakesOver form files targets → IsFirstTooLarge targets file → FormComes form folder folder' old new case
+      → (case ≡ Memory) ⊎ (case ≡ Refused file TooLarge)
+  form_large (Compile base) folder folder' old new files case targets file e calm it first x =
+      made_large (module_in (module_file base)) (OfCompile base) files (exact.modules (module_file base)) (compiles_likely base) folder folder' case it.1 targets file
+      (record { trail = it.0; comes = it.3 }) (it.2, it.4, it.5) first (compile_made base files folder folder' case e calm.no_folder_fault x)
+  form_large (Define base stamp) folder folder' old new files case targets file e calm it first x =
+      made_large (interface_in (module_file base) stamp) (OfDefine base) files (exact.definitions (module_file base) stamp) (defines_likely base) folder folder' case it.1 targets file
+      (record { trail = it.0; comes = it.2 }) it.3 first (define_made base stamp files folder folder' case e calm.no_folder_fault x)
+  form_large (Bind base) folder folder' old new files case targets file e calm it first x =
+      made_large (bound_in base) (OfBind base) files (exact.bound base) (binds_likely base) folder folder' case it.1 targets file
+      (record { trail = it.0; comes = it.3 }) (it.2, it.4, it.5) first (bind_made base files folder folder' case e calm.no_folder_fault x)
+  form_large (Run base turns) folder folder' old new files case targets file e calm it first x = absurd it
+  form_large (Go source base turns) folder folder' old new files case targets file e calm it first x =
+      went_large source base turns files (exact.sources source base) folder folder' old new it.1.configured it.1.objects
+      (record { trail = it.0; comes = it.1.comes }) it.1.their case file (is_first _ file (subst (λ ts. IsFirstTooLarge ts file) it.2 first))
+      (goes_so source base turns files folder folder' old new case e calm.no_folder_fault x)
 
-load_did : (base : List ℕ) (turns : ℕ) (k : Configured) (old new : Scene) (output : List ℕ) (case c : Case) → NoStreamFailed old new
-    → All IsHostItem (left_to_loader k) → Does k turns old output c → Loads base turns k old new case → (case ≡ c) × PrintsAll output old.out new.out
-load_did base turns k old new output case c calm all d (lacks i first) = absurd (none_unresolved (left_to_loader k) i all first)
-load_did base turns k old new output case c calm all d (runs _ also ends) = does k turns old new output case c d calm ends
-
-load_lacked : (base : List ℕ) (turns : ℕ) (k : Configured) (old new : Scene) (case : Case) (i : WantedItem) → IsFirstUnresolved (left_to_loader k) i
-    → Loads base turns k old new case → case ≡ Refused (image_file base) (Unresolved i)
-load_lacked base turns k old new case i first (lacks j other) =
-    ap (λ x. Refused (image_file base) (Unresolved x)) (one_unresolved (left_to_loader k) j i other first)
-load_lacked base turns k old new case i first (runs _ all ends) = absurd (none_unresolved (left_to_loader k) i all first)
-
-module _ (exact : PassesAreExact) where
-  run_stopped : (source : Source) (base : List ℕ) (turns : ℕ) (files : Files) (old new : Scene) (case c : Case) → Came (source_in source base) files (Stops c)
-      → Ran source base turns files old new case → (case ≡ Memory) ⊎ (case ≡ c)
-  run_stopped source base turns files old new case c x no_run = inl refl
-  run_stopped source base turns files old new case c x (halted _ y) = inr (same_stop (source_in source base) files case c (exact.sources source base) y x)
-  run_stopped source base turns files old new case c x (went k _ y loads) = absurd (never_both (source_in source base) files k c (exact.sources source base) y x)
-
-  run_did : (source : Source) (base : List ℕ) (turns : ℕ) (files : Files) (folder folder' : Shelf) (old new : Scene) (k : Configured) (output : List ℕ) (case c : Case)
-      → NoFault folder folder' old new → Came (source_in source base) files (Has k) → All IsHostItem (left_to_loader k) → Does k turns old output c → Ran source base turns files old new case
-      → ((case ≡ c) × PrintsAll output old.out new.out) ⊎ (case ≡ Memory)
-  run_did source base turns files folder folder' old new k output case c calm x all d no_run = inr refl
-  run_did source base turns files folder folder' old new k output case c calm x all d (halted _ y) =
-      absurd (never_both (source_in source base) files k case (exact.sources source base) x y)
-  run_did source base turns files folder folder' old new k output case c calm x all d (went l _ y loads) =
-      inl (load_did base turns k old new output case c (streams folder folder' old new calm) all d
-      (subst (λ z. Loads base turns z old new case) (same_value (source_in source base) files l k (exact.sources source base) y x) loads))
-
-  run_lacked : (source : Source) (base : List ℕ) (turns : ℕ) (files : Files) (old new : Scene) (k : Configured) (i : WantedItem) (case : Case)
-      → Came (source_in source base) files (Has k) → IsFirstUnresolved (left_to_loader k) i → Ran source base turns files old new case
-      → (case ≡ Memory) ⊎ (case ≡ Refused (image_file base) (Unresolved i))
-  run_lacked source base turns files old new k i case x first no_run = inl refl
-  run_lacked source base turns files old new k i case x first (halted _ y) =
-      absurd (never_both (source_in source base) files k case (exact.sources source base) x y)
-  run_lacked source base turns files old new k i case x first (went l _ y loads) =
-      inr (load_lacked base turns k old new case i first
-      (subst (λ z. Loads base turns z old new case) (same_value (source_in source base) files l k (exact.sources source base) y x) loads))
-
-  made_stopped : (base : List ℕ) (stamp : ℕ) (files : Files) (folder folder' : Shelf) (case c : Case) → Came (interface_in (module_file base) stamp) files (Stops c)
-      → Made base stamp files folder folder' case → (case ≡ Memory) ⊎ (case ≡ c)
-  made_stopped base stamp files folder folder' case c x no_memory = inl refl
-  made_stopped base stamp files folder folder' case c x (stopped _ y) =
-      inr (same_stop (interface_in (module_file base) stamp) files case c (exact.definitions (module_file base) stamp) y x)
-  made_stopped base stamp files folder folder' case c x (wrote i _ y kept) =
-      absurd (never_both (interface_in (module_file base) stamp) files i c (exact.definitions (module_file base) stamp) y x)
-
-  made_whole : (base : List ℕ) (stamp : ℕ) (files : Files) (folder folder' : Shelf) (i : Interface) (case : Case) → length (whole_file i) ≤ FILE_BYTES
-      → Came (interface_in (module_file base) stamp) files (Has i) → Made base stamp files folder folder' case
-      → ((case ≡ Done) × Whole i (interface_file base) folder folder') ⊎ (case ≡ Memory)
-  made_whole base stamp files folder folder' i case few x no_memory = inr refl
-  made_whole base stamp files folder folder' i case few x (stopped _ y) =
-      absurd (never_both (interface_in (module_file base) stamp) files i case (exact.definitions (module_file base) stamp) x y)
-  made_whole base stamp files folder folder' i case few x (wrote j _ y kept) =
-      inl (kept_whole (interface_file base) i folder folder' case few
-      (subst (λ z. Kept (interface_file base) z folder folder' case) (same_value (interface_in (module_file base) stamp) files j i (exact.definitions (module_file base) stamp) y x) kept))
+  -- compile and bind
+  form_stored : (form : Form) (folder folder' : Shelf) (old new : Scene) (files : Files) (case : Case) (targets : List Target) → folder.files ≡ Some files
+      → NoFault folder folder' old new → IsCompileOrBind form → MakesOver form files targets → All IsSmall targets → FormComes form folder folder' old new case
+      → ((case ≡ Done) × StoresAll targets folder.files folder'.files) ⊎ (case ≡ Memory)
+  form_stored (Compile base) folder folder' old new files case targets e calm is it small x =
+      made_whole (module_in (module_file base)) (OfCompile base) files (exact.modules (module_file base)) (compiles_likely base) folder folder' case it.1 targets
+      (record { trail = it.0; comes = it.3 }) (it.2, it.4, it.5) small (compile_made base files folder folder' case e calm.no_folder_fault x)
+  form_stored (Define base stamp) folder folder' old new files case targets e calm is it small x =
+      made_whole (interface_in (module_file base) stamp) (OfDefine base) files (exact.definitions (module_file base) stamp) (defines_likely base) folder folder' case it.1 targets
+      (record { trail = it.0; comes = it.2 }) it.3 small (define_made base stamp files folder folder' case e calm.no_folder_fault x)
+  form_stored (Bind base) folder folder' old new files case targets e calm is it small x =
+      made_whole (bound_in base) (OfBind base) files (exact.bound base) (binds_likely base) folder folder' case it.1 targets
+      (record { trail = it.0; comes = it.3 }) (it.2, it.4, it.5) small (bind_made base files folder folder' case e calm.no_folder_fault x)
+  form_stored (Run base turns) folder folder' old new files case targets e calm is it small x = absurd is
+  form_stored (Go source base turns) folder folder' old new files case targets e calm is it small x = absurd is
 
   module _ (words : List (List ℕ)) (before after : World) (s : Status) (case : Case) (comes : Comes words before.folder after.folder before.scene after.scene case)
       (tells : Tells case before.err after.err s) where
-    ran_so : (source : Source) (base : List ℕ) (turns : ℕ) (files : Files) → HasForm words (Go source base turns) → before.folder.files ≡ Some files
-        → NoFault before.folder after.folder before.scene after.scene → Ran source base turns files before.scene after.scene case
-    ran_so source base turns files has e calm =
-        clean_run source base turns before.folder after.folder before.scene after.scene files case e calm
-        (of_its_form words before.folder after.folder before.scene after.scene (Go source base turns) case has comes)
-
-    made_so : (base : List ℕ) (stamp : ℕ) (files : Files) → HasForm words (Define base stamp) → before.folder.files ≡ Some files
-        → NoFault before.folder after.folder before.scene after.scene → Made base stamp files before.folder after.folder case
-    made_so base stamp files has e calm =
-        clean_definition base stamp before.folder after.folder files case e calm.no_folder_fault
-        (of_its_form words before.folder after.folder before.scene after.scene (Define base stamp) case has comes)
-
-    complete : IsComplete words before after s
-    complete source base turns files trail k output c has e binds all d calm =
-        told case c (PrintsAll output before.scene.out after.scene.out) before.err after.err s tells
-        (run_did source base turns files before.folder after.folder before.scene after.scene k output case c calm (record { trail = trail; comes = binds }) all d
-        (ran_so source base turns files has e calm))
+    comes_of : (form : Form) (files : Files) → IsCall words before after form files → FormComes form before.folder after.folder before.scene after.scene case
+    comes_of form files it = of_its_form words before.folder after.folder before.scene after.scene form case it.has comes
 
     refuses : IsRefused words before after s
-    refuses source base turns files trail c has e stops calm =
+    refuses form files c call stops =
         answered case c before.err after.err s tells
-        (run_stopped source base turns files before.scene after.scene case c (record { trail = trail; comes = stops }) (ran_so source base turns files has e calm))
+        (form_stopped form before.folder after.folder before.scene after.scene files case c call.told call.no_fault stops (comes_of form files call))
+
+    refuses_large : IsTooLarge words before after s
+    refuses_large form files targets file call makes first =
+        answered case (Refused file TooLarge) before.err after.err s tells
+        (form_large form before.folder after.folder before.scene after.scene files case targets file call.told call.no_fault makes first (comes_of form files call))
 
     lacking : IsUnresolved words before after s
-    lacking source base turns files trail k i has e binds first calm =
-        answered case (Refused (image_file base) (Unresolved i)) before.err after.err s tells
-        (run_lacked source base turns files before.scene after.scene k i case (record { trail = trail; comes = binds }) first (ran_so source base turns files has e calm))
+    lacking source base turns files trail i call m small first =
+        answered case _ before.err after.err s tells
+        (went_lacking source base turns files (exact.sources source base) before.folder after.folder before.scene after.scene m.configured m.objects
+        (record { trail = trail; comes = m.comes }) m.their case i (are_small _ small) first
+        (goes_so source base turns files before.folder after.folder before.scene after.scene case call.told call.no_fault.no_folder_fault
+        (comes_of (Go source base turns) files call)))
 
-    writes : IsDefined words before after s
-    writes base stamp files trail i has e comes_so few calm =
-        told case Done (Whole i (interface_file base) before.folder after.folder) before.err after.err s tells
-        (made_whole base stamp files before.folder after.folder i case few (record { trail = trail; comes = comes_so }) (made_so base stamp files has e calm))
+    lacking_image : IsNotLoaded words before after s
+    lacking_image base turns files trail parts i call reads first =
+        answered case _ before.err after.err s tells
+        (loaded_lacking law base turns files (exact.images (image_file base)) before.scene after.scene parts (record { trail = trail; comes = reads }) case i first
+        (loads_so base turns files before.folder after.folder before.scene after.scene case call.told call.no_fault.no_folder_fault
+        (comes_of (Run base turns) files call)))
 
-    writes_none : IsNotDefined words before after s
-    writes_none base stamp files trail c has e stops calm =
-        answered case c before.err after.err s tells
-        (made_stopped base stamp files before.folder after.folder case c (record { trail = trail; comes = stops }) (made_so base stamp files has e calm))
+    stores : IsStored words before after s
+    stores form files targets call is makes small =
+        told case Done (StoresAll targets before.folder.files after.folder.files) before.err after.err s tells
+        (form_stored form before.folder after.folder before.scene after.scene files case targets call.told call.no_fault is makes small (comes_of form files call))
+
+    complete : IsComplete words before after s
+    complete source base turns files trail output c call m small all d =
+        told_both case c _ _ before.err after.err s tells
+        (went_whole source base turns files (exact.sources source base) before.folder after.folder before.scene after.scene m.configured m.objects
+        (record { trail = trail; comes = m.comes }) m.their case output c
+        (streams before.folder after.folder before.scene after.scene call.no_fault) (are_small _ small) all d
+        (goes_so source base turns files before.folder after.folder before.scene after.scene case call.told call.no_fault.no_folder_fault
+        (comes_of (Go source base turns) files call)))
+
+    runs_image : IsRun words before after s
+    runs_image base turns files trail parts image output c call reads of_image all d =
+        told case c _ before.err after.err s tells
+        (loaded_run law base turns files (exact.images (image_file base)) before.scene after.scene parts (record { trail = trail; comes = reads }) case image output c
+        (streams before.folder after.folder before.scene after.scene call.no_fault) of_image all d
+        (loads_so base turns files before.folder after.folder before.scene after.scene case call.told call.no_fault.no_folder_fault
+        (comes_of (Run base turns) files call)))
 
     answer : Answered words before after s
     answer = record {
@@ -193,11 +240,13 @@ module _ (exact : PassesAreExact) where
       tells = tells;
       usage = subst (λ z. (z ≡ status.Usage) ↔ HasNoForm words) (sym tells.status_is)
           (usage_exact words before.folder after.folder before.scene after.scene case comes);
-      complete = complete;
       refused = refuses;
+      too_large = refuses_large;
       unresolved = lacking;
-      defined = writes;
-      not_defined = writes_none;
+      not_loaded = lacking_image;
+      stored = stores;
+      complete = complete;
+      run = runs_image;
     }
 
   pub is_answered : CasesAreAnswers

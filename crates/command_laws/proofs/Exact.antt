@@ -14,15 +14,17 @@ use Rattle.checked_texts.specs.declared.purpose.Purpose.{Purpose}
 use Rattle.checked_texts.specs.declared.purpose.Purpose.TheVariants.{Program, Interface}
 use Rattle.checked_texts.specs.Laws.{TextsBeginOnce, ProgramsComeToOne, DefinitionsComeToOne}
 use Rattle.linked_programs.specs.Laws.{TreesAreOne, SinglesAreOne}
+use Rattle.command_rules.specs.Binding.{object_of, objects_of, binding_of, bound_in}
 use Rattle.command_rules.specs.Case.{Absent}
-use Rattle.command_rules.specs.Configurations.{config_in, source_in, binding, component_in, modules_of, configuration_of, Grows, Binds, Configures}
-use Rattle.command_rules.specs.Forms.{Source, OfModule, OfConfig, module_file, config_file, interface_file}
+use Rattle.command_rules.specs.Configurations.{config_in, source_in, tree_in, single_of, bases_of, component_in, modules_of, configuration_of, Grows, Binds, Configures}
+use Rattle.command_rules.specs.Forms.{Source, OfModule, OfConfig, module_file, config_file, interface_file, object_file}
 use Rattle.command_rules.specs.Modules as m
 use Rattle.command_rules.specs.Modules.{interface_for, interfaces_for, Begun, begun_for, module_in, interface_in, definitions_of, Checks, Defines, Decodes, Begins}
+use Rattle.command_rules.specs.Objects.{HoldsObject, HoldsImage, object_in, image_in, shape_in}
 use Rattle.command_rules.specs.Passes.{IsExact, decided}
 use Rattle.command_rules.proofs.PassLaws.{decided_exact, given_exact, from_file_exact, and_then_exact, each_exact}
 use Rattle.command_laws.specs.Laws.{PassesAreExact}
-use Rattle.command_laws.proofs.Parts.{decodes_one, begins_one, checks_one, defines_one, configures_one, grows_one, binds_one}
+use Rattle.command_laws.proofs.Parts.{decodes_one, object_one, image_one, begins_one, checks_one, defines_one, configures_one, grows_one, binds_one}
 
 interface_exact : (asked : Option (List ℕ)) → IsExact (interface_for asked)
 unfolding interface_for
@@ -33,13 +35,21 @@ config_exact : (file : List ℕ) → IsExact (config_in file)
 unfolding config_in
 config_exact file = from_file_exact file (Absent file) (Configures file) (configures_one file)
 
-binding_exact : (file : List ℕ) (is_tree : through.Answer Tree → Type 0) (modules : List Module)
-    → ((a b : through.Answer Tree) → is_tree a → is_tree b → a ≡ b) → IsExact (binding file is_tree modules)
-unfolding binding
-binding_exact file is_tree modules one =
+tree_exact : (file : List ℕ) (is_tree : through.Answer Tree → Type 0) → ((a b : through.Answer Tree) → is_tree a → is_tree b → a ≡ b)
+    → IsExact (tree_in file is_tree)
+unfolding tree_in
+tree_exact file is_tree one =
     and_then_exact (decided (Grows file is_tree)) _ (decided_exact (Grows file is_tree) (grows_one file is_tree one)) (λ t.
     and_then_exact (decided (Binds file t)) _ (decided_exact (Binds file t) (binds_one file t)) (λ _.
-    given_exact (record { tree = t; modules = modules })))
+    given_exact t))
+
+object_exact : (file : List ℕ) → IsExact (object_in file)
+unfolding object_in
+object_exact file = from_file_exact file (Absent file) (HoldsObject file) (object_one file)
+
+image_exact : (file : List ℕ) → IsExact (image_in file)
+unfolding image_in
+image_exact file = from_file_exact file (Absent file) (HoldsImage file) (image_one file)
 
 module _ (begin : TextsBeginOnce) (programs : ProgramsComeToOne) (definitions : DefinitionsComeToOne) (trees : TreesAreOne) (singles : SinglesAreOne) where
   begun_exact : (file : List ℕ) (purpose : Purpose) → IsExact (begun_for file purpose)
@@ -71,15 +81,32 @@ module _ (begin : TextsBeginOnce) (programs : ProgramsComeToOne) (definitions : 
   unfolding configuration_of
   configured_exact file k =
       and_then_exact (modules_of k) _ (each_exact component_in (λ x. module_exact (module_file x.file)) (components k)) (λ modules.
-      binding_exact file (IsTree k (map shape_of modules)) modules (trees k (map shape_of modules)))
+      and_then_exact (tree_in file (IsTree k (map shape_of modules))) _ (tree_exact file (IsTree k (map shape_of modules)) (trees k (map shape_of modules))) (λ t.
+      given_exact (record { tree = t; bases = bases_of k; modules = modules })))
+
+  single_exact : (base : List ℕ) (x : Module) → IsExact (single_of base x)
+  unfolding single_of
+  single_exact base x =
+      and_then_exact (tree_in (module_file base) (IsSingle (shape_of x))) _ (tree_exact (module_file base) (IsSingle (shape_of x)) (singles (shape_of x))) (λ t.
+      given_exact (record { tree = t; bases = base ∷ []; modules = x ∷ [] }))
 
   source_exact : (source : Source) (base : List ℕ) → IsExact (source_in source base)
   unfolding source_in
-  source_exact OfModule base =
-      and_then_exact (module_in (module_file base)) _ (module_exact (module_file base)) (λ x.
-      binding_exact (module_file base) (IsSingle (shape_of x)) (x ∷ []) (singles (shape_of x)))
+  source_exact OfModule base = and_then_exact (module_in (module_file base)) (single_of base) (module_exact (module_file base)) (single_exact base)
   source_exact OfConfig base =
       and_then_exact (config_in (config_file base)) (configuration_of (config_file base)) (config_exact (config_file base)) (configured_exact (config_file base))
+
+  binding_exact : (file : List ℕ) (k : Config) → IsExact (binding_of file k)
+  unfolding binding_of
+  binding_exact file k =
+      and_then_exact (objects_of k) _ (each_exact object_of (λ x. object_exact (object_file x.file)) (components k)) (λ parts.
+      and_then_exact (tree_in file (IsTree k (map shape_in parts))) _ (tree_exact file (IsTree k (map shape_in parts)) (trees k (map shape_in parts))) (λ t.
+      given_exact (record { tree = t; parts = parts })))
+
+  bound_exact : (base : List ℕ) → IsExact (bound_in base)
+  unfolding bound_in
+  bound_exact base =
+      and_then_exact (config_in (config_file base)) (binding_of (config_file base)) (config_exact (config_file base)) (binding_exact (config_file base))
 
   pub passes_are_exact : PassesAreExact
   passes_are_exact = record {
@@ -87,5 +114,8 @@ module _ (begin : TextsBeginOnce) (programs : ProgramsComeToOne) (definitions : 
     modules = module_exact;
     definitions = interface_in_exact;
     configurations = config_exact;
+    objects = object_exact;
+    images = image_exact;
+    bound = bound_exact;
     sources = source_exact;
   }

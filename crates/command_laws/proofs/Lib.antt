@@ -1,7 +1,16 @@
 pub mod Parts
 pub mod Exact
+pub mod Bases
 pub mod OneForm
 pub mod OneEnd
-pub mod Stopping
+pub mod Sizes
+pub mod Likeness
+pub mod Came
+pub mod Making
+pub mod Going
+pub mod Loading
 pub mod OneCase
 pub mod Answering
+pub mod Growing
+pub mod CutsOff
+pub mod RunsMeant

@@ -1,19 +1,21 @@
 -- The run of what was configured ends in one way over an input that is told, where no call failed.
-use Rattle.std.proofs.Common.{◌≡◌, ◌≢◌, ℕ, List, Option, Some, IfSome, sym, ◌∙◌, ap, subst}
+use Rattle.std.proofs.Common.{◌≡◌, ◌≢◌, ℕ, List, Option, Some, IfSome, Result, Ok, Err, sym, ◌∙◌, ap, subst}
 use Rattle.mesa_base.specs.declared.status.Status.TheVariants as status
 use Rattle.source_meaning.specs.Program.{Program}
 use Rattle.source_meaning.specs.Means.{Means, outcome}
 use Rattle.source_meaning.specs.State.{End, Answer, Normal, Gives, Go, Resumed, Rejected, Retried, Continued, Uncaught, Spent, FrameLimit, Broken}
 use Rattle.machine_rules.specs.declared.end.End as machine
 use Rattle.machine_rules.specs.declared.end.End.TheVariants as end
+use Rattle.object_files.specs.declared.image.Image.{Image}
 use Rattle.frame_machine.specs.declared.outcome.Outcome.{Outcome}
+use Rattle.frame_machine.specs.declared.outcome.RunFault.{RunFault}
+use Rattle.frame_machine.specs.declared.outcome.RunFault.TheVariants as fault
 use Rattle.frame_machine.specs.Running.{AreBytes, IsInput}
 use Rattle.line_pieces.specs.Outputs.{PrintsAll}
 use Rattle.command_rules.specs.Case.{Case, status_of}
 use Rattle.command_rules.specs.Complete.{Does}
-use Rattle.command_rules.specs.Configurations.{Configured}
-use Rattle.command_rules.specs.Ends.{Ends, IsMeant, TellsBytes, TellsInput, ended, read_fault, write_fault, program}
-use Rattle.command_rules.specs.Shown.{IsShownAs, case_of_end}
+use Rattle.command_rules.specs.Ends.{Ends, AsMeant, IsMeant, Runs, RunsTo, TellsBytes, TellsInput, ended, read_fault, write_fault}
+use Rattle.command_rules.specs.Shown.{Names, IsShownAs, case_of_end, case_of_run}
 use Rattle.command_rules.specs.Worlds.{Scene}
 use Rattle.command_laws.specs.Laws.{NoStreamFailed, RunsEndOnce}
 
@@ -39,7 +41,7 @@ same_end P turns i j o q a b l m s t e x y = sym x.its_end ∙ ap (λ z. (outcom
 same_output : (P : Program) (turns : ℕ) (i j o q : List ℕ) (a b : Answer) (l m s t : ℕ) → i ≡ j → Means P i End turns o a l s → Means P j End turns q b m t → o ≡ q
 same_output P turns i j o q a b l m s t e x y = sym x.its_output ∙ ap (λ z. (outcome P z End turns).state.output) e ∙ y.its_output
 
-told_is : (told : Option (List ℕ)) (input used : List ℕ) → told ≡ Some input → IsInput told used → used ≡ input
+pub told_is : (told : Option (List ℕ)) (input used : List ℕ) → told ≡ Some input → IsInput told used → used ≡ input
 told_is told input used e is = sym (subst (λ x. IfSome x (λ all. all ≡ used)) e is.same)
 
 shown_alike : (P : Program) (a b : Answer) (x y : Case) → a ≡ b → IsShownAs P a x → IsShownAs P b y → x ≡ y
@@ -49,24 +51,39 @@ told_bytes : (old : Scene) (input : List ℕ) → TellsInput old input → Tells
 told_bytes old input tells = subst (λ x. IfSome x AreBytes) (sym tells.0) tells.1
 
 -- a run, and what is meant
-run_does : (k : Configured) (turns : ℕ) (old new : Scene) (output : List ℕ) (case x : Case) (d : Does k turns old output x) (o : Outcome)
-    → IsMeant (program k) turns o old new case → (case ≡ x) × PrintsAll output old.out new.out
-run_does k turns old new output case x d o it =
+run_does : (P : Program) (turns : ℕ) (old new : Scene) (output : List ℕ) (case x : Case) (d : Does P turns old output x) (o : Outcome)
+    → IsMeant P turns o old new case → (case ≡ x) × PrintsAll output old.out new.out
+run_does P turns old new output case x d o it =
     let e : it.ran.input ≡ d.input = told_is old.input.left d.input it.ran.input d.tells.0 it.ran.is_input in (
-      shown_alike (program k) it.ran.answer d.end case x
-          (same_end (program k) turns it.ran.input d.input it.ran.output output it.ran.answer d.end o.left d.left it.ran.taken d.taken e it.ran.means d.means)
+      shown_alike P it.ran.answer d.end case x
+          (same_end P turns it.ran.input d.input it.ran.output output it.ran.answer d.end o.left d.left it.ran.taken d.taken e it.ran.means d.means)
           it.is_case d.is_case,
       subst (λ z. PrintsAll z old.out new.out)
-          (same_output (program k) turns it.ran.input d.input it.ran.output output it.ran.answer d.end o.left d.left it.ran.taken d.taken e it.ran.means d.means)
+          (same_output P turns it.ran.input d.input it.ran.output output it.ran.answer d.end o.left d.left it.ran.taken d.taken e it.ran.means d.means)
           it.ran.appends,
     )
 
-pub does : (k : Configured) (turns : ℕ) (old new : Scene) (output : List ℕ) (case x : Case) (d : Does k turns old output x)
-    → NoStreamFailed old new → Ends k turns old new case → (case ≡ x) × PrintsAll output old.out new.out
-does k turns old new output case x d calm (ended image o _ its is meant counts) =
-    run_does k turns old new output case x d o (meant (told_bytes old d.input d.tells))
-does k turns old new output case x d calm (read_fault image its rose broken counts) = absurd (calm.no_input_fault rose)
-does k turns old new output case x d calm (write_fault image its rose cut counts) = absurd (calm.no_out_fault rose)
+HasEnded : Result Outcome RunFault → Type 0
+HasEnded (Ok o) = Unit {0}
+HasEnded (Err why) = ⊥
+
+-- where neither the input nor `out` failed a run has come to its end
+came_to_end : (image : Image) (turns : ℕ) (old new : Scene) (r : Result Outcome RunFault) → NoStreamFailed old new → Runs image turns old new r → HasEnded r
+unfolding HasEnded
+came_to_end image turns old new _ calm (ended o counts) = tt
+came_to_end image turns old new _ calm (read_fault rose counts) = absurd (calm.no_input_fault rose)
+came_to_end image turns old new _ calm (write_fault rose counts) = absurd (calm.no_out_fault rose)
+
+does_at : (P : Program) (turns : ℕ) (old new : Scene) (output : List ℕ) (case x : Case) (d : Does P turns old output x) (r : Result Outcome RunFault)
+    → HasEnded r → AsMeant P turns old new case r → (case ≡ x) × PrintsAll output old.out new.out
+unfolding HasEnded
+does_at P turns old new output case x d (Ok o) ok meant = run_does P turns old new output case x d o (meant (told_bytes old d.input d.tells))
+does_at P turns old new output case x d (Err why) broken meant = absurd broken
+
+pub does : (P : Program) (image : Image) (turns : ℕ) (old new : Scene) (output : List ℕ) (case x : Case) (d : Does P turns old output x)
+    → NoStreamFailed old new → Ends P image turns old new case → (case ≡ x) × PrintsAll output old.out new.out
+does P image turns old new output case x d calm it =
+    does_at P turns old new output case x d it.machine.end (came_to_end image turns old new it.machine.end calm it.machine.runs) it.meant
 
 both_ran : (P : Program) (turns : ℕ) (old new last : Scene) (input : List ℕ) (x y : Case) (o q : Outcome) → TellsInput old input
     → IsMeant P turns o old new x → IsMeant P turns q old last y → x ≡ y
@@ -76,23 +93,31 @@ both_ran P turns old new last input x y o q e it so =
     (told_is old.input.left input it.ran.input e.0 it.ran.is_input ∙ sym (told_is old.input.left input so.ran.input e.0 so.ran.is_input))
     it.ran.means so.ran.means) it.is_case so.is_case
 
+both_at : (P : Program) (turns : ℕ) (old new last : Scene) (input : List ℕ) (x y : Case) (r s : Result Outcome RunFault) → TellsInput old input
+    → HasEnded r → HasEnded s → AsMeant P turns old new x r → AsMeant P turns old last y s → x ≡ y
+unfolding HasEnded
+both_at P turns old new last input x y (Ok o) (Ok q) e ok well meant means =
+    both_ran P turns old new last input x y o q e (meant (told_bytes old input e)) (means (told_bytes old input e))
+both_at P turns old new last input x y (Err why) s e broken well meant means = absurd broken
+both_at P turns old new last input x y r (Err why) e ok broken meant means = absurd broken
+
 -- a second run ends as the first
 pub one_run : RunsEndOnce
-one_run k turns old new last input x y e calm still (ended image o _ its is meant counts) (ended other q _ that so means also) =
-    both_ran (program k) turns old new last input x y o q e (meant (told_bytes old input e)) (means (told_bytes old input e))
-one_run k turns old new last input x y e calm still a (read_fault image its rose broken counts) = absurd (still.no_input_fault rose)
-one_run k turns old new last input x y e calm still a (write_fault image its rose cut counts) = absurd (still.no_out_fault rose)
-one_run k turns old new last input x y e calm still (read_fault image its rose broken counts) b = absurd (calm.no_input_fault rose)
-one_run k turns old new last input x y e calm still (write_fault image its rose cut counts) b = absurd (calm.no_out_fault rose)
+one_run P image other turns old new last input x y e calm still a b =
+    both_at P turns old new last input x y a.machine.end b.machine.end e
+    (came_to_end image turns old new a.machine.end calm a.machine.runs) (came_to_end other turns old last b.machine.end still b.machine.runs) a.meant b.meant
 
-end_used : (P : Program) (e : machine.End) → status_of (case_of_end P e) ≢ status.Usage
-end_used P end.Done h = cc
-end_used P (end.Uncaught signal) h = cc
-end_used P end.Spent h = cc
-end_used P end.FrameLimit h = cc
+end_used : (names : Names) (e : machine.End) → status_of (case_of_end names e) ≢ status.Usage
+end_used names end.Done h = cc
+end_used names (end.Uncaught signal) h = cc
+end_used names end.Spent h = cc
+end_used names end.FrameLimit h = cc
+
+case_used : (names : Names) (r : Result Outcome RunFault) → status_of (case_of_run names r) ≢ status.Usage
+case_used names (Ok o) h = end_used names o.end h
+case_used names (Err fault.ReadFault) h = cc
+case_used names (Err fault.WriteFault) h = cc
 
 -- no run is answered Usage
-pub run_used : (k : Configured) (turns : ℕ) (old new : Scene) (case : Case) → Ends k turns old new case → status_of case ≢ status.Usage
-run_used k turns old new case (ended image o _ its is meant counts) e = end_used (program k) o.end (sym (ap status_of is) ∙ e)
-run_used k turns old new case (read_fault image its rose broken counts) e = cc
-run_used k turns old new case (write_fault image its rose cut counts) e = cc
+pub run_used : (names : Names) (image : Image) (turns : ℕ) (old new : Scene) (case : Case) → RunsTo names image turns old new case → status_of case ≢ status.Usage
+run_used names image turns old new case it e = case_used names it.end (sym (ap status_of it.is_case) ∙ e)

@@ -1,10 +1,11 @@
 -- A command line has one form at most.
-use Rattle.std.proofs.Common.{◌≡◌, ℕ, ◌<◌, ◌^◌, List, [], ◌∷◌, ◌++◌, Some, codes, decimal, refl, sym, ◌∙◌, ap, arith}
+use Rattle.std.proofs.Common.{◌≡◌, ℕ, ◌<◌, ◌^◌, List, [], ◌∷◌, ◌++◌, length, nat_eq, Some, codes, decimal, refl, sym, ◌∙◌, ap, arith}
+use Rattle.std.specs.Prelude.{if◌then◌else◌}
 use Rattle.std.proofs.lemmas.Fmt.{decimal_injective}
 use Rattle.std.proofs.lemmas.List.{append_cancel_right}
 use Rattle.std.proofs.lemmas.Option.{same_Some}
 use Rattle.mesa_base.specs.Stamp.{stamp_of}
-use Rattle.command_rules.specs.Forms.{Source, OfModule, OfConfig, source_file, Form, Go, Define, HasForm, go, define}
+use Rattle.command_rules.specs.Forms.{Source, OfModule, OfConfig, source_file, Form, Compile, Define, Bind, Run, Go, HasForm, compile, define, bind, run, go}
 
 -- ---- the names of files
 
@@ -46,29 +47,70 @@ third [] = []
 third (a ∷ rest) = second rest
 
 data Said (words : List (List ℕ)) : Form → Type 0 where
+  is_compile : (base : List ℕ) → words ≡ codes "compile" ∷ base ∷ [] → Said words (Compile base)
+  is_define : (base word : List ℕ) (stamp : ℕ) → words ≡ codes "compile" ∷ base ∷ word ∷ [] → stamp_of word ≡ Some stamp → Said words (Define base stamp)
+  is_bind : (base : List ℕ) → words ≡ codes "bind" ∷ base ∷ [] → Said words (Bind base)
+  is_run : (base : List ℕ) (turns : ℕ) → words ≡ codes "run" ∷ base ∷ decimal turns ∷ [] → turns < 2 ^ 64 → Said words (Run base turns)
   is_go : (source : Source) (base : List ℕ) (turns : ℕ) → words ≡ codes "go" ∷ source_file source base ∷ decimal turns ∷ [] → turns < 2 ^ 64
       → Said words (Go source base turns)
-  is_define : (base word : List ℕ) (stamp : ℕ) → words ≡ codes "compile" ∷ base ∷ word ∷ [] → stamp_of word ≡ Some stamp → Said words (Define base stamp)
 
 said : (words : List (List ℕ)) (form : Form) → HasForm words form → Said words form
-said words form (go source base turns is few) = is_go source base turns refl few
+said words form (compile base is) = is_compile base refl
 said words form (define base word stamp is told) = is_define base word stamp refl told
+said words form (bind base is) = is_bind base refl
+said words form (run base turns is few) = is_run base turns refl few
+said words form (go source base turns is few) = is_go source base turns refl few
 
-two_words : codes "go" ≡ codes "compile" → ⊥
-unfolding last_or
-two_words e = let last : ◌≡◌ {A = ℕ} 111 101 = ap (last_or 0) e in omega (arith, last)
+-- ---- forms of two kinds differ in the first word, or in how many words there are
+
+data Kind : Type 0 where
+  Compiles : Kind
+  Defines : Kind
+  Binds : Kind
+  Runs : Kind
+  Goes : Kind
+
+kind_of : Form → Kind
+kind_of (Compile base) = Compiles
+kind_of (Define base stamp) = Defines
+kind_of (Bind base) = Binds
+kind_of (Run base turns) = Runs
+kind_of (Go source base turns) = Goes
+
+-- the last letter of the first word, and the words behind it
+letter : List (List ℕ) → ℕ
+letter words = last_or 0 (first words)
+
+kind_by : (letter many : ℕ) → Kind
+kind_by letter many = if nat_eq letter 101 then (if nat_eq many 2 then Compiles else Defines) else (if nat_eq letter 100 then Binds else (if nat_eq letter 110 then Runs else Goes))
+
+its_kind : (words : List (List ℕ)) (f : Form) → Said words f → kind_by (letter words) (length words) ≡ kind_of f
+unfolding kind_of kind_by letter first last_or
+its_kind words f (is_compile base e) = ap (λ w. kind_by (letter w) (length w)) e
+its_kind words f (is_define base word stamp e told) = ap (λ w. kind_by (letter w) (length w)) e
+its_kind words f (is_bind base e) = ap (λ w. kind_by (letter w) (length w)) e
+its_kind words f (is_run base turns e few) = ap (λ w. kind_by (letter w) (length w)) e
+its_kind words f (is_go source base turns e few) = ap (λ w. kind_by (letter w) (length w)) e
+
+one_kind : (words : List (List ℕ)) (f g : Form) → Said words f → Said words g → kind_of f ≡ kind_of g
+one_kind words f g x y = sym (its_kind words f x) ∙ its_kind words g y
 
 go_is : (s t : Source) (a b : List ℕ) (n m : ℕ) → (s ≡ t) × (a ≡ b) → n ≡ m → Go s a n ≡ Go t b m
 go_is s t a b n m p e = ap (λ z. Go z a n) p.0 ∙ ap (λ z. Go t z n) p.1 ∙ ap (λ z. Go t b z) e
 
-one_said : (words : List (List ℕ)) (f g : Form) → Said words f → Said words g → f ≡ g
-unfolding first second third
-one_said words f g (is_go s a n e few) (is_go t b m d less) =
-    go_is s t a b n m (same_file s t a b (ap second (sym e ∙ d))) (decimal_injective n m few less (ap third (sym e ∙ d)))
-one_said words f g (is_go s a n e few) (is_define b w m d told) = absurd (two_words (ap first (sym e ∙ d)))
-one_said words f g (is_define b w m d told) (is_go s a n e few) = absurd (two_words (ap first (sym e ∙ d)))
-one_said words f g (is_define a v n e told) (is_define b w m d also) =
+one_said : (words : List (List ℕ)) (f g : Form) → Said words f → Said words g → kind_of f ≡ kind_of g → f ≡ g
+unfolding first second third kind_of
+one_said words f g (is_compile a e) (is_compile b d) same = ap Compile (ap second (sym e ∙ d))
+one_said words f g (is_define a v n e told) (is_define b w m d also) same =
     ap (λ z. Define z n) (ap second (sym e ∙ d)) ∙ ap (Define b) (same_Some n m (sym told ∙ ap stamp_of (ap third (sym e ∙ d)) ∙ also))
+one_said words f g (is_bind a e) (is_bind b d) same = ap Bind (ap second (sym e ∙ d))
+one_said words f g (is_run a n e few) (is_run b m d less) same =
+    ap (λ z. Run z n) (ap second (sym e ∙ d)) ∙ ap (Run b) (decimal_injective n m few less (ap third (sym e ∙ d)))
+one_said words f g (is_go s a n e few) (is_go t b m d less) same =
+    go_is s t a b n m (same_file s t a b (ap second (sym e ∙ d))) (decimal_injective n m few less (ap third (sym e ∙ d)))
+one_said words f g x y same = cc
 
 pub one_form : (words : List (List ℕ)) (f g : Form) → HasForm words f → HasForm words g → f ≡ g
-one_form words f g x y = one_said words f g (said words f x) (said words g y)
+one_form words f g x y =
+    let a = said words f x in let b = said words g y in
+    one_said words f g a b (one_kind words f g a b)

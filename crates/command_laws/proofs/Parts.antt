@@ -24,13 +24,22 @@ use Rattle.import_binder.specs.Bindings.{fault_of}
 use Rattle.face_rules.specs.InterfaceForms.{interface}
 use Rattle.face_rules.proofs.InterfaceLaws.{interface_law}
 use Rattle.file_forms.proofs.FileLaws.{one_file, one_first_fault, file_or_fault}
+use Rattle.object_rules.specs.ImageForms.{parts_of_image, image_form}
+use Rattle.object_rules.specs.ModuleForms.{module_form}
+use Rattle.object_rules.specs.ObjectFiles.{file_fault}
+use Rattle.object_rules.specs.Parts.{parts_of}
+use Rattle.object_rules.proofs.ImageFileLaws.{one_image_fault, image_or_fault}
+use Rattle.object_rules.proofs.ImageLaws.{image_law}
+use Rattle.object_rules.proofs.ModuleLaws.{module_law}
+use Rattle.object_rules.proofs.ObjectLaws.{one_object_fault, object_or_fault}
 use Rattle.checked_texts.specs.declared.purpose.Purpose.{Purpose}
 use Rattle.checked_texts.specs.Laws.{TextsBeginOnce, ProgramsComeToOne, DefinitionsComeToOne}
 use Rattle.checked_texts.specs.declared.text_fault.TextFault.TheVariants.{Lexical, Syntactic}
 use Rattle.command_rules.specs.Case.{Case, Refused, Usage}
 use Rattle.command_rules.specs.declared.trouble.Trouble.TheVariants.{Text, Tree as OfTree, File, Item}
 use Rattle.command_rules.specs.Configurations.{Configures, configured, lexical, syntactic, no_base, Grows, grown, fault, Binds, bound, bad}
-use Rattle.command_rules.specs.Modules.{Decodes, is_file, is_none, Begins, begun, refused, Checks, checked, Defines, defined}
+use Rattle.command_rules.specs.Modules.{Decodes, is_file, Begins, begun, refused, Checks, checked, Defines, defined}
+use Rattle.command_rules.specs.Objects.{HoldsObject, is_object, HoldsImage, is_image}
 use Rattle.command_rules.specs.Passes.{Outcome, Has, Stops}
 use Rattle.command_rules.proofs.PassLaws.{One}
 
@@ -38,10 +47,28 @@ use Rattle.command_rules.proofs.PassLaws.{One}
 
 pub decodes_one : (file bytes : List ℕ) → One (Decodes file bytes)
 decodes_one file bytes o r (is_file v i h) (is_file w j k) = ap Has (one_file (codes "MIF") interface interface_law v w i j bytes h k).1
-decodes_one file bytes o r (is_file v i h) (is_none why k) = absurd (file_or_fault (codes "MIF") interface interface_law refl v i bytes why h k)
-decodes_one file bytes o r (is_none why k) (is_file v i h) = absurd (file_or_fault (codes "MIF") interface interface_law refl v i bytes why h k)
-decodes_one file bytes o r (is_none why k) (is_none more h) =
-    ap (λ e. Stops (Refused file (File e))) (one_first_fault (codes "MIF") interface interface_law refl bytes why more k h)
+decodes_one file bytes o r (is_file v i h) (Decodes.is_none why k) = absurd (file_or_fault (codes "MIF") interface interface_law refl v i bytes why h k)
+decodes_one file bytes o r (Decodes.is_none why k) (is_file v i h) = absurd (file_or_fault (codes "MIF") interface interface_law refl v i bytes why h k)
+decodes_one file bytes o r (Decodes.is_none why k) (Decodes.is_none more h) =
+    ap (λ e. Stops (Refused file (File (file_fault e)))) (one_first_fault (codes "MIF") interface interface_law refl bytes why more k h)
+
+-- ---- object and image files
+
+pub object_one : (file bytes : List ℕ) → One (HoldsObject file bytes)
+object_one file bytes o r (is_object v a h) (is_object w b k) =
+    ap Has (one_file (codes "MOB") module_form module_law v w (parts_of a) (parts_of b) bytes h.file k.file).1
+object_one file bytes o r (is_object v a h) (HoldsObject.is_none why k) = absurd (object_or_fault v a bytes why h k)
+object_one file bytes o r (HoldsObject.is_none why k) (is_object v a h) = absurd (object_or_fault v a bytes why h k)
+object_one file bytes o r (HoldsObject.is_none why k) (HoldsObject.is_none more h) =
+    ap (λ e. Stops (Refused file (File e))) (one_object_fault bytes why more k h)
+
+pub image_one : (file bytes : List ℕ) → One (HoldsImage file bytes)
+image_one file bytes o r (is_image v a h) (is_image w b k) =
+    ap Has (one_file (codes "MIM") image_form image_law v w (parts_of_image a) (parts_of_image b) bytes h.file k.file).1
+image_one file bytes o r (is_image v a h) (HoldsImage.is_none why k) = absurd (image_or_fault v a bytes why h k)
+image_one file bytes o r (HoldsImage.is_none why k) (is_image v a h) = absurd (image_or_fault v a bytes why h k)
+image_one file bytes o r (HoldsImage.is_none why k) (HoldsImage.is_none more h) =
+    ap (λ e. Stops (Refused file (File e))) (one_image_fault bytes why more k h)
 
 -- ---- texts
 

@@ -1,15 +1,25 @@
 -- Each pass is exact, and what a call answers follows from its case (rule of this project).
-use Rattle.std.specs.Prelude.{◌≡◌, ℕ, List, Option}
-use Rattle.mesa_base.specs.Outside.{Rose}
+use Rattle.std.specs.Prelude.{◌≡◌, ℕ, List, length, Option}
+use Rattle.mesa_base.specs.Outside.{Files, Rose}
 use Rattle.mesa_base.specs.declared.status.Status.{Status}
+use Rattle.mesa_types.specs.Typed.{Module}
+use Rattle.source_meaning.specs.Program.{Program}
+use Rattle.config_rules.specs.declared.tree.Tree.{Tree}
+use Rattle.agreement_rules.specs.Stands.{WantsTheHost}
+use Rattle.bound_images.specs.Programs.{program_of}
+use Rattle.built_runs.specs.Linked.{IsLinkedFrom}
+use Rattle.object_files.specs.declared.image.Image.{Image}
+use Rattle.command_rules.specs.Binding.{bound_in}
 use Rattle.command_rules.specs.Case.{Case}
 use Rattle.command_rules.specs.Comes.{Comes}
 use Rattle.command_rules.specs.Complete.{Answered, Tells}
 use Rattle.command_rules.specs.Configurations.{Configured, config_in, source_in}
-use Rattle.command_rules.specs.Ends.{Ends, TellsInput}
+use Rattle.command_rules.specs.Ends.{Ends, RunsTo, TellsInput}
 use Rattle.command_rules.specs.Forms.{Form, HasForm, Source}
 use Rattle.command_rules.specs.Modules.{interface_for, interface_in, module_in}
-use Rattle.command_rules.specs.Passes.{IsExact}
+use Rattle.command_rules.specs.Objects.{image_in, object_in}
+use Rattle.command_rules.specs.Passes.{Has, IsExact, Trail}
+use Rattle.command_rules.specs.Shown.{image_names}
 use Rattle.command_rules.specs.Worlds.{Scene, World}
 use Rattle.line_pieces.specs.Outputs.{HasFaulted}
 
@@ -19,7 +29,15 @@ pub record PassesAreExact : Type 0 where
   pub modules : (file : List ℕ) → IsExact (module_in file)
   pub definitions : (file : List ℕ) (stamp : ℕ) → IsExact (interface_in file stamp)
   pub configurations : (file : List ℕ) → IsExact (config_in file)
+  pub objects : (file : List ℕ) → IsExact (object_in file)
+  pub images : (file : List ℕ) → IsExact (image_in file)
+  pub bound : (base : List ℕ) → IsExact (bound_in base)
   pub sources : (source : Source) (base : List ℕ) → IsExact (source_in source base)
+
+-- what is configured has as many bases as modules, so that each module's object has its file
+abbrev pub BasesFit : Type 0
+BasesFit = (source : Source) (base : List ℕ) (files : Option Files) (trail : Trail) (c : Configured) → (source_in source base).comes files trail (Has c)
+    → length c.bases ≡ length c.modules
 
 -- a command line has one form at most
 abbrev pub WordsHaveOneForm : Type 0
@@ -30,12 +48,17 @@ pub record NoStreamFailed (old new : Scene) : Type 0 where
   pub no_input_fault : ¬ (Rose old.input.faults new.input.faults)
   pub no_out_fault : ¬ (HasFaulted old.out new.out)
 
--- over an input of bytes that are told, the run of what was configured ends in one way where no call failed
+-- over an input of bytes that are told, the runs of a program's images end in one way where no call failed
 abbrev pub RunsEndOnce : Type 0
-RunsEndOnce = (k : Configured) (turns : ℕ) (old new last : Scene) (input : List ℕ) (x y : Case) → TellsInput old input → NoStreamFailed old new
-    → NoStreamFailed old last → Ends k turns old new x → Ends k turns old last y → x ≡ y
+RunsEndOnce = (P : Program) (image other : Image) (turns : ℕ) (old new last : Scene) (input : List ℕ) (x y : Case) → TellsInput old input → NoStreamFailed old new
+    → NoStreamFailed old last → Ends P image turns old new x → Ends P other turns old last y → x ≡ y
 
 -- a case that comes of the words, with its status and line, is an answer
 abbrev pub CasesAreAnswers : Type 0
 CasesAreAnswers = (words : List (List ℕ)) (before after : World) (s : Status)
     → (case : Case) × Comes words before.folder after.folder before.scene after.scene case × Tells case before.err after.err s → Answered words before after s
+
+-- how the machine runs an image that is linked from checked modules, and that wants nothing but the host's items, is how their program's run ends
+abbrev pub RunsAreMeant : Type 0
+RunsAreMeant = (t : Tree) (modules : List Module) (image : Image) (turns : ℕ) (old new : Scene) (case : Case) → IsLinkedFrom t modules image → WantsTheHost image
+    → RunsTo (image_names image) image turns old new case → Ends (program_of t modules) image turns old new case

@@ -1,8 +1,10 @@
 //! The laws above the cases of a call.
-ghost use Rattle.command_laws.specs.Laws.{CasesAreAnswers, PassesAreExact, RunsEndOnce, WordsHaveOneForm};
+ghost use Rattle.command_laws.specs.Laws.{BasesFit, CasesAreAnswers, PassesAreExact, RunsAreMeant, RunsEndOnce, WordsHaveOneForm};
 ghost use Rattle.command_rules.specs.Complete.{OneCaseComes};
+ghost use Rattle.command_rules.specs.Order.{OrderIsKept};
 
 use checked_texts::{definitions_come_to_one, programs_come_to_one, texts_begin_once};
+use depth_laws::depths_do_not_matter;
 use linked_programs::{singles_are_one, trees_are_one};
 
 /// A law: where the files of a folder are told, one thing comes of each pass, and after the same files.
@@ -16,6 +18,16 @@ pub fn passes_are_exact()
     singles_are_one();
 }
 
+/// A law: what is configured has as many bases as modules.
+pub fn bases_fit()
+    ensures { BasesFit }
+{}
+
+/// A law: `go` looks at sizes before it names an item that is none of the host's, and writes nothing before both; nothing is run before all is written.
+pub fn order_is_kept()
+    ensures { OrderIsKept }
+{}
+
 /// A law: a command line has one form at most.
 pub fn words_have_one_form()
     ensures { WordsHaveOneForm }
@@ -26,11 +38,17 @@ pub fn runs_end_once()
     ensures { RunsEndOnce }
 {}
 
+/// A law: how the machine runs an image that is linked from checked modules is how the run of their program ends.
+pub fn runs_are_meant()
+    ensures { RunsAreMeant }
+{}
+
 /// A law: for words, files and an input that are told one case comes where no call failed, want of memory aside.
 pub fn one_case()
     ensures { OneCaseComes }
 {
     passes_are_exact();
+    depths_do_not_matter();
 }
 
 /// A law: a case that comes of the words, with its status and line, is an answer to them.
@@ -38,4 +56,5 @@ pub fn cases_are_answers()
     ensures { CasesAreAnswers }
 {
     passes_are_exact();
+    depths_do_not_matter();
 }

@@ -3,4 +3,7 @@
 
 mod laws;
 
-pub use laws::{cases_are_answers, one_case, passes_are_exact, runs_end_once, words_have_one_form};
+pub use laws::{
+    bases_fit, cases_are_answers, one_case, order_is_kept, passes_are_exact, runs_are_meant,
+    runs_end_once, words_have_one_form,
+};

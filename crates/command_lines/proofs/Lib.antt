@@ -1,4 +1,4 @@
+mod Counted
 mod Ended
 mod Forming
 mod Told
-mod Three

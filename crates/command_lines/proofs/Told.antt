@@ -1,12 +1,13 @@
 -- The pieces of lines are what the lines are.
 use Rattle.std.proofs.Common.{◌≡◌, ℕ, List, ◌++◌, codes, decimal, append_assoc, sym, ◌∙◌, subst, ap, flat_map}
 use Rattle.mesa_base.specs.declared.file_fault.Field.{Field}
-use Rattle.mesa_base.specs.declared.file_fault.FileFault.TheVariants.{BadField}
+use Rattle.code_forms.specs.declared.bad_code.CodeFault.{CodeFault}
+use Rattle.object_rules.specs.declared.object_fault.ObjectFault.TheVariants.{BadField, Code}
 use Rattle.interface_records.specs.declared.wanted.WantedItem.{WantedItem}
 use Rattle.import_binder.specs.declared.fault.BindFault.TheVariants.{NoExporter, Twice, OtherInterface, OtherStamp}
 use Rattle.line_pieces.specs.Outputs.{Stream, Receives}
 use Rattle.line_pieces.specs.Texts.{path_text, stamp_text, dotted, with_dot}
-use Rattle.command_rules.specs.Lines.{field_name, file_cause, bind_cause, item_text, placed_item, of_file}
+use Rattle.command_rules.specs.Lines.{field_name, code_cause, file_cause, bind_cause, item_text, placed_item, of_file}
 
 item_then : (i : WantedItem) (z : List ℕ) → item_text i ++ z ≡ i.face ++ (codes "." ++ (i.item ++ z))
 item_then i z = append_assoc i.face (codes "." ++ i.item) z
@@ -79,6 +80,20 @@ pub field_told : (file : List ℕ) (at : ℕ) (field : Field) (name : List ℕ) 
 field_told file at field name old new e told =
     subst (λ x. Receives (file ++ (codes ": BadField " ++ x)) old new)
     (ap (λ x. decimal at ++ (codes " " ++ (x ++ codes "\n"))) e ∙ sym (append_assoc (decimal at) (codes " " ++ field_name field) (codes "\n"))) told
+
+pub code_told : (file : List ℕ) (in_module procedure : ℕ) (fault : CodeFault) (name : List ℕ) (at first second third : ℕ) (old new : Stream)
+    → first ≡ in_module → second ≡ procedure → third ≡ at → name ++ decimal at ≡ code_cause fault
+    → Receives (file ++ (codes ": Code " ++ (decimal first ++ (codes " " ++ (decimal second ++ (codes ": " ++ (name ++ (decimal third ++ codes "\n")))))))) old new
+    → Receives (of_file file (file_cause (Code in_module procedure fault))) old new
+code_told file in_module procedure fault name at first second third old new p q r e told =
+    subst (λ x. Receives (file ++ (codes ": Code " ++ x)) old new)
+    (ap (λ n. decimal n ++ (codes " " ++ (decimal second ++ (codes ": " ++ (name ++ (decimal third ++ codes "\n")))))) p
+    ∙ ap (λ n. decimal in_module ++ (codes " " ++ (decimal n ++ (codes ": " ++ (name ++ (decimal third ++ codes "\n")))))) q
+    ∙ ap (λ n. decimal in_module ++ (codes " " ++ (decimal procedure ++ (codes ": " ++ (name ++ (decimal n ++ codes "\n")))))) r
+    ∙ ap (λ x. decimal in_module ++ (codes " " ++ (decimal procedure ++ (codes ": " ++ x)))) (sym (append_assoc name (decimal at) (codes "\n")))
+    ∙ ap (λ x. decimal in_module ++ (codes " " ++ (decimal procedure ++ (codes ": " ++ (x ++ codes "\n"))))) e
+    ∙ ap (λ x. decimal in_module ++ (codes " " ++ x)) (sym (append_assoc (decimal procedure) (codes ": " ++ code_cause fault) (codes "\n")))
+    ∙ sym (append_assoc (decimal in_module) (codes " " ++ (decimal procedure ++ (codes ": " ++ code_cause fault))) (codes "\n"))) told
 
 pub number_told : (file cause : List ℕ) (at : ℕ) (old new : Stream) → Receives (file ++ (codes ": " ++ (cause ++ (decimal at ++ codes "\n")))) old new
     → Receives (of_file file (cause ++ decimal at)) old new

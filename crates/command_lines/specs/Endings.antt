@@ -7,7 +7,7 @@ use Rattle.command_lines.specs.declared.ending.UncaughtSignal.TheVariants.{Own, 
 use Rattle.command_lines.specs.declared.ending.Ending.{Ending}
 use Rattle.command_lines.specs.declared.ending.Ending.TheVariants.{Done, Uncaught, Spent, FrameLimit, ReadFault, WriteFault}
 
--- what the line calls the signal
+-- what the line calls the signal: the path and the name are those of a program or of an image
 abbrev pub called : UncaughtSignal → List ℕ
 called (Own path name) = dotted path.now name.now
 called (Predeclared name) = name.now

@@ -5,6 +5,7 @@ ghost use Rattle.line_pieces.specs.Outputs.{stream, Receives};
 ghost use Rattle.command_rules.specs.Lines as lines;
 ghost use Rattle.command_rules.specs.Lines.{of_cause, of_file};
 
+use code_forms::CodeFault;
 use config_rules::TreeCause;
 use line_pieces::{Piece, say_all};
 use mesa_base::{Field, Place, Sink};
@@ -94,5 +95,36 @@ pub(crate) fn tree_cause(cause: TreeCause) -> &'static str
         TreeCause::UnknownControl => "UnknownControl",
         TreeCause::TooManyInstances => "TooManyInstances",
         TreeCause::TooNested => "TooNested",
+    }
+}
+
+/// How a line names a fault of code, and the fault's offset.
+#[derive(Clone, Copy)]
+pub(crate) struct CodeCause {
+    pub(crate) name: &'static str,
+    pub(crate) at: u32,
+}
+
+/// Fault AT.
+pub(crate) fn code_cause(fault: CodeFault) -> CodeCause
+    ensures { result.name.now ++ decimal result.at ≡ lines.code_cause fault }
+{
+    match fault {
+        CodeFault::BadJump(at) => CodeCause {
+            name: "BadJump ",
+            at,
+        },
+        CodeFault::StackDiffers(at) => CodeCause {
+            name: "StackDiffers ",
+            at,
+        },
+        CodeFault::BadOperand(at) => CodeCause {
+            name: "BadOperand ",
+            at,
+        },
+        CodeFault::CatchRange(at) => CodeCause {
+            name: "CatchRange ",
+            at,
+        },
     }
 }

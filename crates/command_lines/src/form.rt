@@ -1,16 +1,14 @@
-//! The forms of a command line: `go NAME.mesa TURNS`, `go NAME.config TURNS` and `compile NAME STAMP` (rule of this project).
+//! The forms of a command line: `compile NAME`, `compile NAME STAMP`, `bind NAME`, `run NAME TURNS`, `go NAME.mesa TURNS` and
+//! `go NAME.config TURNS` (rule of this project).
 
 ghost use Rattle.std.specs.Prelude.{◌≡◌, ◌≢◌, ℕ, List, ◌∷◌, [], ◌++◌, IfSome, IfNone, MatchOption, codes, true, length, IsTrue, ◌↔◌};
-ghost use Rattle.std.specs.List.{list_all};
-ghost use Rattle.config_rules.specs.Components as spec;
+ghost use Rattle.config_rules.specs.Components.{is_file_base as is_base};
 ghost use Rattle.command_rules.specs.Forms as rules;
 ghost use Rattle.command_rules.specs.Forms.{HasForm, HasNoForm, source_file};
 ghost use Rattle.command_lines.specs.Words.{form_in, source_in};
 
-use mesa_base::{Stamp, Words, begins_with_letter, decimal_value, is_letter_or_digit};
-
-/// The most bytes of the base of a file's name.
-const FILE_BASE_BYTES: usize = 64;
+use checked_texts::is_file_base;
+use mesa_base::{Stamp, Words, decimal_value};
 
 /// What is run: one module alone, or a configuration.
 #[derive(Clone, Copy)]
@@ -22,14 +20,24 @@ pub enum Source {
 /// What the words ask for. A base is a letter, then letters, digits, `-` and `_`, 64 bytes at most.
 #[derive(Clone, Copy)]
 pub enum Form<'a> {
-    Go {
-        source: Source,
+    Compile {
         base: &'a [u8],
-        turns: u64,
     },
     Define {
         base: &'a [u8],
         stamp: Stamp,
+    },
+    Bind {
+        base: &'a [u8],
+    },
+    Run {
+        base: &'a [u8],
+        turns: u64,
+    },
+    Go {
+        source: Source,
+        base: &'a [u8],
+        turns: u64,
     },
 }
 
@@ -38,14 +46,60 @@ pub fn form_of(words: &Words) -> Option<Form<'_>>
     ensures form { IfSome result (λ f. HasForm words.now (form_in f)) }
     ensures formless { IfNone result (HasNoForm words.now) }
 {
+    if let Some(two) = two_words(words) {
+        return form_of_two(two.first, two.second);
+    }
     let three = three_words(words)?;
-    if is_go(three.first) {
-        go_of(three.second, three.third)
-    } else if is_compile(three.first) {
-        definition_of(three.second, three.third)
+    form_of_three(three.first, three.second, three.third)
+}
+
+/// The form of two words.
+fn form_of_two<'a>(verb: &[u8], base: &'a [u8]) -> Option<Form<'a>>
+    ensures form { IfSome result (λ f. HasForm (verb.now ∷ base.now ∷ []) (form_in f)) }
+    ensures formless { IfNone result (HasNoForm (verb.now ∷ base.now ∷ [])) }
+{
+    if !is_file_base(base) {
+        None
+    } else if is_word(verb, "compile") {
+        Some(Form::Compile { base })
+    } else if is_word(verb, "bind") {
+        Some(Form::Bind { base })
     } else {
         None
     }
+}
+
+/// The form of three words.
+fn form_of_three<'a>(verb: &[u8], name: &'a [u8], last: &[u8]) -> Option<Form<'a>>
+    ensures form { IfSome result (λ f. HasForm (verb.now ∷ name.now ∷ last.now ∷ []) (form_in f)) }
+    ensures formless { IfNone result (HasNoForm (verb.now ∷ name.now ∷ last.now ∷ [])) }
+{
+    if is_word(verb, "compile") {
+        definition_of(name, last)
+    } else if is_word(verb, "run") {
+        run_of(name, last)
+    } else if is_word(verb, "go") {
+        go_of(name, last)
+    } else {
+        None
+    }
+}
+
+#[derive(Clone, Copy)]
+struct Two<'a> {
+    first: &'a [u8],
+    second: &'a [u8],
+}
+
+fn two_words(words: &Words) -> Option<Two<'_>>
+    ensures { MatchOption result (length words.now ≢ 2) (λ two. words.now ≡ two.first.now ∷ two.second.now ∷ []) }
+{
+    if words.len() != 2 {
+        return None;
+    }
+    let first = words.get(0)?.as_slice();
+    let second = words.get(1)?.as_slice();
+    Some(Two { first, second })
 }
 
 #[derive(Clone, Copy)]
@@ -71,16 +125,34 @@ fn three_words(words: &Words) -> Option<Three<'_>>
     })
 }
 
-fn is_go(word: &[u8]) -> bool
-    ensures { IsTrue result ↔ (word.now ≡ codes "go") }
+fn is_word(word: &[u8], text: &str) -> bool
+    ensures { IsTrue result ↔ (word.now ≡ text.now) }
 {
-    word == b"go".as_slice()
+    word == text.as_bytes()
 }
 
-fn is_compile(word: &[u8]) -> bool
-    ensures { IsTrue result ↔ (word.now ≡ codes "compile") }
+/// The form of `compile` with these two words.
+fn definition_of<'a>(base: &'a [u8], word: &[u8]) -> Option<Form<'a>>
+    ensures form { IfSome result (λ f. HasForm (codes "compile" ∷ base.now ∷ word.now ∷ []) (form_in f)) }
+    ensures formless { IfNone result (HasNoForm (codes "compile" ∷ base.now ∷ word.now ∷ [])) }
 {
-    word == b"compile".as_slice()
+    if !is_file_base(base) {
+        return None;
+    }
+    let stamp = Stamp::parse(word)?;
+    Some(Form::Define { base, stamp })
+}
+
+/// The form of `run` with these two words.
+fn run_of<'a>(base: &'a [u8], count: &[u8]) -> Option<Form<'a>>
+    ensures form { IfSome result (λ f. HasForm (codes "run" ∷ base.now ∷ count.now ∷ []) (form_in f)) }
+    ensures formless { IfNone result (HasNoForm (codes "run" ∷ base.now ∷ count.now ∷ [])) }
+{
+    if !is_file_base(base) {
+        return None;
+    }
+    let turns = decimal_value(count)?;
+    Some(Form::Run { base, turns })
 }
 
 /// The form of `go` with these two words.
@@ -97,18 +169,6 @@ fn go_of<'a>(name: &'a [u8], count: &[u8]) -> Option<Form<'a>>
     })
 }
 
-/// The form of `compile` with these two words.
-fn definition_of<'a>(base: &'a [u8], word: &[u8]) -> Option<Form<'a>>
-    ensures form { IfSome result (λ f. HasForm (codes "compile" ∷ base.now ∷ word.now ∷ []) (form_in f)) }
-    ensures formless { IfNone result (HasNoForm (codes "compile" ∷ base.now ∷ word.now ∷ [])) }
-{
-    if !is_file_base(base) {
-        return None;
-    }
-    let stamp = Stamp::parse(word)?;
-    Some(Form::Define { base, stamp })
-}
-
 #[derive(Clone, Copy)]
 struct Named<'a> {
     source: Source,
@@ -117,8 +177,8 @@ struct Named<'a> {
 
 /// What is run, where the word is the name of its file.
 fn named_source(word: &[u8]) -> Option<Named<'_>>
-    ensures { MatchOption result ((source : rules.Source) (base : List ℕ) → spec.is_file_base base ≡ true → word.now ≡ source_file source base → ⊥)
-        (λ named. (spec.is_file_base named.base.now ≡ true) × (word.now ≡ source_file (source_in named.source) named.base.now)) }
+    ensures { MatchOption result ((source : rules.Source) (base : List ℕ) → is_base base ≡ true → word.now ≡ source_file source base → ⊥)
+        (λ named. (is_base named.base.now ≡ true) × (word.now ≡ source_file (source_in named.source) named.base.now)) }
 {
     if let Some(base) = base_before(word, b".mesa") {
         return Some(Named {
@@ -135,8 +195,8 @@ fn named_source(word: &[u8]) -> Option<Named<'_>>
 
 /// The base, where the word is a base of a file and this ending.
 fn base_before<'a>(word: &'a [u8], ending: &[u8]) -> Option<&'a [u8]>
-    ensures { MatchOption result ((base : List ℕ) → spec.is_file_base base ≡ true → word.now ≡ base ++ ending.now → ⊥)
-        (λ base. (spec.is_file_base base.now ≡ true) × (word.now ≡ base.now ++ ending.now)) }
+    ensures { MatchOption result ((base : List ℕ) → is_base base ≡ true → word.now ≡ base ++ ending.now → ⊥)
+        (λ base. (is_base base.now ≡ true) × (word.now ≡ base.now ++ ending.now)) }
 {
     let base = without_ending(word, ending)?;
     if is_file_base(base) { Some(base) } else { None }
@@ -146,22 +206,4 @@ fn without_ending<'a>(word: &'a [u8], ending: &[u8]) -> Option<&'a [u8]>
     ensures { MatchOption result ((base : List ℕ) → word.now ≢ base ++ ending.now) (λ base. word.now ≡ base.now ++ ending.now) }
 {
     word.strip_suffix(ending)
-}
-
-fn is_file_byte(byte: u8) -> bool
-    ensures { result ≡ spec.is_file_byte byte }
-{
-    is_letter_or_digit(byte) || (byte == b'-' || byte == b'_')
-}
-
-fn all_file_bytes(bytes: &[u8]) -> bool
-    ensures { result ≡ list_all spec.is_file_byte bytes.now }
-{
-    bytes.iter().all(|byte| is_file_byte(*byte))
-}
-
-fn is_file_base(bytes: &[u8]) -> bool
-    ensures { result ≡ spec.is_file_base bytes.now }
-{
-    begins_with_letter(bytes) && (all_file_bytes(bytes) && bytes.len() <= FILE_BASE_BYTES)
 }

@@ -1,17 +1,19 @@
 //! The line of a file that is refused.
 
 ghost use Rattle.std.specs.Prelude.{◌≡◌};
-ghost use Rattle.mesa_base.specs.declared.file_fault.FileFault.TheVariants.{BadField};
+ghost use Rattle.object_rules.specs.declared.object_fault.ObjectFault.TheVariants.{BadField, Code};
 ghost use Rattle.checked_texts.specs.TextFaults.{fault_name, fault_place};
 ghost use Rattle.line_pieces.specs.Outputs.{stream, Receives};
 ghost use Rattle.command_rules.specs.Lines.{file_cause, of_cause, of_file, refusal};
 
-use crate::causes::{field_name, tell_cause, tell_number, tell_place, tree_cause};
+use crate::causes::{code_cause, field_name, tell_cause, tell_number, tell_place, tree_cause};
 use crate::items::{tell_item, tell_unresolved};
 use checked_texts::TextFault;
+use code_forms::CodeFault;
 use command_rules::Trouble;
 use line_pieces::{Piece, say_all};
-use mesa_base::{Field, FileFault, Sink};
+use mesa_base::{Field, Sink};
+use object_rules::ObjectFault;
 
 /// The line of a text's fault: at its place, where it has one.
 fn tell_fault<E: Sink>(file: &str, fault: TextFault, err: &mut E)
@@ -39,17 +41,45 @@ fn tell_field<E: Sink>(file: &str, at: u64, field: Field, err: &mut E)
     say_all(&pieces, err);
 }
 
-/// The line of bytes that are no file of their kind.
-fn tell_file<E: Sink>(file: &str, fault: FileFault, err: &mut E)
+/// FILE: Code MODULE PROCEDURE: Fault AT.
+fn tell_code<'a, E: Sink>(
+    file: &'a str,
+    in_module: u32,
+    procedure: u32,
+    fault: CodeFault,
+    err: &mut E,
+)
+    ensures { Receives (of_file file.now (file_cause (Code in_module procedure fault))) (stream (E.written err.old) (E.faults err.old)) (stream (E.written err.new) (E.faults err.new)) }
+{
+    let cause = code_cause(fault);
+    let pieces = [
+        Piece::Text(file),
+        Piece::Text(": Code "),
+        Piece::Number(u64::from(in_module)),
+        Piece::Text(" "),
+        Piece::Number(u64::from(procedure)),
+        Piece::Text(": "),
+        Piece::Text(cause.name),
+        Piece::Number(u64::from(cause.at)),
+        Piece::Text("\n"),
+    ];
+    say_all(&pieces, err);
+}
+
+/// The line of bytes that are no file of their kind, or whose code is not valid.
+fn tell_file<E: Sink>(file: &str, fault: ObjectFault, err: &mut E)
     ensures { Receives (of_file file.now (file_cause fault)) (stream (E.written err.old) (E.faults err.old)) (stream (E.written err.new) (E.faults err.new)) }
 {
     match fault {
-        FileFault::BadMagic => tell_cause(file, "BadMagic", err),
-        FileFault::TooLong => tell_cause(file, "TooLong", err),
-        FileFault::Cut(at) => tell_number(file, "Cut ", at, err),
-        FileFault::BadField(at, field) => tell_field(file, at, field, err),
-        FileFault::TrailingBytes(at) => tell_number(file, "TrailingBytes ", at, err),
-        FileFault::Memory => tell_cause(file, "Memory", err),
+        ObjectFault::BadMagic => tell_cause(file, "BadMagic", err),
+        ObjectFault::TooLong => tell_cause(file, "TooLong", err),
+        ObjectFault::Cut(at) => tell_number(file, "Cut ", at, err),
+        ObjectFault::BadField(at, field) => tell_field(file, at, field, err),
+        ObjectFault::TrailingBytes(at) => tell_number(file, "TrailingBytes ", at, err),
+        ObjectFault::Code(in_module, procedure, fault) => {
+            tell_code(file, in_module, procedure, fault, err);
+        }
+        ObjectFault::Memory => tell_cause(file, "Memory", err),
     }
 }
 

@@ -1,9 +1,14 @@
 pub mod Bases
 pub mod Faults
+pub mod FileBytes
 pub mod Files
+pub mod ImageBytes
 pub mod InterfaceBytes
 pub mod NotRead
+pub mod ObjectBytes
+pub mod OneImage
 pub mod OneInterface
+pub mod OneObject
 pub mod OneProgram
 pub mod Passed
 pub mod Steps

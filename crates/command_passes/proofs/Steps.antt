@@ -136,11 +136,11 @@ stopped_at q xs x ys s t u vs case g f = fails_join q xs (x ∷ ys) s t u vs cas
 
 -- ---- the turns of a loop at its index
 
-turn_taken : {X : Type 0} (xs : List X) (i : ℕ) (x : X) → slice_get xs i ≡ Some x → take (suc i) xs ≡ take i xs ++ x ∷ []
+pub turn_taken : {X : Type 0} (xs : List X) (i : ℕ) (x : X) → slice_get xs i ≡ Some x → take (suc i) xs ≡ take i xs ++ x ∷ []
 turn_taken xs i x is =
     take-suc xs i x (slice_get_within xs i x is) ∙ ap (λ y. take i xs ++ y ∷ []) (get_or_from_slice_get xs i x x is)
 
-turn_splits : {X : Type 0} (xs : List X) (i : ℕ) (x : X) → slice_get xs i ≡ Some x → take i xs ++ x ∷ drop (suc i) xs ≡ xs
+pub turn_splits : {X : Type 0} (xs : List X) (i : ℕ) (x : X) → slice_get xs i ≡ Some x → take i xs ++ x ∷ drop (suc i) xs ≡ xs
 turn_splits xs i x is =
     ap (λ y. take i xs ++ y ∷ drop (suc i) xs) (sym (get_or_from_slice_get xs i x x is))
     ∙ ap (λ rest. take i xs ++ rest) (sym (drop-cons xs i x (slice_get_within xs i x is))) ∙ take-append-drop i xs

@@ -19,6 +19,7 @@ use interface_readers::read_interface;
 use interface_records::{Interface, iodefs};
 use mesa_base::Folder;
 use mesa_base::limits::FILE_BYTES;
+use object_readers::file_fault;
 use std::alloc::Global;
 use syntax_trees::Module;
 
@@ -28,7 +29,7 @@ fn decoded(alloc: Global, file: FileName, bytes: &[u8]) -> Result<Interface, Sto
 {
     match read_interface(alloc, bytes) {
         Ok(interface) => Ok(interface),
-        Err(fault) => Err(unfit(file, fault)),
+        Err(fault) => Err(unfit(file, file_fault(fault))),
     }
 }
 

@@ -4,9 +4,11 @@
 mod file_name;
 mod interfaces;
 mod modules;
+mod objects;
 mod stop;
 
 pub use file_name::{FileName, file_named};
 pub use interfaces::{interface_of_file, interfaces_of};
 pub use modules::{faulty, module_of_file};
+pub use objects::{image_of_file, object_of_file};
 pub use stop::{Stop, unfit, unread};

@@ -6,7 +6,8 @@ ghost use Rattle.command_passes.specs.declared.stop.Stop.TheVariants as stop;
 
 use crate::file_name::FileName;
 use command_rules::Trouble;
-use mesa_base::{FileFault, FolderError, OutOfMemory};
+use mesa_base::{FolderError, OutOfMemory};
+use object_rules::ObjectFault;
 use std::alloc::AllocFailed;
 
 /// What ends a call before anything is run.
@@ -48,12 +49,12 @@ pub fn unread(file: FileName, why: FolderError) -> Stop
     }
 }
 
-/// What ends the call where the bytes of a file are none of its kind.
-pub fn unfit(file: FileName, fault: FileFault) -> Stop
+/// What ends the call where the bytes of a file are none of its kind, or where the code that they hold is not valid.
+pub fn unfit(file: FileName, fault: ObjectFault) -> Stop
     ensures { stop_case result ≡ file_case file fault }
 {
     match fault {
-        FileFault::Memory => Stop::Memory,
+        ObjectFault::Memory => Stop::Memory,
         fault => Stop::Refused(file, Trouble::File(fault)),
     }
 }

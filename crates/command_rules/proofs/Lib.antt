@@ -1,2 +1,4 @@
 pub mod PassLaws
 pub mod Passing
+pub mod Stopping
+pub mod Order

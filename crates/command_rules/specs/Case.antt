@@ -31,6 +31,20 @@ status_of (FolderFault file) = status.FolderFault
 status_of Memory = status.Memory
 status_of Usage = status.Usage
 
+-- the answers of a call that has written nothing
+abbrev pub IsBeforeWrite : Status → Type 0
+IsBeforeWrite status.Usage = Unit {0}
+IsBeforeWrite status.Refused = Unit {0}
+IsBeforeWrite status.Absent = Unit {0}
+IsBeforeWrite status.FolderFault = ⊥
+IsBeforeWrite status.Memory = ⊥
+IsBeforeWrite status.Done = ⊥
+IsBeforeWrite status.Uncaught = ⊥
+IsBeforeWrite status.Spent = ⊥
+IsBeforeWrite status.FrameLimit = ⊥
+IsBeforeWrite status.ReadFault = ⊥
+IsBeforeWrite status.WriteFault = ⊥
+
 -- the answers of a call that has run nothing
 abbrev pub IsBeforeRun : Status → Type 0
 IsBeforeRun status.Usage = Unit {0}

@@ -1,28 +1,37 @@
 -- Which answer a call must give, want of memory aside (rule of this project).
-use Rattle.std.specs.Prelude.{◌≡◌, ◌≢◌, ◌↔◌, ℕ, ◌⊎◌, ◌≤◌, List, length, All, Some}
+use Rattle.std.specs.Prelude.{◌≡◌, ◌≢◌, ◌↔◌, ℕ, ◌⊎◌, List, [], ◌∷◌, All, Some, false}
 use Rattle.mesa_base.specs.Outside.{Files, Rose}
-use Rattle.mesa_base.specs.declared.limits.TheConstants.{FILE_BYTES}
 use Rattle.mesa_base.specs.declared.status.Status.{Status}
 use Rattle.mesa_base.specs.declared.status.Status.TheVariants as status
 use Rattle.source_meaning.specs.Means.{Means}
+use Rattle.source_meaning.specs.Program.{Program}
 use Rattle.source_meaning.specs.State.{Answer, End}
+use Rattle.mesa_types.specs.Typed.{Module}
 use Rattle.interface_records.specs.declared.interface.Interface.{Interface}
-use Rattle.interface_records.specs.Hosts.{IsHostItem}
 use Rattle.interface_records.specs.declared.wanted.WantedItem.{WantedItem}
+use Rattle.interface_records.specs.Hosts.{IsHostItem}
 use Rattle.machine_ready.specs.Hosts.{IsFirstUnresolved}
-use Rattle.face_rules.specs.InterfaceForms.{IsInterfaceFile}
-use Rattle.interface_writers.specs.Whole.{interface_file as whole_file}
-use Rattle.command_rules.specs.Case.{Case, Done, Memory, Refused, Unresolved, status_of}
-use Rattle.command_rules.specs.Comes.{Comes, Stores}
-use Rattle.command_rules.specs.Configurations.{Configured, left_to_loader, source_in}
-use Rattle.command_rules.specs.Ends.{TellsInput, program}
-use Rattle.command_rules.specs.Forms.{Source, Go, Define, HasForm, HasNoForm, module_file, interface_file, image_file}
-use Rattle.command_rules.specs.Lines.{line_of}
-use Rattle.command_rules.specs.Modules.{interface_in}
+use Rattle.machine_rules.specs.State.{Ended}
+use Rattle.machine_rules.specs.Steps.{Steps}
+use Rattle.machine_rules.specs.declared.end.End as machine
+use Rattle.object_files.specs.declared.image.Image.{Image}
+use Rattle.object_files.specs.declared.object.Object.{Object}
+use Rattle.object_rules.specs.ImageForms.{ImagePart}
+use Rattle.linked_programs.specs.Objects.{IsObjectOf}
 use Rattle.line_pieces.specs.Outputs.{Stream, HasFaulted, PrintsAll, Receives}
+use Rattle.command_rules.specs.Binding.{Bound, IsImageOf, bound_in}
+use Rattle.command_rules.specs.Case.{Case, Done, Memory, Refused, Unresolved, TooLarge, status_of}
+use Rattle.command_rules.specs.Comes.{Comes, Made, targets_of}
+use Rattle.command_rules.specs.Configurations.{left_to_loader, program, source_in}
+use Rattle.command_rules.specs.Ends.{TellsInput}
+use Rattle.command_rules.specs.Forms.{Source, Form, Compile, Define, Bind, Run, Go, HasForm, HasNoForm, module_file, interface_file, object_file, image_file}
+use Rattle.command_rules.specs.Lines.{line_of}
+use Rattle.command_rules.specs.Modules.{interface_in, module_in}
+use Rattle.command_rules.specs.Objects.{IsImageWith, image_in}
 use Rattle.command_rules.specs.Passes.{Has, Stops, Trail}
-use Rattle.command_rules.specs.Shown.{IsShownAs}
+use Rattle.command_rules.specs.Shown.{IsShownAs, case_of_end, image_names}
 use Rattle.command_rules.specs.Worlds.{Shelf, Scene, World}
+use Rattle.command_rules.specs.Writing.{Target, holding, OfInterface, OfObject, OfImage, IsSmall, IsFirstTooLarge, StoresAll}
 
 -- no call on the folder failed, nor one on the input or `out`
 pub record NoFault (folder folder' : Shelf) (old new : Scene) : Type 0 where
@@ -39,48 +48,106 @@ pub record Tells (case : Case) (said said' : Stream) (s : Status) : Type 0 where
 abbrev pub IsAnswer : Case → Stream → Stream → Status → Type 0
 IsAnswer case said said' s = Tells case said said' s ⊎ (s ≡ status.Memory)
 
+-- ---- what each form makes of files that are told
+
+-- what it reads stops it
+abbrev pub StopsOver : Form → Files → Case → Type 0
+StopsOver (Compile base) files case = (trail : Trail) × (module_in (module_file base)).comes (Some files) trail (Stops case)
+StopsOver (Define base stamp) files case = (trail : Trail) × (interface_in (module_file base) stamp).comes (Some files) trail (Stops case)
+StopsOver (Bind base) files case = (trail : Trail) × (bound_in base).comes (Some files) trail (Stops case)
+StopsOver (Run base turns) files case = (trail : Trail) × (image_in (image_file base)).comes (Some files) trail (Stops case)
+StopsOver (Go source base turns) files case = (trail : Trail) × (source_in source base).comes (Some files) trail (Stops case)
+
+-- these files are to be written
+abbrev pub MakesOver : Form → Files → List Target → Type 0
+MakesOver (Compile base) files targets = (trail : Trail) × (m : Module) × (o : Object) × (module_in (module_file base)).comes (Some files) trail (Has m)
+    × IsObjectOf m o × (targets ≡ holding (object_file base) (OfObject o) ∷ [])
+MakesOver (Define base stamp) files targets = (trail : Trail) × (i : Interface) × (interface_in (module_file base) stamp).comes (Some files) trail (Has i)
+    × (targets ≡ holding (interface_file base) (OfInterface i) ∷ [])
+MakesOver (Bind base) files targets = (trail : Trail) × (b : Bound) × (image : Image) × (bound_in base).comes (Some files) trail (Has b)
+    × IsImageOf b image × (targets ≡ holding (image_file base) (OfImage image) ∷ [])
+MakesOver (Run base turns) files targets = ⊥
+MakesOver (Go source base turns) files targets = (trail : Trail) × (m : Made source base (Some files) trail) × (targets ≡ targets_of base m)
+
+-- ---- what must be answered
+
 -- the input tells its bytes, and for these the program means this output and an end of this case
-pub record Does (c : Configured) (turns : ℕ) (old : Scene) (output : List ℕ) (case : Case) : Type 0 where
+pub record Does (P : Program) (turns : ℕ) (old : Scene) (output : List ℕ) (case : Case) : Type 0 where
   pub input : List ℕ
   pub tells : TellsInput old input
   pub end : Answer
   pub left : ℕ
   pub taken : ℕ
-  pub means : Means (program c) input End turns output end left taken
-  pub is_case : IsShownAs (program c) end case
+  pub means : Means P input End turns output end left taken
+  pub is_case : IsShownAs P end case
 
--- what binds, of files that are told, is run: the call ends as its program does for the input, and prints what it means
-abbrev pub IsComplete : List (List ℕ) → World → World → Status → Type 0
-IsComplete words before after s = (source : Source) (base : List ℕ) (turns : ℕ) (files : Files) (trail : Trail) (c : Configured) (output : List ℕ) (case : Case)
-    → HasForm words (Go source base turns) → before.folder.files ≡ Some files → (source_in source base).comes (Some files) trail (Has c)
-    → All IsHostItem (left_to_loader c) → Does c turns before.scene output case → NoFault before.folder after.folder before.scene after.scene
-    → (Tells case before.err after.err s × PrintsAll output before.scene.out after.scene.out) ⊎ (s ≡ status.Memory)
+-- for these the machine writes this output and comes to an end of this case
+pub record StepsTo (image : Image) (turns : ℕ) (old : Scene) (output : List ℕ) (case : Case) : Type 0 where
+  pub input : List ℕ
+  pub tells : TellsInput old input
+  pub end : machine.End
+  pub left : ℕ
+  pub taken : ℕ
+  pub count : ℕ
+  pub steps : Steps image input false turns output (Ended end) left taken count
+  pub is_case : case ≡ case_of_end (image_names image) end
 
--- what does not is refused by its first fault
+-- the words have this form, the folder tells these files, and no call fails
+pub record IsCall (words : List (List ℕ)) (before after : World) (form : Form) (files : Files) : Type 0 where
+  pub has : HasForm words form
+  pub told : before.folder.files ≡ Some files
+  pub no_fault : NoFault before.folder after.folder before.scene after.scene
+
+-- what is read and stops a form is its answer
 abbrev pub IsRefused : List (List ℕ) → World → World → Status → Type 0
-IsRefused words before after s = (source : Source) (base : List ℕ) (turns : ℕ) (files : Files) (trail : Trail) (case : Case)
-    → HasForm words (Go source base turns) → before.folder.files ≡ Some files → (source_in source base).comes (Some files) trail (Stops case)
-    → NoFault before.folder after.folder before.scene after.scene → IsAnswer case before.err after.err s
+IsRefused words before after s = (form : Form) (files : Files) (case : Case) → IsCall words before after form files → StopsOver form files case
+    → IsAnswer case before.err after.err s
 
--- what binds and leaves to the loader what is none of the host's is refused by the first such item
+-- the first file that would be too large is refused
+abbrev pub IsTooLarge : List (List ℕ) → World → World → Status → Type 0
+IsTooLarge words before after s = (form : Form) (files : Files) (targets : List Target) (file : List ℕ) → IsCall words before after form files
+    → MakesOver form files targets → IsFirstTooLarge targets file → IsAnswer (Refused file TooLarge) before.err after.err s
+
+-- what is left to the loader and is none of the host's is refused by the first such item
 abbrev pub IsUnresolved : List (List ℕ) → World → World → Status → Type 0
-IsUnresolved words before after s = (source : Source) (base : List ℕ) (turns : ℕ) (files : Files) (trail : Trail) (c : Configured) (i : WantedItem)
-    → HasForm words (Go source base turns) → before.folder.files ≡ Some files → (source_in source base).comes (Some files) trail (Has c)
-    → IsFirstUnresolved (left_to_loader c) i → NoFault before.folder after.folder before.scene after.scene
-    → IsAnswer (Refused (image_file base) (Unresolved i)) before.err after.err s
+IsUnresolved words before after s = (source : Source) (base : List ℕ) (turns : ℕ) (files : Files) (trail : Trail) (i : WantedItem)
+    → IsCall words before after (Go source base turns) files → (m : Made source base (Some files) trail) → All IsSmall (targets_of base m)
+    → IsFirstUnresolved (left_to_loader m.configured) i → IsAnswer (Refused (image_file base) (Unresolved i)) before.err after.err s
 
--- definitions that are told and right have their file, which holds the spelling of their interface
-abbrev pub IsDefined : List (List ℕ) → World → World → Status → Type 0
-IsDefined words before after s = (base : List ℕ) (stamp : ℕ) (files : Files) (trail : Trail) (i : Interface)
-    → HasForm words (Define base stamp) → before.folder.files ≡ Some files → (interface_in (module_file base) stamp).comes (Some files) trail (Has i)
-    → length (whole_file i) ≤ FILE_BYTES → NoFault before.folder after.folder before.scene after.scene
-    → (Tells Done before.err after.err s × ((bytes : List ℕ) × IsInterfaceFile 2 i bytes × Stores (interface_file base) bytes before.folder after.folder))
-    ⊎ (s ≡ status.Memory)
+-- so is what an image wants
+abbrev pub IsNotLoaded : List (List ℕ) → World → World → Status → Type 0
+IsNotLoaded words before after s = (base : List ℕ) (turns : ℕ) (files : Files) (trail : Trail) (parts : ImagePart) (i : WantedItem)
+    → IsCall words before after (Run base turns) files → (image_in (image_file base)).comes (Some files) trail (Has parts)
+    → IsFirstUnresolved parts.wanted i → IsAnswer (Refused (image_file base) (Unresolved i)) before.err after.err s
 
-abbrev pub IsNotDefined : List (List ℕ) → World → World → Status → Type 0
-IsNotDefined words before after s = (base : List ℕ) (stamp : ℕ) (files : Files) (trail : Trail) (case : Case)
-    → HasForm words (Define base stamp) → before.folder.files ≡ Some files → (interface_in (module_file base) stamp).comes (Some files) trail (Stops case)
-    → NoFault before.folder after.folder before.scene after.scene → IsAnswer case before.err after.err s
+-- compile and bind end where their file is written
+abbrev pub IsCompileOrBind : Form → Type 0
+IsCompileOrBind (Compile base) = Unit {0}
+IsCompileOrBind (Define base stamp) = Unit {0}
+IsCompileOrBind (Bind base) = Unit {0}
+IsCompileOrBind (Run base turns) = ⊥
+IsCompileOrBind (Go source base turns) = ⊥
+
+-- what is told and right, and not too large, has its file
+abbrev pub IsStored : List (List ℕ) → World → World → Status → Type 0
+IsStored words before after s = (form : Form) (files : Files) (targets : List Target) → IsCall words before after form files → IsCompileOrBind form
+    → MakesOver form files targets → All IsSmall targets
+    → (Tells Done before.err after.err s × StoresAll targets before.folder.files after.folder.files) ⊎ (s ≡ status.Memory)
+
+-- what binds is written and run: the call ends as its program does for the input, and prints what it means
+abbrev pub IsComplete : List (List ℕ) → World → World → Status → Type 0
+IsComplete words before after s = (source : Source) (base : List ℕ) (turns : ℕ) (files : Files) (trail : Trail) (output : List ℕ) (case : Case)
+    → IsCall words before after (Go source base turns) files → (m : Made source base (Some files) trail) → All IsSmall (targets_of base m)
+    → All IsHostItem (left_to_loader m.configured) → Does (program m.configured) turns before.scene output case
+    → (Tells case before.err after.err s × PrintsAll output before.scene.out after.scene.out
+    × StoresAll (targets_of base m) before.folder.files after.folder.files) ⊎ (s ≡ status.Memory)
+
+-- an image that wants nothing but the host's items is run: the call ends as the machine does for the input, and prints what it writes
+abbrev pub IsRun : List (List ℕ) → World → World → Status → Type 0
+IsRun words before after s = (base : List ℕ) (turns : ℕ) (files : Files) (trail : Trail) (parts : ImagePart) (image : Image) (output : List ℕ) (case : Case)
+    → IsCall words before after (Run base turns) files → (image_in (image_file base)).comes (Some files) trail (Has parts) → IsImageWith parts image
+    → All IsHostItem parts.wanted → StepsTo image turns before.scene output case
+    → (Tells case before.err after.err s × PrintsAll output before.scene.out after.scene.out) ⊎ (s ≡ status.Memory)
 
 -- what a call answers to its words, with the world as it was and as it is
 pub record Answered (words : List (List ℕ)) (before after : World) (s : Status) : Type 0 where
@@ -89,11 +156,13 @@ pub record Answered (words : List (List ℕ)) (before after : World) (s : Status
   pub comes : Comes words before.folder after.folder before.scene after.scene case
   pub tells : Tells case before.err after.err s
   pub usage : (s ≡ status.Usage) ↔ HasNoForm words
-  pub complete : IsComplete words before after s
   pub refused : IsRefused words before after s
+  pub too_large : IsTooLarge words before after s
   pub unresolved : IsUnresolved words before after s
-  pub defined : IsDefined words before after s
-  pub not_defined : IsNotDefined words before after s
+  pub not_loaded : IsNotLoaded words before after s
+  pub stored : IsStored words before after s
+  pub complete : IsComplete words before after s
+  pub run : IsRun words before after s
 
 -- for words, files and an input of bytes that are told, one case comes where no call failed, want of memory aside
 abbrev pub OneCaseComes : Type 0

@@ -23,7 +23,8 @@ use Rattle.config_rules.specs.declared.tree.Component.{Component}
 use Rattle.config_rules.specs.declared.tree.Tree.{Tree}
 use Rattle.import_binder.specs.Bindings.{fault_of}
 use Rattle.link_tables.specs.Linked.{wanted_of}
-use Rattle.bound_images.specs.Programs.{shape_of}
+use Rattle.source_meaning.specs.Program.{Program}
+use Rattle.bound_images.specs.Programs.{shape_of, program_of}
 use Rattle.checked_texts.specs.declared.text_fault.TextFault.TheVariants.{Lexical, Syntactic}
 use Rattle.command_rules.specs.Case.{Case, Refused, Absent, Text, Tree as OfTree, Item}
 use Rattle.command_rules.specs.Forms.{Source, OfModule, OfConfig, module_file, config_file}
@@ -53,17 +54,18 @@ pub data Binds (file : List ℕ) (t : Tree) : Outcome Case (Unit {0}) → Type 0
   bound : first_bad (wants t) ≡ None → Binds file t (Has tt)
   bad : (w : Want) → first_bad (wants t) ≡ Some w → Binds file t (Stops (Refused file (Item (fault_of t w))))
 
--- what is run: a tree, and the modules of its components
-pub record Configured : Type 0 where
-  pub tree : Tree
-  pub modules : List Module
-
--- a tree in which every item binds, with its modules
-unfoldable pub binding : (file : List ℕ) → (Answer Tree → Type 0) → List Module → Pass Case Configured
-binding file is_tree modules =
+-- a tree in which every item binds
+unfoldable pub tree_in : (file : List ℕ) → (Answer Tree → Type 0) → Pass Case Tree
+tree_in file is_tree =
     and_then (decided (Grows file is_tree)) (λ t.
     and_then (decided (Binds file t)) (λ _.
-    given (record { tree = t; modules = modules })))
+    given t))
+
+-- what is run: such a tree, and the modules of its components with the bases of their files
+pub record Configured : Type 0 where
+  pub tree : Tree
+  pub bases : List (List ℕ)
+  pub modules : List Module
 
 abbrev pub component_in : Component → Pass Case Module
 component_in x = module_in (module_file x.file)
@@ -72,14 +74,27 @@ component_in x = module_in (module_file x.file)
 abbrev pub modules_of : Config → Pass Case (List Module)
 modules_of c = each component_in (components c)
 
-unfoldable pub configuration_of : (file : List ℕ) → Config → Pass Case Configured
-configuration_of file c = and_then (modules_of c) (λ modules. binding file (IsTree c (map shape_of modules)) modules)
+abbrev pub bases_of : Config → List (List ℕ)
+bases_of c = map (λ (x : Component). x.file) (components c)
 
--- a configuration with its modules, or one module alone with the built-in interface
+unfoldable pub configuration_of : (file : List ℕ) → Config → Pass Case Configured
+configuration_of file c =
+    and_then (modules_of c) (λ modules.
+    and_then (tree_in file (IsTree c (map shape_of modules))) (λ t.
+    given (record { tree = t; bases = bases_of c; modules = modules })))
+
+-- one module alone, with the built-in interface
+unfoldable pub single_of : (base : List ℕ) → Module → Pass Case Configured
+single_of base m = and_then (tree_in (module_file base) (IsSingle (shape_of m))) (λ t. given (record { tree = t; bases = base ∷ []; modules = m ∷ [] }))
+
 unfoldable pub source_in : Source → (base : List ℕ) → Pass Case Configured
-source_in OfModule base = and_then (module_in (module_file base)) (λ m. binding (module_file base) (IsSingle (shape_of m)) (m ∷ []))
+source_in OfModule base = and_then (module_in (module_file base)) (single_of base)
 source_in OfConfig base = and_then (config_in (config_file base)) (configuration_of (config_file base))
 
 -- what is left to the loader
 abbrev pub left_to_loader : Configured → List Wanted
 left_to_loader c = wanted_of (wants c.tree)
+
+-- the program of the tree and its modules
+abbrev pub program : Configured → Program
+program c = program_of c.tree c.modules

@@ -1,27 +1,18 @@
--- How the run of what was configured ends, what it took of the input, and what it leaves in `out`, in the words of what its program means, with
--- the steps that it counted (rule of this project).
-use Rattle.std.specs.Prelude.{◌≡◌, ℕ, ◌+◌, List, Some, IfSome}
+-- How the run of an image ends, what it took of the input, and what it leaves in `out`, with the steps that it counted; and what the program of
+-- that image means of it (rule of this project).
+use Rattle.std.specs.Prelude.{◌≡◌, ℕ, ◌+◌, List, Some, IfSome, Result, Ok, Err}
 use Rattle.mesa_base.specs.Outside.{Rose}
 use Rattle.source_meaning.specs.Program.{Program}
 use Rattle.object_files.specs.declared.image.Image.{Image}
 use Rattle.frame_machine.specs.declared.outcome.Outcome.{Outcome}
+use Rattle.frame_machine.specs.declared.outcome.RunFault.{RunFault}
+use Rattle.frame_machine.specs.declared.outcome.RunFault.TheVariants as fault
 use Rattle.frame_machine.specs.Running.{AreBytes, Completes, BreaksAtInput, BreaksAtOutput}
 use Rattle.linked_run.specs.Meant.{Ran, BrokenOff, CutOff}
-use Rattle.bound_images.specs.Programs.{program_of}
-use Rattle.built_runs.specs.Linked.{IsLinkedFrom}
-use Rattle.command_rules.specs.Case.{Case, ReadFault, WriteFault}
-use Rattle.command_rules.specs.Configurations.{Configured}
 use Rattle.line_pieces.specs.Outputs.{HasFaulted}
-use Rattle.command_rules.specs.Shown.{IsShownAs, case_of_end}
+use Rattle.command_rules.specs.Case.{Case}
+use Rattle.command_rules.specs.Shown.{Names, IsShownAs, case_of_run, program_names}
 use Rattle.command_rules.specs.Worlds.{Scene}
-
--- the program of the tree and its modules
-abbrev pub program : Configured → Program
-program c = program_of c.tree c.modules
-
--- an image that is linked from the tree and code of the modules
-abbrev pub IsImageOf : Configured → Image → Type 0
-IsImageOf c image = IsLinkedFrom c.tree c.modules image
 
 -- the program means this end for the input; `out` received the whole output, and at most one byte more was taken than the program took
 abbrev pub RanAs : Program → ℕ → Outcome → Scene → Scene → Type 0
@@ -63,11 +54,25 @@ pub record IsMeant (P : Program) (turns : ℕ) (outcome : Outcome) (old new : Sc
   pub ran : RanAs P turns outcome old new
   pub is_case : IsShownAs P ran.answer case
 
--- How a run that may spend so many turns ends. Its case is that of the machine's end, and of what the program means where the input tells bytes.
-pub data Ends (c : Configured) (turns : ℕ) (old new : Scene) : Case → Type 0 where
-  ended : (image : Image) (outcome : Outcome) (case : Case) → IsImageOf c image → case ≡ case_of_end (program c) outcome.end
-      → (TellsBytes old → IsMeant (program c) turns outcome old new case) → Counts image turns outcome old new → Ends c turns old new case
-  read_fault : (image : Image) → IsImageOf c image → Rose old.input.faults new.input.faults → BrokenOffAs (program c) turns old new
-      → CountsBreak image turns old new → Ends c turns old new ReadFault
-  write_fault : (image : Image) → IsImageOf c image → HasFaulted old.out new.out → (TellsBytes old → CutOffAs (program c) turns old new)
-      → CountsCut image turns old new → Ends c turns old new WriteFault
+-- what the machine does in a run that may spend so many turns: it comes to an end, or the input or `out` failed
+pub data Runs (image : Image) (turns : ℕ) (old new : Scene) : Result Outcome RunFault → Type 0 where
+  ended : (outcome : Outcome) → Counts image turns outcome old new → Runs image turns old new (Ok outcome)
+  read_fault : Rose old.input.faults new.input.faults → CountsBreak image turns old new → Runs image turns old new (Err fault.ReadFault)
+  write_fault : HasFaulted old.out new.out → CountsCut image turns old new → Runs image turns old new (Err fault.WriteFault)
+
+-- it runs to this case, where signals are called so
+pub record RunsTo (names : Names) (image : Image) (turns : ℕ) (old new : Scene) (case : Case) : Type 0 where
+  pub end : Result Outcome RunFault
+  pub runs : Runs image turns old new end
+  pub is_case : case ≡ case_of_run names end
+
+-- what the program means of that
+abbrev pub AsMeant : Program → ℕ → Scene → Scene → Case → Result Outcome RunFault → Type 0
+AsMeant P turns old new case (Ok outcome) = TellsBytes old → IsMeant P turns outcome old new case
+AsMeant P turns old new case (Err fault.ReadFault) = BrokenOffAs P turns old new
+AsMeant P turns old new case (Err fault.WriteFault) = TellsBytes old → CutOffAs P turns old new
+
+-- How the run of a program's image ends. Its case is that of the machine's end, and of what the program means where the input tells bytes.
+pub record Ends (P : Program) (image : Image) (turns : ℕ) (old new : Scene) (case : Case) : Type 0 where
+  pub machine : RunsTo (program_names P) image turns old new case
+  pub meant : AsMeant P turns old new case machine.end

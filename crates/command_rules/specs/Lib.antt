@@ -1,3 +1,4 @@
+pub mod Binding
 pub mod Case
 pub mod Comes
 pub mod Complete
@@ -6,8 +7,11 @@ pub mod Ends
 pub mod Forms
 pub mod Lines
 pub mod Modules
+pub mod Objects
+pub mod Order
 pub mod Passes
 pub mod Passing
 pub mod Reading
 pub mod Shown
 pub mod Worlds
+pub mod Writing

@@ -3,8 +3,10 @@ use Rattle.std.specs.Prelude.{ℕ, List, [], ◌++◌, Option, Some, None, codes
 use Rattle.mesa_base.specs.declared.place.Place.{Place}
 use Rattle.mesa_base.specs.declared.file_fault.Field.{Field}
 use Rattle.mesa_base.specs.declared.file_fault.Field.TheVariants as field
-use Rattle.mesa_base.specs.declared.file_fault.FileFault.{FileFault}
-use Rattle.mesa_base.specs.declared.file_fault.FileFault.TheVariants as file
+use Rattle.code_forms.specs.declared.bad_code.CodeFault.{CodeFault}
+use Rattle.code_forms.specs.declared.bad_code.CodeFault.TheVariants as code
+use Rattle.object_rules.specs.declared.object_fault.ObjectFault.{ObjectFault}
+use Rattle.object_rules.specs.declared.object_fault.ObjectFault.TheVariants as file
 use Rattle.interface_records.specs.declared.wanted.WantedItem.{WantedItem}
 use Rattle.config_rules.specs.declared.fault.TreeCause.{TreeCause}
 use Rattle.config_rules.specs.declared.fault.TreeCause.TheVariants as tree
@@ -47,12 +49,21 @@ tree_cause tree.TooNested = codes "TooNested"
 
 -- ---- why a file is refused
 
-abbrev pub file_cause : FileFault → List ℕ
+-- Fault AT, the offset in the procedure's code
+abbrev pub code_cause : CodeFault → List ℕ
+code_cause (code.BadJump at) = codes "BadJump " ++ decimal at
+code_cause (code.StackDiffers at) = codes "StackDiffers " ++ decimal at
+code_cause (code.BadOperand at) = codes "BadOperand " ++ decimal at
+code_cause (code.CatchRange at) = codes "CatchRange " ++ decimal at
+
+abbrev pub file_cause : ObjectFault → List ℕ
 file_cause file.BadMagic = codes "BadMagic"
 file_cause file.TooLong = codes "TooLong"
 file_cause (file.Cut at) = codes "Cut " ++ decimal at
 file_cause (file.BadField at what) = codes "BadField " ++ (decimal at ++ (codes " " ++ field_name what))
 file_cause (file.TrailingBytes at) = codes "TrailingBytes " ++ decimal at
+file_cause (file.Code in_module procedure fault) =
+    codes "Code " ++ (decimal in_module ++ (codes " " ++ (decimal procedure ++ (codes ": " ++ code_cause fault))))
 file_cause file.Memory = codes "Memory"
 
 abbrev pub bind_cause : BindFault → List ℕ

@@ -7,6 +7,7 @@ use Rattle.mesa_types.specs.Typed.{Module}
 use Rattle.interface_records.specs.Faces.{iodefs}
 use Rattle.interface_records.specs.declared.interface.Interface as records
 use Rattle.face_rules.specs.InterfaceForms.{IsInterfaceFile, IsNoInterfaceFile}
+use Rattle.object_rules.specs.ObjectFiles.{file_fault}
 use Rattle.checked_texts.specs.Asked.{asks}
 use Rattle.checked_texts.specs.declared.purpose.Purpose.{Purpose}
 use Rattle.checked_texts.specs.declared.purpose.Purpose.TheVariants.{Program, Interface}
@@ -16,10 +17,10 @@ use Rattle.command_rules.specs.Case.{Case, Refused, Absent, Text, File}
 use Rattle.command_rules.specs.Forms.{interface_file}
 use Rattle.command_rules.specs.Passes.{Outcome, Has, Stops, Pass, decided, given, from_file, and_then, each}
 
--- the bytes of an interface file, of either version
+-- the bytes of an interface's file, of either version
 pub data Decodes (file bytes : List ℕ) : Outcome Case records.Interface → Type 0 where
   is_file : (version : ℕ) (i : records.Interface) → IsInterfaceFile version i bytes → Decodes file bytes (Has i)
-  is_none : (why : FileFault) → IsNoInterfaceFile bytes why → Decodes file bytes (Stops (Refused file (File why)))
+  is_none : (why : FileFault) → IsNoInterfaceFile bytes why → Decodes file bytes (Stops (Refused file (File (file_fault why))))
 
 -- what an item of a DIRECTORY asks for: the file of this base, or the built-in interface, for which none is read
 unfoldable pub interface_for : Option (List ℕ) → Pass Case records.Interface

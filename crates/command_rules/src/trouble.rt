@@ -4,7 +4,8 @@ use checked_texts::TextFault;
 use config_rules::TreeCause;
 use import_binder::BindFault;
 use interface_records::WantedItem;
-use mesa_base::{FileFault, Place};
+use mesa_base::Place;
+use object_rules::ObjectFault;
 
 /// Why a file is refused, with what its line shows.
 #[derive(Drop)]
@@ -13,8 +14,8 @@ pub enum Trouble {
     Text(TextFault),
     /// The first fault of a configuration's tree, or a FROM text of it that is no base of a file.
     Tree(TreeCause, Place),
-    /// The bytes are no file of their kind.
-    File(FileFault),
+    /// The bytes are no file of their kind, or the code that they hold is not valid.
+    File(ObjectFault),
     /// The first bad item of a configuration.
     Item(BindFault),
     /// The image wants an item that the host has not.

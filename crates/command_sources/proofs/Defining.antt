@@ -1,27 +1,19 @@
 -- The interface of definitions under a stamp, and its file.
-use Rattle.std.proofs.Common.{◌≡◌, ◌≢◌, ℕ, ◌<◌, List, [], length, Option, Some, None, Result, Err, IfSome, refl, sym, subst}
-use Rattle.mesa_base.specs.Outside.{Called, Files, Rose, Writes, ChangesOnly}
-use Rattle.mesa_base.specs.declared.file_fault.WriteFault.{WriteFault}
-use Rattle.mesa_base.specs.declared.file_fault.WriteFault.TheVariants as write
-use Rattle.mesa_base.specs.declared.limits.TheConstants.{FILE_BYTES}
+use Rattle.std.proofs.Common.{◌≡◌, ◌≢◌, ℕ, List, Result, Err}
 use Rattle.mesa_base.specs.declared.outside_errors.FolderError.{FolderError}
-use Rattle.mesa_base.specs.declared.outside_errors.FolderError.TheVariants as folder
 use Rattle.syntax_trees.specs.declared.syntax.Module as syntax
 use Rattle.interface_records.specs.declared.interface.Interface as records
-use Rattle.face_rules.specs.InterfaceForms.{IsInterfaceFile}
-use Rattle.interface_writers.specs.Whole.{interface_file as whole_file}
 use Rattle.checked_texts.specs.declared.purpose.Purpose.TheVariants as purpose
 use Rattle.checked_texts.specs.declared.text_fault.TextFault.{TextFault}
 use Rattle.checked_texts.specs.declared.text_fault.TextFault.TheVariants as texts
 use Rattle.checked_texts.specs.Texts as text
-use Rattle.command_rules.specs.Case.{Case, Absent, Done}
-use Rattle.command_rules.specs.Comes.{Written, stored, too_large, failed, memory, Spoils}
+use Rattle.command_rules.specs.Case.{Case, Absent}
 use Rattle.command_rules.specs.Modules.{Begins, begun, refused, Defines, interfaces_for, definitions_of, interface_in}
 use Rattle.command_rules.specs.Passes.{decided, and_then}
 use Rattle.command_rules.specs.Passing.{Fails, Gives}
 use Rattle.command_rules.specs.Reading.{Onward}
 use Rattle.command_rules.specs.Worlds.{Shelf}
-use Rattle.command_rules.proofs.Passing.{HasRead, called_none, called_one, fails_first, onward_same}
+use Rattle.command_rules.proofs.Passing.{HasRead, fails_first}
 use Rattle.command_passes.specs.Shelves.{Decides, Passes}
 use Rattle.command_passes.specs.Stops.{stop_case, text_case, unread_case}
 use Rattle.command_passes.specs.declared.stop.Stop.{Stop}
@@ -29,7 +21,6 @@ use Rattle.command_passes.proofs.Faults.{fault_told}
 use Rattle.command_passes.proofs.Files.{NeverAbsent}
 use Rattle.command_passes.proofs.Passed.{NotRead, behind_decided, behind_read, behind_unread, decided_last, stopped_decided}
 use Rattle.command_passes.proofs.Texts.{begins_absent, begins_moves}
-use Rattle.command_sources.specs.Stops.{unmade_case}
 
 abbrev I : Type 0
 I = records.Interface
@@ -85,30 +76,3 @@ module _ (file : List ℕ) (stamp : ℕ) where
       → Passes same (interface_in file stamp) s t (Err end)
   unfolding interface_in
   definitions_unread s t why end n e = behind_unread same file (Begins file (purpose.Interface stamp)) (definitions_of file stamp) s t why end n e
-
--- ---- the file that is written
-
-module _ (file : List ℕ) (i : I) where
-  all_stay : (s : Shelf) → Spoils file s s
-  all_stay s = stay s.files
-    where
-      stay : (files : Option Files) → IfSome files (λ all. ChangesOnly all file files)
-      stay None = tt
-      stay (Some all) = record { now = all; told = refl; others = λ other no. refl }
-
-  pub not_made : (s : Shelf) (why : WriteFault) (case : Case) → case ≡ unmade_case file why → (why ≡ write.TooLarge → FILE_BYTES < length (whole_file i))
-      → Written file i [] s s case
-  not_made s write.TooLarge case e large =
-      subst (Written file i [] s s) (sym e) (too_large (large refl) (record { onward = onward_same s; called = called_none s.calls }))
-  not_made s write.Memory case e large = subst (Written file i [] s s) (sym e) (memory (all_stay s))
-
-  pub not_written : (s t : Shelf) (why : FolderError) (case : Case) → case ≡ unread_case file why → why ≢ folder.Absent → Called file s.calls t.calls
-      → Spoils file s t → (why ≡ folder.Failed → Rose (s.faults file) (t.faults file)) → Written file i [] s t case
-  not_written s t folder.Absent case e never called spoils rose = absurd (never refl)
-  not_written s t folder.Failed case e never called spoils rose =
-      subst (Written file i [] s t) (sym e) (failed (rose refl) spoils (called_one file s.calls t.calls called))
-  not_written s t folder.Memory case e never called spoils rose = subst (Written file i [] s t) (sym e) (memory spoils)
-
-  pub is_written : (s t : Shelf) (bytes : List ℕ) → IsInterfaceFile 2 i bytes → Called file s.calls t.calls
-      → IfSome s.files (λ all. Writes all file bytes t.files) → Written file i [] s t Done
-  is_written s t bytes is called writes = stored bytes is writes (called_one file s.calls t.calls called)

@@ -10,12 +10,11 @@ use Rattle.interface_records.specs.declared.interface.Interface.{Interface}
 use Rattle.face_rules.specs.InterfaceForms as form
 use Rattle.spelled_laws.specs.Laws.{BuiltInFits, InterfacesFit}
 use Rattle.checked_texts.specs.Laws.{CanBeKept, DefinedInterfacesCanBeSpelled, ReadModulesCanBeKept}
-use Rattle.linked_programs.specs.Modules.{CanBeLinked}
 use Rattle.command_rules.specs.Configurations.{component_in}
 use Rattle.command_rules.specs.Forms.{interface_file, module_file}
 use Rattle.command_rules.specs.Modules.{Begun, Decodes, is_file, Checks, checked, Defines, defined, interface_for, module_in, program_of, interface_in, definitions_of}
 use Rattle.command_rules.specs.Passes.{Outcome, Has, Trail, Pass, held, Follows, went, given, each}
-use Rattle.command_sources.specs.Laws.{DefinitionsCanBeWritten, ReadModulesCanBeLinked}
+use Rattle.command_sources.specs.Laws.{DefinitionsCanBeWritten, ModulesOfFilesCanBeKept}
 
 has_is : {C A : Type 0} (a b : A) → ◌≡◌ {A = Outcome C A} (Has a) (Has b) → a ≡ b
 has_is a b e = cc
@@ -62,27 +61,23 @@ module _ (interfaces_fit : InterfacesFit) (built_in_fits : BuiltInFits) where
   -- ---- modules
 
   module _ (kept : ReadModulesCanBeKept) where
-    linkable : (m : Module) → CanBeKept m → CanBeLinked m
-    linkable m k = record { sound = k.sound; few = k.few; spelled = k.shape }
+    checked_so : (file bytes : List ℕ) (is : List Interface) (m : Module) → InterfacesCanBeSpelled (map plain_interface is) → Checks file bytes is (Has m) → CanBeKept m
+    checked_so file bytes is m spelled (checked _ h) = kept bytes is m spelled h
 
-    checked_so : (file bytes : List ℕ) (is : List Interface) (m : Module) → InterfacesCanBeSpelled (map plain_interface is) → Checks file bytes is (Has m)
-        → CanBeLinked m
-    checked_so file bytes is m spelled (checked _ h) = linkable m (kept bytes is m spelled h)
-
-    of_program : (file : List ℕ) (b : Begun) (files : Option Files) (t : Trail) (m : Module) → (program_of file b).comes files t (Has m) → CanBeLinked m
+    of_program : (file : List ℕ) (b : Begun) (files : Option Files) (t : Trail) (m : Module) → (program_of file b).comes files t (Has m) → CanBeKept m
     unfolding program_of
     of_program file b files _ m (went t u is _ asked last) = checked_so file b.0 is m (spelled_each _ files t is asked) last.1
 
-    of_module : (file : List ℕ) (files : Option Files) (t : Trail) (m : Module) → (module_in file).comes files t (Has m) → CanBeLinked m
+    of_module : (file : List ℕ) (files : Option Files) (t : Trail) (m : Module) → (module_in file).comes files t (Has m) → CanBeKept m
     unfolding module_in
     of_module file files _ m (went t u b _ begun last) = of_program file b files u m last
 
-    pub can_be_linked : ReadModulesCanBeLinked
-    can_be_linked = record {
+    pub can_be_kept : ModulesOfFilesCanBeKept
+    can_be_kept = record {
       one = of_module;
       all = λ components files t modules h.
-          let so = each_so CanBeLinked component_in (λ x. of_module (module_file x.file)) components files t modules h in
-          record { as_many = so.0; linkable = so.1 };
+          let so = each_so CanBeKept component_in (λ x. of_module (module_file x.file)) components files t modules h in
+          record { as_many = so.0; kept = so.1 };
     }
 
   -- ---- definitions

@@ -1,7 +1,9 @@
 pub mod Binding
 pub mod Defining
+pub mod EachComponent
+pub mod Filing
 pub mod Kept
 pub mod Mentioning
-pub mod Modules
+pub mod OfObjects
 pub mod Parsing
 pub mod Sourcing

@@ -27,10 +27,11 @@ use Rattle.config_templates.specs.Mentioned.{exact_components}
 use Rattle.checked_texts.specs.TextFaults.{of_lexical, of_syntactic}
 use Rattle.checked_texts.specs.declared.text_fault.TextFault.{TextFault}
 use Rattle.checked_texts.specs.declared.text_fault.TextFault.TheVariants as f
-use Rattle.written_trees.specs.Laws.{TokensAreWithin}
+use Rattle.spelled_trees.specs.Laws.{ParsedNamesAreNames}
 use Rattle.command_rules.specs.Case.{Case, Absent, Memory}
 use Rattle.command_rules.specs.Configurations.{Configures, configured, config_in}
 use Rattle.command_rules.specs.Configurations as rules
+use Rattle.command_rules.specs.Forms.{config_file}
 use Rattle.command_rules.specs.Passes.{Has, Stops}
 use Rattle.command_rules.specs.Worlds.{Shelf}
 use Rattle.command_rules.proofs.Passing.{HasRead, Moves}
@@ -129,15 +130,18 @@ pub planned_configures : (file text : List ℕ) (c : Config) (r : Result Planned
 planned_configures file text c (Ok p) h d = has_planned file text c p h d
 planned_configures file text c (Err why) h d = λ other. stops_planned file text c (stop_case why) h (d other)
 
-planned_is : TokensAreWithin → (file text : List ℕ) (c : Config) (p : Planned) → IsConfigOf text c → Plans file c (Has p) → IsPlanned p
-planned_is within file text c p h (plans _ e is) = record {
-  components_are = is.components_are;
-  files = subst (All HasPlainFile) (sym is.components_are) (files_are_plain within text p.config (subst (IsConfigOf text) (sym e) h) is.bases);
-}
+planned_is : ParsedNamesAreNames → (file text : List ℕ) (c : Config) (p : Planned) → IsConfigOf text c → Plans file c (Has p) → IsPlanned p
+planned_is names file text c p h (plans _ e is) =
+    let named = names text h.tokens p.config h.has_tokens (subst (ParsesConfiguration h.tokens.items) (sym e) h.parses) in
+    record {
+      components_are = is.components_are;
+      files = subst (All HasPlainFile) (sym is.components_are) (files_are_plain (plain p.config) named is.bases);
+      named = named;
+    }
 
-pub all_planned : TokensAreWithin → (file text : List ℕ) (c : Config) (r : Result Planned Stop) → IsConfigOf text c → Decides (λ p. p) (Plans file c) r → IfOk r IsPlanned
-all_planned within file text c (Ok p) h d = planned_is within file text c p h d
-all_planned within file text c (Err why) h d = tt
+pub all_planned : ParsedNamesAreNames → (file text : List ℕ) (c : Config) (r : Result Planned Stop) → IsConfigOf text c → Decides (λ p. p) (Plans file c) r → IfOk r IsPlanned
+all_planned names file text c (Ok p) h d = planned_is names file text c p h d
+all_planned names file text c (Err why) h d = tt
 
 -- ---- the bytes of a file that were read up to a byte past the limit
 
@@ -161,13 +165,17 @@ configures_absent file bytes other x = elim x [ ]
 
 -- ---- the file
 
-pub config_read : (file : List ℕ) (s t : Shelf) (part : List ℕ) (result : Result Planned Stop) → HasRead file 1048576 s t part
-    → Decides (λ p. plain p.config) (Configures file part) result → Passes (λ p. plain p.config) (config_in file) s t result
-unfolding config_in
-config_read file s t part result h d =
-    read_passes (λ p. plain p.config) file (Absent file) (Configures file) 1048576 s t part result (configures_moves file) h (configures_absent file part) d
+module _ (base file : List ℕ) (named : file ≡ config_file base) (s t : Shelf) where
+  pub config_read : (part : List ℕ) (result : Result Planned Stop) → HasRead file 1048576 s t part
+      → Decides (λ p. plain p.config) (Configures file part) result → Passes (λ p. plain p.config) (config_in (config_file base)) s t result
+  unfolding config_in
+  config_read part result h d =
+      subst (λ name. Passes (λ p. plain p.config) (config_in name) s t result) named
+      (read_passes (λ p. plain p.config) file (Absent file) (Configures file) 1048576 s t part result (configures_moves file) h (configures_absent file part) d)
 
-pub config_unread : (file : List ℕ) (s t : Shelf) (why : FolderError) (end : Stop) → NotRead file s t why → stop_case end ≡ unread_case file why
-    → Passes (λ (p : Planned). plain p.config) (config_in file) s t (Err end)
-unfolding config_in
-config_unread file s t why end n e = unread_passes (λ (p : Planned). plain p.config) file (Configures file) s t why end n e
+  pub config_unread : (why : FolderError) (end : Stop) → NotRead file s t why → stop_case end ≡ unread_case file why
+      → Passes (λ (p : Planned). plain p.config) (config_in (config_file base)) s t (Err end)
+  unfolding config_in
+  config_unread why end n e =
+      subst (λ name. Passes (λ (p : Planned). plain p.config) (config_in name) s t (Err end)) named
+      (unread_passes (λ (p : Planned). plain p.config) file (Configures file) s t why end n e)

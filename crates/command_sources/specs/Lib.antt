@@ -1,4 +1,6 @@
 pub mod Bound
 pub mod Laws
+pub mod Made
+pub mod Objects
 pub mod Parsed
 pub mod Stops

@@ -12,6 +12,7 @@ use Rattle.cmesa_grammar.specs.declared.syntax.Config.{Config}
 use Rattle.config_rules.specs.Components.{components, no_file_base}
 use Rattle.config_rules.specs.declared.fault.TreeCause.TheVariants.{UnknownComponent}
 use Rattle.config_rules.specs.declared.tree.Component.{Component}
+use Rattle.spelled_trees.specs.Names.{HasNames}
 use Rattle.checked_texts.specs.declared.text_fault.TextFault.{TextFault}
 use Rattle.checked_texts.specs.declared.text_fault.TextFault.TheVariants.{Lexical, Syntactic}
 use Rattle.command_rules.specs.Case.{Case, Refused}
@@ -35,10 +36,11 @@ pub record HasComponents (p : Planned) : Type 0 where
   pub components_are : p.components ≡ components (plain p.config)
   pub bases : no_file_base (plain p.config).directory ≡ None
 
--- and each has a file that is named by plain bytes
+-- and each has a file that is named by plain bytes; and the identifiers of the configuration are names
 pub record IsPlanned (p : Planned) : Type 0 where
   pub components_are : p.components ≡ components (plain p.config)
   pub files : All (λ (c : Component). IsAscii c.file) p.components
+  pub named : HasNames (plain p.config)
 
 -- what comes of its FROM texts
 pub data Plans (file : List ℕ) (c : Config) : Outcome Case Planned → Type 0 where

@@ -1,5 +1,5 @@
 -- The case of a fault that ends a call, and of a call that writes.
-use Rattle.std.specs.Prelude.{ℕ, List, Result, Ok, Err}
+use Rattle.std.specs.Prelude.{◌≡◌, ℕ, ◌⊎◌, List, Result, Ok, Err}
 use Rattle.mesa_base.specs.declared.file_fault.WriteFault.{WriteFault}
 use Rattle.mesa_base.specs.declared.file_fault.WriteFault.TheVariants as write
 use Rattle.config_rules.specs.declared.fault.TreeFault.{TreeFault}
@@ -30,6 +30,10 @@ bind_case file bind.Memory = Memory
 abbrev pub ready_case : List ℕ → ReadyFault → Case
 ready_case image (ready.Unresolved i) = Refused image (Unresolved i)
 ready_case image ready.Memory = Memory
+
+-- it is this case, or memory was wanting for the name of a file
+abbrev pub IsOrMemory : Case → Case → Type 0
+IsOrMemory expected case = (case ≡ expected) ⊎ (case ≡ Memory)
 
 -- of a file whose bytes were not made
 abbrev pub unmade_case : List ℕ → WriteFault → Case

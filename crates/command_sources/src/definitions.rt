@@ -1,27 +1,23 @@
 //! From a file to the interface of its definitions.
 
-ghost use Rattle.std.specs.Prelude.{ℕ, List as Items, [], IfOk};
+ghost use Rattle.std.specs.Prelude.{ℕ, List as Items, IfOk};
 ghost use Rattle.syntax_trees.specs.PlainSyntax.{syntax};
 ghost use Rattle.interface_records.specs.Spelled.{InSixBytes};
 ghost use Rattle.face_rules.specs.InterfaceForms as form;
 ghost use Rattle.checked_texts.specs.declared.purpose.Purpose.TheVariants as purpose;
 ghost use Rattle.checked_texts.specs.Texts as text;
-ghost use Rattle.command_rules.specs.Comes.{Written};
 ghost use Rattle.command_rules.specs.Modules as rules;
 ghost use Rattle.command_rules.specs.Passes.{and_then, decided};
 ghost use Rattle.command_rules.specs.Reading.{Onward};
 ghost use Rattle.command_rules.specs.Worlds.{shelf};
 ghost use Rattle.command_passes.specs.Asking.{AsksPlainly};
 ghost use Rattle.command_passes.specs.Shelves.{Passes};
-ghost use Rattle.command_sources.specs.Stops.{stored_case};
 
-use crate::faults::unmade;
 use crate::laws::definitions_can_be_written;
 use checked_texts::{Purpose, begun, checked_interface};
 use command_passes::{FileName, Stop, faulty, interfaces_of, unread};
 use held_trees::LetGo;
 use interface_records::Interface;
-use interface_writers::write_interface;
 use mesa_base::limits::TEXT_BYTES;
 use mesa_base::{Folder, Stamp};
 use std::alloc::Global;
@@ -91,27 +87,5 @@ pub fn interface_defined_in<F: Folder>(
     match folder.read(alloc, file.as_str(), TEXT_BYTES) {
         Ok(text) => interface_of_text(alloc, folder, file, stamp, text.as_slice()),
         Err(why) => Err(unread(file, why)),
-    }
-}
-
-/// Writes the interface to this file of the folder, in version 2; or what ends the call: the file would be too large, in which case the folder
-/// is not asked, or the folder fails, in which case the file may hold any bytes.
-pub fn interface_written<F: Folder>(
-    alloc: Global,
-    folder: &mut F,
-    file: FileName,
-    interface: &Interface,
-) -> Result<(), Stop>
-    requires { (form.interface 2).fits interface.now }
-    ensures { Written file interface.now []
-        (shelf (F.files folder.old) (F.calls folder.old) (F.faults folder.old) (F.misses folder.old))
-        (shelf (F.files folder.new) (F.calls folder.new) (F.faults folder.new) (F.misses folder.new)) (stored_case result) }
-{
-    match write_interface(alloc, interface) {
-        Ok(bytes) => match folder.write(alloc, file.as_str(), bytes.as_slice()) {
-            Ok(()) => Ok(()),
-            Err(why) => Err(unread(file, why)),
-        },
-        Err(why) => Err(unmade(file, why)),
     }
 }

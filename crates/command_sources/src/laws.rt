@@ -1,13 +1,13 @@
 //! What is so of the modules and the interfaces that come of files.
 
-ghost use Rattle.command_sources.specs.Laws.{DefinitionsCanBeWritten, ReadModulesCanBeLinked};
+ghost use Rattle.command_sources.specs.Laws.{DefinitionsCanBeWritten, ModulesOfFilesCanBeKept};
 
 use checked_texts::{defined_interfaces_can_be_spelled, read_modules_can_be_kept};
 use spelled_laws::{built_in_fits, interfaces_fit};
 
-/// A law: the modules of components, as they come of their files, can be linked, and are as many.
-pub fn read_modules_can_be_linked()
-    ensures { ReadModulesCanBeLinked }
+/// A law: the modules of components, as they come of their files, can be kept, and are as many.
+pub fn modules_of_files_can_be_kept()
+    ensures { ModulesOfFilesCanBeKept }
 {
     built_in_fits();
     interfaces_fit();

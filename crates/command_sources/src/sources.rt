@@ -1,39 +1,46 @@
 //! From the files of a configuration, or of one module alone, to its tree, in which every item binds.
 
-ghost use Rattle.std.specs.Prelude.{◌≡◌, ◌++◌, length, map, [], ◌∷◌, IfOk, codes};
+ghost use Rattle.std.specs.Prelude.{◌≡◌, [], ◌∷◌, length, map, All, IfOk};
 ghost use Rattle.std.specs.Str.{IsAscii};
 ghost use Rattle.cmesa_grammar.specs.Plain.{plain as plain_config};
 ghost use Rattle.mesa_types.specs.Plain.{plain};
 ghost use Rattle.config_rules.specs.Components.{components};
-ghost use Rattle.config_rules.specs.Tree.{IsTree, IsSingle};
+ghost use Rattle.config_rules.specs.Tree.{IsSingle, IsTree};
+ghost use Rattle.spelled_trees.specs.Paths.{PathsAndRecords};
+ghost use Rattle.checked_texts.specs.Laws.{CanBeKept};
 ghost use Rattle.linked_programs.specs.Laws.{IsOfShapes};
-ghost use Rattle.linked_programs.specs.Modules.{AllCanBeLinked, CanBeLinked, shapes_of};
+ghost use Rattle.linked_programs.specs.Modules.{shapes_of};
 ghost use Rattle.bound_images.specs.Programs.{shape_of};
 ghost use Rattle.command_rules.specs.Configurations as rules;
 ghost use Rattle.command_rules.specs.Forms as form;
 ghost use Rattle.command_rules.specs.Reading.{Onward};
 ghost use Rattle.command_rules.specs.Worlds.{Shelf, shelf};
 ghost use Rattle.command_passes.specs.Shelves.{Passes};
-ghost use Rattle.command_sources.specs.Bound.{Binds, IsBound, configured};
+ghost use Rattle.command_sources.specs.Bound.{Binds, IsBound, binding, configured};
+ghost use Rattle.command_sources.specs.Laws.{CanBeKeptAll};
 ghost use Rattle.command_sources.specs.Parsed.{IsPlanned};
 
-use crate::configurations::{Planned, config_of_file, modules_of};
+use crate::bases::{bases_of, one_base};
+use crate::configurations::{Planned, config_of_file};
 use crate::faults::{unbound, ungrown};
-use crate::laws::read_modules_can_be_linked;
+use crate::laws::modules_of_files_can_be_kept;
+use crate::modules::modules_of;
 use built_runs::TypedModules;
 use command_passes::{FileName, Stop, file_named, module_of_file};
 use config_rules::Tree;
 use held_trees::LetGo;
 use import_binder::Bindings;
 use linked_programs::{bound, config_tree_of, let_bindings_go, module_tree_of};
-use mesa_base::{Folder, List};
+use mesa_base::{Folder, List, Texts};
 use mesa_types::TypedModule;
 use module_lists::{let_modules_go, with_module};
+use spelled_trees::{singles_can_be_spelled, trees_can_be_spelled};
 use std::alloc::Global;
 
-/// A tree in which every item binds, with its modules and what its links are bound to.
+/// A tree in which every item binds, with the bases of its modules' files, the modules and what its links are bound to.
 pub struct BoundSource {
     pub tree: Tree,
+    pub bases: Texts,
     pub modules: TypedModules,
     pub bindings: Bindings,
 }
@@ -42,6 +49,7 @@ impl LetGo for BoundSource {
     fn let_go(self) {
         let BoundSource {
             tree,
+            bases: _,
             modules,
             bindings,
         } = self;
@@ -56,15 +64,20 @@ fn bound_tree(
     alloc: Global,
     file: FileName,
     tree: Tree,
+    bases: Texts,
     modules: TypedModules,
 ) -> Result<BoundSource, Stop>
     requires shapes { IsOfShapes (shapes_of (map plain modules)) tree }
-    requires linkable { AllCanBeLinked (map plain modules) }
-    ensures { Binds file tree (map plain modules) result }
+    requires kept { All CanBeKept (map plain modules) }
+    requires named { PathsAndRecords tree }
+    requires plain_bases { All IsAscii bases }
+    requires as_many { length bases ≡ length modules }
+    ensures { Binds file tree bases (map plain modules) result }
 {
     match bound(alloc, &tree, &modules) {
         Ok(bindings) => Ok(BoundSource {
             tree,
+            bases,
             modules,
             bindings,
         }),
@@ -81,16 +94,19 @@ fn config_bound(
     alloc: Global,
     file: FileName,
     plan: &Planned,
+    bases: Texts,
     modules: TypedModules,
 ) -> Result<BoundSource, Stop>
-    requires as_many { length modules ≡ length (components (plain_config plan.now.config)) }
-    requires linkable { AllCanBeLinked (map plain modules) }
+    requires plan { IsPlanned plan.now }
+    requires bases { bases ≡ rules.bases_of (plain_config plan.now.config) }
+    requires modules { CanBeKeptAll (components (plain_config plan.now.config)) (map plain modules) }
     ensures bound { IfOk result IsBound }
-    ensures passes { (s : Shelf)
-        → Passes configured (rules.binding file (IsTree (plain_config plan.now.config) (map shape_of (map plain modules))) (map plain modules)) s s result }
+    ensures passes { (s : Shelf) → Passes configured
+        (binding file (IsTree (plain_config plan.now.config) (map shape_of (map plain modules))) bases (map plain modules)) s s result }
 {
+    trees_can_be_spelled();
     match config_tree_of(alloc, &plan.config, &modules) {
-        Ok(tree) => bound_tree(alloc, file, tree, modules),
+        Ok(tree) => bound_tree(alloc, file, tree, bases, modules),
         Err(fault) => {
             let_modules_go(modules);
             Err(ungrown(file, fault))
@@ -99,16 +115,23 @@ fn config_bound(
 }
 
 /// The same of one module alone.
-fn module_bound(alloc: Global, file: FileName, module: TypedModule) -> Result<BoundSource, Stop>
-    requires { CanBeLinked (plain «module») }
+fn module_bound(
+    alloc: Global,
+    file: FileName,
+    bases: Texts,
+    module: TypedModule,
+) -> Result<BoundSource, Stop>
+    requires kept { CanBeKept (plain «module») }
+    requires plain_bases { All IsAscii bases }
+    requires one { length bases ≡ 1 }
     ensures bound { IfOk result IsBound }
     ensures passes { (s : Shelf)
-        → Passes configured (rules.binding file (IsSingle (shape_of (plain «module»))) (plain «module» ∷ [])) s s result }
+        → Passes configured (binding file (IsSingle (shape_of (plain «module»))) bases (plain «module» ∷ [])) s s result }
 {
+    singles_can_be_spelled();
     let modules = with_module(List::new(alloc), module)?;
-    let first = &modules.as_slice()[0];
-    match module_tree_of(alloc, first) {
-        Ok(tree) => bound_tree(alloc, file, tree, modules),
+    match module_tree_of(alloc, &modules.as_slice()[0]) {
+        Ok(tree) => bound_tree(alloc, file, tree, bases, modules),
         Err(fault) => {
             let_modules_go(modules);
             Err(ungrown(file, fault))
@@ -132,9 +155,10 @@ pub fn source_of_module<F: Folder>(
 {
     let text = file_named(alloc, base, ".mesa")?;
     let file = file_named(alloc, base, ".mesa")?;
-    read_modules_can_be_linked();
+    let bases = one_base(alloc, base)?;
+    modules_of_files_can_be_kept();
     match module_of_file(alloc, folder, text) {
-        Ok(module) => module_bound(alloc, file, module.into_inner()),
+        Ok(module) => module_bound(alloc, file, bases, module.into_inner()),
         Err(why) => Err(why),
     }
 }
@@ -143,20 +167,23 @@ pub fn source_of_module<F: Folder>(
 fn source_of_plan<F: Folder>(
     alloc: Global,
     folder: &mut F,
-    file: FileName,
+    base: &[u8],
     plan: &Planned,
 ) -> Result<BoundSource, Stop>
-    requires { IsPlanned plan.now }
+    requires ascii { IsAscii base.now }
+    requires plan { IsPlanned plan.now }
     ensures bound { IfOk result IsBound }
-    ensures passes { Passes configured (rules.configuration_of file (plain_config plan.now.config))
+    ensures passes { Passes configured (rules.configuration_of (form.config_file base.now) (plain_config plan.now.config))
         (shelf (F.files folder.old) (F.calls folder.old) (F.faults folder.old) (F.misses folder.old))
         (shelf (F.files folder.new) (F.calls folder.new) (F.faults folder.new) (F.misses folder.new)) result }
     ensures onward { Onward (shelf (F.files folder.old) (F.calls folder.old) (F.faults folder.old) (F.misses folder.old))
         (shelf (F.files folder.new) (F.calls folder.new) (F.faults folder.new) (F.misses folder.new)) }
 {
-    read_modules_can_be_linked();
+    let file = file_named(alloc, base, ".config")?;
+    let bases = bases_of(alloc, plan.components.as_slice())?;
+    modules_of_files_can_be_kept();
     match modules_of(alloc, folder, plan.components.as_slice()) {
-        Ok(modules) => config_bound(alloc, file, plan, modules),
+        Ok(modules) => config_bound(alloc, file, plan, bases, modules),
         Err(why) => Err(why),
     }
 }
@@ -176,11 +203,9 @@ pub fn source_of_config<F: Folder>(
     ensures onward { Onward (shelf (F.files folder.old) (F.calls folder.old) (F.faults folder.old) (F.misses folder.old))
         (shelf (F.files folder.new) (F.calls folder.new) (F.faults folder.new) (F.misses folder.new)) }
 {
-    let text = file_named(alloc, base, ".config")?;
-    let file = file_named(alloc, base, ".config")?;
-    match config_of_file(alloc, folder, text) {
+    match config_of_file(alloc, folder, base) {
         Ok(plan) => {
-            let source = source_of_plan(alloc, folder, file, &plan);
+            let source = source_of_plan(alloc, folder, base, &plan);
             plan.let_go();
             source
         }

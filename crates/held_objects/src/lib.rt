@@ -2,6 +2,12 @@
 //! here once.
 #![tactic(auto)]
 
+mod many;
+mod objects;
+mod pile;
 mod rows;
 
+pub use many::{ImageHead, ManyRows, with_rows};
+pub use objects::{let_objects_go, let_wanted_go, with_object, with_wanted};
+pub use pile::Pile;
 pub use rows::{Body, ModuleRows};

@@ -18,4 +18,5 @@ pub use laws::{
 pub use linking::linked_image;
 pub use machines::{machine_of, readied};
 pub use objects::objects_of;
+pub use shapes::{let_shapes_go, put_shape};
 pub use trees::{config_tree_of, module_tree_of};

@@ -43,7 +43,8 @@ pub fn let_shapes_go(shapes: Shapes) {
     drop(shapes);
 }
 
-fn put_shape(shapes: &mut Shapes, shape: Shape) -> Result<(), OutOfMemory>
+/// Puts a shape behind others. Where memory runs out it is let go.
+pub fn put_shape(shapes: &mut Shapes, shape: Shape) -> Result<(), OutOfMemory>
     ensures { OnOk result (shapes.new ≡ shapes.old ++ shape ∷ []) }
 {
     match shapes.push(shape) {

@@ -1,2 +1,4 @@
-mod Coming
-mod Running
+mod Calls
+mod Ending
+mod Filing
+mod Forming

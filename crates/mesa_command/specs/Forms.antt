@@ -3,23 +3,35 @@ use Rattle.std.specs.Prelude.{◌≡◌, ℕ, List, true}
 use Rattle.interface_records.specs.Spelled.{InSixBytes}
 use Rattle.config_rules.specs.Components.{is_file_base}
 use Rattle.command_rules.specs.Case.{Case}
-use Rattle.command_rules.specs.Comes.{Goes, Defines}
-use Rattle.command_rules.specs.Forms.{Form, Go, Define}
+use Rattle.command_rules.specs.Comes.{Compiles, Defines, Binds, Loads, Goes}
+use Rattle.command_rules.specs.Forms.{Form, Compile, Define, Bind, Run, Go}
 use Rattle.command_rules.specs.Worlds.{Shelf, Scene}
 
+abbrev pub IsBase : List ℕ → Type 0
+IsBase base = is_file_base base ≡ true
+
 pub record CanBeDefined (base : List ℕ) (stamp : ℕ) : Type 0 where
-  pub named : is_file_base base ≡ true
+  pub named : IsBase base
   pub six : InSixBytes stamp
 
 -- what is so of the parts of each form that words have
 abbrev pub IsWellFormed : Form → Type 0
-IsWellFormed (Go source base turns) = is_file_base base ≡ true
+IsWellFormed (Compile base) = IsBase base
 IsWellFormed (Define base stamp) = CanBeDefined base stamp
+IsWellFormed (Bind base) = IsBase base
+IsWellFormed (Run base turns) = IsBase base
+IsWellFormed (Go source base turns) = IsBase base
 
-abbrev pub IsDefinition : Form → Type 0
-IsDefinition (Go source base turns) = ⊥
-IsDefinition (Define base stamp) = Unit {0}
+abbrev pub IsRun : Form → Type 0
+IsRun (Compile base) = ⊥
+IsRun (Define base stamp) = ⊥
+IsRun (Bind base) = ⊥
+IsRun (Run base turns) = Unit {0}
+IsRun (Go source base turns) = ⊥
 
 abbrev pub ComesOfForm : Form → (folder folder' : Shelf) → (old new : Scene) → Case → Type 0
-ComesOfForm (Go source base turns) folder folder' old new case = Goes source base turns folder folder' old new case
+ComesOfForm (Compile base) folder folder' old new case = Compiles base folder folder' case × (new ≡ old)
 ComesOfForm (Define base stamp) folder folder' old new case = Defines base stamp folder folder' case × (new ≡ old)
+ComesOfForm (Bind base) folder folder' old new case = Binds base folder folder' case × (new ≡ old)
+ComesOfForm (Run base turns) folder folder' old new case = Loads base turns folder folder' old new case
+ComesOfForm (Go source base turns) folder folder' old new case = Goes source base turns folder folder' old new case

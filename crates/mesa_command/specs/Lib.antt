@@ -1,2 +1,3 @@
+pub mod Bytes
 pub mod Forms
-pub mod Ran
+pub mod Machines

@@ -1,8 +1,12 @@
 //! The one call that the program makes: words, a folder and streams come in, the status and the line of an answer go out.
 #![tactic(auto)]
 
-mod defining;
+mod binding;
+mod compiling;
 mod going;
+mod loading;
+mod running;
+mod storing;
 mod top;
 
 pub use command_laws::one_case;

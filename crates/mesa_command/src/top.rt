@@ -2,18 +2,22 @@
 
 ghost use Rattle.std.specs.Prelude.{◌≡◌, ℕ, List};
 ghost use Rattle.mesa_base.specs.Asked.{AskedOnce};
-ghost use Rattle.command_rules.specs.Case.{Case, IsBeforeRun};
+ghost use Rattle.command_rules.specs.Case.{Case, IsBeforeRun, IsBeforeWrite};
 ghost use Rattle.command_rules.specs.Comes.{Comes};
-ghost use Rattle.command_rules.specs.Complete.{Answered, Tells};
-ghost use Rattle.command_rules.specs.Forms.{Define, HasForm, HasNoForm};
+ghost use Rattle.command_rules.specs.Complete.{Answered, IsCompileOrBind, Tells};
+ghost use Rattle.command_rules.specs.Forms.{Form as AskedForm, HasForm, HasNoForm, Run};
 ghost use Rattle.command_rules.specs.Worlds.{feed, scene, shelf, world};
 ghost use Rattle.command_lines.specs.Words.{form_in};
-ghost use Rattle.mesa_command.specs.Forms.{ComesOfForm, IsDefinition, IsWellFormed};
+ghost use Rattle.mesa_command.specs.Forms.{ComesOfForm, IsRun, IsWellFormed};
 ghost use Rattle.line_pieces.specs.Outputs.{stream};
 
-use crate::defining::define;
-use crate::going::go;
-use command_laws::{cases_are_answers, words_have_one_form};
+use crate::binding::bound;
+use crate::compiling::{compiled, defined};
+use crate::going::built;
+use crate::loading::loaded;
+use crate::running::run_or_tell;
+use crate::storing::told;
+use command_laws::{cases_are_answers, order_is_kept, runs_are_meant, words_have_one_form};
 use command_lines::{Form, form_of, told_usage};
 use mesa_base::{Folder, Sink, Source, Status, Steps, Words};
 use std::alloc::Global;
@@ -21,9 +25,12 @@ use std::sync::ledger::Ledger;
 
 /// What the program does with its words:
 ///
-/// - `go NAME.mesa TURNS`: runs the module in NAME.mesa with a bound of so many turns;
-/// - `go NAME.config TURNS`: binds the configuration in NAME.config, with the modules of its components, and runs it;
-/// - `compile NAME STAMP`: writes the interface of the definitions in NAME.mesa to NAME.mif.
+/// - `compile NAME`: writes the object of the program in NAME.mesa to NAME.mob;
+/// - `compile NAME STAMP`: writes the interface of the definitions in NAME.mesa to NAME.mif;
+/// - `bind NAME`: writes the image of the configuration in NAME.config, with the objects of its components, to NAME.mim;
+/// - `run NAME TURNS`: runs the image in NAME.mim with a bound of so many turns;
+/// - `go NAME.mesa TURNS`, `go NAME.config TURNS`: compiles the module in NAME.mesa, or those of the components of NAME.config, binds them, writes
+///   the objects and the image, and runs that image.
 ///
 /// The interfaces that a text names are read from their files. The line of the answer goes to `err`.
 pub fn mesa<F: Folder, S: Source, K: Sink, E: Sink, L: Ledger>(
@@ -36,7 +43,7 @@ pub fn mesa<F: Folder, S: Source, K: Sink, E: Sink, L: Ledger>(
     steps: &mut Steps<L>,
 ) -> Status
     // The status is that of a case that comes of the words, the folder, the input and `out`, and `err` receives its line; which case
-    // must come is said beside it. What a run does is told in the words of its source where the input tells bytes.
+    // must come is said beside it. What a run does is told in the words of its source where it has one and the input tells bytes.
     ensures answered { Answered words.now
         (world (shelf (F.files folder.old) (F.calls folder.old) (F.faults folder.old) (F.misses folder.old))
         (scene (feed (S.left input.old) (S.faults input.old)) (stream (K.written out.old) (K.faults out.old)) steps.old)
@@ -51,12 +58,17 @@ pub fn mesa<F: Folder, S: Source, K: Sink, E: Sink, L: Ledger>(
     ensures before_run_input { IsBeforeRun result → input.new ≡ input.old }
     ensures before_run_output { IsBeforeRun result → out.new ≡ out.old }
     ensures before_run_steps { IsBeforeRun result → steps.new ≡ steps.old }
-    ensures define_input { (base : List ℕ) (stamp : ℕ) → HasForm words.now (Define base stamp) → input.new ≡ input.old }
-    ensures define_output { (base : List ℕ) (stamp : ℕ) → HasForm words.now (Define base stamp) → out.new ≡ out.old }
+    ensures stored_input { (form : AskedForm) → HasForm words.now form → IsCompileOrBind form → input.new ≡ input.old }
+    ensures stored_output { (form : AskedForm) → HasForm words.now form → IsCompileOrBind form → out.new ≡ out.old }
+    ensures stored_steps { (form : AskedForm) → HasForm words.now form → IsCompileOrBind form → steps.new ≡ steps.old }
+    // What is refused, or reads a file that is not there, changes no file, and neither does the run of an image.
+    ensures before_write_files { IsBeforeWrite result → F.files folder.new ≡ F.files folder.old }
+    ensures run_files { (base : List ℕ) (turns : ℕ) → HasForm words.now (Run base turns) → F.files folder.new ≡ F.files folder.old }
     // No file was asked for where the words have no form.
     ensures usage_folder { result ≡ Status.Usage → folder.new ≡ folder.old }
 {
     cases_are_answers();
+    order_is_kept();
     answer(alloc, words, folder, input, out, err, steps)
 }
 
@@ -81,8 +93,10 @@ fn answer<F: Folder, S: Source, K: Sink, E: Sink, L: Ledger>(
     ensures before_run_input { IsBeforeRun result → input.new ≡ input.old }
     ensures before_run_output { IsBeforeRun result → out.new ≡ out.old }
     ensures before_run_steps { IsBeforeRun result → steps.new ≡ steps.old }
-    ensures define_input { (base : List ℕ) (stamp : ℕ) → HasForm words.now (Define base stamp) → input.new ≡ input.old }
-    ensures define_output { (base : List ℕ) (stamp : ℕ) → HasForm words.now (Define base stamp) → out.new ≡ out.old }
+    ensures stored_input { (form : AskedForm) → HasForm words.now form → IsCompileOrBind form → input.new ≡ input.old }
+    ensures stored_output { (form : AskedForm) → HasForm words.now form → IsCompileOrBind form → out.new ≡ out.old }
+    ensures stored_steps { (form : AskedForm) → HasForm words.now form → IsCompileOrBind form → steps.new ≡ steps.old }
+    ensures run_files { (base : List ℕ) (turns : ℕ) → HasForm words.now (Run base turns) → F.files folder.new ≡ F.files folder.old }
     ensures formless_folder { HasNoForm words.now → folder.new ≡ folder.old }
 {
     words_have_one_form();
@@ -114,15 +128,27 @@ fn to_form<F: Folder, S: Source, K: Sink, E: Sink, L: Ledger>(
     ensures before_run_input { IsBeforeRun result → input.new ≡ input.old }
     ensures before_run_output { IsBeforeRun result → out.new ≡ out.old }
     ensures before_run_steps { IsBeforeRun result → steps.new ≡ steps.old }
-    ensures definition_input { IsDefinition (form_in form.entry) → input.new ≡ input.old }
-    ensures definition_output { IsDefinition (form_in form.entry) → out.new ≡ out.old }
+    ensures stored_input { IsCompileOrBind (form_in form.entry) → input.new ≡ input.old }
+    ensures stored_output { IsCompileOrBind (form_in form.entry) → out.new ≡ out.old }
+    ensures stored_steps { IsCompileOrBind (form_in form.entry) → steps.new ≡ steps.old }
+    ensures run_files { IsRun (form_in form.entry) → F.files folder.new ≡ F.files folder.old }
 {
+    runs_are_meant();
     match form {
+        Form::Compile { base } => told(compiled(alloc, folder, base), err),
+        Form::Define { base, stamp } => told(defined(alloc, folder, base, stamp), err),
+        Form::Bind { base } => told(bound(alloc, folder, base), err),
+        Form::Run { base, turns } => {
+            let machine = loaded(alloc, folder, base);
+            run_or_tell(machine, turns, input, out, err, steps)
+        }
         Form::Go {
             source,
             base,
             turns,
-        } => go(alloc, folder, source, base, turns, input, out, err, steps),
-        Form::Define { base, stamp } => define(alloc, folder, base, stamp, err),
+        } => {
+            let machine = built(alloc, folder, source, base);
+            run_or_tell(machine, turns, input, out, err, steps)
+        }
     }
 }

@@ -1,6 +1,6 @@
 use Rattle.std.proofs.Common.{◌≡◌, Some, slice_get, sym, ◌∙◌, ap}
 use Rattle.std.specs.Option.{option_copied}
-use Rattle.command_lines.proofs.Three.{three}
+use Rattle.command_lines.proofs.Counted.{three}
 use Rattle.command_lines.proofs.form.three_words.Goals as goal
 
 pub returns : goal.returns

@@ -8,7 +8,7 @@ returns-in-Ok-clause-decides c =
 
 pub returns-in-Ok-clause-plans : goal.returns-in-Ok-clause-plans
 returns-in-Ok-clause-plans c =
-    all_planned c.tokens_are_within.ensures c.args.file c.args.text.now c.in-Ok.config c.with_components.result c.in-Ok.ensures.config c.with_components.ensures
+    all_planned c.parsed_names_are_names.ensures c.args.file c.args.text.now c.in-Ok.config c.with_components.result c.in-Ok.ensures.config c.with_components.ensures
 
 pub returns-in-Err-clause-decides : goal.returns-in-Err-clause-decides
 returns-in-Err-clause-decides c =

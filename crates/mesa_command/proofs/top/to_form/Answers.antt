@@ -1,23 +1,18 @@
-use Rattle.std.proofs.Common.{refl}
+use Rattle.command_lines.specs.Words.{source_in as form_source}
+use Rattle.mesa_command.proofs.Calls.{goes, loads}
 use Rattle.mesa_command.proofs.top.to_form.Goals as goal
 
-pub go-requires : goal.go-requires
-go-requires g c = rw c.in-Go.is at c.requires
-
-pub define-requires-clause-named : goal.define-requires-clause-named
-define-requires-clause-named g c = let h = rw c.in-Define.is at c.requires in h.named
-
-pub define-requires-clause-six : goal.define-requires-clause-six
-define-requires-clause-six g c = let h = rw c.in-Define.is at c.requires in h.six
+pub returns-in-Run-clause-comes : goal.returns-in-Run-clause-comes
+returns-in-Run-clause-comes g c =
+    let it = c.run_or_tell.ensures.ends in
+    rw c.in-Run.is
+    (it.0, loads c.in-Run.base.now _ _ c.loaded-machine.result c.in-Run.turns _ _ it.0 c.loaded-machine.ensures.loads it.1, it.2)
 
 pub returns-in-Go-clause-comes : goal.returns-in-Go-clause-comes
-returns-in-Go-clause-comes g c = rw c.in-Go.is c.go.ensures.goes
-
-pub returns-in-Define-clause-comes : goal.returns-in-Define-clause-comes
-returns-in-Define-clause-comes g c = let it = c.define.ensures in rw c.in-Define.is (it.0, (it.1, refl), it.2)
-
-pub returns-in-Go-clause-definition_input : goal.returns-in-Go-clause-definition_input
-returns-in-Go-clause-definition_input g c = λ d. absurd (rw c.in-Go.is at d)
-
-pub returns-in-Go-clause-definition_output : goal.returns-in-Go-clause-definition_output
-returns-in-Go-clause-definition_output g c = λ d. absurd (rw c.in-Go.is at d)
+returns-in-Go-clause-comes g c =
+    let it = c.run_or_tell-in-Go.ensures.ends in
+    rw c.in-Go.is (
+      it.0,
+      goes c.runs_are_meant.ensures (form_source c.in-Go.source) c.in-Go.base.now _ _ c.built-machine.result c.in-Go.turns _ _ it.0 c.built-machine.ensures it.1,
+      it.2,
+    )

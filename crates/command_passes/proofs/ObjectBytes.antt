@@ -1,0 +1,22 @@
+-- The bytes of an object file that were read up to a byte past the limit.
+use Rattle.std.proofs.Common.{◌≡◌, ℕ, List, codes, take, subst}
+use Rattle.object_rules.specs.ModuleForms.{module_form}
+use Rattle.object_rules.specs.ObjectFiles.{IsModuleFile, IsObjectFile, IsNoObjectFile, no_file, bad_code}
+use Rattle.object_rules.specs.declared.object_fault.ObjectFault.{ObjectFault}
+use Rattle.command_rules.specs.Objects.{HoldsObject, is_object, is_none}
+use Rattle.command_rules.proofs.Passing.{Moves}
+use Rattle.command_passes.proofs.FileBytes.{all_read, fault_whole}
+use Rattle.command_passes.proofs.Files.{NeverAbsent}
+
+none_whole : (part whole : List ℕ) (why : ObjectFault) → part ≡ take 536870913 whole → IsNoObjectFile part why → IsNoObjectFile whole why
+none_whole part whole _ e (no_file fault h) = no_file fault (fault_whole (codes "MOB") module_form part whole fault e h)
+none_whole part whole _ e (bad_code version m bad file h) =
+    bad_code version m bad (subst (λ bytes. IsModuleFile version m bytes) (all_read part whole e file.few) file) h
+
+pub holds_moves : (file : List ℕ) → Moves 536870912 (HoldsObject file)
+holds_moves file part whole _ e (is_object version o h) =
+    is_object version o (subst (λ bytes. IsObjectFile version o bytes) (all_read part whole e h.file.few) h)
+holds_moves file part whole _ e (is_none why h) = is_none why (none_whole part whole why e h)
+
+pub holds_absent : (file bytes : List ℕ) → NeverAbsent (HoldsObject file bytes)
+holds_absent file bytes other x = elim x [ ]

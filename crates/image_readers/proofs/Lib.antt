@@ -1,0 +1,4 @@
+pub mod Turns
+pub mod Linking
+pub mod Made
+pub mod Sameness

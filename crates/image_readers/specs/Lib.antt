@@ -1,0 +1,4 @@
+pub mod Paths
+pub mod Tables
+pub mod Rows
+pub mod Whole

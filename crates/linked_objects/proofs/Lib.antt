@@ -1,0 +1,4 @@
+pub mod Copies
+pub mod Filed
+pub mod Linked
+pub mod Versions
