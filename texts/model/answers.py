@@ -1,0 +1,40 @@
+"""What `bind NAME` and `run NAME TURNS` answer over some files, by the model."""
+from collections import namedtuple
+
+from model.binding import image_of
+from model.machine import Machine, unresolved
+from model.objects import image_in
+from model.reading import Wrong
+
+DONE, UNCAUGHT, SPENT, FULL, REFUSED, ABSENT = range(6)
+# The status, what is printed, the line on standard error, and the files that are written.
+Answer = namedtuple("Answer", "status output line files")
+
+
+def refused(line):
+    return Answer(ABSENT if line.endswith(": absent") else REFUSED, b"", f"{line}\n".encode(), {})
+
+
+def bound(base, files):
+    try:
+        image = image_of(base, files)
+    except Wrong as why:
+        return refused(str(why))
+    return Answer(DONE, b"", b"", {f"{base}.mim": image})
+
+
+def ran(base, turns, files, given=b""):
+    file = f"{base}.mim"
+    if file not in files:
+        return refused(f"{file}: absent")
+    try:
+        image = image_in(files[file])
+    except Wrong as why:
+        return refused(f"{file}: {why}")
+    missing = unresolved(image)
+    if missing:
+        return refused(f"{file}: Unresolved {missing}")
+    machine = Machine(image, turns, given)
+    end = machine.run()
+    status = {"done": DONE, "turns spent": SPENT, "frames full": FULL}.get(end, UNCAUGHT)
+    return Answer(status, machine.output, b"" if end == "done" else f"{end}\n".encode(), {})
