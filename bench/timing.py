@@ -18,13 +18,26 @@ DONE, SPENT, REFUSED, ABSENT = 0, 2, 4, 5
 GROWTH, FLOOR = 2.8, 0.02
 
 
-def run(folder, turns, stack=None, file="M.mesa"):
-    """Returns status, seconds and greatest memory in KiB of one run of this file."""
+def ended(folder, words, stack=None):
+    """Returns status, seconds and greatest memory in KiB of one call with these words."""
     limit = (lambda: resource.setrlimit(resource.RLIMIT_STACK, (stack, stack))) if stack else None
     start = time.perf_counter()
-    child = subprocess.Popen([PROGRAM, "go", file, str(turns)], cwd=folder, preexec_fn=limit, stdout=subprocess.DEVNULL, stderr=subprocess.DEVNULL)
-    _, ended, usage = os.wait4(child.pid, 0)
-    return os.waitstatus_to_exitcode(ended), time.perf_counter() - start, usage.ru_maxrss
+    child = subprocess.Popen([PROGRAM, *words], cwd=folder, preexec_fn=limit, stdout=subprocess.DEVNULL, stderr=subprocess.DEVNULL)
+    _, status, usage = os.wait4(child.pid, 0)
+    return os.waitstatus_to_exitcode(status), time.perf_counter() - start, usage.ru_maxrss
+
+
+def run(folder, turns, stack=None, file="M.mesa"):
+    """The same of one run of this file."""
+    return ended(folder, ["go", file, str(turns)], stack)
+
+
+def least(folder, status, *words):
+    """Returns the least seconds and the greatest memory of three calls with these words, which must end with this status."""
+    calls = [ended(folder, words) for _ in range(3)]
+    if any(call[0] != status for call in calls):
+        sys.exit(f"{' '.join(words)}: statuses {[call[0] for call in calls]} in the place of {status}")
+    return min(took for _, took, _ in calls), max(peak for _, _, peak in calls)
 
 
 def written(folder, text):
@@ -33,14 +46,10 @@ def written(folder, text):
 
 
 def measured(text, wanted, turns=1):
-    """Returns the least seconds and the greatest memory of three runs, which must end with this status."""
+    """The same of runs of a text."""
     with tempfile.TemporaryDirectory() as folder:
         written(folder, text)
-        runs = [run(folder, turns) for _ in range(3)]
-    for status, _, _ in runs:
-        if status != wanted:
-            sys.exit(f"status {status} in the place of {wanted}")
-    return min(took for _, took, _ in runs), max(peak for _, _, peak in runs)
+        return least(folder, wanted, "go", "M.mesa", str(turns))
 
 
 def least_stack(text, wanted):
