@@ -38,12 +38,12 @@ use Rattle.frame_machine.proofs.Reading.{read_on}
 pub top_behind : (r : Registers) (reading : Reading) (turn : ReadTurn) (after : Registers) → turn ≡ Goes after → GoesBehind r reading turn → after.top ≡ r.top
 top_behind r reading turn after is h = ap (λ (q : Registers). q.top) (subst (GoesBehind r reading) is h)
 
-pub carries_at : (image : Image) (p : Prepared) (r r' : Registers) → IsReady image p → IsAmple p.layout p.region.items p.rows.items r.top → ArmsHold image p.rows.items r.top → r'.top ≡ r.top
+pub carries_at : (image : Image) (p : Prepared) (r r' : Registers) → IsReady image p → IsAmple p.stack.layout p.stack.region.items p.stack.rows.items r.top → ArmsHold image p.stack.rows.items r.top → r'.top ≡ r.top
     → Carries image p (GoesOn r')
 carries_at image p r r' ready ample arms same = record {
   ready = ready;
-  ample = subst (λ q. IsAmple p.layout p.region.items p.rows.items q) (sym same) ample;
-  arms = subst (λ q. ArmsHold image p.rows.items q) (sym same) arms;
+  ample = subst (λ q. IsAmple p.stack.layout p.stack.region.items p.stack.rows.items q) (sym same) ample;
+  arms = subst (λ q. ArmsHold image p.stack.rows.items q) (sym same) arms;
 }
 
 module _ (image : Image) (layout : Layout) (region : List ℕ) (table : List Row) (r : Registers) (s : Stepped) (m : Store) (turn : ReadTurn) (reads : ReadLeads image layout region table r s m turn) where
@@ -60,35 +60,35 @@ module _ (image : Image) (layout : Layout) (region : List ℕ) (table : List Row
 -- The turn of a call that reads.
 
 module _ (image : Image) (can : CanRun image) (p p' : Prepared) (turns : ℕ) (ahead ahead' : Option Coming) (left left' holds : Option (List ℕ)) (r : Registers) (reading : Reading)
-    (words words' : List ℕ) (is : words ≡ p.region.items) (is' : p'.region.items ≡ words') where
-  pub can_read : IsReady image p → IsPrepared image p.layout → IsAmple p.layout p.region.items p.rows.items r.top → CanGoOn image p turns ahead left holds (AtHost image p r (Read reading))
+    (words words' : List ℕ) (is : words ≡ p.stack.region.items) (is' : p'.stack.region.items ≡ words') where
+  pub can_read : IsReady image p → IsPrepared image p.stack.layout → IsAmple p.stack.layout p.stack.region.items p.stack.rows.items r.top → CanGoOn image p turns ahead left holds (AtHost image p r (Read reading))
       → CanCall words r (Read reading)
   can_read ready prepared ample c = subst (λ (x : List ℕ). CanCall x r (Read reading)) (sym is) (record {
     image = image;
-    layout = p.layout;
-    table = p.rows.items;
+    layout = p.stack.layout;
+    table = p.stack.rows.items;
     prepared = prepared;
     ample = ample;
     calls = calls_so image can p turns ahead left holds r (Read reading) c;
   })
 
-  module _ (prepared : IsPrepared image p.layout) (ample : IsAmple p.layout p.region.items p.rows.items r.top)
-      (same_layout : p'.layout ≡ p.layout) (same_rows : p'.rows.items ≡ p.rows.items) (same_globals : p'.globals.items ≡ p.globals.items) (same_marks : p'.started.items ≡ p.started.items)
+  module _ (prepared : IsPrepared image p.stack.layout) (ample : IsAmple p.stack.layout p.stack.region.items p.stack.rows.items r.top)
+      (same_layout : p'.stack.layout ≡ p.stack.layout) (same_rows : p'.stack.rows.items ≡ p.stack.rows.items) (same_globals : p'.globals.items ≡ p.globals.items) (same_marks : p'.started.items ≡ p.started.items)
       (turn : ReadTurn) (reads : Reads reading ahead ahead' left left' words words' r turn) where
-    reads_here : Reads reading ahead ahead' left left' p.region.items p'.region.items r turn
+    reads_here : Reads reading ahead ahead' left left' p.stack.region.items p'.stack.region.items r turn
     reads_here =
-        subst (λ (x : List ℕ). Reads reading ahead ahead' left left' p.region.items x r turn) (sym is')
+        subst (λ (x : List ℕ). Reads reading ahead ahead' left left' p.stack.region.items x r turn) (sym is')
         (subst (λ (x : List ℕ). Reads reading ahead ahead' left left' x words' r turn) is reads)
 
-    pub read_moves : Moves image p p' turns turns 0 ahead ahead' left left' holds holds (AtHost image p r (Read reading)) (λ s m. ReadLeads image p'.layout p'.region.items p'.rows.items r s m turn)
+    pub read_moves : Moves image p p' turns turns 0 ahead ahead' left left' holds holds (AtHost image p r (Read reading)) (λ s m. ReadLeads image p'.stack.layout p'.stack.region.items p'.stack.rows.items r s m turn)
     read_moves bound control begun begun' told held short e so =
         let k = reads_here in
         let known : Option Coming = known_after reading k.coming in
         let there = read_on image bound told left left' held holds ahead p p' control turns begun r reading k.coming turn prepared ample same_layout same_rows same_globals same_marks k.looks k.leads so in
-        subst (λ n. SoFar image bound p' control turns n ahead' told left' held holds (λ s m. ReadLeads image p'.layout p'.region.items p'.rows.items r s m turn)) (sym (e ∙ add-zero begun))
-        (subst (λ a. SoFar image bound p' control turns begun a told left' held holds (λ s m. ReadLeads image p'.layout p'.region.items p'.rows.items r s m turn)) (sym k.after)
-        (subst (λ (x : List Row). SoFar image bound p' control turns begun known told left' held holds (λ s m. ReadLeads image p'.layout p'.region.items x r s m turn)) (sym same_rows)
-        (subst (λ (l : Layout). SoFar image bound p' control turns begun known told left' held holds (λ s m. ReadLeads image l p'.region.items p.rows.items r s m turn)) (sym same_layout) there)))
+        subst (λ n. SoFar image bound p' control turns n ahead' told left' held holds (λ s m. ReadLeads image p'.stack.layout p'.stack.region.items p'.stack.rows.items r s m turn)) (sym (e ∙ add-zero begun))
+        (subst (λ a. SoFar image bound p' control turns begun a told left' held holds (λ s m. ReadLeads image p'.stack.layout p'.stack.region.items p'.stack.rows.items r s m turn)) (sym k.after)
+        (subst (λ (x : List Row). SoFar image bound p' control turns begun known told left' held holds (λ s m. ReadLeads image p'.stack.layout p'.stack.region.items x r s m turn)) (sym same_rows)
+        (subst (λ (l : Layout). SoFar image bound p' control turns begun known told left' held holds (λ s m. ReadLeads image l p'.stack.region.items p.stack.rows.items r s m turn)) (sym same_layout) there)))
 
   -- the source failed
   pub read_breaks : left' ≡ left → ahead ≡ None → Breaks words r reading
@@ -100,18 +100,18 @@ module _ (image : Image) (can : CanRun image) (p p' : Prepared) (turns : ℕ) (a
       (subst (λ a. SoFar image bound p control turns begun a told left held holds (AtHost image p r (Read reading))) unknown so)))
 
 module _ (image : Image) (can : CanRun image) (p p' : Prepared) (turns turns' : ℕ) (ahead : Option Coming) (left holds : Option (List ℕ)) (r : Registers) (turn : ReadTurn) where
-  pub has_read : CanGoOn image p turns ahead left holds (λ s m. ReadLeads image p.layout p.region.items p.rows.items r s m turn) → HasRead image p r turn
+  pub has_read : CanGoOn image p turns ahead left holds (λ s m. ReadLeads image p.stack.layout p.stack.region.items p.stack.rows.items r s m turn) → HasRead image p r turn
   has_read c =
-      let w = seen image can p turns ahead left holds (λ s m. ReadLeads image p.layout p.region.items p.rows.items r s m turn) c in
+      let w = seen image can p turns ahead left holds (λ s m. ReadLeads image p.stack.layout p.stack.region.items p.stack.rows.items r s m turn) c in
       record { start = begins image w.input false c.bound; store = w.comes.store; reads = w.comes.leads }
 
   -- what is done then
   pub then_moves : (same_globals : p'.globals.items ≡ p.globals.items) (same_marks : p'.started.items ≡ p.started.items) (result : Turn)
-      → ((s : Stepped) (m : Store) → m.turns ≡ turns → ReadLeads image p.layout p.region.items p.rows.items r s m turn
-      → LeadsTo image p'.layout p'.region.items p'.rows.items s (record m { turns = turns' }) result)
-      → Follows image p p' turns turns' 0 ahead ahead left left holds holds (λ s m. ReadLeads image p.layout p.region.items p.rows.items r s m turn) (Ok result)
+      → ((s : Stepped) (m : Store) → m.turns ≡ turns → ReadLeads image p.stack.layout p.stack.region.items p.stack.rows.items r s m turn
+      → LeadsTo image p'.stack.layout p'.stack.region.items p'.stack.rows.items s (record m { turns = turns' }) result)
+      → Follows image p p' turns turns' 0 ahead ahead left left holds holds (λ s m. ReadLeads image p.stack.layout p.stack.region.items p.stack.rows.items r s m turn) (Ok result)
   then_moves same_globals same_marks result leads bound control begun begun' told held short e =
-      onward image can bound told left held holds ahead p p' control control turns turns' begun begun' (λ s m. ReadLeads image p.layout p.region.items p.rows.items r s m turn) (At image p' result)
+      onward image can bound told left held holds ahead p p' control control turns turns' begun begun' (λ s m. ReadLeads image p.stack.layout p.stack.region.items p.stack.rows.items r s m turn) (At image p' result)
       (λ s m output input faulty free b there. record {
         store = record m { turns = turns' };
         beside = record {
@@ -129,8 +129,8 @@ module _ (image : Image) (can : CanRun image) (p p' : Prepared) (turns turns' : 
 
 -- The turn of a call that writes.
 
-pub writes_carry : (image : Image) (p : Prepared) (r r' : Registers) (result : Result Turn RunFault) → IsReady image p → IsAmple p.layout p.region.items p.rows.items r.top
-    → ArmsHold image p.rows.items r.top → r'.top ≡ r.top → IfOk result (λ turn. turn ≡ GoesOn r') → IfOk result (Carries image p)
+pub writes_carry : (image : Image) (p : Prepared) (r r' : Registers) (result : Result Turn RunFault) → IsReady image p → IsAmple p.stack.layout p.stack.region.items p.stack.rows.items r.top
+    → ArmsHold image p.stack.rows.items r.top → r'.top ≡ r.top → IfOk result (λ turn. turn ≡ GoesOn r') → IfOk result (Carries image p)
 writes_carry image p r r' result ready ample arms same goes =
     IfOk-weaker result (λ turn. turn ≡ GoesOn r') (Carries image p) (λ turn e. subst (Carries image p) (sym e) (carries_at image p r r' ready ample arms same)) goes
 

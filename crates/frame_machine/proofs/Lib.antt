@@ -11,6 +11,7 @@ pub mod Pauses
 pub mod Pausing
 pub mod Reach
 pub mod Reading
+pub mod Readying
 pub mod Starts
 pub mod Told
 pub mod OnTop

@@ -44,7 +44,7 @@ use Rattle.frame_machine.proofs.Writes.{write_breaks}
 
 -- to where a call through a link leads
 abbrev pub AtLink : Image → Prepared → Registers → LinkTurn → Stepped → Store → Type 0
-AtLink image p r turn s m = LinkLeads image p.layout p.region.items p.rows.items r s m turn
+AtLink image p r turn s m = LinkLeads image p.stack.layout p.stack.region.items p.stack.rows.items r s m turn
 
 -- a run that comes to one place comes so many instructions later to another
 abbrev pub Moves : (image : Image) → (p p' : Prepared) → (turns turns' count : ℕ) → (ahead ahead' : Option Coming) → (left left' holds holds' : Option (List ℕ))
@@ -107,18 +107,18 @@ module _ (image : Image) (can : CanRun image) (p : Prepared) (turns : ℕ) (ahea
         at = record { its_turns = w.comes.beside.its_turns; its_globals = w.comes.beside.its_globals; shown = w.comes.leads };
       }
 
-  pub can_pause : (r : Registers) (why : Why) → CanGoOn image p turns ahead left holds (PausesAt image p.layout p.region.items p.rows.items r why) → CanPause image p r why
+  pub can_pause : (r : Registers) (why : Why) → CanGoOn image p turns ahead left holds (PausesAt image p.stack.layout p.stack.region.items p.stack.rows.items r why) → CanPause image p r why
   can_pause r why c =
-      let w = seen (PausesAt image p.layout p.region.items p.rows.items r why) c in
+      let w = seen (PausesAt image p.stack.layout p.stack.region.items p.stack.rows.items r why) c in
       record { start = begins image w.input false c.bound; unstuck = w.unstuck_so; store = w.comes.store; pauses = w.comes.leads }
 
-  pub waits_so : (r : Registers) → CanGoOn image p turns ahead left holds (At image p (Pending r)) → WaitsToCall image p.layout p.region.items p.rows.items r
+  pub waits_so : (r : Registers) → CanGoOn image p turns ahead left holds (At image p (Pending r)) → WaitsToCall image p.stack.layout p.stack.region.items p.stack.rows.items r
   unfolding LeadsTo
   waits_so r c =
       let w = seen (At image p (Pending r)) c in
       record { start = begins image w.input false c.bound; unstuck = w.unstuck_so; store = w.comes.store; then = w.comes.leads }
 
-  pub calls_so : (r : Registers) (h : HostProcedure) → CanGoOn image p turns ahead left holds (AtHost image p r h) → CallsHost image p.layout p.region.items p.rows.items r (host_is h)
+  pub calls_so : (r : Registers) (h : HostProcedure) → CanGoOn image p turns ahead left holds (AtHost image p r h) → CallsHost image p.stack.layout p.stack.region.items p.stack.rows.items r (host_is h)
   unfolding LinkLeads
   calls_so r h c = let w = seen (AtHost image p r h) c in w.comes.leads.0
 
@@ -126,12 +126,12 @@ module _ (image : Image) (can : CanRun image) (p : Prepared) (turns : ℕ) (ahea
 
 module _ (image : Image) (can : CanRun image) (p p' : Prepared) (turns : ℕ) (ahead : Option Coming) (left holds holds' : Option (List ℕ)) (r : Registers) (pause : Pause) (count : ℕ)
     (marks : p'.started.items ≡ p.started.items) (some : 0 < count) (w : Wrote holds holds' (GoesAt image p r turns) (Paused image p' pause count)) where
-  pub pause_moves : Moves image p p' turns pause.turns (count - 1) ahead ahead left left holds holds' (At image p (GoesOn r)) (PausesAt image p'.layout p'.region.items p'.rows.items pause.registers pause.why)
+  pub pause_moves : Moves image p p' turns pause.turns (count - 1) ahead ahead left left holds holds' (At image p (GoesOn r)) (PausesAt image p'.stack.layout p'.stack.region.items p'.stack.rows.items pause.registers pause.why)
   pause_moves bound control begun begun' told held short e so =
-      subst (λ n. SoFar image bound p' control pause.turns n ahead told left held holds' (PausesAt image p'.layout p'.region.items p'.rows.items pause.registers pause.why)) (sym e)
+      subst (λ n. SoFar image bound p' control pause.turns n ahead told left held holds' (PausesAt image p'.stack.layout p'.stack.region.items p'.stack.rows.items pause.registers pause.why)) (sym e)
       (paused image can bound told left held holds ahead p p' control turns begun count r pause holds' marks w (count - 1) (omega arith) so)
 
-  pub few_begun : IsPrepared image p'.layout → length p'.rows.items ≡ 8192 → BeginsFew image p turns count ahead left holds (At image p (GoesOn r))
+  pub few_begun : IsPrepared image p'.stack.layout → length p'.stack.rows.items ≡ 8192 → BeginsFew image p turns count ahead left holds (At image p (GoesOn r))
   few_begun prepared long bound control begun told held short so =
       let there = pause_moves bound control begun (begun + (count - 1)) told held short refl so in
       let l = less_than_most image can bound told left held holds' ahead p' control pause.turns (begun + (count - 1)) pause.registers pause.why prepared long (omega (arith, short)) there in
@@ -140,16 +140,16 @@ module _ (image : Image) (can : CanRun image) (p p' : Prepared) (turns : ℕ) (a
   pub pauses_then : CanGoOn image p turns ahead left holds (At image p (GoesOn r)) → CanPause image p' pause.registers pause.why
   pauses_then c =
       can_pause image can p' pause.turns ahead left holds' pause.registers pause.why
-      (along image p p' turns pause.turns ahead ahead left left holds holds' (At image p (GoesOn r)) (PausesAt image p'.layout p'.region.items p'.rows.items pause.registers pause.why) (count - 1) c pause_moves)
+      (along image p p' turns pause.turns ahead ahead left left holds holds' (At image p (GoesOn r)) (PausesAt image p'.stack.layout p'.stack.region.items p'.stack.rows.items pause.registers pause.why) (count - 1) c pause_moves)
 
   -- where the sink fails at a call that writes
-  module _ (prepared : IsPrepared image p'.layout) (ample : IsAmple p'.layout p'.region.items p'.rows.items pause.registers.top) (writing : Writing)
-      (calls : CallsWriting image p'.layout p'.region.items p'.rows.items pause.registers pause.turns writing) (holds'' : Option (List ℕ))
-      (some_text : text_written image p'.region.items pause.registers writing ≢ []) (partly : IfSome holds' (λ bytes. AppendsPrefix bytes (text_written image p'.region.items pause.registers writing) holds'')) where
-    call_moves : Moves image p' p' pause.turns (pause.turns - 1) 1 ahead ahead left left holds' holds' (PausesAt image p'.layout p'.region.items p'.rows.items pause.registers pause.why)
+  module _ (prepared : IsPrepared image p'.stack.layout) (ample : IsAmple p'.stack.layout p'.stack.region.items p'.stack.rows.items pause.registers.top) (writing : Writing)
+      (calls : CallsWriting image p'.stack.layout p'.stack.region.items p'.stack.rows.items pause.registers pause.turns writing) (holds'' : Option (List ℕ))
+      (some_text : text_written image p'.stack.region.items pause.registers writing ≢ []) (partly : IfSome holds' (λ bytes. AppendsPrefix bytes (text_written image p'.stack.region.items pause.registers writing) holds'')) where
+    call_moves : Moves image p' p' pause.turns (pause.turns - 1) 1 ahead ahead left left holds' holds' (PausesAt image p'.stack.layout p'.stack.region.items p'.stack.rows.items pause.registers pause.why)
         (AtHost image p' pause.registers (Write writing))
     call_moves bound control begun begun' told held short e =
-        onward image can bound told left held holds' ahead p' p' control control pause.turns (pause.turns - 1) begun begun' (PausesAt image p'.layout p'.region.items p'.rows.items pause.registers pause.why)
+        onward image can bound told left held holds' ahead p' p' control control pause.turns (pause.turns - 1) begun begun' (PausesAt image p'.stack.layout p'.stack.region.items p'.stack.rows.items pause.registers pause.why)
         (AtHost image p' pause.registers (Write writing)) (λ s m output input faulty free b there. record {
           store = record m { turns = pause.turns - 1; begun = suc m.begun };
           beside = record {
@@ -162,7 +162,7 @@ module _ (image : Image) (can : CanRun image) (p p' : Prepared) (turns : ℕ) (a
             its_input = b.its_input;
             its_fault = b.its_fault;
           };
-          leads = calls s m b.its_turns (pause_shown image p'.layout p'.region.items p'.rows.items pause.registers s m pause.why there);
+          leads = calls s m b.its_turns (pause_shown image p'.stack.layout p'.stack.region.items p'.stack.rows.items pause.registers s m pause.why there);
         })
 
     pub write_fails : (turns' : ℕ) → Follows image p p' turns turns' count ahead ahead left left holds holds'' (At image p (GoesOn r)) (Err WriteFault)
@@ -176,11 +176,11 @@ module _ (image : Image) (can : CanRun image) (p p' : Prepared) (turns : ℕ) (a
 
   module _ (r : Registers) (turns' : ℕ) (linked : LinkTurn) (same_globals : p'.globals.items ≡ p.globals.items) where
     pub happen_moves : (why : Why)
-        → ((s : Stepped) (m : Store) → m.turns ≡ turns → ShowsStarted p.started.items m.started → IsUnstuck image s → PausesAt image p.layout p.region.items p.rows.items r why s m
-        → LinkedTo image p'.layout p'.region.items p'.rows.items r p'.started.items s (record m { turns = turns'; begun = suc m.begun }) linked)
-        → Moves image p p' turns turns' 1 ahead ahead left left holds holds (PausesAt image p.layout p.region.items p.rows.items r why) (AtLink image p' r linked)
+        → ((s : Stepped) (m : Store) → m.turns ≡ turns → ShowsStarted p.started.items m.started → IsUnstuck image s → PausesAt image p.stack.layout p.stack.region.items p.stack.rows.items r why s m
+        → LinkedTo image p'.stack.layout p'.stack.region.items p'.stack.rows.items r p'.started.items s (record m { turns = turns'; begun = suc m.begun }) linked)
+        → Moves image p p' turns turns' 1 ahead ahead left left holds holds (PausesAt image p.stack.layout p.stack.region.items p.stack.rows.items r why) (AtLink image p' r linked)
     happen_moves why leads bound control begun begun' told held short e =
-        onward image can bound told left held holds ahead p p' control control turns turns' begun begun' (PausesAt image p.layout p.region.items p.rows.items r why) (AtLink image p' r linked)
+        onward image can bound told left held holds ahead p p' control control turns turns' begun begun' (PausesAt image p.stack.layout p.stack.region.items p.stack.rows.items r why) (AtLink image p' r linked)
         (λ s m output input faulty free b there.
         let l = leads s m b.its_turns b.its_started free there in
         record {
@@ -199,8 +199,8 @@ module _ (image : Image) (can : CanRun image) (p p' : Prepared) (turns : ℕ) (a
         })
 
     -- what the call that waited leads to
-    pub pend_moves : ((s : Stepped) (m : Store) → m.turns ≡ turns → ShowsStarted p.started.items m.started → IsUnstuck image s → CallsThen image p.layout p.region.items p.rows.items r s m
-        → LinkedTo image p'.layout p'.region.items p'.rows.items r p'.started.items s (record m { turns = turns' }) linked)
+    pub pend_moves : ((s : Stepped) (m : Store) → m.turns ≡ turns → ShowsStarted p.started.items m.started → IsUnstuck image s → CallsThen image p.stack.layout p.stack.region.items p.stack.rows.items r s m
+        → LinkedTo image p'.stack.layout p'.stack.region.items p'.stack.rows.items r p'.started.items s (record m { turns = turns' }) linked)
         → Moves image p p' turns turns' 0 ahead ahead left left holds holds (At image p (Pending r)) (AtLink image p' r linked)
     unfolding LeadsTo
     pend_moves leads bound control begun begun' told held short e =

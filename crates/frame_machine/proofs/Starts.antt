@@ -62,7 +62,7 @@ holds_first image table table' (EndsSo end) h = tt
 pub started_then : (image : Image) (can : CanRun image) (p p' : Prepared) (instance turns turns' : ℕ) (turn : Turn) → instance < length p.started.items → slice_get p.started.items instance ≡ Some false
     → p'.started.items ≡ slice_set p.started.items instance true → p'.globals.items ≡ p.globals.items
     → ((s : Stepped) (m : Store) → m.turns ≡ turns → Reaches image s (start image instance [] m)
-    → LeadsTo image p'.layout p'.region.items p'.rows.items s (record m { started = set_of m.started instance true; turns = turns' }) turn)
+    → LeadsTo image p'.stack.layout p'.stack.region.items p'.stack.rows.items s (record m { started = set_of m.started instance true; turns = turns' }) turn)
     → (bound : ℕ) (control : List ℕ) (begun : ℕ) (ahead : Option Coming) (told left held holds : Option (List ℕ))
     → SoFar image bound p (instance ∷ control) turns begun ahead told left held holds (At image p Empty) → SoFar image bound p' control turns' begun ahead told left held holds (At image p' turn)
 started_then image can p p' instance turns turns' turn within unmarked marks globals leads bound control begun ahead told left held holds so =

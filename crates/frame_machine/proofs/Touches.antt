@@ -32,17 +32,16 @@ use Rattle.machine_ready.specs.declared.prepared.Prepared.{Prepared}
 use Rattle.frame_machine.specs.Happening.{CanPause, HoldsOnLink, is_call}
 use Rattle.frame_machine.specs.SoFar.{IsNoJump, PausesAt}
 use Rattle.frame_machine.proofs.Pauses.{touches_shown}
-use Rattle.frame_machine.proofs.Instructions.{at_here}
 use Rattle.machine_activations.proofs.Reach.{ends_alike}
 
 -- What is read of the topmost activation.
 
-pub can_stand : (image : Image) (p : Prepared) (r : Registers) → CanPause image p r Touches → StandsIn image p.layout p.region.items p.rows.items r
+pub can_stand : (image : Image) (p : Prepared) (r : Registers) → CanPause image p r Touches → StandsIn image p.stack.layout p.stack.region.items p.stack.rows.items r
 can_stand image p r c = record {
   start = c.start;
   unstuck = c.unstuck;
   store = c.store;
-  shown = touches_shown image p.layout p.region.items p.rows.items r c.start c.store c.pauses;
+  shown = touches_shown image p.stack.layout p.stack.region.items p.stack.rows.items r c.start c.store c.pauses;
 }
 
 pub top_there : (image : Image) (layout : Layout) → IsPrepared image layout → (region : List ℕ) (table : List Row) (r : Registers) → StandsIn image layout region table r
@@ -50,17 +49,6 @@ pub top_there : (image : Image) (layout : Layout) → IsPrepared image layout �
 top_there image layout prepared region table r stands ample =
     let h = stands.shown in
     let l = low image layout prepared region table r h.procedure h.top h.rest h.shows ample in let k = ample.long in omega (arith, l, k)
-
--- the code that was read, of rows that are the same
-module _ (image : Image) (rows table read : List Row) (r : Registers) (code : ModuleCode) (is : IsCodeOf image code read r) (same_read : read ≡ rows) (same : table ≡ rows) where
-  is_code : IsCodeOf image code rows r
-  is_code = subst (λ (t : List Row). IsCodeOf image code t r) same_read is
-
-  pub code_given : IsCodeOf image code table r
-  code_given = subst (λ (t : List Row). IsCodeOf image code t r) (sym same) is_code
-
-  pub at_given : (i : Instruction) → StandsAt image rows r i → IsAt code table r i
-  at_given i at = subst (λ (t : List Row). IsAt code t r i) (sym same) (at_here image rows r i at (row_at rows r.top) refl code is_code)
 
 -- The rows of arms.
 

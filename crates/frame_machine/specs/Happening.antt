@@ -9,6 +9,7 @@ use Rattle.machine_topmost.specs.declared.registers.Why.{Why}
 use Rattle.machine_activations.specs.declared.calling.Turn.TheVariants.{Goes}
 use Rattle.machine_activations.specs.declared.row.Row.{Row}
 use Rattle.machine_activations.specs.Reaching.{IsUnstuck}
+use Rattle.machine_activations.specs.Stacks.{on}
 use Rattle.machine_calls.specs.declared.linking.LinkTurn.{LinkTurn}
 use Rattle.machine_calls.specs.declared.linking.LinkTurn.TheVariants.{Done, Host}
 use Rattle.machine_signals.specs.Raising.{ArmsHold, HoldsOn}
@@ -20,7 +21,7 @@ pub record CanPause (image : Image) (p : Prepared) (r : Registers) (why : Why) :
   pub start : Stepped
   pub unstuck : IsUnstuck image start
   pub store : Store
-  pub pauses : PausesAt image p.layout p.region.items p.rows.items r why start store
+  pub pauses : on p.stack (PausesAt image) r why start store
 
 -- the rows of running arms tell searches and jumps that can go on, where an activation goes on or calls the host
 abbrev pub HoldsOnLink : Image → List Row → Registers → LinkTurn → Type 0

@@ -7,6 +7,7 @@ use Rattle.machine_rules.specs.State.{Store, Stepped}
 use Rattle.machine_topmost.specs.declared.registers.Registers.{Registers}
 use Rattle.machine_activations.specs.declared.calling.Turn.{Turn}
 use Rattle.machine_activations.specs.declared.calling.Turn.TheVariants.{Goes, Empty, Pending, Ends}
+use Rattle.machine_activations.specs.Stacks.{on}
 use Rattle.machine_calls.specs.declared.ahead.Coming.{Coming}
 use Rattle.machine_calls.specs.declared.reading.ReadTurn.{ReadTurn}
 use Rattle.machine_calls.specs.Hosting.{ReadLeads, vain_by}
@@ -42,7 +43,7 @@ pub record CanStart (image : Image) (p : Prepared) (instance turns : ℕ) (ahead
 pub record HasRead (image : Image) (p : Prepared) (r : Registers) (turn : ReadTurn) : Type 0 where
   pub start : Stepped
   pub store : Store
-  pub reads : ReadLeads image p.layout p.region.items p.rows.items r start store turn
+  pub reads : on p.stack (ReadLeads image) r start store turn
 
 -- a run that comes to a place comes so many instructions later to where a turn leads, or breaks off
 abbrev pub Follows : (image : Image) → (p p' : Prepared) → (turns turns' count : ℕ) → (ahead ahead' : Option Coming) → (left left' holds holds' : Option (List ℕ))

@@ -17,6 +17,7 @@ use Rattle.machine_activations.specs.declared.row.Row.{Row}
 use Rattle.machine_activations.specs.Calling.{LeadsTo, IsAmpleFor}
 use Rattle.machine_activations.specs.Reaching.{Reaches, Later, pauses_so}
 use Rattle.machine_activations.specs.Shows.{Shows}
+use Rattle.machine_activations.specs.Stacks.{on}
 use Rattle.machine_calls.specs.declared.ahead.Coming.{Coming}
 use Rattle.machine_calls.specs.declared.ahead.Coming.TheVariants.{Byte, End}
 use Rattle.machine_calls.specs.declared.host.HostProcedure.{HostProcedure}
@@ -54,11 +55,11 @@ pub record ComesTo (s : Stepped) (p : Prepared) (control : List ℕ) (turns begu
 
 -- to where a turn leads
 abbrev pub At : Image → Prepared → Turn → Stepped → Store → Type 0
-At image p turn s m = LeadsTo image p.layout p.region.items p.rows.items s m turn
+At image p turn s m = on p.stack (LeadsTo image) s m turn
 
 -- to the call of a procedure of the host
 abbrev pub AtHost : Image → Prepared → Registers → HostProcedure → Stepped → Store → Type 0
-AtHost image p r h s m = LinkLeads image p.layout p.region.items p.rows.items r s m (Host h)
+AtHost image p r h s m = on p.stack (LinkLeads image) r s m (Host h)
 
 -- the input that the program has not taken begins with what is known of it
 abbrev pub Known : Option Coming → (rest : List ℕ) → (faulty : Bool) → Type 0
@@ -87,8 +88,8 @@ pub record SoFar (image : Image) (bound : ℕ) (p : Prepared) (control : List �
 -- what is so of the region and the rows
 pub record Carries (image : Image) (p : Prepared) (turn : Turn) : Type 0 where
   pub ready : IsReady image p
-  pub ample : IsAmpleFor p.layout p.region.items p.rows.items turn
-  pub arms : HoldsOn image p.rows.items turn
+  pub ample : on p.stack IsAmpleFor turn
+  pub arms : HoldsOn image p.stack.rows.items turn
 
 -- where a run comes to, or that it breaks off
 abbrev pub Then : Image → (bound : ℕ) → Prepared → (control : List ℕ) → (turns begun : ℕ) → Option Coming
@@ -139,4 +140,4 @@ pub record Paused (image : Image) (p : Prepared) (pause : Pause) (count : ℕ) (
   pub same_input : store.input ≡ m.input
   pub same_fault : store.faulty ≡ m.faulty
   pub same_output : store.output ≡ m.output
-  pub pauses : PausesAt image p.layout p.region.items p.rows.items pause.registers pause.why s store
+  pub pauses : on p.stack (PausesAt image) pause.registers pause.why s store

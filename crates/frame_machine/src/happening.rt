@@ -4,6 +4,7 @@ ghost use Rattle.std.specs.Prelude.{◌≡◌, suc, ◌≤◌};
 ghost use Rattle.machine_rules.specs.State.{Stepped, Store};
 ghost use Rattle.machine_activations.specs.Reaching.{IsUnstuck};
 ghost use Rattle.machine_activations.specs.Shows.{IsAmple};
+ghost use Rattle.machine_activations.specs.Stacks.{on};
 ghost use Rattle.machine_ready.specs.Ready.{IsReady};
 ghost use Rattle.machine_calls.specs.Linking.{IsAmpleForLink, LinkedTo, StandsAt};
 ghost use Rattle.machine_calls.specs.Started.{ShowsStarted};
@@ -34,18 +35,18 @@ pub(crate) fn happen(
     turns: &mut u64,
 ) -> Option<LinkTurn>
     requires ready { IsReady image.now parts.old }
-    requires ample { IsAmple parts.old.layout parts.old.region.items parts.old.rows.items r.old.top }
-    requires arms { ArmsHold image.now parts.old.rows.items r.old.top }
+    requires ample { on parts.old.stack IsAmple r.old.top }
+    requires arms { ArmsHold image.now parts.old.stack.rows.items r.old.top }
     requires pauses { CanPause image.now parts.old r.old why }
-    requires at { StandsAt image.now parts.old.rows.items r.old instruction }
+    requires at { StandsAt image.now parts.old.stack.rows.items r.old instruction }
     ensures ready { IsReady image.now parts.new }
-    ensures ample { IsAmpleForLink parts.new.layout parts.new.region.items parts.new.rows.items r.old (linked_or result r.new) }
-    ensures arms { HoldsOnLink image.now parts.new.rows.items r.old (linked_or result r.new) }
+    ensures ample { on parts.new.stack IsAmpleForLink r.old (linked_or result r.new) }
+    ensures arms { HoldsOnLink image.now parts.new.stack.rows.items r.old (linked_or result r.new) }
     ensures globals { parts.new.globals.items ≡ parts.old.globals.items }
     ensures turns_fall { turns.new ≤ turns.old }
     ensures leads { (s : Stepped) (m : Store) → m.turns ≡ turns.old → ShowsStarted parts.old.started.items m.started → IsUnstuck image.now s
-        → PausesAt image.now parts.old.layout parts.old.region.items parts.old.rows.items r.old why s m
-        → LinkedTo image.now parts.new.layout parts.new.region.items parts.new.rows.items r.old parts.new.started.items s
+        → on parts.old.stack (PausesAt image.now) r.old why s m
+        → on parts.new.stack (LinkedTo image.now) r.old parts.new.started.items s
         (record m { turns = turns.new; begun = suc m.begun }) (linked_or result r.new) }
 {
     match why {

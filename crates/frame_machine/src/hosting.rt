@@ -5,6 +5,7 @@ ghost use Rattle.machine_rules.specs.State.{Stepped, Store};
 ghost use Rattle.machine_activations.specs.declared.calling.Turn.TheVariants.{Goes};
 ghost use Rattle.machine_activations.specs.Calling.{LeadsTo};
 ghost use Rattle.machine_activations.specs.Shows.{IsAmple};
+ghost use Rattle.machine_activations.specs.Stacks.{on};
 ghost use Rattle.machine_ready.specs.Ready.{IsReady};
 ghost use Rattle.machine_calls.specs.declared.ahead.Coming.{Coming};
 ghost use Rattle.machine_calls.specs.declared.host.HostProcedure.TheVariants.{Read, Write};
@@ -16,6 +17,7 @@ ghost use Rattle.frame_machine.specs.Onward.{CanGoOn, CountsFaults, Follows, Has
 ghost use Rattle.frame_machine.specs.SoFar.{AtHost, Carries, SoFar, Then};
 
 use crate::outcome::RunFault;
+use crate::remaining::Remaining;
 use crate::signals::raise_signal;
 use machine_activations::Turn;
 use machine_calls::{Coming, HostProcedure, ReadTurn, Reading, Writing, read, write};
@@ -35,8 +37,8 @@ fn write_out<K: Sink>(
     out: &mut K,
 ) -> Result<Option<Turn>, RunFault>
     requires ready { IsReady image.now parts.now }
-    requires ample { IsAmple parts.now.layout parts.now.region.items parts.now.rows.items r.old.top }
-    requires calls { CallsHost image.now parts.now.layout parts.now.region.items parts.now.rows.items r.old (host_is (Write writing)) }
+    requires ample { on parts.now.stack IsAmple r.old.top }
+    requires calls { on parts.now.stack (CallsHost image.now) r.old (host_is (Write writing)) }
     ensures goes { IfOk (onward_or result r.new) (λ turn. turn ≡ Goes (behind_call (Write writing) r.old)) }
     ensures follows { (bound : ℕ) (control : List ℕ) (turns begun : ℕ) (ahead : Option Coming) (told left held : Option (List ℕ))
         → length control ≤ length image.now.control
@@ -45,7 +47,7 @@ fn write_out<K: Sink>(
     ensures faults { (read : ℕ) → CountsFaults (onward_or result r.new) read read (K.faults out.old) (K.faults out.new) }
     ensures asks_not { (ahead : Option Coming) → vain_then (onward_or result r.new) ahead ≡ vain_by ahead }
 {
-    match write(writing, image, parts.region.as_slice(), *r, out) {
+    match write(writing, image, parts.stack.region.as_slice(), *r, out) {
         Ok(after) => {
             *r = after;
             Ok(None)
@@ -63,8 +65,8 @@ fn read_then(
     turns: &mut u64,
 ) -> Turn
     requires ready { IsReady image.now parts.old }
-    requires ample { IsAmple parts.old.layout parts.old.region.items parts.old.rows.items r.top }
-    requires arms { ArmsHold image.now parts.old.rows.items r.top }
+    requires ample { on parts.old.stack IsAmple r.top }
+    requires arms { ArmsHold image.now parts.old.stack.rows.items r.top }
     requires behind { (reading : Reading) × GoesBehind r reading turn }
     requires reads { HasRead image.now parts.old r turn }
     ensures carries { Carries image.now parts.new result }
@@ -72,8 +74,8 @@ fn read_then(
     ensures marks { parts.new.started.items ≡ parts.old.started.items }
     ensures waits_not { waits result ≡ 0 }
     ensures leads { (s : Stepped) (m : Store) → m.turns ≡ turns.old
-        → ReadLeads image.now parts.old.layout parts.old.region.items parts.old.rows.items r s m turn
-        → LeadsTo image.now parts.new.layout parts.new.region.items parts.new.rows.items s (record m { turns = turns.new }) result }
+        → on parts.old.stack (ReadLeads image.now) r s m turn
+        → on parts.new.stack (LeadsTo image.now) s (record m { turns = turns.new }) result }
 {
     match turn {
         ReadTurn::Goes(after) => Turn::Goes(after),
@@ -93,8 +95,8 @@ fn read_in<S: Source>(
     input: &mut S,
 ) -> Result<Turn, RunFault>
     requires ready { IsReady image.now parts.old }
-    requires ample { IsAmple parts.old.layout parts.old.region.items parts.old.rows.items r.top }
-    requires arms { ArmsHold image.now parts.old.rows.items r.top }
+    requires ample { on parts.old.stack IsAmple r.top }
+    requires arms { ArmsHold image.now parts.old.stack.rows.items r.top }
     requires run { (holds : Option (List ℕ))
         × CanGoOn image.now parts.old turns.old ahead.old (S.left input.old) holds (AtHost image.now parts.old r (Read reading)) }
     ensures ready { IsReady image.now parts.new }
@@ -106,7 +108,7 @@ fn read_in<S: Source>(
     ensures faults { (written : ℕ) → CountsFaults result (S.faults input.old) (S.faults input.new) written written }
     ensures asks { AsksOn ahead.old (S.left input.old) (S.left input.new) (S.calls input.old) (S.calls input.new) (vain_then result ahead.new) }
 {
-    match read(reading, parts.region.as_mut_slice(), r, ahead, input) {
+    match read(reading, parts.stack.region.as_mut_slice(), r, ahead, input) {
         Ok(turn) => Ok(read_then(turn, image, parts, r, turns)),
         Err(_) => Err(RunFault::ReadFault),
     }
@@ -141,8 +143,8 @@ fn read_settled<S: Source>(
     input: &mut S,
 ) -> Result<Option<Turn>, RunFault>
     requires ready { IsReady image.now parts.old }
-    requires ample { IsAmple parts.old.layout parts.old.region.items parts.old.rows.items r.old.top }
-    requires arms { ArmsHold image.now parts.old.rows.items r.old.top }
+    requires ample { on parts.old.stack IsAmple r.old.top }
+    requires arms { ArmsHold image.now parts.old.stack.rows.items r.old.top }
     requires run { (holds : Option (List ℕ))
         × CanGoOn image.now parts.old turns.old ahead.old (S.left input.old) holds (AtHost image.now parts.old r.old (Read reading)) }
     ensures ready { IsReady image.now parts.new }
@@ -166,26 +168,27 @@ pub(crate) fn call_host<S: Source, K: Sink>(
     image: &Image,
     parts: &mut Prepared,
     r: &mut Registers,
-    ahead: &mut Option<Coming>,
-    turns: &mut u64,
+    remaining: &mut Remaining,
     input: &mut S,
     out: &mut K,
 ) -> Result<Option<Turn>, RunFault>
     requires ready { IsReady image.now parts.old }
-    requires ample { IsAmple parts.old.layout parts.old.region.items parts.old.rows.items r.old.top }
-    requires arms { ArmsHold image.now parts.old.rows.items r.old.top }
-    requires run { CanGoOn image.now parts.old turns.old ahead.old (S.left input.old) (K.written out.old) (AtHost image.now parts.old r.old host) }
+    requires ample { on parts.old.stack IsAmple r.old.top }
+    requires arms { ArmsHold image.now parts.old.stack.rows.items r.old.top }
+    requires run { CanGoOn image.now parts.old remaining.old.turns remaining.old.ahead (S.left input.old) (K.written out.old) (AtHost image.now parts.old r.old host) }
     ensures ready { IsReady image.now parts.new }
     ensures carries { IfOk (onward_or result r.new) (Carries image.now parts.new) }
     ensures waits_not { IfOk (onward_or result r.new) (λ turn. waits turn ≡ 0) }
-    ensures follows { Follows image.now parts.old parts.new turns.old turns.new 0 ahead.old ahead.new (S.left input.old) (S.left input.new)
+    ensures follows { Follows image.now parts.old parts.new remaining.old.turns remaining.new.turns 0 remaining.old.ahead remaining.new.ahead (S.left input.old) (S.left input.new)
         (K.written out.old) (K.written out.new) (AtHost image.now parts.old r.old host) (onward_or result r.new) }
     ensures faults { CountsFaults (onward_or result r.new) (S.faults input.old) (S.faults input.new) (K.faults out.old) (K.faults out.new) }
-    ensures asks { AsksOn ahead.old (S.left input.old) (S.left input.new) (S.calls input.old) (S.calls input.new) (vain_then (onward_or result r.new) ahead.new) }
+    ensures asks { AsksOn remaining.old.ahead (S.left input.old) (S.left input.new) (S.calls input.old) (S.calls input.new) (vain_then (onward_or result r.new) remaining.new.ahead) }
 {
     match host {
         HostProcedure::Write(writing) => write_out(writing, image, parts, r, out),
         HostProcedure::Read(reading) => {
+            let ahead = &mut remaining.ahead;
+            let turns = &mut remaining.turns;
             read_settled(reading, image, parts, r, ahead, turns, input)
         }
     }

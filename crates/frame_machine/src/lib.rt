@@ -1,7 +1,6 @@
 //! The run of an image that is ready.
 #![tactic(auto)]
 
-mod arms;
 mod calls;
 mod clearing;
 mod happening;
@@ -10,6 +9,7 @@ mod look_ups;
 mod machine;
 mod onward;
 mod outcome;
+mod remaining;
 mod running;
 mod signals;
 mod standing;

@@ -11,9 +11,10 @@ use crate::calls::call_pending;
 use crate::happening::happen;
 use crate::hosting::call_host;
 use crate::outcome::RunFault;
+use crate::remaining::Remaining;
 use crate::topmost::run_top;
 use machine_activations::Turn;
-use machine_calls::{Coming, LinkTurn};
+use machine_calls::LinkTurn;
 use machine_ready::Prepared;
 use machine_topmost::Registers;
 use mesa_base::{Sink, Source, Steps};
@@ -40,38 +41,44 @@ fn go_on<S: Source, K: Sink, L: Ledger>(
     r: &mut Registers,
     image: &Image,
     parts: &mut Prepared,
-    ahead: &mut Option<Coming>,
-    turns: &mut u64,
+    remaining: &mut Remaining,
     input: &mut S,
     out: &mut K,
     steps: &mut Steps<L>,
 ) -> Result<Option<Turn>, RunFault>
     requires carries { Carries image.now parts.old (Goes r.old) }
-    requires run { CanGoOn image.now parts.old turns.old ahead.old (S.left input.old) (K.written out.old) (At image.now parts.old (Goes r.old)) }
+    requires run { CanGoOn image.now parts.old remaining.old.turns remaining.old.ahead (S.left input.old) (K.written out.old) (At image.now parts.old (Goes r.old)) }
     ensures ready { IsReady image.now parts.new }
     ensures carries { IfOk (onward_or result r.new) (Carries image.now parts.new) }
-    ensures follows { Follows image.now parts.old parts.new turns.old turns.new (steps.new - steps.old) ahead.old ahead.new
+    ensures follows { Follows image.now parts.old parts.new remaining.old.turns remaining.new.turns (steps.new - steps.old) remaining.old.ahead remaining.new.ahead
         (S.left input.old) (S.left input.new) (K.written out.old) (K.written out.new) (At image.now parts.old (Goes r.old)) (onward_or result r.new) }
     ensures counted { steps.old < steps.new }
-    ensures few { BeginsFew image.now parts.old turns.old (steps.new - steps.old) ahead.old (S.left input.old) (K.written out.old)
+    ensures few { BeginsFew image.now parts.old remaining.old.turns (steps.new - steps.old) remaining.old.ahead (S.left input.old) (K.written out.old)
         (At image.now parts.old (Goes r.old)) }
     ensures faults { CountsFaults result (S.faults input.old) (S.faults input.new) (K.faults out.old) (K.faults out.new) }
-    ensures asks { AsksOn ahead.old (S.left input.old) (S.left input.new) (S.calls input.old) (S.calls input.new) (vain_then result ahead.new) }
+    ensures asks { AsksOn remaining.old.ahead (S.left input.old) (S.left input.new) (S.calls input.old) (S.calls input.new) (vain_then result remaining.new.ahead) }
 {
-    let pause = match run_top(image, parts, *r, *turns, out, steps) {
+    let pause = match run_top(image, parts, *r, remaining.turns, out, steps) {
         Ok(pause) => pause,
         Err(_) => return Err(RunFault::WriteFault),
     };
     let at = pause.registers;
-    *turns = pause.turns;
+    remaining.turns = pause.turns;
     *r = at;
-    match happen(image, parts, r, pause.why, pause.instruction, turns) {
+    match happen(
+        image,
+        parts,
+        r,
+        pause.why,
+        pause.instruction,
+        &mut remaining.turns,
+    ) {
         None => Ok(None),
         Some(linked) => match linked {
             LinkTurn::Done(turn) => Ok(Some(turn)),
             LinkTurn::Host(host) => {
                 *r = at;
-                call_host(host, image, parts, r, ahead, turns, input, out)
+                call_host(host, image, parts, r, remaining, input, out)
             }
         },
     }
@@ -82,37 +89,36 @@ fn run_frames<S: Source, K: Sink, L: Ledger>(
     first: Registers,
     image: &Image,
     parts: &mut Prepared,
-    ahead: &mut Option<Coming>,
-    turns: &mut u64,
+    remaining: &mut Remaining,
     input: &mut S,
     out: &mut K,
     steps: &mut Steps<L>,
 ) -> Result<Turn, RunFault>
     requires carries { Carries image.now parts.old (Goes first) }
-    requires run { CanGoOn image.now parts.old turns.old ahead.old (S.left input.old) (K.written out.old) (At image.now parts.old (Goes first)) }
+    requires run { CanGoOn image.now parts.old remaining.old.turns remaining.old.ahead (S.left input.old) (K.written out.old) (At image.now parts.old (Goes first)) }
     ensures ready { IsReady image.now parts.new }
     ensures carries { IfOk result (Carries image.now parts.new) }
-    ensures follows { Follows image.now parts.old parts.new turns.old turns.new (steps.new - steps.old) ahead.old ahead.new
+    ensures follows { Follows image.now parts.old parts.new remaining.old.turns remaining.new.turns (steps.new - steps.old) remaining.old.ahead remaining.new.ahead
         (S.left input.old) (S.left input.new) (K.written out.old) (K.written out.new) (At image.now parts.old (Goes first)) result }
     ensures counted { steps.old < steps.new }
-    ensures few { BeginsFew image.now parts.old turns.old (steps.new - steps.old) ahead.old (S.left input.old) (K.written out.old)
+    ensures few { BeginsFew image.now parts.old remaining.old.turns (steps.new - steps.old) remaining.old.ahead (S.left input.old) (K.written out.old)
         (At image.now parts.old (Goes first)) }
     ensures faults { CountsFaults result (S.faults input.old) (S.faults input.new) (K.faults out.old) (K.faults out.new) }
-    ensures asks { AsksOn ahead.old (S.left input.old) (S.left input.new) (S.calls input.old) (S.calls input.new) (vain_then result ahead.new) }
+    ensures asks { AsksOn remaining.old.ahead (S.left input.old) (S.left input.new) (S.calls input.old) (S.calls input.new) (vain_then result remaining.new.ahead) }
 {
     let mut r = first;
-    let mut left = *turns;
+    let mut left = *remaining;
     'running: loop {
-        match go_on(&mut r, image, parts, ahead, &mut left, input, out, steps) {
+        match go_on(&mut r, image, parts, &mut left, input, out, steps) {
             Ok(other) => match other {
                 None => {}
                 Some(turn) => {
-                    *turns = left;
+                    *remaining = left;
                     return Ok(turn);
                 }
             },
             Err(fault) => {
-                *turns = left;
+                *remaining = left;
                 return Err(fault);
             }
         }
@@ -124,26 +130,25 @@ fn call_then<S: Source, K: Sink>(
     r: Registers,
     image: &Image,
     parts: &mut Prepared,
-    ahead: &mut Option<Coming>,
-    turns: &mut u64,
+    remaining: &mut Remaining,
     input: &mut S,
     out: &mut K,
 ) -> Result<Turn, RunFault>
     requires carries { Carries image.now parts.old (Pending r) }
-    requires run { CanGoOn image.now parts.old turns.old ahead.old (S.left input.old) (K.written out.old) (At image.now parts.old (Pending r)) }
+    requires run { CanGoOn image.now parts.old remaining.old.turns remaining.old.ahead (S.left input.old) (K.written out.old) (At image.now parts.old (Pending r)) }
     ensures ready { IsReady image.now parts.new }
     ensures carries { IfOk result (Carries image.now parts.new) }
-    ensures follows { Follows image.now parts.old parts.new turns.old turns.new 0 ahead.old ahead.new (S.left input.old) (S.left input.new)
+    ensures follows { Follows image.now parts.old parts.new remaining.old.turns remaining.new.turns 0 remaining.old.ahead remaining.new.ahead (S.left input.old) (S.left input.new)
         (K.written out.old) (K.written out.new) (At image.now parts.old (Pending r)) result }
     ensures waits_not { IfOk result (λ turn. waits turn ≡ 0) }
     ensures faults { CountsFaults result (S.faults input.old) (S.faults input.new) (K.faults out.old) (K.faults out.new) }
-    ensures asks { AsksOn ahead.old (S.left input.old) (S.left input.new) (S.calls input.old) (S.calls input.new) (vain_then result ahead.new) }
+    ensures asks { AsksOn remaining.old.ahead (S.left input.old) (S.left input.new) (S.calls input.old) (S.calls input.new) (vain_then result remaining.new.ahead) }
 {
-    match call_pending(image, parts, r, turns) {
+    match call_pending(image, parts, r, &mut remaining.turns) {
         LinkTurn::Done(turn) => Ok(turn),
         LinkTurn::Host(host) => {
             let mut at = r;
-            let other = call_host(host, image, parts, &mut at, ahead, turns, input, out);
+            let other = call_host(host, image, parts, &mut at, remaining, input, out);
             told_of(other, at)
         }
     }
@@ -154,26 +159,25 @@ pub(crate) fn advance<S: Source, K: Sink, L: Ledger>(
     turn: Turn,
     image: &Image,
     parts: &mut Prepared,
-    ahead: &mut Option<Coming>,
-    turns: &mut u64,
+    remaining: &mut Remaining,
     input: &mut S,
     out: &mut K,
     steps: &mut Steps<L>,
 ) -> Result<Turn, RunFault>
     requires carries { Carries image.now parts.old turn }
-    requires run { CanGoOn image.now parts.old turns.old ahead.old (S.left input.old) (K.written out.old) (At image.now parts.old turn) }
+    requires run { CanGoOn image.now parts.old remaining.old.turns remaining.old.ahead (S.left input.old) (K.written out.old) (At image.now parts.old turn) }
     ensures ready { IsReady image.now parts.new }
     ensures carries { IfOk result (Carries image.now parts.new) }
-    ensures follows { Follows image.now parts.old parts.new turns.old turns.new (steps.new - steps.old) ahead.old ahead.new
+    ensures follows { Follows image.now parts.old parts.new remaining.old.turns remaining.new.turns (steps.new - steps.old) remaining.old.ahead remaining.new.ahead
         (S.left input.old) (S.left input.new) (K.written out.old) (K.written out.new) (At image.now parts.old turn) result }
     ensures counted { steps.old ≤ steps.new }
-    ensures advances { Advances image.now parts.old turns.old ahead.old (S.left input.old) (K.written out.old) turn steps.old steps.new result }
+    ensures advances { Advances image.now parts.old remaining.old.turns remaining.old.ahead (S.left input.old) (K.written out.old) turn steps.old steps.new result }
     ensures faults { CountsFaults result (S.faults input.old) (S.faults input.new) (K.faults out.old) (K.faults out.new) }
-    ensures asks { AsksOn ahead.old (S.left input.old) (S.left input.new) (S.calls input.old) (S.calls input.new) (vain_then result ahead.new) }
+    ensures asks { AsksOn remaining.old.ahead (S.left input.old) (S.left input.new) (S.calls input.old) (S.calls input.new) (vain_then result remaining.new.ahead) }
 {
     match turn {
-        Turn::Goes(r) => run_frames(r, image, parts, ahead, turns, input, out, steps),
-        Turn::Pending(r) => call_then(r, image, parts, ahead, turns, input, out),
+        Turn::Goes(r) => run_frames(r, image, parts, remaining, input, out, steps),
+        Turn::Pending(r) => call_then(r, image, parts, remaining, input, out),
         Turn::Empty => Ok(Turn::Empty),
         Turn::Ends(end) => Ok(Turn::Ends(end)),
     }

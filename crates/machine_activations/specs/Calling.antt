@@ -25,7 +25,7 @@ abbrev pub IsCodeOf : Image → ModuleCode → List Row → Registers → Type 0
 IsCodeOf image code table r = code_of image (row_at table r.top).instance ≡ Some code
 
 -- some activations of an image are shown, from which it does not get stuck
-pub record Stands (layout : Layout) (code : ModuleCode) (region : List ℕ) (table : List Row) (r : Registers) : Type 0 where
+pub record Stands (code : ModuleCode) (layout : Layout) (region : List ℕ) (table : List Row) (r : Registers) : Type 0 where
   pub image : Image
   pub prepared : IsPrepared image layout
   pub is : IsCodeOf image code table r

@@ -10,6 +10,7 @@ use Rattle.signaller.specs.Search.{unwind_next}
 use Rattle.machine_rules.specs.State.{Store, Stepped}
 use Rattle.machine_rules.specs.LookUps.{procedure_of}
 use Rattle.machine_activations.specs.declared.calling.Turn.{Turn}
+use Rattle.machine_activations.specs.declared.calling.Turn.TheVariants.{Goes, Empty, Pending, Ends}
 use Rattle.machine_activations.specs.declared.row.Kind.{Kind}
 use Rattle.machine_activations.specs.declared.row.Kind.TheVariants.{Frame as FrameRow, Arm as ArmRow}
 use Rattle.machine_activations.specs.declared.row.Layout.{Layout}
@@ -20,7 +21,7 @@ use Rattle.machine_activations.specs.Frames.{row_at, owner_place}
 use Rattle.machine_signals.specs.declared.seeking.Landed.{Landed}
 use Rattle.machine_signals.specs.Arms.{AddsArm, Awaits}
 use Rattle.machine_signals.specs.Indexed.{AsksIn, AskedOf, IsAsked}
-use Rattle.machine_signals.specs.Leaving.{IsUnwinding, Leaving, LeftThere}
+use Rattle.machine_signals.specs.Leaving.{IsUnwinding, Leaving, LeftThere, StaysLow}
 use Rattle.machine_signals.specs.Raising.{ArmsHold, AsksLeft, HoldsOn, KindHolds, LeadsBelow}
 use Rattle.machine_signals.proofs.ArmRows.{arms_entered, arms_fewer, asked_alike, code_alike}
 use Rattle.machine_signals.proofs.Leaves.{leaving_drops, leaving_runs, after_within}
@@ -99,3 +100,13 @@ unwind_holds image table top target landed found aims holds table' turn adds =
         goal = λ p is_p. aims.goal p (code_alike image (row_at rows target.place) (row_at table target.place) (same target.place (omega (arith, above))) ∙ is_p);
       },
     ))
+
+-- where a jump arrives, at a place no higher, the rows are as they were
+pub arrived_holds : (image : Image) (table : List Row) (top place : ℕ) → place ≤ top → ArmsHold image table top
+    → (table' : List Row) → table' ≡ table → (turn : Turn) → StaysLow place turn → HoldsOn image table' turn
+arrived_holds image table top place under holds table' same (Goes r) low =
+    subst (λ t. ArmsHold image t r.top) (sym same) (arms_fewer image table top r.top (omega (arith, under, low)) holds)
+arrived_holds image table top place under holds table' same Empty low = tt
+arrived_holds image table top place under holds table' same (Pending r) low =
+    subst (λ t. ArmsHold image t r.top) (sym same) (arms_fewer image table top r.top (omega (arith, under, low)) holds)
+arrived_holds image table top place under holds table' same (Ends end) low = tt

@@ -12,7 +12,6 @@ mod lookups;
 mod raising;
 mod rejecting;
 mod resuming;
-mod rows;
 mod seeking;
 
 pub use jumping::{leave, leave_return};

@@ -9,13 +9,13 @@ returns-in-Goes-clause-carries c =
 
 pub returns-in-Goes-clause-leads : goal.returns-in-Goes-clause-leads
 returns-in-Goes-clause-leads c s m turns reads =
-    read_there c.args.image.now c.args.parts.now.layout c.args.parts.now.region.items c.args.parts.now.rows.items c.args.r s m c.args.turn reads c.in-Goes.after c.args.turns.now c.in-Goes.is turns
+    read_there c.args.image.now c.args.parts.now.stack.layout c.args.parts.now.stack.region.items c.args.parts.now.stack.rows.items c.args.r s m c.args.turn reads c.in-Goes.after c.args.turns.now c.in-Goes.is turns
 
 pub raise_signal-requires-clause-raises : goal.raise_signal-requires-clause-raises
 raise_signal-requires-clause-raises c = record {
   start = c.requires.reads.start;
   store = c.requires.reads.store;
-  raises = none_raises c.args.image.now c.args.parts.now.layout c.args.parts.now.region.items c.args.parts.now.rows.items c.args.r c.requires.reads.start c.requires.reads.store c.args.turn
+  raises = none_raises c.args.image.now c.args.parts.now.stack.layout c.args.parts.now.stack.region.items c.args.parts.now.stack.rows.items c.args.r c.requires.reads.start c.requires.reads.store c.args.turn
       c.requires.reads.reads c.in-NoInput.is;
 }
 
@@ -29,4 +29,4 @@ returns-in-NoInput-clause-waits_not c = arm_waits c.raise_signal.result c.raise_
 pub returns-in-NoInput-clause-leads : goal.returns-in-NoInput-clause-leads
 returns-in-NoInput-clause-leads c s m turns reads =
     c.raise_signal.ensures.leads s m turns
-    (none_raises c.args.image.now c.args.parts.now.layout c.args.parts.now.region.items c.args.parts.now.rows.items c.args.r s m c.args.turn reads c.in-NoInput.is)
+    (none_raises c.args.image.now c.args.parts.now.stack.layout c.args.parts.now.stack.region.items c.args.parts.now.stack.rows.items c.args.r s m c.args.turn reads c.in-NoInput.is)

@@ -3,8 +3,8 @@ use Rattle.machine_signals.proofs.JumpCalls.{leave_jumps, leave_can}
 use Rattle.machine_signals.proofs.jumping.leave.Goals as goal
 
 pub jump_out-requires-clause-jumps : goal.jump_out-requires-clause-jumps
-jump_out-requires-clause-jumps c = leave_can c.args.image.now c.args.layout c.requires.prepared c.args.region.now.items c.args.table.now c.args.r c.args.code.now c.requires.code c.requires.at.0 c.args.target c.requires.at.1 c.requires.stands
+jump_out-requires-clause-jumps c = leave_can c.args.image.now c.args.stack.now.layout c.requires.tables.prepared c.args.stack.now.region.items c.args.stack.now.rows.items c.args.r c.args.code.now c.requires.code c.requires.at.0 c.args.target c.requires.at.1 c.requires.stands
 
 pub returns-clause-leads : goal.returns-clause-leads
 returns-clause-leads c s m unstuck turns shown =
-    c.jump_out.ensures.leads s (record m { begun = suc m.begun }) unstuck turns (leave_jumps c.args.image.now c.args.layout c.requires.prepared c.args.region.now.items c.args.table.now c.args.r c.args.code.now c.requires.code c.requires.at.0 c.args.target c.requires.at.1 s m shown)
+    c.jump_out.ensures.leads s (record m { begun = suc m.begun }) unstuck turns (leave_jumps c.args.image.now c.args.stack.now.layout c.requires.tables.prepared c.args.stack.now.region.items c.args.stack.now.rows.items c.args.r c.args.code.now c.requires.code c.requires.at.0 c.args.target c.requires.at.1 s m shown)
