@@ -92,7 +92,9 @@ fn ends(
 #[test]
 fn calls_that_fail(rt: HostRuntime) -> Result<(), Fail> {
     assert!(rt; ends(&rt, [&[0], &[], &[]], 8, "", "M.mesa: folder failed\n")?);
-    assert!(rt; ends(&rt, [&[1], &[], &[]], 0, "321x", "")?);
+    assert!(rt; ends(&rt, [&[1], &[], &[]], 8, "", "M.mob: folder failed\n")?);
+    assert!(rt; ends(&rt, [&[2], &[], &[]], 8, "", "M.mim: folder failed\n")?);
+    assert!(rt; ends(&rt, [&[3], &[], &[]], 0, "321x", "")?);
     assert!(rt; ends(&rt, [&[], &[1], &[]], 7, "3", "output failed\n")?);
     assert!(rt; ends(&rt, [&[], &[3], &[]], 7, "321", "output failed\n")?);
     assert!(rt; ends(&rt, [&[], &[0], &[0]], 7, "", "output ")?);
