@@ -23,13 +23,14 @@ both_true : (a b : Bool) → (a && b) ≡ true → (a ≡ true) × (b ≡ true)
 both_true true b e = (refl, e)
 both_true false b e = absurd cc
 
-all_ascii : (bs : List ℕ) → list_all is_file_byte bs ≡ true → IsAscii bs
-all_ascii [] e i = omega arith
-all_ascii (b ∷ bs) e zero = file_byte_small b (both_true (is_file_byte b) (list_all is_file_byte bs) e).0
-all_ascii (b ∷ bs) e (suc i) = all_ascii bs (both_true (is_file_byte b) (list_all is_file_byte bs) e).1 i
+-- bytes are plain that pass a test which plain ones alone pass
+pub all_ascii : (test : ℕ → Bool) → ((b : ℕ) → test b ≡ true → b < 128) → (bs : List ℕ) → list_all test bs ≡ true → IsAscii bs
+all_ascii test small [] e i = omega arith
+all_ascii test small (b ∷ bs) e zero = small b (both_true (test b) (list_all test bs) e).0
+all_ascii test small (b ∷ bs) e (suc i) = all_ascii test small bs (both_true (test b) (list_all test bs) e).1 i
 
 pub base_ascii : (base : List ℕ) → is_file_base base ≡ true → IsAscii base
-base_ascii base e = all_ascii base (grind (arith, common_steps))
+base_ascii base e = all_ascii is_file_byte file_byte_small base (grind (arith, common_steps))
 
 -- ---- from what is looked at before any file is read
 

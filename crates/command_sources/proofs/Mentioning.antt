@@ -1,6 +1,5 @@
 -- The modules that a configuration mentions have files that are named by plain bytes: those of its FROM texts, and names.
-use Rattle.std.proofs.Common.{◌≡◌, ℕ, zero, suc, ◌<◌, Bool, true, false, ◌&&◌, cond, List, [], ◌∷◌, All, None, Some, bytes_eq, refl, arith}
-use Rattle.std.specs.List.{list_all}
+use Rattle.std.proofs.Common.{◌≡◌, ℕ, ◌<◌, Bool, true, false, cond, List, [], ◌∷◌, All, None, Some, bytes_eq, refl, arith}
 use Rattle.std.specs.Str.{IsAscii}
 use Rattle.std.proofs.lemmas.Bool.Decides.{nat_tests}
 use Rattle.std.proofs.lemmas.Grind.{common_steps}
@@ -13,27 +12,18 @@ use Rattle.cmesa_grammar.specs.declared.syntax.ComponentFile.{ComponentFile}
 use Rattle.config_rules.specs.Components.{mentions, mentions_in, first_mentions, file_of, no_file_base, components, is_file_base, own_name}
 use Rattle.config_rules.specs.declared.tree.Component.{Component}
 use Rattle.spelled_trees.specs.Names.{Named, ConfigurationNamed, StatementsNamed, HasNames}
-use Rattle.command_passes.proofs.Bases.{base_ascii}
+use Rattle.command_passes.proofs.Bases.{all_ascii, base_ascii}
 
 -- ---- names are plain bytes
 
 letter_small : (b : ℕ) → is_letter_or_digit b ≡ true → b < 128
 letter_small b is = grind (arith, nat_tests)
 
-both_true : (a b : Bool) → (a && b) ≡ true → (a ≡ true) × (b ≡ true)
-both_true true b e = (refl, e)
-both_true false b e = absurd cc
-
-all_ascii : (bs : List ℕ) → list_all is_letter_or_digit bs ≡ true → IsAscii bs
-all_ascii [] e i = omega arith
-all_ascii (b ∷ bs) e zero = letter_small b (both_true (is_letter_or_digit b) (list_all is_letter_or_digit bs) e).0
-all_ascii (b ∷ bs) e (suc i) = all_ascii bs (both_true (is_letter_or_digit b) (list_all is_letter_or_digit bs) e).1 i
-
 abbrev IsPlain : Identifier → Type 0
 IsPlain i = IsAscii i.name
 
 name_plain : (i : Identifier) → Named i → IsPlain i
-name_plain i e = all_ascii i.name (grind (arith, common_steps))
+name_plain i e = all_ascii is_letter_or_digit letter_small i.name (grind (arith, common_steps))
 
 -- ---- what is mentioned has such a name
 

@@ -1,7 +1,6 @@
 -- From the files of a folder to a machine, and from its run to the case that comes.
-use Rattle.std.proofs.Common.{◌≡◌, ℕ, ⊎_elim, List, [], ◌∷◌, length, map, All, Ok, Err, refl, sym, ◌∙◌, ap, subst, arith}
+use Rattle.std.proofs.Common.{◌≡◌, ℕ, ⊎_elim, List, length, All, Ok, Err, refl, sym, ◌∙◌, ap, subst}
 use Rattle.std.specs.Prelude.{Result, IfOk, IfErr}
-use Rattle.std.specs.List.{AllZip}
 use Rattle.std.proofs.lemmas.List.{length-map}
 use Rattle.std.proofs.lemmas.Slice.Zip.{AllZip-long}
 use Rattle.interface_records.specs.Hosts.{IsHostItem}
@@ -16,7 +15,6 @@ use Rattle.object_rules.specs.ImageForms.{parts_of_image}
 use Rattle.object_rules.specs.ObjectFiles.{IsObjectFile}
 use Rattle.object_rules.specs.Parts.{IsWhole}
 use Rattle.read_files.specs.Laws.{ImagesOfFilesAreInOrder}
-use Rattle.bound_images.specs.Programs.{program_of}
 use Rattle.command_laws.specs.Laws.{RunsAreMeant}
 use Rattle.command_rules.specs.Case.{Case, Memory}
 use Rattle.command_rules.specs.Comes as rules
@@ -42,7 +40,6 @@ use Rattle.command_sources.specs.Made.{IsMadeOf, Unmade, targets_for}
 use Rattle.command_sources.specs.Stops.{IsOrMemory, ready_case}
 use Rattle.command_sources.specs.declared.making.MadeProgram.{MadeProgram}
 use Rattle.command_sources.specs.declared.sources.BoundSource.{BoundSource}
-use Rattle.command_writes.specs.Storing.{StoreEnds}
 use Rattle.mesa_command.specs.Machines.{IsNotReady, unresolved, no_memory, LoadsTo, IsWritten, IsUnwritten, unmade, not_stored, WritesTo, GoesTo, RunEnds}
 
 -- ---- run NAME TURNS
