@@ -1,0 +1,3 @@
+pub mod SameImages
+pub mod Exact
+mod Examples
