@@ -1,0 +1,4 @@
+mod Examples
+pub mod FilesPut
+pub mod InterfaceBytes
+pub mod LinkLines
