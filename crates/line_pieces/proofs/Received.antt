@@ -1,5 +1,5 @@
 -- A line that is written in two pieces.
-use Rattle.std.proofs.Common.{◌≡◌, ℕ, ◌+◌, ◌≤◌, List, ◌++◌, length, take, Option, Some, None, IfSome, inl, inr, append_assoc, arith, sym, subst, ◌∙◌, ap, length-append, append-nil, []}
+use Rattle.std.proofs.Common.{◌≡◌, ℕ, Bool, true, false, refl, ◌+◌, ◌≤◌, List, ◌++◌, length, take, Option, Some, None, IfSome, inl, inr, append_assoc, arith, sym, subst, ◌∙◌, ap, length-append, append-nil, []}
 use Rattle.std.proofs.Math.Seq.{take-append-add}
 use Rattle.std.proofs.lemmas.List.{take-append-le}
 use Rattle.mesa_base.specs.Outside.{AppendsPrefix, Rose}
@@ -77,9 +77,11 @@ pub receives-part : (old mid new : Stream) (a b c all : List ℕ) → all ≡ a 
 receives-part old mid new a b c all e first stays part rose =
     subst (λ z. Receives z old new) (sym e) (receives-both old mid new a (b ++ c) first stays (receives-cut mid new b c part rose))
 
--- the pieces so far were all of them
-pub receives-all : (old new : Stream) (a all : List ℕ) → a ≡ all → PrintsAll a old new → Receives all old new
-receives-all old new a all e prints = inl (subst (λ z. PrintsAll z old new) e prints)
+-- it is known whether the whole text was taken
+pub receives-so : (old new : Stream) (text : List ℕ) (all : Bool) → (all ≡ true → PrintsAll text old new) → (all ≡ false → PrintsPrefix text old new)
+    → (all ≡ false → HasFaulted old new) → Receives text old new
+receives-so old new text true whole cut fault = inl (whole refl)
+receives-so old new text false whole cut fault = inr (fault refl, cut refl)
 
 pub prints-nothing : (old : Stream) → PrintsAll [] old old
 prints-nothing old = nothing-new old.holds

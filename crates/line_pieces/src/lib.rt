@@ -5,4 +5,4 @@ mod pieces;
 mod sending;
 mod stamps;
 
-pub use pieces::{Piece, say_all};
+pub use pieces::{Piece, print_all, say_all};

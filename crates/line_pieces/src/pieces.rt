@@ -22,15 +22,26 @@ pub enum Piece<'a> {
     Dotted(&'a [Name]),
 }
 
-/// The pieces in order, each only where those before were taken.
+/// The pieces in order, each only where those before were taken; whether all were.
+pub fn print_all<E: Sink>(pieces: &[Piece<'_>], out: &mut E) -> bool
+    ensures whole { IsTrue result → PrintsAll (joined pieces.now) (stream (E.written out.old) (E.faults out.old)) (stream (E.written out.new) (E.faults out.new)) }
+    ensures cut { result ≡ false → PrintsPrefix (joined pieces.now) (stream (E.written out.old) (E.faults out.old)) (stream (E.written out.new) (E.faults out.new)) }
+    ensures fault { result ≡ false → HasFaulted (stream (E.written out.old) (E.faults out.old)) (stream (E.written out.new) (E.faults out.new)) }
+    ensures faults_stay { E.faults out.old ≤ E.faults out.new }
+{
+    for piece in pieces {
+        if !send_piece(*piece, out) {
+            return false;
+        }
+    }
+    true
+}
+
+/// The pieces of a line, of which no one asks whether they were taken.
 pub fn say_all<E: Sink>(pieces: &[Piece<'_>], err: &mut E)
     ensures { Receives (joined pieces.now) (stream (E.written err.old) (E.faults err.old)) (stream (E.written err.new) (E.faults err.new)) }
 {
-    for piece in pieces {
-        if !send_piece(*piece, err) {
-            break;
-        }
-    }
+    print_all(pieces, err);
 }
 
 fn send_piece<E: Sink>(piece: Piece<'_>, err: &mut E) -> bool

@@ -1,32 +1,9 @@
-use Rattle.std.proofs.Common.{arith}
 use Rattle.line_pieces.specs.Outputs.{stream}
-use Rattle.line_pieces.proofs.Received.{prints-more, prints-nothing, receives-part, receives-all}
-use Rattle.line_pieces.proofs.Joining.{joined-next, joined-split, joined-whole}
+use Rattle.line_pieces.proofs.Received.{receives-so}
 use Rattle.line_pieces.proofs.pieces.say_all.Goals as goal
 
-pub loop-piece-init : goal.loop-piece-init
-loop-piece-init g c = (prints-nothing (stream (g.E.Sink.written c.args.err.now) (g.E.Sink.faults c.args.err.now)), omega arith)
-
-pub loop-piece-preserved : goal.loop-piece-preserved
-loop-piece-preserved g c = (
-  prints-more (stream (g.E.Sink.written c.args.err.now) (g.E.Sink.faults c.args.err.now))
-      (stream (g.E.Sink.written c.loop-piece.err) (g.E.Sink.faults c.loop-piece.err))
-      (stream (g.E.Sink.written c.send_piece.new.err) (g.E.Sink.faults c.send_piece.new.err)) _ _ _
-      (joined-next c.args.pieces.now c.loop-piece.piece-index c.piece-item.result c.loop-piece-test.true c.piece-item.is) c.loop-piece.invariant.0
-      (c.send_piece.ensures.whole c.if-not-send_piece.false),
-  omega (arith, c.loop-piece.invariant.1, c.send_piece.ensures.faults_stay),
-)
-
-pub returns-after-loop-piece : goal.returns-after-loop-piece
-returns-after-loop-piece g c =
-    receives-all (stream (g.E.Sink.written c.args.err.now) (g.E.Sink.faults c.args.err.now))
-    (stream (g.E.Sink.written c.loop-piece.err) (g.E.Sink.faults c.loop-piece.err)) _ _
-    (joined-whole c.args.pieces.now c.loop-piece.piece-index c.loop-piece.auto.piece-index-end c.loop-piece-test.false) c.loop-piece.invariant.0
-
-pub returns-then-not-send_piece : goal.returns-then-not-send_piece
-returns-then-not-send_piece g c =
-    receives-part (stream (g.E.Sink.written c.args.err.now) (g.E.Sink.faults c.args.err.now))
-    (stream (g.E.Sink.written c.loop-piece.err) (g.E.Sink.faults c.loop-piece.err))
-    (stream (g.E.Sink.written c.send_piece.new.err) (g.E.Sink.faults c.send_piece.new.err)) _ _ _ _
-    (joined-split c.args.pieces.now c.loop-piece.piece-index c.piece-item.result c.loop-piece-test.true c.piece-item.is) c.loop-piece.invariant.0 c.loop-piece.invariant.1
-    (c.send_piece.ensures.cut c.if-not-send_piece.true) (c.send_piece.ensures.fault c.if-not-send_piece.true)
+pub returns : goal.returns
+returns g c =
+    receives-so (stream (g.E.Sink.written c.args.err.now) (g.E.Sink.faults c.args.err.now))
+    (stream (g.E.Sink.written c.print_all.new.out) (g.E.Sink.faults c.print_all.new.out)) _ c.print_all.result
+    c.print_all.ensures.whole c.print_all.ensures.cut c.print_all.ensures.fault
