@@ -4,14 +4,16 @@ use Rattle.mesa_base.specs.Outside.{Files}
 use Rattle.mesa_base.specs.declared.status.Status.{Status}
 use Rattle.mesa_base.specs.declared.status.Status.TheVariants as status
 use Rattle.depth_laws.specs.Laws.{DepthsDoNotMatter}
-use Rattle.line_pieces.specs.Outputs.{Stream}
+use Rattle.line_pieces.specs.Outputs.{Stream, PrintsAll}
 use Rattle.command_rules.specs.Binding.{bound_in}
 use Rattle.command_rules.specs.Case.{Case, Absent, Done, Memory, Refused, Usage, status_of}
 use Rattle.command_rules.specs.declared.trouble.Trouble.TheVariants.{TooLarge}
-use Rattle.command_rules.specs.Comes.{Compiles, not_compiled, compiled, Defines, not_defined, defined, Binds, not_bound, bound, Loads, not_read, Goes, not_configured, Comes}
-use Rattle.command_rules.specs.Complete.{NoFault, Tells, IsAnswer, IsCall, StopsOver, MakesOver, IsRefused, IsTooLarge, IsUnresolved, IsNotLoaded, IsCompileOrBind, IsStored, IsComplete, IsRun, Answered}
+use Rattle.command_rules.specs.Comes.{Compiles, not_compiled, compiled, Defines, not_defined, defined, Binds, not_bound, bound, Loads, not_read, Goes, not_configured, Shows, not_shown, shown, not_printed, Upgrades, not_held, Exercises, no_end, ended, not_summed, Comes}
+use Rattle.command_rules.specs.Complete.{NoFault, Tells, IsAnswer, IsCall, StopsOver, MakesOver, IsRefused, IsTooLarge, IsUnresolved, IsUnresolvedWithin, IsNotLoaded, IsStored, IsComplete, IsRun, IsListed, IsUpgraded, IsExercised, Answered}
 use Rattle.command_rules.specs.Configurations.{program, source_in}
-use Rattle.command_rules.specs.Forms.{Source, Form, Compile, Define, Bind, Run, Go, HasNoForm, module_file, image_file}
+use Rattle.command_rules.specs.Exercise.{chain, exercise_shelf, within}
+use Rattle.command_rules.specs.Forms.{Source, OfConfig, FileKind, Form, Compile, Define, Bind, Run, Go, Show, Upgrade, Exercise, HasNoForm, WritesAlone, kind_file, module_file, image_file}
+use Rattle.command_rules.specs.Listing.{listing_in, value_in}
 use Rattle.command_rules.specs.Modules.{interface_in, module_in}
 use Rattle.command_rules.specs.Objects.{image_in}
 use Rattle.command_rules.specs.Passes.{Trail, Pass}
@@ -19,14 +21,16 @@ use Rattle.command_rules.specs.Passing.{Fails, refused, failed, memory}
 use Rattle.command_rules.specs.Shown.{image_names, program_names}
 use Rattle.command_rules.specs.Worlds.{Shelf, Scene, World}
 use Rattle.command_rules.specs.Writing.{Target, IsSmall, IsFirstTooLarge, NotStored, StoresAll, Written}
-use Rattle.command_rules.proofs.Stopping.{IsOfFiles, PassStopsSo, source_so, module_so, interface_in_so, bound_so, image_so}
+use Rattle.command_rules.proofs.Stopping.{IsOfFiles, PassStopsSo, source_so, module_so, interface_in_so, bound_so, image_so, listing_so, value_so}
 use Rattle.command_laws.specs.Laws.{PassesAreExact, CasesAreAnswers}
 use Rattle.command_laws.proofs.Came.{streams}
+use Rattle.command_laws.proofs.Exercising.{exercised_stopped, exercised_large, exercised_lacking, exercised_whole}
 use Rattle.command_laws.proofs.Going.{goes_so, went_stopped, went_large, went_lacking, went_whole}
 use Rattle.command_laws.proofs.Loading.{loads_so, loaded_stopped, loaded_lacking, loaded_run}
 use Rattle.command_laws.proofs.Making.{OfCompile, OfDefine, OfBind, compile_made, define_made, bind_made, compiles_likely, defines_likely, binds_likely, made_stopped, made_large, made_whole}
 use Rattle.command_laws.proofs.OneCase.{FormComes, Meets, no_form, of_form, meets, of_its_form}
 use Rattle.command_laws.proofs.OneEnd.{run_used}
+use Rattle.command_laws.proofs.Showing.{over, shows_so, showed_stopped, showed_whole, upgrades_so, renewed_stopped, renewed_whole}
 use Rattle.command_laws.proofs.Sizes.{is_first, are_small}
 
 -- ---- Usage
@@ -87,12 +91,39 @@ goes_used source base turns folder folder' old new case (Goes.not_stored trail m
 goes_used source base turns folder folder' old new case (Goes.ran trail m _ all stored ends) e =
     run_used (program_names (program m.configured)) _ turns old new case ends.machine e
 
+shows_used : (kind : FileKind) (base : List ℕ) (folder folder' : Shelf) (old new : Scene) (case : Case) → Shows kind base folder folder' old new case
+    → status_of case ≢ status.Usage
+shows_used kind base folder folder' old new case (not_shown _ why onward same) e =
+    fails_used (listing_in kind (kind_file kind base)) (listing_so kind (kind_file kind base)) folder folder' case why e
+shows_used kind base folder folder' old new case (Shows.no_memory text gives same) e = cc
+shows_used kind base folder folder' old new case (shown text gives prints input steps) e = cc
+shows_used kind base folder folder' old new case (not_printed text gives rose prints input steps) e = cc
+
+upgrades_used : (kind : FileKind) (base : List ℕ) (folder folder' : Shelf) (case : Case) → Upgrades kind base folder folder' case
+    → status_of case ≢ status.Usage
+upgrades_used kind base folder folder' case (not_held _ why onward) e =
+    fails_used (value_in kind (kind_file kind base)) (value_so kind (kind_file kind base)) folder folder' case why e
+upgrades_used kind base folder folder' case (Upgrades.no_memory v gives) e = cc
+upgrades_used kind base folder folder' case (Upgrades.stored v trail comes s) e = cc
+upgrades_used kind base folder folder' case (Upgrades.not_stored v trail _ comes it) e = not_stored_used _ trail folder folder' case it e
+
+exercises_used : (links turns : ℕ) (old new : Scene) (case : Case) → Exercises links turns old new case → status_of case ≢ status.Usage
+exercises_used links turns old new case (Exercises.no_memory same) e = cc
+exercises_used links turns old new case (no_end folder mid _ goes none still dry out input steps) e =
+    goes_used OfConfig chain turns (exercise_shelf links) folder (within old) mid case goes e
+exercises_used links turns old new case (ended mid _ x prints input steps) e =
+    run_used (program_names (program x.made.configured)) _ turns (within old) mid case x.ends.machine e
+exercises_used links turns old new case (not_summed mid _ x rose prints input steps) e = cc
+
 form_used : (form : Form) (folder folder' : Shelf) (old new : Scene) (case : Case) → FormComes form folder folder' old new case → status_of case ≢ status.Usage
 form_used (Compile base) folder folder' old new case it e = compiles_used base folder folder' case it e
 form_used (Define base stamp) folder folder' old new case it e = defines_used base stamp folder folder' case it e
 form_used (Bind base) folder folder' old new case it e = binds_used base folder folder' case it e
 form_used (Run base turns) folder folder' old new case it e = loads_used base turns folder folder' old new case it e
 form_used (Go source base turns) folder folder' old new case it e = goes_used source base turns folder folder' old new case it e
+form_used (Show kind base) folder folder' old new case it e = shows_used kind base folder folder' old new case it e
+form_used (Upgrade kind base) folder folder' old new case it e = upgrades_used kind base folder folder' case it e
+form_used (Exercise links turns) folder folder' old new case it e = exercises_used links turns old new case it e
 
 usage_only : (words : List (List ℕ)) (folder folder' : Shelf) (old new : Scene) (case : Case) → Meets words folder folder' old new case
     → status_of case ≡ status.Usage → HasNoForm words
@@ -145,6 +176,14 @@ module _ (exact : PassesAreExact) (law : DepthsDoNotMatter) where
   form_stopped (Go source base turns) folder folder' old new files case c e calm it x =
       went_stopped source base turns files (exact.sources source base) folder folder' old new case c
       (record { trail = it.0; comes = it.1 }) (goes_so source base turns files folder folder' old new case e calm.no_folder_fault x)
+  form_stopped (Show kind base) folder folder' old new files case c e calm it x =
+      showed_stopped kind base files (exact.listings kind (kind_file kind base)) old new case c
+      (record { trail = it.0; comes = it.1 }) (shows_so kind base files folder folder' old new case e calm.no_folder_fault calm.no_out_fault x)
+  form_stopped (Upgrade kind base) folder folder' old new files case c e calm it x =
+      renewed_stopped kind base files folder folder' case c
+      (record { trail = it.0; comes = it.1 }) (upgrades_so kind base files folder folder' case e calm.no_folder_fault x)
+  form_stopped (Exercise links turns) folder folder' old new files case c e calm it x =
+      exercised_stopped links turns (exact.sources OfConfig chain) old new calm.no_out_fault case c (record { trail = it.0; comes = it.1 }) x
 
   -- the first file that would be too large
   form_large : (form : Form) (folder folder' : Shelf) (old new : Scene) (files : Files) (case : Case) (targets : List Target) (file : List ℕ) → folder.files ≡ Some files
@@ -164,10 +203,15 @@ module _ (exact : PassesAreExact) (law : DepthsDoNotMatter) where
       went_large source base turns files (exact.sources source base) folder folder' old new it.1.configured it.1.objects
       (record { trail = it.0; comes = it.1.comes }) it.1.their case file (is_first _ file (subst (λ ts. IsFirstTooLarge ts file) it.2 first))
       (goes_so source base turns files folder folder' old new case e calm.no_folder_fault x)
+  form_large (Show kind base) folder folder' old new files case targets file e calm it first x = absurd it
+  form_large (Upgrade kind base) folder folder' old new files case targets file e calm it first x = absurd it
+  form_large (Exercise links turns) folder folder' old new files case targets file e calm it first x =
+      exercised_large links turns (exact.sources OfConfig chain) old new calm.no_out_fault it.1.configured it.1.objects
+      (record { trail = it.0; comes = it.1.comes }) it.1.their case file (is_first _ file (subst (λ ts. IsFirstTooLarge ts file) it.2 first)) x
 
   -- compile and bind
   form_stored : (form : Form) (folder folder' : Shelf) (old new : Scene) (files : Files) (case : Case) (targets : List Target) → folder.files ≡ Some files
-      → NoFault folder folder' old new → IsCompileOrBind form → MakesOver form files targets → All IsSmall targets → FormComes form folder folder' old new case
+      → NoFault folder folder' old new → WritesAlone form → MakesOver form files targets → All IsSmall targets → FormComes form folder folder' old new case
       → ((case ≡ Done) × StoresAll targets folder.files folder'.files) ⊎ (case ≡ Memory)
   form_stored (Compile base) folder folder' old new files case targets e calm is it small x =
       made_whole (module_in (module_file base)) (OfCompile base) files (exact.modules (module_file base)) (compiles_likely base) folder folder' case it.1 targets
@@ -180,6 +224,9 @@ module _ (exact : PassesAreExact) (law : DepthsDoNotMatter) where
       (record { trail = it.0; comes = it.3 }) (it.2, it.4, it.5) small (bind_made base files folder folder' case e calm.no_folder_fault x)
   form_stored (Run base turns) folder folder' old new files case targets e calm is it small x = absurd is
   form_stored (Go source base turns) folder folder' old new files case targets e calm is it small x = absurd is
+  form_stored (Show kind base) folder folder' old new files case targets e calm is it small x = absurd is
+  form_stored (Upgrade kind base) folder folder' old new files case targets e calm is it small x = absurd it
+  form_stored (Exercise links turns) folder folder' old new files case targets e calm is it small x = absurd is
 
   module _ (words : List (List ℕ)) (before after : World) (s : Status) (case : Case) (comes : Comes words before.folder after.folder before.scene after.scene case)
       (tells : Tells case before.err after.err s) where
@@ -203,6 +250,13 @@ module _ (exact : PassesAreExact) (law : DepthsDoNotMatter) where
         (record { trail = trail; comes = m.comes }) m.their case i (are_small _ small) first
         (goes_so source base turns files before.folder after.folder before.scene after.scene case call.told call.no_fault.no_folder_fault
         (comes_of (Go source base turns) files call)))
+
+    lacking_within : IsUnresolvedWithin words before after s
+    lacking_within links turns trail i has calm m small first =
+        answered case _ before.err after.err s tells
+        (exercised_lacking links turns (exact.sources OfConfig chain) before.scene after.scene calm.no_out_fault m.configured m.objects
+        (record { trail = trail; comes = m.comes }) m.their case i (are_small _ small) first
+        (of_its_form words before.folder after.folder before.scene after.scene (Exercise links turns) case has comes))
 
     lacking_image : IsNotLoaded words before after s
     lacking_image base turns files trail parts i call reads first =
@@ -233,6 +287,26 @@ module _ (exact : PassesAreExact) (law : DepthsDoNotMatter) where
         (loads_so base turns files before.folder after.folder before.scene after.scene case call.told call.no_fault.no_folder_fault
         (comes_of (Run base turns) files call)))
 
+    lists : IsListed words before after s
+    lists kind base files trail text call reads =
+        told case Done (PrintsAll text before.scene.out after.scene.out) before.err after.err s tells
+        (showed_whole kind base files (exact.listings kind (kind_file kind base)) before.scene after.scene case text (record { trail = trail; comes = reads })
+        (shows_so kind base files before.folder after.folder before.scene after.scene case call.told call.no_fault.no_folder_fault call.no_fault.no_out_fault
+        (comes_of (Show kind base) files call)))
+
+    upgrades : IsUpgraded words before after s
+    upgrades kind base files trail v call reads =
+        told case Done (StoresAll (over kind base v) before.folder.files after.folder.files) before.err after.err s tells
+        (renewed_whole kind base files before.folder after.folder case v (record { trail = trail; comes = reads })
+        (upgrades_so kind base files before.folder after.folder case call.told call.no_fault.no_folder_fault (comes_of (Upgrade kind base) files call)))
+
+    exercises : IsExercised words before after s
+    exercises links turns trail output c has calm m small all d =
+        told case c _ before.err after.err s tells
+        (exercised_whole links turns (exact.sources OfConfig chain) before.scene after.scene calm.no_out_fault m.configured m.objects
+        (record { trail = trail; comes = m.comes }) m.their (are_small _ small) all output c d case
+        (of_its_form words before.folder after.folder before.scene after.scene (Exercise links turns) case has comes))
+
     answer : Answered words before after s
     answer = record {
       case = case;
@@ -243,10 +317,14 @@ module _ (exact : PassesAreExact) (law : DepthsDoNotMatter) where
       refused = refuses;
       too_large = refuses_large;
       unresolved = lacking;
+      unresolved_within = lacking_within;
       not_loaded = lacking_image;
       stored = stores;
       complete = complete;
       run = runs_image;
+      listed = lists;
+      upgraded = upgrades;
+      exercised = exercises;
     }
 
   pub is_answered : CasesAreAnswers

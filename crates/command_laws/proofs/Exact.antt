@@ -24,6 +24,7 @@ use Rattle.command_rules.specs.Objects.{HoldsObject, HoldsImage, object_in, imag
 use Rattle.command_rules.specs.Passes.{IsExact, decided}
 use Rattle.command_rules.proofs.PassLaws.{decided_exact, given_exact, from_file_exact, and_then_exact, each_exact}
 use Rattle.command_laws.specs.Laws.{PassesAreExact}
+use Rattle.command_laws.proofs.Holding.{listing_exact, values_alike}
 use Rattle.command_laws.proofs.Parts.{decodes_one, object_one, image_one, begins_one, checks_one, defines_one, configures_one, grows_one, binds_one}
 
 interface_exact : (asked : Option (List ℕ)) → IsExact (interface_for asked)
@@ -118,4 +119,6 @@ module _ (begin : TextsBeginOnce) (programs : ProgramsComeToOne) (definitions : 
     images = image_exact;
     bound = bound_exact;
     sources = source_exact;
+    listings = listing_exact;
+    values = values_alike;
   }

@@ -2,12 +2,17 @@ pub mod Parts
 pub mod Exact
 pub mod Bases
 pub mod OneForm
+pub mod Keeping
 pub mod OneEnd
 pub mod Sizes
 pub mod Likeness
 pub mod Came
+pub mod Versions
 pub mod Making
+pub mod Holding
+pub mod Showing
 pub mod Going
+pub mod Exercising
 pub mod Loading
 pub mod OneCase
 pub mod Answering

@@ -26,7 +26,7 @@ pub data Kept (targets : List Target) (folder folder' : Shelf) : Case → Type 0
   large : (file : List ℕ) → IsFirst (map sized targets) file → Kept targets folder folder' (Refused file TooLarge)
   whole : StoresAll targets folder.files folder'.files → Kept targets folder folder' Done
 
-not_kept : (targets : List Target) (trail : Trail) (folder folder' : Shelf) (case : Case) → IsStill folder folder'
+pub not_kept : (targets : List Target) (trail : Trail) (folder folder' : Shelf) (case : Case) → IsStill folder folder'
     → NotStored targets trail folder folder' case → case ≡ Memory
 not_kept targets trail folder folder' case still (NotStored.failed before after t is files rose called) = absurd (still t.file rose)
 not_kept targets trail folder folder' case still (NotStored.memory before after t is files) = refl

@@ -14,6 +14,7 @@ use Rattle.frame_machine.specs.Running.{AreBytes, IsInput}
 use Rattle.line_pieces.specs.Outputs.{PrintsAll}
 use Rattle.command_rules.specs.Case.{Case, status_of}
 use Rattle.command_rules.specs.Complete.{Does}
+use Rattle.command_rules.specs.Exercise.{IsNoEnd}
 use Rattle.command_rules.specs.Ends.{Ends, AsMeant, IsMeant, Runs, RunsTo, TellsBytes, TellsInput, ended, read_fault, write_fault}
 use Rattle.command_rules.specs.Shown.{Names, IsShownAs, case_of_end, case_of_run}
 use Rattle.command_rules.specs.Worlds.{Scene}
@@ -41,17 +42,20 @@ same_end P turns i j o q a b l m s t e x y = sym x.its_end ∙ ap (λ z. (outcom
 same_output : (P : Program) (turns : ℕ) (i j o q : List ℕ) (a b : Answer) (l m s t : ℕ) → i ≡ j → Means P i End turns o a l s → Means P j End turns q b m t → o ≡ q
 same_output P turns i j o q a b l m s t e x y = sym x.its_output ∙ ap (λ z. (outcome P z End turns).state.output) e ∙ y.its_output
 
+same_left : (P : Program) (turns : ℕ) (i j o q : List ℕ) (a b : Answer) (l m s t : ℕ) → i ≡ j → Means P i End turns o a l s → Means P j End turns q b m t → l ≡ m
+same_left P turns i j o q a b l m s t e x y = sym x.its_turns ∙ ap (λ z. (outcome P z End turns).state.turns) e ∙ y.its_turns
+
 pub told_is : (told : Option (List ℕ)) (input used : List ℕ) → told ≡ Some input → IsInput told used → used ≡ input
 told_is told input used e is = sym (subst (λ x. IfSome x (λ all. all ≡ used)) e is.same)
 
 shown_alike : (P : Program) (a b : Answer) (x y : Case) → a ≡ b → IsShownAs P a x → IsShownAs P b y → x ≡ y
 shown_alike P a b x y e h k = one_shown P a x y h (subst (λ z. IsShownAs P z y) (sym e) k)
 
-told_bytes : (old : Scene) (input : List ℕ) → TellsInput old input → TellsBytes old
+pub told_bytes : (old : Scene) (input : List ℕ) → TellsInput old input → TellsBytes old
 told_bytes old input tells = subst (λ x. IfSome x AreBytes) (sym tells.0) tells.1
 
 -- a run, and what is meant
-run_does : (P : Program) (turns : ℕ) (old new : Scene) (output : List ℕ) (case x : Case) (d : Does P turns old output x) (o : Outcome)
+pub run_does : (P : Program) (turns : ℕ) (old new : Scene) (output : List ℕ) (case x : Case) (d : Does P turns old output x) (o : Outcome)
     → IsMeant P turns o old new case → (case ≡ x) × PrintsAll output old.out new.out
 run_does P turns old new output case x d o it =
     let e : it.ran.input ≡ d.input = told_is old.input.left d.input it.ran.input d.tells.0 it.ran.is_input in (
@@ -62,6 +66,33 @@ run_does P turns old new output case x d o it =
           (same_output P turns it.ran.input d.input it.ran.output output it.ran.answer d.end o.left d.left it.ran.taken d.taken e it.ran.means d.means)
           it.ran.appends,
     )
+
+-- and the turns that are left
+pub run_left : (P : Program) (turns : ℕ) (old new : Scene) (output : List ℕ) (case x : Case) (d : Does P turns old output x) (o : Outcome)
+    → IsMeant P turns o old new case → o.left ≡ d.left
+run_left P turns old new output case x d o it =
+    same_left P turns it.ran.input d.input it.ran.output output it.ran.answer d.end o.left d.left it.ran.taken d.taken
+    (told_is old.input.left d.input it.ran.input d.tells.0 it.ran.is_input) it.ran.means d.means
+
+-- a run that has come to its end is meant
+pub meant_at : (P : Program) (turns : ℕ) (old new : Scene) (case : Case) (r : Result Outcome RunFault) (o : Outcome) → TellsBytes old → r ≡ Ok o
+    → AsMeant P turns old new case r → IsMeant P turns o old new case
+meant_at P turns old new case r o tells e meant =
+    let ok : AsMeant P turns old new case (Ok o) = subst (AsMeant P turns old new case) e meant in ok tells
+
+-- a program's end is shown as no case that is none
+pub shown_end : (P : Program) (a : Answer) (x : Case) → IsShownAs P a x → IsNoEnd x → ⊥
+shown_end P Normal x h none = subst IsNoEnd h none
+shown_end P (Uncaught s) x h none = subst IsNoEnd h none
+shown_end P Spent x h none = subst IsNoEnd h none
+shown_end P FrameLimit x h none = subst IsNoEnd h none
+shown_end P Broken x h none = h
+shown_end P (Gives vs) x h none = h
+shown_end P (Go f p) x h none = h
+shown_end P (Resumed vs) x h none = h
+shown_end P Rejected x h none = h
+shown_end P (Retried n) x h none = h
+shown_end P (Continued n) x h none = h
 
 HasEnded : Result Outcome RunFault → Type 0
 HasEnded (Ok o) = Unit {0}

@@ -1,11 +1,11 @@
 -- A command line has one form at most.
-use Rattle.std.proofs.Common.{◌≡◌, ℕ, ◌<◌, ◌^◌, List, [], ◌∷◌, ◌++◌, length, nat_eq, Some, codes, decimal, refl, sym, ◌∙◌, ap, arith}
+use Rattle.std.proofs.Common.{◌≡◌, ℕ, ◌<◌, ◌≤◌, ◌^◌, List, [], ◌∷◌, ◌++◌, length, nat_eq, Some, codes, decimal, refl, sym, ◌∙◌, ap, subst, arith}
 use Rattle.std.specs.Prelude.{if◌then◌else◌}
 use Rattle.std.proofs.lemmas.Fmt.{decimal_injective}
 use Rattle.std.proofs.lemmas.List.{append_cancel_right}
 use Rattle.std.proofs.lemmas.Option.{same_Some}
 use Rattle.mesa_base.specs.Stamp.{stamp_of}
-use Rattle.command_rules.specs.Forms.{Source, OfModule, OfConfig, source_file, Form, Compile, Define, Bind, Run, Go, HasForm, compile, define, bind, run, go}
+use Rattle.command_rules.specs.Forms.{Source, OfModule, OfConfig, source_file, FileKind, InterfaceFile, ObjectFile, ImageFile, kind_file, most_links, Form, Compile, Define, Bind, Run, Go, Show, Upgrade, Exercise, HasForm, compile, define, bind, run, go, list, upgrade, exercise}
 
 -- ---- the names of files
 
@@ -32,6 +32,26 @@ same_file OfModule OfConfig a b e = absurd (no_both a b e)
 same_file OfConfig OfModule a b e = absurd (no_both b a (sym e))
 same_file OfConfig OfConfig a b e = (refl, append_cancel_right a b (codes ".config") e)
 
+-- the kind of a file that is listed or upgraded, by its last letter
+kind_at : ℕ → FileKind
+kind_at last = if nat_eq last 102 then InterfaceFile else (if nat_eq last 98 then ObjectFile else ImageFile)
+
+kind_told : (kind : FileKind) (base : List ℕ) → kind_at (last_or 0 (kind_file kind base)) ≡ kind
+unfolding kind_at last_or
+kind_told InterfaceFile base = ap kind_at (last_behind base 0 46 (codes "mif"))
+kind_told ObjectFile base = ap kind_at (last_behind base 0 46 (codes "mob"))
+kind_told ImageFile base = ap kind_at (last_behind base 0 46 (codes "mim"))
+
+base_told : (kind : FileKind) (a b : List ℕ) → kind_file kind a ≡ kind_file kind b → a ≡ b
+base_told InterfaceFile a b e = append_cancel_right a b (codes ".mif") e
+base_told ObjectFile a b e = append_cancel_right a b (codes ".mob") e
+base_told ImageFile a b e = append_cancel_right a b (codes ".mim") e
+
+same_kind : (s t : FileKind) (a b : List ℕ) → kind_file s a ≡ kind_file t b → (s ≡ t) × (a ≡ b)
+same_kind s t a b e =
+    let k : s ≡ t = sym (kind_told s a) ∙ ap (λ f. kind_at (last_or 0 f)) e ∙ kind_told t b in
+    (k, base_told t a b (subst (λ z. kind_file z a ≡ kind_file t b) k e))
+
 -- ---- words
 
 first : List (List ℕ) → List ℕ
@@ -53,6 +73,13 @@ data Said (words : List (List ℕ)) : Form → Type 0 where
   is_run : (base : List ℕ) (turns : ℕ) → words ≡ codes "run" ∷ base ∷ decimal turns ∷ [] → turns < 2 ^ 64 → Said words (Run base turns)
   is_go : (source : Source) (base : List ℕ) (turns : ℕ) → words ≡ codes "go" ∷ source_file source base ∷ decimal turns ∷ [] → turns < 2 ^ 64
       → Said words (Go source base turns)
+  is_list : (kind : FileKind) (base : List ℕ) → words ≡ codes "list" ∷ kind_file kind base ∷ [] → Said words (Show kind base)
+  is_upgrade : (kind : FileKind) (base : List ℕ) → words ≡ codes "upgrade" ∷ kind_file kind base ∷ [] → Said words (Upgrade kind base)
+  is_exercise : (links turns : ℕ) → words ≡ codes "exercise" ∷ decimal links ∷ decimal turns ∷ [] → links < 2 ^ 64 → turns < 2 ^ 64
+      → Said words (Exercise links turns)
+
+few_links : (links : ℕ) → links ≤ most_links → links < 2 ^ 64
+few_links links few = omega (arith, few)
 
 said : (words : List (List ℕ)) (form : Form) → HasForm words form → Said words form
 said words form (compile base is) = is_compile base refl
@@ -60,6 +87,9 @@ said words form (define base word stamp is told) = is_define base word stamp ref
 said words form (bind base is) = is_bind base refl
 said words form (run base turns is few) = is_run base turns refl few
 said words form (go source base turns is few) = is_go source base turns refl few
+said words form (list kind base is) = is_list kind base refl
+said words form (upgrade kind base is) = is_upgrade kind base refl
+said words form (exercise links turns some most few) = is_exercise links turns refl (few_links links most) few
 
 -- ---- forms of two kinds differ in the first word, or in how many words there are
 
@@ -69,6 +99,9 @@ data Kind : Type 0 where
   Binds : Kind
   Runs : Kind
   Goes : Kind
+  Shows : Kind
+  Upgrades : Kind
+  Exercises : Kind
 
 kind_of : Form → Kind
 kind_of (Compile base) = Compiles
@@ -76,21 +109,37 @@ kind_of (Define base stamp) = Defines
 kind_of (Bind base) = Binds
 kind_of (Run base turns) = Runs
 kind_of (Go source base turns) = Goes
+kind_of (Show kind base) = Shows
+kind_of (Upgrade kind base) = Upgrades
+kind_of (Exercise links turns) = Exercises
 
--- the last letter of the first word, and the words behind it
+first_letter : List ℕ → ℕ
+first_letter [] = 0
+first_letter (x ∷ xs) = x
+
 letter : List (List ℕ) → ℕ
-letter words = last_or 0 (first words)
+letter words = first_letter (first words)
 
+-- by the first letter of the first word, and how many words there are
 kind_by : (letter many : ℕ) → Kind
-kind_by letter many = if nat_eq letter 101 then (if nat_eq many 2 then Compiles else Defines) else (if nat_eq letter 100 then Binds else (if nat_eq letter 110 then Runs else Goes))
+kind_by letter many =
+    if nat_eq letter 99 then (if nat_eq many 2 then Compiles else Defines)
+    else (if nat_eq letter 98 then Binds
+    else (if nat_eq letter 114 then Runs
+    else (if nat_eq letter 103 then Goes
+    else (if nat_eq letter 108 then Shows
+    else (if nat_eq letter 117 then Upgrades else Exercises)))))
 
 its_kind : (words : List (List ℕ)) (f : Form) → Said words f → kind_by (letter words) (length words) ≡ kind_of f
-unfolding kind_of kind_by letter first last_or
+unfolding kind_of kind_by letter first first_letter
 its_kind words f (is_compile base e) = ap (λ w. kind_by (letter w) (length w)) e
 its_kind words f (is_define base word stamp e told) = ap (λ w. kind_by (letter w) (length w)) e
 its_kind words f (is_bind base e) = ap (λ w. kind_by (letter w) (length w)) e
 its_kind words f (is_run base turns e few) = ap (λ w. kind_by (letter w) (length w)) e
 its_kind words f (is_go source base turns e few) = ap (λ w. kind_by (letter w) (length w)) e
+its_kind words f (is_list kind base e) = ap (λ w. kind_by (letter w) (length w)) e
+its_kind words f (is_upgrade kind base e) = ap (λ w. kind_by (letter w) (length w)) e
+its_kind words f (is_exercise links turns e some few) = ap (λ w. kind_by (letter w) (length w)) e
 
 one_kind : (words : List (List ℕ)) (f g : Form) → Said words f → Said words g → kind_of f ≡ kind_of g
 one_kind words f g x y = sym (its_kind words f x) ∙ its_kind words g y
@@ -108,6 +157,13 @@ one_said words f g (is_run a n e few) (is_run b m d less) same =
     ap (λ z. Run z n) (ap second (sym e ∙ d)) ∙ ap (Run b) (decimal_injective n m few less (ap third (sym e ∙ d)))
 one_said words f g (is_go s a n e few) (is_go t b m d less) same =
     go_is s t a b n m (same_file s t a b (ap second (sym e ∙ d))) (decimal_injective n m few less (ap third (sym e ∙ d)))
+one_said words f g (is_list s a e) (is_list t b d) same =
+    let p = same_kind s t a b (ap second (sym e ∙ d)) in ap (λ z. Show z a) p.0 ∙ ap (Show t) p.1
+one_said words f g (is_upgrade s a e) (is_upgrade t b d) same =
+    let p = same_kind s t a b (ap second (sym e ∙ d)) in ap (λ z. Upgrade z a) p.0 ∙ ap (Upgrade t) p.1
+one_said words f g (is_exercise l n e few less) (is_exercise k m d one some) same =
+    ap (λ z. Exercise z n) (decimal_injective l k few one (ap second (sym e ∙ d)))
+    ∙ ap (λ z. Exercise k z) (decimal_injective n m less some (ap third (sym e ∙ d)))
 one_said words f g x y same = cc
 
 pub one_form : (words : List (List ℕ)) (f g : Form) → HasForm words f → HasForm words g → f ≡ g

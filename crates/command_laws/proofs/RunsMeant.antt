@@ -126,11 +126,17 @@ module _ (P : Program) (image : Image) (of : IsImageOf P image) (turns : ℕ) (o
       cut_off image turns old.input.left new.input.left old.out.holds new.out.holds counts.0
       (counts.2, cuts_off image turns counts.0 old.input.left new.input.left old.out.holds new.out.holds of.stands.valid counts.2) P of bytes
 
-  pub runs_meant : (case : Case) → RunsTo (image_names image) image turns old new case → Ends P image turns old new case
-  runs_meant case it =
-      let named_so : RunsTo (program_names P) image turns old new case = subst (λ names. RunsTo names image turns old new case) (names_alike P image of.stands) it in
-      record { machine = named_so; meant = as_meant case named_so.end named_so.runs named_so.is_case }
+  pub runs_meant : (case : Case) (ran : RunsTo (image_names image) image turns old new case)
+      → (e : Ends P image turns old new case) × (e.machine.end ≡ ran.end)
+  runs_meant case ran =
+      let named_so : RunsTo (program_names P) image turns old new case = record {
+        end = ran.end;
+        runs = ran.runs;
+        is_case = ran.is_case ∙ ap (λ names. case_of_run names ran.end) (names_alike P image of.stands);
+      } in
+      (record { machine = named_so; meant = as_meant case ran.end ran.runs named_so.is_case }, refl)
 
 -- the image is linked from the modules of a tree, and wants nothing but the host's items
 pub linked_runs_meant : RunsAreMeant
-linked_runs_meant t modules image turns old new case linked host it = runs_meant (program_of t modules) image (meant t modules image linked host) turns old new case it
+linked_runs_meant t modules image turns old new case linked host ran =
+    runs_meant (program_of t modules) image (meant t modules image linked host) turns old new case ran

@@ -65,7 +65,7 @@ are_small (x ∷ xs) h = (h zero x (omega arith), are_small xs (λ k d less. h (
 -- ---- what is stored is not too large
 
 -- a file has the bytes of its spelling
-file_is : {A : Type 0} (letters : List ℕ) (f : ℕ → Form A) (version : ℕ) (a : A) (bytes : List ℕ) → IsFile letters f version a bytes
+pub file_is : {A : Type 0} (letters : List ℕ) (f : ℕ → Form A) (version : ℕ) (a : A) (bytes : List ℕ) → IsFile letters f version a bytes
     → bytes ≡ letters ++ (versioned f).spell (version, a)
 file_is letters f version a bytes h =
     sym (take-append-drop 3 bytes) ∙ ap (λ x. x ++ drop 3 bytes) h.begins

@@ -1,6 +1,7 @@
 -- Each pass is exact, and what a call answers follows from its case (rule of this project).
-use Rattle.std.specs.Prelude.{◌≡◌, ℕ, List, length, Option}
+use Rattle.std.specs.Prelude.{◌≡◌, ◌↔◌, ℕ, ◌≤◌, List, length, Option, Some}
 use Rattle.mesa_base.specs.Outside.{Files, Rose}
+use Rattle.mesa_base.specs.declared.limits.TheConstants.{FILE_BYTES}
 use Rattle.mesa_base.specs.declared.status.Status.{Status}
 use Rattle.mesa_types.specs.Typed.{Module}
 use Rattle.source_meaning.specs.Program.{Program}
@@ -15,13 +16,25 @@ use Rattle.command_rules.specs.Comes.{Comes}
 use Rattle.command_rules.specs.Complete.{Answered, Tells}
 use Rattle.command_rules.specs.Configurations.{Configured, config_in, source_in}
 use Rattle.command_rules.specs.Ends.{Ends, RunsTo, TellsInput}
-use Rattle.command_rules.specs.Forms.{Form, HasForm, Source}
+use Rattle.command_rules.specs.Forms.{FileKind, Form, HasForm, Source}
+use Rattle.command_rules.specs.Listing.{Holds, listing_in, value_in}
 use Rattle.command_rules.specs.Modules.{interface_for, interface_in, module_in}
 use Rattle.command_rules.specs.Objects.{image_in, object_in}
-use Rattle.command_rules.specs.Passes.{Has, IsExact, Trail}
+use Rattle.command_rules.specs.Passes.{Outcome, Has, Stops, IsExact, Trail}
 use Rattle.command_rules.specs.Shown.{image_names}
 use Rattle.command_rules.specs.Worlds.{Scene, World}
+use Rattle.command_rules.specs.Writing.{Value, IsFileOf, size_of}
 use Rattle.line_pieces.specs.Outputs.{HasFaulted}
+
+-- one stop, or values that have one file in version 2: they differ in the depths of instructions at most
+abbrev pub AreAlike : Outcome Case Value → Outcome Case Value → Type 0
+AreAlike (Has v) (Has w) = (size_of v ≡ size_of w) × ((bytes : List ℕ) → IsFileOf v bytes ↔ IsFileOf w bytes)
+AreAlike (Stops c) (Stops d) = c ≡ d
+AreAlike _ _ = ⊥
+
+abbrev pub ValuesAreAlike : FileKind → (file : List ℕ) → Type 0
+ValuesAreAlike kind file = (files : Files) (t u : Trail) (o r : Outcome Case Value) → (value_in kind file).comes (Some files) t o
+    → (value_in kind file).comes (Some files) u r → (t ≡ u) × AreAlike o r
 
 -- of files that are told one thing comes, after the same files
 pub record PassesAreExact : Type 0 where
@@ -33,11 +46,18 @@ pub record PassesAreExact : Type 0 where
   pub images : (file : List ℕ) → IsExact (image_in file)
   pub bound : (base : List ℕ) → IsExact (bound_in base)
   pub sources : (source : Source) (base : List ℕ) → IsExact (source_in source base)
+  pub listings : (kind : FileKind) (file : List ℕ) → IsExact (listing_in kind file)
+  pub values : (kind : FileKind) (file : List ℕ) → ValuesAreAlike kind file
 
 -- what is configured has as many bases as modules, so that each module's object has its file
 abbrev pub BasesFit : Type 0
 BasesFit = (source : Source) (base : List ℕ) (files : Option Files) (trail : Trail) (c : Configured) → (source_in source base).comes files trail (Has c)
     → length c.bases ≡ length c.modules
+
+-- what a file holds has as many bytes in version 2 as that file, and so is not too large
+abbrev pub ValuesKeepTheirSize : Type 0
+ValuesKeepTheirSize = (kind : FileKind) (file bytes : List ℕ) (v : Value) → Holds file bytes kind (Has v)
+    → (size_of v ≡ length bytes) × (size_of v ≤ FILE_BYTES)
 
 -- a command line has one form at most
 abbrev pub WordsHaveOneForm : Type 0
@@ -58,7 +78,9 @@ abbrev pub CasesAreAnswers : Type 0
 CasesAreAnswers = (words : List (List ℕ)) (before after : World) (s : Status)
     → (case : Case) × Comes words before.folder after.folder before.scene after.scene case × Tells case before.err after.err s → Answered words before after s
 
--- how the machine runs an image that is linked from checked modules, and that wants nothing but the host's items, is how their program's run ends
+-- how the machine runs an image that is linked from checked modules, and that wants nothing but the host's items, is how their program's run ends, by
+-- the machine's very end
 abbrev pub RunsAreMeant : Type 0
 RunsAreMeant = (t : Tree) (modules : List Module) (image : Image) (turns : ℕ) (old new : Scene) (case : Case) → IsLinkedFrom t modules image → WantsTheHost image
-    → RunsTo (image_names image) image turns old new case → Ends (program_of t modules) image turns old new case
+    → (ran : RunsTo (image_names image) image turns old new case)
+    → (e : Ends (program_of t modules) image turns old new case) × (e.machine.end ≡ ran.end)

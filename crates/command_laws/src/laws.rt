@@ -1,7 +1,7 @@
 //! The laws above the cases of a call.
-ghost use Rattle.command_laws.specs.Laws.{BasesFit, CasesAreAnswers, PassesAreExact, RunsAreMeant, RunsEndOnce, WordsHaveOneForm};
+ghost use Rattle.command_laws.specs.Laws.{BasesFit, CasesAreAnswers, PassesAreExact, RunsAreMeant, RunsEndOnce, ValuesKeepTheirSize, WordsHaveOneForm};
 ghost use Rattle.command_rules.specs.Complete.{OneCaseComes};
-ghost use Rattle.command_rules.specs.Order.{OrderIsKept};
+ghost use Rattle.command_rules.specs.Order.{FormsKeep, NeverAnswered, OrderIsKept};
 
 use checked_texts::{definitions_come_to_one, programs_come_to_one, texts_begin_once};
 use depth_laws::depths_do_not_matter;
@@ -26,6 +26,22 @@ pub fn bases_fit()
 /// A law: `go` looks at sizes before it names an item that is none of the host's, and writes nothing before both; nothing is run before all is written.
 pub fn order_is_kept()
     ensures { OrderIsKept }
+{}
+
+/// A law: `list`, `run` and `exercise` change no file, all forms but `run` and `go` leave the input, those that write a file alone leave `out`, those
+/// that run nothing the steps, and `exercise` the folder.
+pub fn forms_keep()
+    ensures { FormsKeep }
+{}
+
+/// A law: which forms never answer that the input, `out` or the folder failed, or that a file is too large.
+pub fn never_answered()
+    ensures { NeverAnswered }
+{}
+
+/// A law: what a file holds has as many bytes in version 2 as that file, so `upgrade` writes no file that is too large.
+pub fn values_keep_their_size()
+    ensures { ValuesKeepTheirSize }
 {}
 
 /// A law: a command line has one form at most.

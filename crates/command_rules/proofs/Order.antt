@@ -1,5 +1,5 @@
 -- What comes before what: sizes before items that are none of the host's, both before any file is written, and that before the run.
-use Rattle.std.proofs.Common.{◌≡◌, ℕ, List, Result, Ok, Err, subst}
+use Rattle.std.proofs.Common.{◌≡◌, ℕ, List, Result, Ok, Err, ◌∙◌, ap, subst}
 use Rattle.mesa_base.specs.declared.status.Status.{Status}
 use Rattle.mesa_base.specs.declared.status.Status.TheVariants as status
 use Rattle.interface_records.specs.declared.wanted.WantedItem.{WantedItem}
@@ -11,10 +11,11 @@ use Rattle.frame_machine.specs.declared.outcome.RunFault.{RunFault}
 use Rattle.frame_machine.specs.declared.outcome.RunFault.TheVariants as fault
 use Rattle.command_rules.specs.Case.{Case, Done, Uncaught, Spent, FrameLimit, Refused, Absent, ReadFault, WriteFault, FolderFault, Memory, Usage, status_of, IsBeforeWrite, IsBeforeRun}
 use Rattle.command_rules.specs.declared.trouble.Trouble.TheVariants.{Unresolved}
-use Rattle.command_rules.specs.Comes.{Compiles, not_compiled, compiled, Defines, not_defined, defined, Binds, not_bound, bound, Loads, not_read, Goes, not_configured, Comes}
+use Rattle.command_rules.specs.Comes.{Compiles, not_compiled, compiled, Defines, not_defined, defined, Binds, not_bound, bound, Loads, not_read, Goes, not_configured, Shows, not_shown, shown, not_printed, Upgrades, not_held, Exercises, no_end, ended, not_summed, Comes}
 use Rattle.command_rules.specs.Configurations.{program, source_in}
 use Rattle.command_rules.specs.Ends.{RunsTo}
-use Rattle.command_rules.specs.Forms.{Source}
+use Rattle.command_rules.specs.Exercise.{chain, exercise_shelf, within}
+use Rattle.command_rules.specs.Forms.{Source, OfConfig, FileKind}
 use Rattle.command_rules.specs.Order.{HasSmall, HasStored, OrderIsKept}
 use Rattle.command_rules.specs.Passes.{Pass, Trail}
 use Rattle.command_rules.specs.Passing.{Fails, refused, failed, memory}
@@ -73,6 +74,25 @@ goes_before source base turns folder folder' old new case (Goes.not_stored trail
 goes_before source base turns folder folder' old new case (Goes.ran trail m _ all stored ends) h =
     absurd (ran_so (program_names (program m.configured)) _ turns old new case ends.machine h)
 
+shows_before : (kind : FileKind) (base : List ℕ) (folder folder' : Shelf) (old new : Scene) (case : Case) → Shows kind base folder folder' old new case
+    → IsBeforeRun (status_of case) → new ≡ old
+shows_before kind base folder folder' old new case (not_shown _ why onward same) h = same
+shows_before kind base folder folder' old new case (Shows.no_memory text gives same) h = same
+shows_before kind base folder folder' old new case (shown text gives prints input steps) h = absurd h
+shows_before kind base folder folder' old new case (not_printed text gives rose prints input steps) h = absurd h
+
+as_within : (old mid new : Scene) → mid ≡ within old → new.input ≡ old.input → new.out ≡ mid.out → new.steps ≡ mid.steps → new ≡ old
+as_within old mid new same input out steps =
+    λ i. record { input = input i; out = (out ∙ ap (λ (s : Scene). s.out) same) i; steps = (steps ∙ ap (λ (s : Scene). s.steps) same) i }
+
+exercises_before : (links turns : ℕ) (old new : Scene) (case : Case) → Exercises links turns old new case → IsBeforeRun (status_of case) → new ≡ old
+exercises_before links turns old new case (Exercises.no_memory same) h = same
+exercises_before links turns old new case (no_end folder mid _ goes none still dry out input steps) h =
+    as_within old mid new (goes_before OfConfig chain turns (exercise_shelf links) folder (within old) mid case goes h) input out steps
+exercises_before links turns old new case (ended mid _ e prints input steps) h =
+    absurd (ran_so (program_names (program e.made.configured)) _ turns (within old) mid case e.ends.machine h)
+exercises_before links turns old new case (not_summed mid _ e rose prints input steps) h = absurd h
+
 run_before : (words : List (List ℕ)) (folder folder' : Shelf) (old new : Scene) (case : Case) → Comes words folder folder' old new case
     → IsBeforeRun (status_of case) → new ≡ old
 run_before words folder folder' old new case (Comes.usage none here same) h = same
@@ -81,10 +101,13 @@ run_before words folder folder' old new case (Comes.defines base stamp _ has it 
 run_before words folder folder' old new case (Comes.binds base _ has it same) h = same
 run_before words folder folder' old new case (Comes.loads base turns _ has it) h = loads_before base turns folder folder' old new case it h
 run_before words folder folder' old new case (Comes.goes source base turns _ has it) h = goes_before source base turns folder folder' old new case it h
+run_before words folder folder' old new case (Comes.shows kind base _ has it) h = shows_before kind base folder folder' old new case it h
+run_before words folder folder' old new case (Comes.upgrades kind base _ has it same) h = same
+run_before words folder folder' old new case (Comes.exercises links turns _ has it here) h = exercises_before links turns old new case it h
 
 -- ---- nothing is written before
 
-not_stored_before : (targets : List Target) (trail : Trail) (folder folder' : Shelf) (case : Case) → NotStored targets trail folder folder' case
+pub not_stored_before : (targets : List Target) (trail : Trail) (folder folder' : Shelf) (case : Case) → NotStored targets trail folder folder' case
     → IsBeforeWrite (status_of case) → ⊥
 not_stored_before targets trail folder folder' case (NotStored.failed before after t is files rose called) h = h
 not_stored_before targets trail folder folder' case (NotStored.memory before after t is files) h = h
@@ -111,7 +134,7 @@ binds_before : (base : List ℕ) (folder folder' : Shelf) (case : Case) → Bind
 binds_before base folder folder' case (not_bound _ why onward) h = onward.files
 binds_before base folder folder' case (bound b image trail _ comes is written) h = writes_before _ trail folder folder' case written h
 
-loads_keep : (base : List ℕ) (turns : ℕ) (folder folder' : Shelf) (old new : Scene) (case : Case) → Loads base turns folder folder' old new case
+pub loads_keep : (base : List ℕ) (turns : ℕ) (folder folder' : Shelf) (old new : Scene) (case : Case) → Loads base turns folder folder' old new case
     → folder'.files ≡ folder.files
 loads_keep base turns folder folder' old new case (not_read _ why onward same) = onward.files
 loads_keep base turns folder folder' old new case (Loads.unresolved parts i gives first same) = gives.asked.onward.files
@@ -129,6 +152,20 @@ goes_unwritten source base turns folder folder' old new case (Goes.not_stored tr
 goes_unwritten source base turns folder folder' old new case (Goes.ran trail m _ all stored ends) h =
     absurd (ran_so (program_names (program m.configured)) _ turns old new case ends.machine (before_both (status_of case) h))
 
+pub shows_keep : (kind : FileKind) (base : List ℕ) (folder folder' : Shelf) (old new : Scene) (case : Case) → Shows kind base folder folder' old new case
+    → folder'.files ≡ folder.files
+shows_keep kind base folder folder' old new case (not_shown _ why onward same) = onward.files
+shows_keep kind base folder folder' old new case (Shows.no_memory text gives same) = gives.asked.onward.files
+shows_keep kind base folder folder' old new case (shown text gives prints input steps) = gives.asked.onward.files
+shows_keep kind base folder folder' old new case (not_printed text gives rose prints input steps) = gives.asked.onward.files
+
+upgrades_before : (kind : FileKind) (base : List ℕ) (folder folder' : Shelf) (case : Case) → Upgrades kind base folder folder' case
+    → IsBeforeWrite (status_of case) → folder'.files ≡ folder.files
+upgrades_before kind base folder folder' case (not_held _ why onward) h = onward.files
+upgrades_before kind base folder folder' case (Upgrades.no_memory v gives) h = gives.asked.onward.files
+upgrades_before kind base folder folder' case (Upgrades.stored v trail comes s) h = absurd h
+upgrades_before kind base folder folder' case (Upgrades.not_stored v trail _ comes it) h = absurd (not_stored_before _ trail folder folder' case it h)
+
 written_before : (words : List (List ℕ)) (folder folder' : Shelf) (old new : Scene) (case : Case) → Comes words folder folder' old new case
     → IsBeforeWrite (status_of case) → folder'.files ≡ folder.files
 written_before words folder folder' old new case (Comes.usage none here same) h = λ i. (here i).files
@@ -137,6 +174,9 @@ written_before words folder folder' old new case (Comes.defines base stamp _ has
 written_before words folder folder' old new case (Comes.binds base _ has it same) h = binds_before base folder folder' case it h
 written_before words folder folder' old new case (Comes.loads base turns _ has it) h = loads_keep base turns folder folder' old new case it
 written_before words folder folder' old new case (Comes.goes source base turns _ has it) h = goes_unwritten source base turns folder folder' old new case it h
+written_before words folder folder' old new case (Comes.shows kind base _ has it) h = shows_keep kind base folder folder' old new case it
+written_before words folder folder' old new case (Comes.upgrades kind base _ has it same) h = upgrades_before kind base folder folder' case it h
+written_before words folder folder' old new case (Comes.exercises links turns _ has it here) h = ap (λ (s : Shelf). s.files) here
 
 -- ---- sizes come before items that are none of the host's
 
@@ -168,13 +208,13 @@ of_files_before (FolderFault file) h = tt
 of_files_before Memory h = tt
 of_files_before Usage h = tt
 
-fails_before : {A : Type 0} (p : Pass Case A) → PassStopsSo p → (folder folder' : Shelf) (case : Case) → Fails p folder folder' case
+pub fails_before : {A : Type 0} (p : Pass Case A) → PassStopsSo p → (folder folder' : Shelf) (case : Case) → Fails p folder folder' case
     → IsBeforeRun (status_of case)
 fails_before p so folder folder' case (refused trail _ comes missed called) = of_files_before case (so folder.files trail case comes)
 fails_before p so folder folder' case (failed trail file asks rose called) = tt
 fails_before p so folder folder' case memory = tt
 
-not_stored_run : (targets : List Target) (trail : Trail) (folder folder' : Shelf) (case : Case) → NotStored targets trail folder folder' case
+pub not_stored_run : (targets : List Target) (trail : Trail) (folder folder' : Shelf) (case : Case) → NotStored targets trail folder folder' case
     → IsBeforeRun (status_of case)
 not_stored_run targets trail folder folder' case (NotStored.failed before after t is files rose called) = tt
 not_stored_run targets trail folder folder' case (NotStored.memory before after t is files) = tt

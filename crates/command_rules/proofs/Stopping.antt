@@ -18,7 +18,8 @@ use Rattle.command_rules.specs.Binding.{object_of, objects_of, binding_of, bound
 use Rattle.command_rules.specs.Case.{Case, Done, Uncaught, Spent, FrameLimit, Refused, Absent, ReadFault, WriteFault, FolderFault, Memory, Usage, Trouble}
 use Rattle.command_rules.specs.declared.trouble.Trouble.TheVariants.{Text, Tree as OfTree, File, Item, Unresolved, TooLarge}
 use Rattle.command_rules.specs.Configurations.{config_in, source_in, tree_in, single_of, bases_of, component_in, modules_of, configuration_of, Grows, fault, Binds, bad, Configures, lexical, syntactic, no_base}
-use Rattle.command_rules.specs.Forms.{Source, OfModule, OfConfig, module_file, config_file, interface_file, object_file}
+use Rattle.command_rules.specs.Forms.{Source, OfModule, OfConfig, FileKind, module_file, config_file, interface_file, object_file}
+use Rattle.command_rules.specs.Listing.{Holds, no_interface, no_object, no_image, value_in, Lists, listing_in}
 use Rattle.command_rules.specs.Modules as m
 use Rattle.command_rules.specs.Modules.{interface_for, interfaces_for, Begun, begun_for, module_in, interface_in, definitions_of, Checks, checked, Defines, defined, Decodes, Begins, begun, refused}
 use Rattle.command_rules.specs.Objects.{HoldsObject, HoldsImage, object_in, image_in, shape_in}
@@ -194,3 +195,21 @@ binding_so file k =
 pub bound_so : (base : List ℕ) → PassStopsSo (bound_in base)
 unfolding bound_in
 bound_so base = and_then_so (config_in (config_file base)) (binding_of (config_file base)) (config_so (config_file base)) (binding_so (config_file base))
+
+-- ---- files that are listed or upgraded
+
+holds_so : (kind : FileKind) (file bytes : List ℕ) → StopsSo (Holds file bytes kind)
+holds_so kind file bytes case (no_interface why h) = tt
+holds_so kind file bytes case (no_object why h) = tt
+holds_so kind file bytes case (no_image why h) = tt
+
+lists_so : (kind : FileKind) (file bytes : List ℕ) → StopsSo (Lists kind file bytes)
+lists_so kind file bytes case (Lists.is_none _ h) = holds_so kind file bytes case h
+
+pub value_so : (kind : FileKind) (file : List ℕ) → PassStopsSo (value_in kind file)
+unfolding value_in
+value_so kind file = from_file_so file (λ bytes. Holds file bytes kind) (holds_so kind file)
+
+pub listing_so : (kind : FileKind) (file : List ℕ) → PassStopsSo (listing_in kind file)
+unfolding listing_in
+listing_so kind file = from_file_so file (Lists kind file) (lists_so kind file)

@@ -1,5 +1,5 @@
 -- When each answer of a call comes, and what it leaves in the folder, in the input and in `out` (rule of this project).
-use Rattle.std.specs.Prelude.{◌≡◌, ℕ, List, [], ◌∷◌, ◌++◌, All, Option}
+use Rattle.std.specs.Prelude.{◌≡◌, ℕ, List, [], ◌∷◌, ◌++◌, length, All, Option, Ok}
 use Rattle.mesa_base.specs.Outside.{Files}
 use Rattle.mesa_types.specs.Typed.{Module}
 use Rattle.interface_records.specs.declared.interface.Interface.{Interface}
@@ -10,12 +10,16 @@ use Rattle.object_files.specs.declared.image.Image.{Image}
 use Rattle.object_files.specs.declared.object.Object.{Object}
 use Rattle.object_rules.specs.ImageForms.{ImagePart}
 use Rattle.link_tables.specs.Linked.{image_of}
+use Rattle.frame_machine.specs.declared.outcome.Outcome.{Outcome}
+use Rattle.line_pieces.specs.Outputs.{HasFaulted, PrintsAll, PrintsPrefix}
 use Rattle.linked_programs.specs.Objects.{IsObjectOf, AreObjectsOf}
 use Rattle.command_rules.specs.Binding.{Bound, IsImageOf, bound_in}
-use Rattle.command_rules.specs.Case.{Case, Refused, Memory, Usage, Unresolved, TooLarge}
+use Rattle.command_rules.specs.Case.{Case, Done, Refused, WriteFault, Memory, Usage, Unresolved, TooLarge}
 use Rattle.command_rules.specs.Configurations.{Configured, left_to_loader, program, source_in}
 use Rattle.command_rules.specs.Ends.{Ends, RunsTo}
-use Rattle.command_rules.specs.Forms.{Source, Compile, Define, Bind, Run, Go, HasForm, HasNoForm, module_file, interface_file, object_file, image_file}
+use Rattle.command_rules.specs.Exercise.{IsNoEnd, chain, exercise_shelf, summary, within}
+use Rattle.command_rules.specs.Forms.{Source, OfConfig, FileKind, Compile, Define, Bind, Run, Go, Show, Upgrade, Exercise, HasForm, HasNoForm, kind_file, module_file, interface_file, object_file, image_file}
+use Rattle.command_rules.specs.Listing.{listing_in, value_in}
 use Rattle.command_rules.specs.Modules.{interface_in, module_in}
 use Rattle.command_rules.specs.Objects.{IsImageWith, image_in}
 use Rattle.command_rules.specs.Passes.{Has, Trail}
@@ -23,7 +27,7 @@ use Rattle.command_rules.specs.Passing.{Fails, Gives}
 use Rattle.command_rules.specs.Reading.{Asked, Onward}
 use Rattle.command_rules.specs.Shown.{image_names}
 use Rattle.command_rules.specs.Worlds.{Shelf, Scene}
-use Rattle.command_rules.specs.Writing.{Target, holding, OfInterface, OfObject, OfImage, IsSmall, IsFirstTooLarge, Stored, NotStored, Written}
+use Rattle.command_rules.specs.Writing.{Target, Value, holding, OfInterface, OfObject, OfImage, IsSmall, IsFirstTooLarge, Stored, NotStored, Written}
 
 -- ---- compile and bind: one file is written
 
@@ -98,6 +102,62 @@ pub data Goes (source : Source) (base : List ℕ) (turns : ℕ) (folder folder' 
       → Stored (targets_of base m) trail folder folder' → Ends (program m.configured) (linked m) turns old new case
       → Goes source base turns folder folder' old new case
 
+-- ---- list FILE: its listing is printed
+
+pub data Shows (kind : FileKind) (base : List ℕ) (folder folder' : Shelf) (old new : Scene) : Case → Type 0 where
+  not_shown : (case : Case) → Fails (listing_in kind (kind_file kind base)) folder folder' case → Onward folder folder' → new ≡ old
+      → Shows kind base folder folder' old new case
+  no_memory : (text : List ℕ) → Gives (listing_in kind (kind_file kind base)) folder folder' text → new ≡ old
+      → Shows kind base folder folder' old new Memory
+  shown : (text : List ℕ) → Gives (listing_in kind (kind_file kind base)) folder folder' text → PrintsAll text old.out new.out
+      → new.input ≡ old.input → new.steps ≡ old.steps → Shows kind base folder folder' old new Done
+  not_printed : (text : List ℕ) → Gives (listing_in kind (kind_file kind base)) folder folder' text → HasFaulted old.out new.out
+      → PrintsPrefix text old.out new.out → new.input ≡ old.input → new.steps ≡ old.steps → Shows kind base folder folder' old new WriteFault
+
+-- ---- upgrade FILE: what it holds is written over it in version 2. That is never too large: both spellings of a value have one length.
+
+pub data Upgrades (kind : FileKind) (base : List ℕ) (folder folder' : Shelf) : Case → Type 0 where
+  not_held : (case : Case) → Fails (value_in kind (kind_file kind base)) folder folder' case → Onward folder folder'
+      → Upgrades kind base folder folder' case
+  no_memory : (v : Value) → Gives (value_in kind (kind_file kind base)) folder folder' v → Upgrades kind base folder folder' Memory
+  stored : (v : Value) (trail : Trail) → (value_in kind (kind_file kind base)).comes folder.files trail (Has v)
+      → Stored (holding (kind_file kind base) v ∷ []) trail folder folder' → Upgrades kind base folder folder' Done
+  not_stored : (v : Value) (trail : Trail) (case : Case) → (value_in kind (kind_file kind base)).comes folder.files trail (Has v)
+      → NotStored (holding (kind_file kind base) v ∷ []) trail folder folder' case → Upgrades kind base folder folder' case
+
+-- ---- exercise N TURNS
+
+-- what an exercise configures, after these files of its own folder were asked for, with the objects of its modules
+abbrev pub MadeWithin : (links : ℕ) → Trail → Type 0
+MadeWithin links trail = Made OfConfig chain (exercise_shelf links).files trail
+
+-- the summary of its run, which ends in this case with so many turns left
+abbrev pub summary_of : {source : Source} {base : List ℕ} {files : Option Files} {trail : Trail} → Made source base files trail → Case → (left : ℕ) → List ℕ
+summary_of m case left = summary (length (linked m).instances) case left
+
+-- `go Chain.config TURNS` writes and runs within the exercise, up to this end of the run; `mid` is what it leaves
+pub record Exercised (links turns : ℕ) (old mid : Scene) (case : Case) : Type 0 where
+  pub trail : Trail
+  pub made : MadeWithin links trail
+  pub folder : Shelf
+  pub hosts : All IsHostItem (left_to_loader made.configured)
+  pub stored : Stored (targets_of chain made) trail (exercise_shelf links) folder
+  pub ends : Ends (program made.configured) (linked made) turns (within old) mid case
+  pub outcome : Outcome
+  pub ended : ends.machine.end ≡ Ok outcome
+
+-- The summary follows where the run has come to an end. Otherwise the call ends as that `go` does, whose folder and input never fail.
+pub data Exercises (links turns : ℕ) (old new : Scene) : Case → Type 0 where
+  no_memory : new ≡ old → Exercises links turns old new Memory
+  no_end : (folder : Shelf) (mid : Scene) (case : Case) → Goes OfConfig chain turns (exercise_shelf links) folder (within old) mid case
+      → IsNoEnd case → folder.faults ≡ (λ name. 0) → mid.input.faults ≡ 0
+      → new.out ≡ mid.out → new.input ≡ old.input → new.steps ≡ mid.steps → Exercises links turns old new case
+  ended : (mid : Scene) (case : Case) (e : Exercised links turns old mid case) → PrintsAll (summary_of e.made case e.outcome.left) mid.out new.out
+      → new.input ≡ old.input → new.steps ≡ mid.steps → Exercises links turns old new case
+  not_summed : (mid : Scene) (case : Case) (e : Exercised links turns old mid case) → HasFaulted old.out new.out
+      → PrintsPrefix (summary_of e.made case e.outcome.left) mid.out new.out
+      → new.input ≡ old.input → new.steps ≡ mid.steps → Exercises links turns old new WriteFault
+
 -- ---- what comes of the words
 
 pub data Comes (words : List (List ℕ)) (folder folder' : Shelf) (old new : Scene) : Case → Type 0 where
@@ -112,3 +172,9 @@ pub data Comes (words : List (List ℕ)) (folder folder' : Shelf) (old new : Sce
       → Comes words folder folder' old new case
   goes : (source : Source) (base : List ℕ) (turns : ℕ) (case : Case) → HasForm words (Go source base turns)
       → Goes source base turns folder folder' old new case → Comes words folder folder' old new case
+  shows : (kind : FileKind) (base : List ℕ) (case : Case) → HasForm words (Show kind base) → Shows kind base folder folder' old new case
+      → Comes words folder folder' old new case
+  upgrades : (kind : FileKind) (base : List ℕ) (case : Case) → HasForm words (Upgrade kind base) → Upgrades kind base folder folder' case → new ≡ old
+      → Comes words folder folder' old new case
+  exercises : (links turns : ℕ) (case : Case) → HasForm words (Exercise links turns) → Exercises links turns old new case → folder' ≡ folder
+      → Comes words folder folder' old new case

@@ -1,5 +1,5 @@
 -- Which answer a call must give, want of memory aside (rule of this project).
-use Rattle.std.specs.Prelude.{◌≡◌, ◌≢◌, ◌↔◌, ℕ, ◌⊎◌, List, [], ◌∷◌, All, Some, false}
+use Rattle.std.specs.Prelude.{◌≡◌, ◌≢◌, ◌↔◌, ℕ, ◌⊎◌, List, [], ◌∷◌, ◌++◌, All, Some, false}
 use Rattle.mesa_base.specs.Outside.{Files, Rose}
 use Rattle.mesa_base.specs.declared.status.Status.{Status}
 use Rattle.mesa_base.specs.declared.status.Status.TheVariants as status
@@ -21,17 +21,19 @@ use Rattle.linked_programs.specs.Objects.{IsObjectOf}
 use Rattle.line_pieces.specs.Outputs.{Stream, HasFaulted, PrintsAll, Receives}
 use Rattle.command_rules.specs.Binding.{Bound, IsImageOf, bound_in}
 use Rattle.command_rules.specs.Case.{Case, Done, Memory, Refused, Unresolved, TooLarge, status_of}
-use Rattle.command_rules.specs.Comes.{Comes, Made, targets_of}
+use Rattle.command_rules.specs.Comes.{Comes, Made, MadeWithin, summary_of, targets_of}
 use Rattle.command_rules.specs.Configurations.{left_to_loader, program, source_in}
 use Rattle.command_rules.specs.Ends.{TellsInput}
-use Rattle.command_rules.specs.Forms.{Source, Form, Compile, Define, Bind, Run, Go, HasForm, HasNoForm, module_file, interface_file, object_file, image_file}
+use Rattle.command_rules.specs.Exercise.{chain, exercise_shelf, within}
+use Rattle.command_rules.specs.Forms.{Source, OfConfig, FileKind, Form, Compile, Define, Bind, Run, Go, Show, Upgrade, Exercise, HasForm, HasNoForm, WritesAlone, kind_file, module_file, interface_file, object_file, image_file}
 use Rattle.command_rules.specs.Lines.{line_of}
+use Rattle.command_rules.specs.Listing.{listing_in, value_in}
 use Rattle.command_rules.specs.Modules.{interface_in, module_in}
 use Rattle.command_rules.specs.Objects.{IsImageWith, image_in}
 use Rattle.command_rules.specs.Passes.{Has, Stops, Trail}
 use Rattle.command_rules.specs.Shown.{IsShownAs, case_of_end, image_names}
 use Rattle.command_rules.specs.Worlds.{Shelf, Scene, World}
-use Rattle.command_rules.specs.Writing.{Target, holding, OfInterface, OfObject, OfImage, IsSmall, IsFirstTooLarge, StoresAll}
+use Rattle.command_rules.specs.Writing.{Target, Value, holding, OfInterface, OfObject, OfImage, IsSmall, IsFirstTooLarge, StoresAll}
 
 -- no call on the folder failed, nor one on the input or `out`
 pub record NoFault (folder folder' : Shelf) (old new : Scene) : Type 0 where
@@ -50,15 +52,18 @@ IsAnswer case said said' s = Tells case said said' s ⊎ (s ≡ status.Memory)
 
 -- ---- what each form makes of files that are told
 
--- what it reads stops it
+-- what it reads stops it; an exercise reads files of its own alone
 abbrev pub StopsOver : Form → Files → Case → Type 0
 StopsOver (Compile base) files case = (trail : Trail) × (module_in (module_file base)).comes (Some files) trail (Stops case)
 StopsOver (Define base stamp) files case = (trail : Trail) × (interface_in (module_file base) stamp).comes (Some files) trail (Stops case)
 StopsOver (Bind base) files case = (trail : Trail) × (bound_in base).comes (Some files) trail (Stops case)
 StopsOver (Run base turns) files case = (trail : Trail) × (image_in (image_file base)).comes (Some files) trail (Stops case)
 StopsOver (Go source base turns) files case = (trail : Trail) × (source_in source base).comes (Some files) trail (Stops case)
+StopsOver (Show kind base) files case = (trail : Trail) × (listing_in kind (kind_file kind base)).comes (Some files) trail (Stops case)
+StopsOver (Upgrade kind base) files case = (trail : Trail) × (value_in kind (kind_file kind base)).comes (Some files) trail (Stops case)
+StopsOver (Exercise links turns) files case = (trail : Trail) × (source_in OfConfig chain).comes (exercise_shelf links).files trail (Stops case)
 
--- these files are to be written
+-- these files are to be written, if none is too large; what is upgraded never is (`IsUpgraded`)
 abbrev pub MakesOver : Form → Files → List Target → Type 0
 MakesOver (Compile base) files targets = (trail : Trail) × (m : Module) × (o : Object) × (module_in (module_file base)).comes (Some files) trail (Has m)
     × IsObjectOf m o × (targets ≡ holding (object_file base) (OfObject o) ∷ [])
@@ -68,6 +73,9 @@ MakesOver (Bind base) files targets = (trail : Trail) × (b : Bound) × (image :
     × IsImageOf b image × (targets ≡ holding (image_file base) (OfImage image) ∷ [])
 MakesOver (Run base turns) files targets = ⊥
 MakesOver (Go source base turns) files targets = (trail : Trail) × (m : Made source base (Some files) trail) × (targets ≡ targets_of base m)
+MakesOver (Show kind base) files targets = ⊥
+MakesOver (Upgrade kind base) files targets = ⊥
+MakesOver (Exercise links turns) files targets = (trail : Trail) × (m : MadeWithin links trail) × (targets ≡ targets_of chain m)
 
 -- ---- what must be answered
 
@@ -114,23 +122,21 @@ IsUnresolved words before after s = (source : Source) (base : List ℕ) (turns :
     → IsCall words before after (Go source base turns) files → (m : Made source base (Some files) trail) → All IsSmall (targets_of base m)
     → IsFirstUnresolved (left_to_loader m.configured) i → IsAnswer (Refused (image_file base) (Unresolved i)) before.err after.err s
 
+-- so it is of an exercise
+abbrev pub IsUnresolvedWithin : List (List ℕ) → World → World → Status → Type 0
+IsUnresolvedWithin words before after s = (links turns : ℕ) (trail : Trail) (i : WantedItem) → HasForm words (Exercise links turns)
+    → NoFault before.folder after.folder before.scene after.scene → (m : MadeWithin links trail) → All IsSmall (targets_of chain m)
+    → IsFirstUnresolved (left_to_loader m.configured) i → IsAnswer (Refused (image_file chain) (Unresolved i)) before.err after.err s
+
 -- so is what an image wants
 abbrev pub IsNotLoaded : List (List ℕ) → World → World → Status → Type 0
 IsNotLoaded words before after s = (base : List ℕ) (turns : ℕ) (files : Files) (trail : Trail) (parts : ImagePart) (i : WantedItem)
     → IsCall words before after (Run base turns) files → (image_in (image_file base)).comes (Some files) trail (Has parts)
     → IsFirstUnresolved parts.wanted i → IsAnswer (Refused (image_file base) (Unresolved i)) before.err after.err s
 
--- compile and bind end where their file is written
-abbrev pub IsCompileOrBind : Form → Type 0
-IsCompileOrBind (Compile base) = Unit {0}
-IsCompileOrBind (Define base stamp) = Unit {0}
-IsCompileOrBind (Bind base) = Unit {0}
-IsCompileOrBind (Run base turns) = ⊥
-IsCompileOrBind (Go source base turns) = ⊥
-
 -- what is told and right, and not too large, has its file
 abbrev pub IsStored : List (List ℕ) → World → World → Status → Type 0
-IsStored words before after s = (form : Form) (files : Files) (targets : List Target) → IsCall words before after form files → IsCompileOrBind form
+IsStored words before after s = (form : Form) (files : Files) (targets : List Target) → IsCall words before after form files → WritesAlone form
     → MakesOver form files targets → All IsSmall targets
     → (Tells Done before.err after.err s × StoresAll targets before.folder.files after.folder.files) ⊎ (s ≡ status.Memory)
 
@@ -149,6 +155,26 @@ IsRun words before after s = (base : List ℕ) (turns : ℕ) (files : Files) (tr
     → All IsHostItem parts.wanted → StepsTo image turns before.scene output case
     → (Tells case before.err after.err s × PrintsAll output before.scene.out after.scene.out) ⊎ (s ≡ status.Memory)
 
+-- what a file holds is listed
+abbrev pub IsListed : List (List ℕ) → World → World → Status → Type 0
+IsListed words before after s = (kind : FileKind) (base : List ℕ) (files : Files) (trail : Trail) (text : List ℕ)
+    → IsCall words before after (Show kind base) files → (listing_in kind (kind_file kind base)).comes (Some files) trail (Has text)
+    → (Tells Done before.err after.err s × PrintsAll text before.scene.out after.scene.out) ⊎ (s ≡ status.Memory)
+
+-- what a file holds is written over it in version 2
+abbrev pub IsUpgraded : List (List ℕ) → World → World → Status → Type 0
+IsUpgraded words before after s = (kind : FileKind) (base : List ℕ) (files : Files) (trail : Trail) (v : Value)
+    → IsCall words before after (Upgrade kind base) files → (value_in kind (kind_file kind base)).comes (Some files) trail (Has v)
+    → (Tells Done before.err after.err s × StoresAll (holding (kind_file kind base) v ∷ []) before.folder.files after.folder.files) ⊎ (s ≡ status.Memory)
+
+-- texts of an exercise that bind are run: the call ends as their program does for an empty input, and prints what it means, and then the summary
+abbrev pub IsExercised : List (List ℕ) → World → World → Status → Type 0
+IsExercised words before after s = (links turns : ℕ) (trail : Trail) (output : List ℕ) (case : Case)
+    → HasForm words (Exercise links turns) → NoFault before.folder after.folder before.scene after.scene → (m : MadeWithin links trail)
+    → All IsSmall (targets_of chain m) → All IsHostItem (left_to_loader m.configured)
+    → (d : Does (program m.configured) turns (within before.scene) output case)
+    → (Tells case before.err after.err s × PrintsAll (output ++ summary_of m case d.left) before.scene.out after.scene.out) ⊎ (s ≡ status.Memory)
+
 -- what a call answers to its words, with the world as it was and as it is
 pub record Answered (words : List (List ℕ)) (before after : World) (s : Status) : Type 0 where
   -- the status is that of a case that comes of the words, the folder, the input and `out`, and `err` receives its line
@@ -159,10 +185,14 @@ pub record Answered (words : List (List ℕ)) (before after : World) (s : Status
   pub refused : IsRefused words before after s
   pub too_large : IsTooLarge words before after s
   pub unresolved : IsUnresolved words before after s
+  pub unresolved_within : IsUnresolvedWithin words before after s
   pub not_loaded : IsNotLoaded words before after s
   pub stored : IsStored words before after s
   pub complete : IsComplete words before after s
   pub run : IsRun words before after s
+  pub listed : IsListed words before after s
+  pub upgraded : IsUpgraded words before after s
+  pub exercised : IsExercised words before after s
 
 -- for words, files and an input of bytes that are told, one case comes where no call failed, want of memory aside
 abbrev pub OneCaseComes : Type 0

@@ -4,8 +4,10 @@ pub mod Comes
 pub mod Complete
 pub mod Configurations
 pub mod Ends
+pub mod Exercise
 pub mod Forms
 pub mod Lines
+pub mod Listing
 pub mod Modules
 pub mod Objects
 pub mod Order

@@ -1,10 +1,11 @@
 -- What comes before what: the sizes of files before items that are none of the host's, both before any file is written, and that before the
--- run (rule of this project).
-use Rattle.std.specs.Prelude.{◌≡◌, ℕ, List, All}
+-- run. And what a form leaves as it was, and never answers (rule of this project).
+use Rattle.std.specs.Prelude.{◌≡◌, ◌≢◌, ℕ, List, All}
+use Rattle.mesa_base.specs.declared.status.Status.TheVariants as status
 use Rattle.interface_records.specs.declared.wanted.WantedItem.{WantedItem}
-use Rattle.command_rules.specs.Case.{Case, Refused, Unresolved, status_of, IsBeforeWrite, IsBeforeRun}
-use Rattle.command_rules.specs.Comes.{Comes, Goes, Made, targets_of}
-use Rattle.command_rules.specs.Forms.{Source}
+use Rattle.command_rules.specs.Case.{Case, Refused, TooLarge, Unresolved, status_of, IsBeforeWrite, IsBeforeRun}
+use Rattle.command_rules.specs.Comes.{Comes, Goes, Made, Shows, Upgrades, Exercises, targets_of}
+use Rattle.command_rules.specs.Forms.{FileKind, Form, HasForm, Source, WritesAlone, KeepsFiles, KeepsInput, KeepsSteps, KeepsFolder}
 use Rattle.command_rules.specs.Passes.{Trail}
 use Rattle.command_rules.specs.Worlds.{Shelf, Scene}
 use Rattle.command_rules.specs.Writing.{IsSmall, StoresAll}
@@ -34,3 +35,33 @@ pub record OrderIsKept : Type 0 where
   -- and runs what it has written
   pub writes_first : (source : Source) (base : List ℕ) (turns : ℕ) (folder folder' : Shelf) (old new : Scene) (case : Case)
       → Goes source base turns folder folder' old new case → ¬ (IsBeforeRun (status_of case)) → HasStored source base folder folder'
+
+-- ---- what a form leaves as it was, whatever it answers
+
+pub record FormsKeep : Type 0 where
+  -- the files
+  pub files : (words : List (List ℕ)) (form : Form) (folder folder' : Shelf) (old new : Scene) (case : Case) → HasForm words form → KeepsFiles form
+      → Comes words folder folder' old new case → folder'.files ≡ folder.files
+  pub input : (words : List (List ℕ)) (form : Form) (folder folder' : Shelf) (old new : Scene) (case : Case) → HasForm words form → KeepsInput form
+      → Comes words folder folder' old new case → new.input ≡ old.input
+  pub out : (words : List (List ℕ)) (form : Form) (folder folder' : Shelf) (old new : Scene) (case : Case) → HasForm words form → WritesAlone form
+      → Comes words folder folder' old new case → new.out ≡ old.out
+  pub steps : (words : List (List ℕ)) (form : Form) (folder folder' : Shelf) (old new : Scene) (case : Case) → HasForm words form → KeepsSteps form
+      → Comes words folder folder' old new case → new.steps ≡ old.steps
+  -- the whole folder, of which nothing was asked
+  pub folder : (words : List (List ℕ)) (form : Form) (folder folder' : Shelf) (old new : Scene) (case : Case) → HasForm words form → KeepsFolder form
+      → Comes words folder folder' old new case → folder' ≡ folder
+
+-- ---- what a form never answers
+
+pub record NeverAnswered : Type 0 where
+  pub list_read : (kind : FileKind) (base : List ℕ) (folder folder' : Shelf) (old new : Scene) (case : Case)
+      → Shows kind base folder folder' old new case → status_of case ≢ status.ReadFault
+  pub upgrade_read : (kind : FileKind) (base : List ℕ) (folder folder' : Shelf) (case : Case)
+      → Upgrades kind base folder folder' case → status_of case ≢ status.ReadFault
+  pub upgrade_write : (kind : FileKind) (base : List ℕ) (folder folder' : Shelf) (case : Case)
+      → Upgrades kind base folder folder' case → status_of case ≢ status.WriteFault
+  pub upgrade_large : (kind : FileKind) (base file : List ℕ) (folder folder' : Shelf) → Upgrades kind base folder folder' (Refused file TooLarge) → ⊥
+  -- the folder and the input of an exercise have no faults
+  pub exercise_folder : (links turns : ℕ) (old new : Scene) (case : Case) → Exercises links turns old new case → status_of case ≢ status.FolderFault
+  pub exercise_read : (links turns : ℕ) (old new : Scene) (case : Case) → Exercises links turns old new case → status_of case ≢ status.ReadFault
