@@ -1,23 +1,20 @@
-//! The forms of a command line: `compile NAME`, `compile NAME STAMP`, `bind NAME`, `run NAME TURNS`, `go NAME.mesa TURNS` and
-//! `go NAME.config TURNS` (rule of this project).
+//! The forms of a command line: `compile NAME`, `compile NAME STAMP`, `bind NAME`, `run NAME TURNS`, `go NAME.mesa TURNS`,
+//! `go NAME.config TURNS`, `list FILE`, `upgrade FILE` and `exercise N TURNS` (rule of this project).
 
-ghost use Rattle.std.specs.Prelude.{◌≡◌, ◌≢◌, ℕ, List, ◌∷◌, [], ◌++◌, IfSome, IfNone, MatchOption, codes, true, length, IsTrue, ◌↔◌};
-ghost use Rattle.config_rules.specs.Components.{is_file_base as is_base};
-ghost use Rattle.command_rules.specs.Forms as rules;
-ghost use Rattle.command_rules.specs.Forms.{HasForm, HasNoForm, source_file};
-ghost use Rattle.command_lines.specs.Words.{form_in, source_in};
+ghost use Rattle.std.specs.Prelude.{◌≡◌, ◌≤◌, ℕ, ◌∷◌, [], IfSome, IfNone, MatchOption, codes, decimal};
+ghost use Rattle.command_rules.specs.Forms.{HasForm, HasNoForm, most_links};
+ghost use Rattle.command_lines.specs.Words.{form_in};
 
+use crate::kinds::{Source, named_kind, named_source};
+use crate::words::{is_word, three_words, two_words};
 use checked_texts::is_file_base;
+use listed_files::FileKind;
 use mesa_base::{Stamp, Words, decimal_value};
 
-/// What is run: one module alone, or a configuration.
-#[derive(Clone, Copy)]
-pub enum Source {
-    OfModule,
-    OfConfig,
-}
+/// An exercise has at most so many links.
+const MOST_LINKS: u64 = 1000;
 
-/// What the words ask for. A base is a letter, then letters, digits, `-` and `_`, 64 bytes at most.
+/// What the words ask for. A base is a letter, then letters, digits, `-` and `_`, 64 bytes at most; an exercise has 1 to 1000 links.
 #[derive(Clone, Copy)]
 pub enum Form<'a> {
     Compile {
@@ -39,6 +36,18 @@ pub enum Form<'a> {
         base: &'a [u8],
         turns: u64,
     },
+    Show {
+        kind: FileKind,
+        base: &'a [u8],
+    },
+    Upgrade {
+        kind: FileKind,
+        base: &'a [u8],
+    },
+    Exercise {
+        links: u16,
+        turns: u64,
+    },
 }
 
 /// None exactly where the words have no form.
@@ -54,16 +63,18 @@ pub fn form_of(words: &Words) -> Option<Form<'_>>
 }
 
 /// The form of two words.
-fn form_of_two<'a>(verb: &[u8], base: &'a [u8]) -> Option<Form<'a>>
-    ensures form { IfSome result (λ f. HasForm (verb.now ∷ base.now ∷ []) (form_in f)) }
-    ensures formless { IfNone result (HasNoForm (verb.now ∷ base.now ∷ [])) }
+fn form_of_two<'a>(verb: &[u8], name: &'a [u8]) -> Option<Form<'a>>
+    ensures form { IfSome result (λ f. HasForm (verb.now ∷ name.now ∷ []) (form_in f)) }
+    ensures formless { IfNone result (HasNoForm (verb.now ∷ name.now ∷ [])) }
 {
-    if !is_file_base(base) {
-        None
-    } else if is_word(verb, "compile") {
-        Some(Form::Compile { base })
+    if is_word(verb, "compile") {
+        compile_of(name)
     } else if is_word(verb, "bind") {
-        Some(Form::Bind { base })
+        bind_of(name)
+    } else if is_word(verb, "list") {
+        list_of(name)
+    } else if is_word(verb, "upgrade") {
+        upgrade_of(name)
     } else {
         None
     }
@@ -80,55 +91,59 @@ fn form_of_three<'a>(verb: &[u8], name: &'a [u8], last: &[u8]) -> Option<Form<'a
         run_of(name, last)
     } else if is_word(verb, "go") {
         go_of(name, last)
+    } else if is_word(verb, "exercise") {
+        exercise_of(name, last)
     } else {
         None
     }
 }
 
-#[derive(Clone, Copy)]
-struct Two<'a> {
-    first: &'a [u8],
-    second: &'a [u8],
-}
-
-fn two_words(words: &Words) -> Option<Two<'_>>
-    ensures { MatchOption result (length words.now ≢ 2) (λ two. words.now ≡ two.first.now ∷ two.second.now ∷ []) }
+/// The form of `compile` with this word.
+fn compile_of(base: &[u8]) -> Option<Form<'_>>
+    ensures form { IfSome result (λ f. HasForm (codes "compile" ∷ base.now ∷ []) (form_in f)) }
+    ensures formless { IfNone result (HasNoForm (codes "compile" ∷ base.now ∷ [])) }
 {
-    if words.len() != 2 {
-        return None;
+    if is_file_base(base) {
+        Some(Form::Compile { base })
+    } else {
+        None
     }
-    let first = words.get(0)?.as_slice();
-    let second = words.get(1)?.as_slice();
-    Some(Two { first, second })
 }
 
-#[derive(Clone, Copy)]
-struct Three<'a> {
-    first: &'a [u8],
-    second: &'a [u8],
-    third: &'a [u8],
-}
-
-fn three_words(words: &Words) -> Option<Three<'_>>
-    ensures { MatchOption result (length words.now ≢ 3) (λ three. words.now ≡ three.first.now ∷ three.second.now ∷ three.third.now ∷ []) }
+/// The form of `bind` with this word.
+fn bind_of(base: &[u8]) -> Option<Form<'_>>
+    ensures form { IfSome result (λ f. HasForm (codes "bind" ∷ base.now ∷ []) (form_in f)) }
+    ensures formless { IfNone result (HasNoForm (codes "bind" ∷ base.now ∷ [])) }
 {
-    if words.len() != 3 {
-        return None;
+    if is_file_base(base) {
+        Some(Form::Bind { base })
+    } else {
+        None
     }
-    let first = words.get(0)?.as_slice();
-    let second = words.get(1)?.as_slice();
-    let third = words.get(2)?.as_slice();
-    Some(Three {
-        first,
-        second,
-        third,
+}
+
+/// The form of `list` with this word.
+fn list_of(name: &[u8]) -> Option<Form<'_>>
+    ensures form { IfSome result (λ f. HasForm (codes "list" ∷ name.now ∷ []) (form_in f)) }
+    ensures formless { IfNone result (HasNoForm (codes "list" ∷ name.now ∷ [])) }
+{
+    let named = named_kind(name)?;
+    Some(Form::Show {
+        kind: named.kind,
+        base: named.base,
     })
 }
 
-fn is_word(word: &[u8], text: &str) -> bool
-    ensures { IsTrue result ↔ (word.now ≡ text.now) }
+/// The form of `upgrade` with this word.
+fn upgrade_of(name: &[u8]) -> Option<Form<'_>>
+    ensures form { IfSome result (λ f. HasForm (codes "upgrade" ∷ name.now ∷ []) (form_in f)) }
+    ensures formless { IfNone result (HasNoForm (codes "upgrade" ∷ name.now ∷ [])) }
 {
-    word == text.as_bytes()
+    let named = named_kind(name)?;
+    Some(Form::Upgrade {
+        kind: named.kind,
+        base: named.base,
+    })
 }
 
 /// The form of `compile` with these two words.
@@ -169,41 +184,25 @@ fn go_of<'a>(name: &'a [u8], count: &[u8]) -> Option<Form<'a>>
     })
 }
 
-#[derive(Clone, Copy)]
-struct Named<'a> {
-    source: Source,
-    base: &'a [u8],
+/// The form of `exercise` with these two words.
+fn exercise_of<'a>(number: &[u8], count: &[u8]) -> Option<Form<'a>>
+    ensures form { IfSome result (λ f. HasForm (codes "exercise" ∷ number.now ∷ count.now ∷ []) (form_in f)) }
+    ensures formless { IfNone result (HasNoForm (codes "exercise" ∷ number.now ∷ count.now ∷ [])) }
+{
+    let links = links_in(number)?;
+    let turns = decimal_value(count)?;
+    Some(Form::Exercise { links, turns })
 }
 
-/// What is run, where the word is the name of its file.
-fn named_source(word: &[u8]) -> Option<Named<'_>>
-    ensures { MatchOption result ((source : rules.Source) (base : List ℕ) → is_base base ≡ true → word.now ≡ source_file source base → ⊥)
-        (λ named. (is_base named.base.now ≡ true) × (word.now ≡ source_file (source_in named.source) named.base.now)) }
+/// The number of an exercise's links.
+fn links_in(word: &[u8]) -> Option<u16>
+    ensures { MatchOption result ((n : ℕ) → 1 ≤ n → n ≤ most_links → word.now ≡ decimal n → ⊥)
+        (λ n. (1 ≤ n) × (n ≤ most_links) × (word.now ≡ decimal n)) }
 {
-    if let Some(base) = base_before(word, b".mesa") {
-        return Some(Named {
-            source: Source::OfModule,
-            base,
-        });
+    let links = decimal_value(word)?;
+    if 1 <= links && links <= MOST_LINKS {
+        Some(links as u16)
+    } else {
+        None
     }
-    let base = base_before(word, b".config")?;
-    Some(Named {
-        source: Source::OfConfig,
-        base,
-    })
-}
-
-/// The base, where the word is a base of a file and this ending.
-fn base_before<'a>(word: &'a [u8], ending: &[u8]) -> Option<&'a [u8]>
-    ensures { MatchOption result ((base : List ℕ) → is_base base ≡ true → word.now ≡ base ++ ending.now → ⊥)
-        (λ base. (is_base base.now ≡ true) × (word.now ≡ base.now ++ ending.now)) }
-{
-    let base = without_ending(word, ending)?;
-    if is_file_base(base) { Some(base) } else { None }
-}
-
-fn without_ending<'a>(word: &'a [u8], ending: &[u8]) -> Option<&'a [u8]>
-    ensures { MatchOption result ((base : List ℕ) → word.now ≢ base ++ ending.now) (λ base. word.now ≡ base.now ++ ending.now) }
-{
-    word.strip_suffix(ending)
 }

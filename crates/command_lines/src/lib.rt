@@ -5,9 +5,12 @@ mod causes;
 mod ending;
 mod form;
 mod items;
+mod kinds;
 mod refusals;
 mod stops;
+mod words;
 
 pub use ending::{Ending, UncaughtSignal, ending_status, tell_ending, told_ending, told_usage};
-pub use form::{Form, Source, form_of};
+pub use form::{Form, form_of};
+pub use kinds::Source;
 pub use stops::{stop_status, tell_stop, told_stop};

@@ -8,7 +8,7 @@ use Rattle.command_rules.proofs.Passing.{Moves}
 use Rattle.command_passes.proofs.FileBytes.{all_read, fault_whole}
 use Rattle.command_passes.proofs.Files.{NeverAbsent}
 
-none_whole : (part whole : List ℕ) (why : ObjectFault) → part ≡ take 536870913 whole → IsNoObjectFile part why → IsNoObjectFile whole why
+pub none_whole : (part whole : List ℕ) (why : ObjectFault) → part ≡ take 536870913 whole → IsNoObjectFile part why → IsNoObjectFile whole why
 none_whole part whole _ e (no_file fault h) = no_file fault (fault_whole (codes "MOB") module_form part whole fault e h)
 none_whole part whole _ e (bad_code version m bad file h) =
     bad_code version m bad (subst (λ bytes. IsModuleFile version m bytes) (all_read part whole e file.few) file) h

@@ -1,4 +1,5 @@
 pub mod Asking
 pub mod Filed
+pub mod Kinds
 pub mod Shelves
 pub mod Stops

@@ -141,6 +141,6 @@ goes meant source base s t (Ok machine) turns old new case h ends =
     let c = h.made.configured in
     rules.ran h.trail h.made case h.machine_of.wanted h.stored
     (subst (λ (i : Image). Ends (program c) i turns old new case) h.same
-    (meant c.tree c.modules machine turns old new case h.machine_of.linked h.machine_of.host ends))
+    (meant c.tree c.modules machine turns old new case h.machine_of.linked h.machine_of.host ends).0)
 goes meant source base s t (Err why) turns old new case h ends =
     subst (λ x. Goes source base turns s t old x case) (sym ends.1) (subst (Goes source base turns s t old old) (sym ends.0) (h turns old))

@@ -60,7 +60,7 @@ module _ (image : Image) (turns : ℕ) (old new : Scene) where
   risen : old.steps ≤ new.steps → new.steps ≡ old.steps + (new.steps - old.steps)
   risen stay = omega (arith, stay)
 
-  runs : (r : Result Outcome RunFault) →
+  pub runs : (r : Result Outcome RunFault) →
       IfOk r (λ o. Completes image turns o (new.steps - old.steps) old.input.left new.input.left old.out.holds new.out.holds) →
       (IsErrOf r fault.ReadFault → BreaksAtInput image turns (new.steps - old.steps) old.input.left new.input.left old.out.holds new.out.holds) →
       (IsErrOf r fault.WriteFault → BreaksAtOutput image turns (new.steps - old.steps) old.input.left new.input.left old.out.holds new.out.holds
@@ -80,7 +80,7 @@ module _ (image : Image) (turns : ℕ) (old new : Scene) where
       old.steps ≤ new.steps → RunsTo (image_names image) image turns old new (case_of_run (image_names image) r)
   run_ends r counts breaks cuts reads writes stay = record { end = r; runs = runs r counts breaks cuts reads writes stay; is_case = refl }
 
-end_in_run : (names : Names) (e : End) → IsBeforeRun (status_of (case_of_end names e)) → ⊥
+pub end_in_run : (names : Names) (e : End) → IsBeforeRun (status_of (case_of_end names e)) → ⊥
 end_in_run names end.Done h = h
 end_in_run names (end.Uncaught s) h = h
 end_in_run names end.Spent h = h

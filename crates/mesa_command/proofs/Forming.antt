@@ -8,11 +8,10 @@ use Rattle.interface_records.specs.Spelled.{InSixBytes}
 use Rattle.bound_images.proofs.Chosen.{both_true}
 use Rattle.command_laws.specs.Laws.{WordsHaveOneForm}
 use Rattle.command_rules.specs.Case.{Case}
-use Rattle.command_rules.specs.Comes.{Comes, compiles, defines, binds, loads, goes}
-use Rattle.command_rules.specs.Complete.{IsCompileOrBind}
-use Rattle.command_rules.specs.Forms.{Form, Compile, Define, Bind, Run, Go, HasForm, compile, define, bind, run, go}
+use Rattle.command_rules.specs.Comes.{Comes, compiles, defines, binds, loads, goes, shows, upgrades, exercises}
+use Rattle.command_rules.specs.Forms.{Form, Compile, Define, Bind, Run, Go, Show, Upgrade, Exercise, HasForm, compile, define, bind, run, go, list, upgrade, exercise}
 use Rattle.command_rules.specs.Worlds.{Shelf, Scene}
-use Rattle.mesa_command.specs.Forms.{ComesOfForm, IsRun, IsWellFormed}
+use Rattle.mesa_command.specs.Forms.{ComesOfForm, IsWellFormed}
 
 chosen : (b : Bool) (v stamp : ℕ) → cond b (Some v) None ≡ Some stamp → (b ≡ true) × (v ≡ stamp)
 chosen true v stamp e = (refl, cc)
@@ -31,13 +30,13 @@ well_formed _ _ (define base word stamp named is) = record { named = named; six 
 well_formed _ _ (bind base named) = named
 well_formed _ _ (run base turns named bounded) = named
 well_formed _ _ (go source base turns named bounded) = named
+well_formed _ _ (list kind base named) = named
+well_formed _ _ (upgrade kind base named) = named
+well_formed _ _ (exercise links turns some few bounded) = tt
 
--- a form of words that have one which writes one file is such a one
-pub is_stored : WordsHaveOneForm → (words : List (List ℕ)) (f g : Form) → HasForm words f → HasForm words g → IsCompileOrBind g → IsCompileOrBind f
-is_stored one words f g has also is = subst IsCompileOrBind (sym (one words f g has also)) is
-
-pub is_run : WordsHaveOneForm → (words : List (List ℕ)) (f : Form) (base : List ℕ) (turns : ℕ) → HasForm words f → HasForm words (Run base turns) → IsRun f
-is_run one words f base turns has also = subst IsRun (sym (one words f (Run base turns) has also)) tt
+-- what is so of a form that words have is so of the one that was found
+pub kept : WordsHaveOneForm → (P : Form → Type 0) (words : List (List ℕ)) (f g : Form) → HasForm words f → HasForm words g → P g → P f
+kept one P words f g has also is = subst P (sym (one words f g has also)) is
 
 pub comes_of : (words : List (List ℕ)) (f : Form) (s t : Shelf) (old new : Scene) (case : Case) → HasForm words f → ComesOfForm f s t old new case
     → Comes words s t old new case
@@ -46,3 +45,6 @@ comes_of words (Define base stamp) s t old new case has h = defines base stamp c
 comes_of words (Bind base) s t old new case has h = binds base case has h.0 h.1
 comes_of words (Run base turns) s t old new case has h = loads base turns case has h
 comes_of words (Go source base turns) s t old new case has h = goes source base turns case has h
+comes_of words (Show kind base) s t old new case has h = shows kind base case has h
+comes_of words (Upgrade kind base) s t old new case has h = upgrades kind base case has h.0 h.1
+comes_of words (Exercise links turns) s t old new case has h = exercises links turns case has h.0 h.1

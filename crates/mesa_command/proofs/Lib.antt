@@ -1,4 +1,6 @@
 mod Calls
 mod Ending
+mod Exercised
+mod Files
 mod Filing
 mod Forming

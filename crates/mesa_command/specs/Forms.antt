@@ -3,8 +3,8 @@ use Rattle.std.specs.Prelude.{◌≡◌, ℕ, List, true}
 use Rattle.interface_records.specs.Spelled.{InSixBytes}
 use Rattle.config_rules.specs.Components.{is_file_base}
 use Rattle.command_rules.specs.Case.{Case}
-use Rattle.command_rules.specs.Comes.{Compiles, Defines, Binds, Loads, Goes}
-use Rattle.command_rules.specs.Forms.{Form, Compile, Define, Bind, Run, Go}
+use Rattle.command_rules.specs.Comes.{Compiles, Defines, Binds, Loads, Goes, Shows, Upgrades, Exercises}
+use Rattle.command_rules.specs.Forms.{Form, Compile, Define, Bind, Run, Go, Show, Upgrade, Exercise}
 use Rattle.command_rules.specs.Worlds.{Shelf, Scene}
 
 abbrev pub IsBase : List ℕ → Type 0
@@ -21,13 +21,9 @@ IsWellFormed (Define base stamp) = CanBeDefined base stamp
 IsWellFormed (Bind base) = IsBase base
 IsWellFormed (Run base turns) = IsBase base
 IsWellFormed (Go source base turns) = IsBase base
-
-abbrev pub IsRun : Form → Type 0
-IsRun (Compile base) = ⊥
-IsRun (Define base stamp) = ⊥
-IsRun (Bind base) = ⊥
-IsRun (Run base turns) = Unit {0}
-IsRun (Go source base turns) = ⊥
+IsWellFormed (Show kind base) = IsBase base
+IsWellFormed (Upgrade kind base) = IsBase base
+IsWellFormed (Exercise links turns) = Unit {0}
 
 abbrev pub ComesOfForm : Form → (folder folder' : Shelf) → (old new : Scene) → Case → Type 0
 ComesOfForm (Compile base) folder folder' old new case = Compiles base folder folder' case × (new ≡ old)
@@ -35,3 +31,6 @@ ComesOfForm (Define base stamp) folder folder' old new case = Defines base stamp
 ComesOfForm (Bind base) folder folder' old new case = Binds base folder folder' case × (new ≡ old)
 ComesOfForm (Run base turns) folder folder' old new case = Loads base turns folder folder' old new case
 ComesOfForm (Go source base turns) folder folder' old new case = Goes source base turns folder folder' old new case
+ComesOfForm (Show kind base) folder folder' old new case = Shows kind base folder folder' old new case
+ComesOfForm (Upgrade kind base) folder folder' old new case = Upgrades kind base folder folder' case × (new ≡ old)
+ComesOfForm (Exercise links turns) folder folder' old new case = Exercises links turns old new case × (folder' ≡ folder)

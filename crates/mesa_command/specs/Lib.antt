@@ -1,3 +1,5 @@
 pub mod Bytes
+pub mod Exercises
 pub mod Forms
 pub mod Machines
+pub mod Printing

@@ -3,11 +3,14 @@
 
 mod binding;
 mod compiling;
+mod exercising;
 mod going;
+mod listing;
 mod loading;
 mod running;
 mod storing;
 mod top;
+mod upgrading;
 
 pub use command_laws::one_case;
 pub use command_lines::tell_stop;

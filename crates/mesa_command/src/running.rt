@@ -39,7 +39,7 @@ fn uncaught_signal(machine: &Machine, signal: SignalId) -> UncaughtSignal<'_>
     }
 }
 
-fn end_of(machine: &Machine, end: End) -> Ending<'_>
+pub(crate) fn end_of(machine: &Machine, end: End) -> Ending<'_>
     requires { EndIsInRange machine.now end }
     ensures { ending_case result ≡ case_of_end (image_names machine.entry.now) end }
 {
@@ -51,7 +51,7 @@ fn end_of(machine: &Machine, end: End) -> Ending<'_>
     }
 }
 
-fn ending_of(machine: &Machine, ended: Result<Outcome, RunFault>) -> Ending<'_>
+pub(crate) fn ending_of(machine: &Machine, ended: Result<Outcome, RunFault>) -> Ending<'_>
     requires { IfOk ended (λ outcome. EndIsInRange machine.now outcome.end) }
     ensures { ending_case result ≡ case_of_run (image_names machine.entry.now) ended }
 {

@@ -1,22 +1,25 @@
 //! The call.
 
-ghost use Rattle.std.specs.Prelude.{◌≡◌, ℕ, List};
+ghost use Rattle.std.specs.Prelude.{◌≡◌};
 ghost use Rattle.mesa_base.specs.Asked.{AskedOnce};
 ghost use Rattle.command_rules.specs.Case.{Case, IsBeforeRun, IsBeforeWrite};
 ghost use Rattle.command_rules.specs.Comes.{Comes};
-ghost use Rattle.command_rules.specs.Complete.{Answered, IsCompileOrBind, Tells};
-ghost use Rattle.command_rules.specs.Forms.{Form as AskedForm, HasForm, HasNoForm, Run};
+ghost use Rattle.command_rules.specs.Complete.{Answered, Tells};
+ghost use Rattle.command_rules.specs.Forms.{Form as AskedForm, HasForm, HasNoForm, WritesAlone, KeepsFiles, KeepsFolder, KeepsInput, KeepsSteps};
 ghost use Rattle.command_rules.specs.Worlds.{feed, scene, shelf, world};
 ghost use Rattle.command_lines.specs.Words.{form_in};
-ghost use Rattle.mesa_command.specs.Forms.{ComesOfForm, IsRun, IsWellFormed};
+ghost use Rattle.mesa_command.specs.Forms.{ComesOfForm, IsWellFormed};
 ghost use Rattle.line_pieces.specs.Outputs.{stream};
 
 use crate::binding::bound;
 use crate::compiling::{compiled, defined};
+use crate::exercising::{exercise_built, sum_or_tell};
 use crate::going::built;
+use crate::listing::{listing, print_or_tell};
 use crate::loading::loaded;
 use crate::running::run_or_tell;
 use crate::storing::told;
+use crate::upgrading::upgraded;
 use command_laws::{cases_are_answers, order_is_kept, runs_are_meant, words_have_one_form};
 use command_lines::{Form, form_of, told_usage};
 use mesa_base::{Folder, Sink, Source, Status, Steps, Words};
@@ -30,7 +33,11 @@ use std::sync::ledger::Ledger;
 /// - `bind NAME`: writes the image of the configuration in NAME.config, with the objects of its components, to NAME.mim;
 /// - `run NAME TURNS`: runs the image in NAME.mim with a bound of so many turns;
 /// - `go NAME.mesa TURNS`, `go NAME.config TURNS`: compiles the module in NAME.mesa, or those of the components of NAME.config, binds them, writes
-///   the objects and the image, and runs that image.
+///   the objects and the image, and runs that image;
+/// - `list FILE`: writes the listing of the interface in NAME.mif, the object in NAME.mob or the image in NAME.mim to `out`;
+/// - `upgrade FILE`: writes what is in such a file over it in version 2 of the formats;
+/// - `exercise N TURNS`: does what `go` does with the configuration of N links that stands in a folder and on an empty input of its own, and writes the
+///   summary of its run to `out`: how many instances there are, how it ended, and the turns that are left.
 ///
 /// The interfaces that a text names are read from their files. The line of the answer goes to `err`.
 pub fn mesa<F: Folder, S: Source, K: Sink, E: Sink, L: Ledger>(
@@ -58,12 +65,15 @@ pub fn mesa<F: Folder, S: Source, K: Sink, E: Sink, L: Ledger>(
     ensures before_run_input { IsBeforeRun result → input.new ≡ input.old }
     ensures before_run_output { IsBeforeRun result → out.new ≡ out.old }
     ensures before_run_steps { IsBeforeRun result → steps.new ≡ steps.old }
-    ensures stored_input { (form : AskedForm) → HasForm words.now form → IsCompileOrBind form → input.new ≡ input.old }
-    ensures stored_output { (form : AskedForm) → HasForm words.now form → IsCompileOrBind form → out.new ≡ out.old }
-    ensures stored_steps { (form : AskedForm) → HasForm words.now form → IsCompileOrBind form → steps.new ≡ steps.old }
-    // What is refused, or reads a file that is not there, changes no file, and neither does the run of an image.
+    // Whatever it answers, a form leaves as it was what is no part of it: the input and the steps where nothing is run, `out` where nothing is printed, the
+    // files where none is written; an exercise asks nothing of the folder.
+    ensures kept_input { (form : AskedForm) → HasForm words.now form → KeepsInput form → input.new ≡ input.old }
+    ensures kept_output { (form : AskedForm) → HasForm words.now form → WritesAlone form → out.new ≡ out.old }
+    ensures kept_steps { (form : AskedForm) → HasForm words.now form → KeepsSteps form → steps.new ≡ steps.old }
+    ensures kept_files { (form : AskedForm) → HasForm words.now form → KeepsFiles form → F.files folder.new ≡ F.files folder.old }
+    ensures kept_folder { (form : AskedForm) → HasForm words.now form → KeepsFolder form → folder.new ≡ folder.old }
+    // What is refused, or reads a file that is not there, changes no file.
     ensures before_write_files { IsBeforeWrite result → F.files folder.new ≡ F.files folder.old }
-    ensures run_files { (base : List ℕ) (turns : ℕ) → HasForm words.now (Run base turns) → F.files folder.new ≡ F.files folder.old }
     // No file was asked for where the words have no form.
     ensures usage_folder { result ≡ Status.Usage → folder.new ≡ folder.old }
 {
@@ -93,10 +103,11 @@ fn answer<F: Folder, S: Source, K: Sink, E: Sink, L: Ledger>(
     ensures before_run_input { IsBeforeRun result → input.new ≡ input.old }
     ensures before_run_output { IsBeforeRun result → out.new ≡ out.old }
     ensures before_run_steps { IsBeforeRun result → steps.new ≡ steps.old }
-    ensures stored_input { (form : AskedForm) → HasForm words.now form → IsCompileOrBind form → input.new ≡ input.old }
-    ensures stored_output { (form : AskedForm) → HasForm words.now form → IsCompileOrBind form → out.new ≡ out.old }
-    ensures stored_steps { (form : AskedForm) → HasForm words.now form → IsCompileOrBind form → steps.new ≡ steps.old }
-    ensures run_files { (base : List ℕ) (turns : ℕ) → HasForm words.now (Run base turns) → F.files folder.new ≡ F.files folder.old }
+    ensures kept_input { (form : AskedForm) → HasForm words.now form → KeepsInput form → input.new ≡ input.old }
+    ensures kept_output { (form : AskedForm) → HasForm words.now form → WritesAlone form → out.new ≡ out.old }
+    ensures kept_steps { (form : AskedForm) → HasForm words.now form → KeepsSteps form → steps.new ≡ steps.old }
+    ensures kept_files { (form : AskedForm) → HasForm words.now form → KeepsFiles form → F.files folder.new ≡ F.files folder.old }
+    ensures kept_folder { (form : AskedForm) → HasForm words.now form → KeepsFolder form → folder.new ≡ folder.old }
     ensures formless_folder { HasNoForm words.now → folder.new ≡ folder.old }
 {
     words_have_one_form();
@@ -128,10 +139,11 @@ fn to_form<F: Folder, S: Source, K: Sink, E: Sink, L: Ledger>(
     ensures before_run_input { IsBeforeRun result → input.new ≡ input.old }
     ensures before_run_output { IsBeforeRun result → out.new ≡ out.old }
     ensures before_run_steps { IsBeforeRun result → steps.new ≡ steps.old }
-    ensures stored_input { IsCompileOrBind (form_in form.entry) → input.new ≡ input.old }
-    ensures stored_output { IsCompileOrBind (form_in form.entry) → out.new ≡ out.old }
-    ensures stored_steps { IsCompileOrBind (form_in form.entry) → steps.new ≡ steps.old }
-    ensures run_files { IsRun (form_in form.entry) → F.files folder.new ≡ F.files folder.old }
+    ensures kept_input { KeepsInput (form_in form.entry) → input.new ≡ input.old }
+    ensures kept_output { WritesAlone (form_in form.entry) → out.new ≡ out.old }
+    ensures kept_steps { KeepsSteps (form_in form.entry) → steps.new ≡ steps.old }
+    ensures kept_files { KeepsFiles (form_in form.entry) → F.files folder.new ≡ F.files folder.old }
+    ensures kept_folder { KeepsFolder (form_in form.entry) → folder.new ≡ folder.old }
 {
     runs_are_meant();
     match form {
@@ -149,6 +161,11 @@ fn to_form<F: Folder, S: Source, K: Sink, E: Sink, L: Ledger>(
         } => {
             let machine = built(alloc, folder, source, base);
             run_or_tell(machine, turns, input, out, err, steps)
+        }
+        Form::Show { kind, base } => print_or_tell(listing(alloc, folder, kind, base), out, err),
+        Form::Upgrade { kind, base } => told(upgraded(alloc, folder, kind, base), err),
+        Form::Exercise { links, turns } => {
+            sum_or_tell(exercise_built(alloc, links), turns, out, err, steps)
         }
     }
 }

@@ -1,5 +1,9 @@
+use Rattle.std.proofs.Common.{refl}
 use Rattle.command_lines.specs.Words.{source_in as form_source}
+use Rattle.command_passes.specs.Kinds.{kind_in}
 use Rattle.mesa_command.proofs.Calls.{goes, loads}
+use Rattle.mesa_command.proofs.Exercised.{exercises}
+use Rattle.mesa_command.proofs.Files.{shows}
 use Rattle.mesa_command.proofs.top.to_form.Goals as goal
 
 pub returns-in-Run-clause-comes : goal.returns-in-Run-clause-comes
@@ -14,5 +18,23 @@ returns-in-Go-clause-comes g c =
     rw c.in-Go.is (
       it.0,
       goes c.runs_are_meant.ensures (form_source c.in-Go.source) c.in-Go.base.now _ _ c.built-machine.result c.in-Go.turns _ _ it.0 c.built-machine.ensures it.1,
+      it.2,
+    )
+
+pub returns-in-Show-clause-comes : goal.returns-in-Show-clause-comes
+returns-in-Show-clause-comes g c =
+    let it = c.print_or_tell.ensures.ends in
+    rw c.in-Show.is (
+      it.0,
+      shows (kind_in c.in-Show.kind) c.in-Show.base.now _ _ _ _ c.listing.result _ _ it.0 c.listing.ensures.passes c.listing.ensures.onward it.1,
+      it.2,
+    )
+
+pub returns-in-Exercise-clause-comes : goal.returns-in-Exercise-clause-comes
+returns-in-Exercise-clause-comes g c =
+    let it = c.sum_or_tell.ensures.ends in
+    rw c.in-Exercise.is (
+      it.0,
+      (exercises c.runs_are_meant.ensures c.in-Exercise.links c.in-Exercise.turns _ _ refl c.exercise_built.result it.0 c.exercise_built.ensures it.1, refl),
       it.2,
     )

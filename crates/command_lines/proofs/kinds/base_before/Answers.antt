@@ -1,6 +1,6 @@
 use Rattle.std.proofs.Common.{◌≡◌, sym, ◌∙◌}
 use Rattle.std.proofs.lemmas.List.{append_cancel_right}
-use Rattle.command_lines.proofs.form.base_before.Goals as goal
+use Rattle.command_lines.proofs.kinds.base_before.Goals as goal
 
 pub returns-else-is_file_base : goal.returns-else-is_file_base
 returns-else-is_file_base c = λ base named are.

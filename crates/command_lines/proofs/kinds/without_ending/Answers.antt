@@ -1,6 +1,6 @@
 use Rattle.std.proofs.lemmas.Slice.Eq.{strip_suffix_is}
 use Rattle.std.proofs.lemmas.Bool.Decides.{Decides-eqb}
-use Rattle.command_lines.proofs.form.without_ending.Goals as goal
+use Rattle.command_lines.proofs.kinds.without_ending.Goals as goal
 
 pub returns : goal.returns
 returns c = strip_suffix_is Decides-eqb c.args.word.now c.args.ending.now c.strip_suffix.result c.strip_suffix.ensures.cases

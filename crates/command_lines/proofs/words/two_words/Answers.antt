@@ -1,7 +1,7 @@
 use Rattle.std.proofs.Common.{◌≡◌, Some, slice_get, sym, ◌∙◌, ap}
 use Rattle.std.specs.Option.{option_copied}
 use Rattle.command_lines.proofs.Counted.{two}
-use Rattle.command_lines.proofs.form.two_words.Goals as goal
+use Rattle.command_lines.proofs.words.two_words.Goals as goal
 
 pub returns : goal.returns
 returns c =

@@ -1,7 +1,7 @@
 use Rattle.std.proofs.Common.{◌≡◌, Some, slice_get, sym, ◌∙◌, ap}
 use Rattle.std.specs.Option.{option_copied}
 use Rattle.command_lines.proofs.Counted.{three}
-use Rattle.command_lines.proofs.form.three_words.Goals as goal
+use Rattle.command_lines.proofs.words.three_words.Goals as goal
 
 pub returns : goal.returns
 returns c =

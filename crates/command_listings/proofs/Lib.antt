@@ -1,0 +1,5 @@
+mod Faults
+mod Holding
+mod Listed
+mod Read
+mod Upgraded

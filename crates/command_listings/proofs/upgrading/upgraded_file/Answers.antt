@@ -1,0 +1,27 @@
+use Rattle.std.proofs.Common.{Err, ap}
+use Rattle.command_passes.specs.Kinds.{kind_in}
+use Rattle.command_listings.proofs.Read.{upgrade_read, upgrade_unread}
+use Rattle.command_listings.proofs.upgrading.upgraded_file.Goals as goal
+
+pub returns-in-Ok-clause-passes : goal.returns-in-Ok-clause-passes
+returns-in-Ok-clause-passes g c =
+    let read = rw c.as_str.ensures at c.in-Ok.ensures in
+    upgrade_read (kind_in c.args.kind) c.args.file _ _ c.in-Ok.bytes c.rewritten.result
+    (record {
+      given = read.given;
+      called = read.called;
+      onward = record { files = read.unchanged; faults = read.faults_stay; misses = read.misses_stay };
+    })
+    c.rewritten.ensures
+
+pub returns-in-Err-clause-passes : goal.returns-in-Err-clause-passes
+returns-in-Err-clause-passes g c =
+    let read = rw c.as_str.ensures at c.in-Err.ensures in
+    upgrade_unread (kind_in c.args.kind) c.args.file _ _ c.in-Err.why c.unread.result
+    (record {
+      called = read.called;
+      miss = λ is. read.miss (ap Err is);
+      absent = λ is. read.absent (ap Err is);
+      fault = λ is. read.fault (ap Err is);
+    })
+    c.unread.ensures

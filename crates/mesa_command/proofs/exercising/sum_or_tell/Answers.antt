@@ -1,0 +1,7 @@
+use Rattle.mesa_command.proofs.exercising.sum_or_tell.Goals as goal
+
+pub returns-in-Ok-clause-before_run_output : goal.returns-in-Ok-clause-before_run_output
+returns-in-Ok-clause-before_run_output g c before = absurd (c.run_summed.ensures.has_run before)
+
+pub returns-in-Ok-clause-before_run_steps : goal.returns-in-Ok-clause-before_run_steps
+returns-in-Ok-clause-before_run_steps g c before = absurd (c.run_summed.ensures.has_run before)

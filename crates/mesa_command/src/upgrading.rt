@@ -1,0 +1,34 @@
+//! `upgrade FILE`.
+
+ghost use Rattle.command_rules.specs.Comes.{Upgrades};
+ghost use Rattle.command_rules.specs.Worlds.{shelf};
+ghost use Rattle.command_passes.specs.Kinds.{kind_in};
+ghost use Rattle.command_sources.specs.Stops.{stored_case};
+ghost use Rattle.mesa_command.specs.Forms.{IsBase};
+
+use command_listings::{file_of_kind, upgraded_file};
+use command_passes::Stop;
+use command_writes::file_written;
+use listed_files::FileKind;
+use mesa_base::Folder;
+use std::alloc::Global;
+
+/// Writes what the file of this base and kind holds over it in version 2.
+pub(crate) fn upgraded<F: Folder>(
+    alloc: Global,
+    folder: &mut F,
+    kind: FileKind,
+    base: &[u8],
+) -> Result<(), Stop>
+    requires { IsBase base.now }
+    ensures { Upgrades (kind_in kind) base.now
+        (shelf (F.files folder.old) (F.calls folder.old) (F.faults folder.old) (F.misses folder.old))
+        (shelf (F.files folder.new) (F.calls folder.new) (F.faults folder.new) (F.misses folder.new)) (stored_case result) }
+{
+    let file = file_of_kind(alloc, base, kind)?;
+    let target = file_of_kind(alloc, base, kind)?;
+    match upgraded_file(alloc, folder, file, kind) {
+        Ok(bytes) => file_written(alloc, folder, target, bytes.as_slice()),
+        Err(why) => Err(why),
+    }
+}
