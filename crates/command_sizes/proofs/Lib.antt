@@ -1,0 +1,10 @@
+pub mod Versions
+pub mod Reading
+pub mod Short
+pub mod Configuring
+pub mod Known
+pub mod Parts
+pub mod Sums
+pub mod Small
+pub mod Stated
+pub mod Complete
