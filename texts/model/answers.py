@@ -1,7 +1,8 @@
-"""What `bind NAME` and `run NAME TURNS` answer over some files, by the model."""
+"""What `bind NAME`, `run NAME TURNS`, `list FILE` and `upgrade FILE` answer over some files, by the model."""
 from collections import namedtuple
 
 from model.binding import image_of
+from model.listing import listing, read
 from model.machine import Machine, unresolved
 from model.objects import image_in
 from model.reading import Wrong
@@ -38,3 +39,30 @@ def ran(base, turns, files, given=b""):
     end = machine.run()
     status = {"done": DONE, "turns spent": SPENT, "frames full": FULL}.get(end, UNCAUGHT)
     return Answer(status, machine.output, b"" if end == "done" else f"{end}\n".encode(), {})
+
+
+def of_file(file, files, answer):
+    """What is answered to a call on a file alone, where it holds what its name says."""
+    if file not in files:
+        return refused(f"{file}: absent")
+    try:
+        return answer(files[file])
+    except Wrong as why:
+        return refused(f"{file}: {why}")
+
+
+def listed(file, files):
+    return of_file(file, files, lambda held: Answer(DONE, listing(file, held).encode(), b"", {}))
+
+
+def of_second_version(held):
+    """The file of the same value: only the version differs."""
+    return held[:3] + b"\x02" + held[4:]
+
+
+def upgraded(file, files):
+    def answer(held):
+        read(file, held)
+        return Answer(DONE, b"", b"", {file: of_second_version(held)})
+
+    return of_file(file, files, answer)

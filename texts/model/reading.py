@@ -13,6 +13,8 @@ Type = namedtuple("Type", "tree words first last value", defaults=(None, None, N
 # An item takes and gives lists of names, each with its type; an error gives None.
 Item = namedtuple("Item", "kind name takes gives")
 Face = namedtuple("Face", "name stamp items")
+# The number of a constant is the value of its word; a named type is a name and a type.
+Constant = namedtuple("Constant", "name kind number")
 Interface = namedtuple("Interface", "face constants types")
 
 
@@ -162,20 +164,17 @@ class Reader:
     def constant(self, before):
         name = self.fresh(before)
         kind = self.type(ORDINAL)
-        self.value(kind, kind.first)
-        return name
+        return Constant(name, kind, self.value(kind, kind.first))
 
     def named_type(self, before):
-        name = self.fresh(before)
-        self.type()
-        return name
+        return self.fresh(before), self.type()
 
     def interface(self):
         face = self.face()
         names = [it.name for it in face.items]
-        constants = self.listed(lambda before: self.constant(names + before))
-        names += constants
-        return Interface(face, constants, self.listed(lambda before: self.named_type(names + before)))
+        constants = self.listed(lambda before: self.constant(names + [it.name for it in before]))
+        names += [it.name for it in constants]
+        return Interface(face, constants, self.listed(lambda before: self.named_type(names + [name for name, _ in before])))
 
     def whole(self, letters, value):
         """A file of these letters: a version, the value, and nothing behind it."""
