@@ -38,7 +38,7 @@ fn words_without_a_form(rt: HostRuntime) -> Result<(), Fail> {
             && is_no_form(&rt, "go 1M.mesa 1")?
     );
     assert!(rt;
-        is_no_form(&rt, "Go M.mesa 1")? && is_no_form(&rt, long)? && is_no_form(&rt, "list M.mob")?
+        is_no_form(&rt, "Go M.mesa 1")? && is_no_form(&rt, long)? && is_no_form(&rt, "list M.mesa")?
     );
     Ok(())
 }
