@@ -1,0 +1,5 @@
+pub mod Laws
+pub mod Naming
+pub mod Order
+pub mod Plans
+pub mod Stale
