@@ -1,0 +1,14 @@
+pub mod Arms
+pub mod Codes
+pub mod Coming
+pub mod Escaping
+pub mod Examples
+pub mod Faults
+pub mod Following
+pub mod Instructions
+pub mod Jumps
+pub mod Living
+pub mod OneRange
+pub mod Outer
+pub mod Stepping
+pub mod Tracing
