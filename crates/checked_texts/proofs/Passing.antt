@@ -21,7 +21,7 @@ use Rattle.written_trees.specs.Laws.{IsTreeOf}
 use Rattle.checked_texts.specs.Asked.{Purpose, names_file, name_files, before_files}
 use Rattle.checked_texts.specs.TextFaults as f
 use Rattle.checked_texts.specs.TextFaults.{TextFault, of_lexical, of_syntactic, of_checking}
-use Rattle.checked_texts.specs.Texts.{HasEarlyFault, HasCheckFault, Begins, OneForEach, IsRefused, lexical, syntactic, wrong}
+use Rattle.checked_texts.specs.Texts.{HasNoTree, HasEarlyFault, HasCheckFault, Begins, OneForEach, IsRefused, lexical, syntactic, wrong}
 
 -- the items of a DIRECTORY, one after the other
 
@@ -48,27 +48,24 @@ no_more_items ds i outside = at_drop_all name_files ds i outside
 
 -- the faults of the passes are the text's
 
-pub lexical_is : (text : List ℕ) (purpose : Purpose) (why : LexFault) (shown : TextFault) → (why ≢ lex.Memory → HasLexFault text why)
-    → shown ≡ of_lexical why → shown ≢ f.Memory → HasEarlyFault text purpose shown
-lexical_is text purpose lex.Memory shown has e other = absurd (other e)
-lexical_is text purpose (lex.BadByte place) shown has e other = subst (HasEarlyFault text purpose) (sym e) (lexical (lex.BadByte place) (has (λ no. cc)))
-lexical_is text purpose (lex.OpenString place) shown has e other = subst (HasEarlyFault text purpose) (sym e) (lexical (lex.OpenString place) (has (λ no. cc)))
-lexical_is text purpose (lex.NumberTooLarge place) shown has e other =
-    subst (HasEarlyFault text purpose) (sym e) (lexical (lex.NumberTooLarge place) (has (λ no. cc)))
-lexical_is text purpose (lex.TokenTooLong place) shown has e other =
-    subst (HasEarlyFault text purpose) (sym e) (lexical (lex.TokenTooLong place) (has (λ no. cc)))
-lexical_is text purpose lex.TextTooLong shown has e other =
-    subst (HasEarlyFault text purpose) (sym e) (lexical lex.TextTooLong (has (λ no. cc)))
+pub lexical_is : (text : List ℕ) (why : LexFault) (shown : TextFault) → (why ≢ lex.Memory → HasLexFault text why)
+    → shown ≡ of_lexical why → shown ≢ f.Memory → HasNoTree text shown
+lexical_is text lex.Memory shown has e other = absurd (other e)
+lexical_is text (lex.BadByte place) shown has e other = subst (HasNoTree text) (sym e) (lexical (lex.BadByte place) (has (λ no. cc)))
+lexical_is text (lex.OpenString place) shown has e other = subst (HasNoTree text) (sym e) (lexical (lex.OpenString place) (has (λ no. cc)))
+lexical_is text (lex.NumberTooLarge place) shown has e other = subst (HasNoTree text) (sym e) (lexical (lex.NumberTooLarge place) (has (λ no. cc)))
+lexical_is text (lex.TokenTooLong place) shown has e other = subst (HasNoTree text) (sym e) (lexical (lex.TokenTooLong place) (has (λ no. cc)))
+lexical_is text lex.TextTooLong shown has e other = subst (HasNoTree text) (sym e) (lexical lex.TextTooLong (has (λ no. cc)))
 
-pub syntax_is : (text : List ℕ) (purpose : Purpose) (tokens : Tokens) (why : SyntaxFault) (shown : TextFault) → HasTokens text tokens
+pub syntax_is : (text : List ℕ) (tokens : Tokens) (why : SyntaxFault) (shown : TextFault) → HasTokens text tokens
     → (why ≢ syntax_fault.Memory → grammar.HasSyntaxFault tokens.items tokens.end why) → shown ≡ of_syntactic why
-    → shown ≢ f.Memory → HasEarlyFault text purpose shown
-syntax_is text purpose tokens syntax_fault.Memory shown made has e other = absurd (other e)
-syntax_is text purpose tokens (syntax_fault.Unexpected place) shown made has e other =
-    subst (HasEarlyFault text purpose) (sym e) (syntactic (syntax_fault.Unexpected place)
+    → shown ≢ f.Memory → HasNoTree text shown
+syntax_is text tokens syntax_fault.Memory shown made has e other = absurd (other e)
+syntax_is text tokens (syntax_fault.Unexpected place) shown made has e other =
+    subst (HasNoTree text) (sym e) (syntactic (syntax_fault.Unexpected place)
     (record { tokens = tokens; has_tokens = made; has_fault = has (λ no. cc) }))
-syntax_is text purpose tokens (syntax_fault.TooDeep place) shown made has e other =
-    subst (HasEarlyFault text purpose) (sym e) (syntactic (syntax_fault.TooDeep place)
+syntax_is text tokens (syntax_fault.TooDeep place) shown made has e other =
+    subst (HasNoTree text) (sym e) (syntactic (syntax_fault.TooDeep place)
     (record { tokens = tokens; has_tokens = made; has_fault = has (λ no. cc) }))
 
 pub wrong_is : (text : List ℕ) (purpose : Purpose) (tree : Module) (why : CheckFault) (shown : TextFault) → IsTreeOf text tree

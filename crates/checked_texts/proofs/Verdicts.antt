@@ -15,10 +15,10 @@ use Rattle.grammar_rules.proofs.Whole as g
 use Rattle.check_rules.specs.Steps.{Checked}
 use Rattle.written_trees.specs.Laws.{IsTreeOf}
 use Rattle.checked_texts.specs.Asked.{Purpose, before_files}
-use Rattle.checked_texts.specs.Laws.{TextsBeginOnce}
+use Rattle.checked_texts.specs.Laws.{TextsBeginOnce, TextsHaveOneTree}
 use Rattle.checked_texts.specs.TextFaults as f
 use Rattle.checked_texts.specs.TextFaults.{TextFault}
-use Rattle.checked_texts.specs.Texts.{HasEarlyFault, Begins, lexical as lexical_fault, syntactic, wrong}
+use Rattle.checked_texts.specs.Texts.{HasNoTree, HasEarlyFault, Begins, lexical as lexical_fault, syntactic, no_tree, wrong}
 
 -- what a text comes to, whatever it is compiled as
 data Verdict : Type 0 where
@@ -44,66 +44,50 @@ one_verdict text (Lexical _) (Parsed _ _) (lexical f h) (parsed ts a k x) = absu
 one_verdict text (Parsed _ _) (Lexical _) (parsed ts a k x) (lexical f h) = absurd ((w.one_answer text).never_both ts f k h)
 one_verdict text (Parsed _ _) (Parsed _ _) (parsed ts a h x) (parsed us b k y) = same_parsed text ts us a b h k x y
 
--- what a verdict shows to one purpose: a tree, or a fault of the text
+-- what a verdict tells: a tree, or why there is none
 
 fault_of : Why → Place → SyntaxFault
 fault_of Unexpected place = s.Unexpected place
 fault_of TooDeep place = s.TooDeep place
 
-told : Module → Checked (Unit {0}) → Result Module TextFault
-told tree (Ok done) = Ok tree
-told tree (Err fault) = Err (f.Wrong fault.cause fault.place)
+told : Verdict → Result Module TextFault
+told (Lexical fault) = Err (f.Lexical fault)
+told (Parsed tokens (Stops why at)) = Err (f.Syntactic (fault_of why (place_of tokens.items tokens.end at)))
+told (Parsed tokens (Tree tree)) = Ok tree
 
-shown : Purpose → Verdict → Result Module TextFault
-shown purpose (Lexical fault) = Err (f.Lexical fault)
-shown purpose (Parsed tokens (Stops why at)) = Err (f.Syntactic (fault_of why (place_of tokens.items tokens.end at)))
-shown purpose (Parsed tokens (Tree tree)) = told tree (before_files purpose (syntax tree))
-
--- the text comes to a verdict that shows this
-record Shows (text : List ℕ) (purpose : Purpose) (what : Result Module TextFault) : Type 0 where
+record Tells (text : List ℕ) (what : Result Module TextFault) : Type 0 where
   verdict : Verdict
   reached : Reaches text verdict
-  shows : shown purpose verdict ≡ what
+  tells : told verdict ≡ what
 
-of_stop : (text : List ℕ) (purpose : Purpose) (why : Why) (place : Place) (tokens : Tokens) → HasTokens text tokens →
-    IsFault tokens.items tokens.end why place → Shows text purpose (Err (f.Syntactic (fault_of why place)))
-unfolding shown
-of_stop text purpose why place tokens h stops = record {
+of_stop : (text : List ℕ) (why : Why) (place : Place) (tokens : Tokens) → HasTokens text tokens → IsFault tokens.items tokens.end why place
+    → Tells text (Err (f.Syntactic (fault_of why place)))
+unfolding told
+of_stop text why place tokens h stops = record {
   verdict = Parsed tokens (Stops why stops.at);
   reached = parsed tokens (Stops why stops.at) h stops.fault;
-  shows = ap (λ p. Err (f.Syntactic (fault_of why p))) (sym stops.here);
+  tells = ap (λ p. Err (f.Syntactic (fault_of why p))) (sym stops.here);
 }
 
-of_syntax : (text : List ℕ) (purpose : Purpose) (fault : SyntaxFault) (tokens : Tokens) → HasTokens text tokens →
-    HasSyntaxFault tokens.items tokens.end fault → Shows text purpose (Err (f.Syntactic fault))
+of_syntax : (text : List ℕ) (fault : SyntaxFault) (tokens : Tokens) → HasTokens text tokens → HasSyntaxFault tokens.items tokens.end fault
+    → Tells text (Err (f.Syntactic fault))
 unfolding fault_of
-of_syntax text purpose (s.Unexpected place) tokens h (unexpected_token stops) = of_stop text purpose Unexpected place tokens h stops
-of_syntax text purpose (s.TooDeep place) tokens h (too_deep_token stops) = of_stop text purpose TooDeep place tokens h stops
-of_syntax text purpose s.Memory tokens h x = elim x [ ]
+of_syntax text (s.Unexpected place) tokens h (unexpected_token stops) = of_stop text Unexpected place tokens h stops
+of_syntax text (s.TooDeep place) tokens h (too_deep_token stops) = of_stop text TooDeep place tokens h stops
+of_syntax text s.Memory tokens h x = elim x [ ]
 
-of_tree : (text : List ℕ) (purpose : Purpose) (tree : Module) (r : Checked (Unit {0})) → IsTreeOf text tree → before_files purpose (syntax tree) ≡ r
-    → Shows text purpose (told tree r)
-unfolding shown
-of_tree text purpose tree r h is_checked = record {
-  verdict = Parsed h.tokens (Tree tree);
-  reached = parsed h.tokens (Tree tree) h.are_its_own h.parsed;
-  shows = ap (told tree) is_checked;
-}
-
-shows_tree : (text : List ℕ) (purpose : Purpose) (tree : Module) → Begins text purpose tree → Shows text purpose (Ok tree)
+tells_tree : (text : List ℕ) (tree : Module) → IsTreeOf text tree → Tells text (Ok tree)
 unfolding told
-shows_tree text purpose tree h = of_tree text purpose tree (Ok tt) h.is_tree h.is_well
+tells_tree text tree h = record { verdict = Parsed h.tokens (Tree tree); reached = parsed h.tokens (Tree tree) h.are_its_own h.parsed; tells = refl }
 
-shows_fault : (text : List ℕ) (purpose : Purpose) (why : TextFault) → HasEarlyFault text purpose why → Shows text purpose (Err why)
-unfolding shown told
-shows_fault text purpose (f.Lexical _) (lexical_fault fault h) = record { verdict = Lexical fault; reached = lexical fault h; shows = refl }
-shows_fault text purpose (f.Syntactic _) (syntactic fault h) = of_syntax text purpose fault h.tokens h.has_tokens h.has_fault
-shows_fault text purpose (f.Wrong _ _) (wrong tree fault h e) = of_tree text purpose tree (Err fault) h e
-shows_fault text purpose f.Memory x = elim x [ ]
+tells_fault : (text : List ℕ) (why : TextFault) → HasNoTree text why → Tells text (Err why)
+unfolding told
+tells_fault text _ (lexical_fault fault h) = record { verdict = Lexical fault; reached = lexical fault h; tells = refl }
+tells_fault text _ (syntactic fault h) = of_syntax text fault h.tokens h.has_tokens h.has_fault
 
--- one text shows one thing
-one_shown : (text : List ℕ) (purpose : Purpose) (r q : Result Module TextFault) → Shows text purpose r → Shows text purpose q → r ≡ q
-one_shown text purpose r q x y = sym x.shows ∙ ap (shown purpose) (one_verdict text x.verdict y.verdict x.reached y.reached) ∙ y.shows
+-- one text tells one thing
+one_told : (text : List ℕ) (r q : Result Module TextFault) → Tells text r → Tells text q → r ≡ q
+one_told text r q x y = sym x.tells ∙ ap told (one_verdict text x.verdict y.verdict x.reached y.reached) ∙ y.tells
 
 same_ok : (x y : Module) → ◌≡◌ {A = Result Module TextFault} (Ok x) (Ok y) → x ≡ y
 same_ok x y e = cc
@@ -113,6 +97,43 @@ same_err a b e = cc
 
 differ : (x : Module) (a : TextFault) → ◌≡◌ {A = Result Module TextFault} (Ok x) (Err a) → ⊥
 differ x a e = cc
+
+pub one_tree_of : (text : List ℕ) (x y : Module) → IsTreeOf text x → IsTreeOf text y → x ≡ y
+one_tree_of text x y h k = same_ok x y (one_told text (Ok x) (Ok y) (tells_tree text x h) (tells_tree text y k))
+
+pub have_one_tree : TextsHaveOneTree
+have_one_tree = record {
+  one_tree = one_tree_of;
+  one_fault = λ text a b h k. same_err a b (one_told text (Err a) (Err b) (tells_fault text a h) (tells_fault text b k));
+  never_both = λ text x a h k. differ x a (one_told text (Ok x) (Err a) (tells_tree text x h) (tells_fault text a k));
+}
+
+-- what it shows to one purpose: a tree that may be checked, or a fault
+
+allowed : Module → Checked (Unit {0}) → Result Module TextFault
+allowed tree (Ok done) = Ok tree
+allowed tree (Err fault) = Err (f.Wrong fault.cause fault.place)
+
+shown : Purpose → Result Module TextFault → Result Module TextFault
+shown purpose (Ok tree) = allowed tree (before_files purpose (syntax tree))
+shown purpose (Err why) = Err why
+
+record Shows (text : List ℕ) (purpose : Purpose) (what : Result Module TextFault) : Type 0 where
+  comes : Result Module TextFault
+  tells : Tells text comes
+  shows : shown purpose comes ≡ what
+
+shows_tree : (text : List ℕ) (purpose : Purpose) (tree : Module) → Begins text purpose tree → Shows text purpose (Ok tree)
+unfolding shown allowed
+shows_tree text purpose tree h = record { comes = Ok tree; tells = tells_tree text tree h.is_tree; shows = ap (allowed tree) h.is_well }
+
+shows_fault : (text : List ℕ) (purpose : Purpose) (why : TextFault) → HasEarlyFault text purpose why → Shows text purpose (Err why)
+unfolding shown allowed
+shows_fault text purpose _ (no_tree why h) = record { comes = Err why; tells = tells_fault text why h; shows = refl }
+shows_fault text purpose _ (wrong tree fault h e) = record { comes = Ok tree; tells = tells_tree text tree h; shows = ap (allowed tree) e }
+
+one_shown : (text : List ℕ) (purpose : Purpose) (r q : Result Module TextFault) → Shows text purpose r → Shows text purpose q → r ≡ q
+one_shown text purpose r q x y = sym x.shows ∙ ap (shown purpose) (one_told text x.comes y.comes x.tells y.tells) ∙ y.shows
 
 pub one_tree : (text : List ℕ) (purpose : Purpose) (x y : Module) → Begins text purpose x → Begins text purpose y → x ≡ y
 one_tree text purpose x y h k = same_ok x y (one_shown text purpose (Ok x) (Ok y) (shows_tree text purpose x h) (shows_tree text purpose y k))
@@ -124,12 +145,3 @@ begins_once = record {
       same_err a b (one_shown text purpose (Err a) (Err b) (shows_fault text purpose a h) (shows_fault text purpose b k));
   never_both = λ text purpose x a h k. differ x a (one_shown text purpose (Ok x) (Err a) (shows_tree text purpose x h) (shows_fault text purpose a k));
 }
-
--- a text has one tree, whatever it is compiled as
-same_tree : (x y : Module) (ts us : Tokens) → Parsed ts (Tree x) ≡ Parsed us (Tree y) → x ≡ y
-same_tree x y ts us e = cc
-
-pub one_tree_of : (text : List ℕ) (x y : Module) → IsTreeOf text x → IsTreeOf text y → x ≡ y
-one_tree_of text x y h k =
-    same_tree x y h.tokens k.tokens (one_verdict text (Parsed h.tokens (Tree x)) (Parsed k.tokens (Tree y))
-    (parsed h.tokens (Tree x) h.are_its_own h.parsed) (parsed k.tokens (Tree y) k.are_its_own k.parsed))

@@ -11,11 +11,18 @@ use Rattle.interface_records.specs.Spelled.{InSixBytes, InterfaceCanBeSpelled, I
 use Rattle.syntax_trees.specs.Syntax as s
 use Rattle.check_rules.specs.Laws.{NamedThroughout, shape_of}
 use Rattle.check_rules.specs.Steps.{Fault}
+use Rattle.written_trees.specs.Laws.{IsTreeOf}
 use Rattle.checking_laws.specs.UsedItems.{used_items}
 use Rattle.config_rules.specs.InOrder.{ShapeInOrder}
 use Rattle.checked_texts.specs.Asked.{Purpose, Program, Interface, fits}
 use Rattle.checked_texts.specs.TextFaults.{TextFault}
-use Rattle.checked_texts.specs.Texts.{HasEarlyFault, Begins, Reads, Defines, IsRefused, HasCheckFault}
+use Rattle.checked_texts.specs.Texts.{HasNoTree, HasEarlyFault, Begins, Reads, Defines, IsRefused, HasCheckFault}
+
+-- one tree, or one reason why there is none
+pub record TextsHaveOneTree : Type 0 where
+  pub one_tree : (text : List ℕ) (x y : Module) → IsTreeOf text x → IsTreeOf text y → x ≡ y
+  pub one_fault : (text : List ℕ) (f g : TextFault) → HasNoTree text f → HasNoTree text g → f ≡ g
+  pub never_both : (text : List ℕ) (x : Module) (f : TextFault) → IsTreeOf text x → HasNoTree text f → ⊥
 
 -- before any interface is read: one tree that may be checked, or one fault
 pub record TextsBeginOnce : Type 0 where

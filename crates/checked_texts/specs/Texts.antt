@@ -23,10 +23,14 @@ pub record HasSyntaxFault (text : List ℕ) (fault : SyntaxFault) : Type 0 where
   pub has_tokens : HasTokens text tokens
   pub has_fault : grammar.HasSyntaxFault tokens.items tokens.end fault
 
+-- the text has no tree, and this is why: its lexical fault, or else its syntax fault
+pub data HasNoTree (text : List ℕ) : TextFault → Type 0 where
+  lexical : (fault : LexFault) → HasLexFault text fault → HasNoTree text (Lexical fault)
+  syntactic : (fault : SyntaxFault) → HasSyntaxFault text fault → HasNoTree text (Syntactic fault)
+
 -- this is the text's first fault of those that come before any interface is read
 pub data HasEarlyFault (text : List ℕ) (purpose : Purpose) : TextFault → Type 0 where
-  lexical : (fault : LexFault) → HasLexFault text fault → HasEarlyFault text purpose (Lexical fault)
-  syntactic : (fault : SyntaxFault) → HasSyntaxFault text fault → HasEarlyFault text purpose (Syntactic fault)
+  no_tree : (why : TextFault) → HasNoTree text why → HasEarlyFault text purpose why
   wrong : (tree : Module) (fault : Fault) → IsTreeOf text tree → before_files purpose (syntax tree) ≡ Err fault
       → HasEarlyFault text purpose (Wrong fault.cause fault.place)
 

@@ -3,7 +3,8 @@ ghost use Rattle.std.specs.Prelude.{◌≡◌, ◌≢◌, IfErr, IfOk};
 ghost use Rattle.check_state.specs.Gives.{GivesOnly};
 ghost use Rattle.syntax_trees.specs.PlainSyntax as plain;
 ghost use Rattle.checked_texts.specs.Asked as spec;
-ghost use Rattle.checked_texts.specs.Texts.{Begins, HasEarlyFault};
+ghost use Rattle.checked_texts.specs.Texts.{Begins, HasEarlyFault, HasNoTree};
+ghost use Rattle.written_trees.specs.Laws.{IsTreeOf};
 
 use crate::file_names::names_file;
 use crate::purpose::Purpose;
@@ -52,6 +53,15 @@ fn before_files(purpose: Purpose, tree: &Module) -> Result<(), CheckFault>
     name_files(tree.directory.as_slice())
 }
 
+/// The syntax tree of a text, or its first lexical fault, or else its syntax fault.
+pub fn tree_of(alloc: Global, text: &[u8]) -> Result<Module, TextFault>
+    ensures tree { IfOk result (IsTreeOf text.now) }
+    ensures fault { IfErr result (λ why. why ≢ TextFault.Memory → HasNoTree text.now why) }
+{
+    let tokens = tokens(alloc, text)?;
+    Ok(module(alloc, &tokens)?)
+}
+
 /// The syntax tree of a text that is compiled for this purpose, or its first fault before any interface is read. A lexical fault comes
 /// before a syntax fault; then StampMissing for definitions without a stamp and StampUnwanted for a program under one, at the word of
 /// the kind; then UnknownName at the first FROM text that is no base of a file, of an item that is not IODefs.
@@ -59,8 +69,7 @@ pub fn begun(alloc: Global, text: &[u8], purpose: Purpose) -> Result<Module, Tex
     ensures begins { IfOk result (λ tree. Begins text.now purpose tree) }
     ensures fault { IfErr result (λ why. why ≢ TextFault.Memory → HasEarlyFault text.now purpose why) }
 {
-    let tokens = tokens(alloc, text)?;
-    let tree = module(alloc, &tokens)?;
+    let tree = tree_of(alloc, text)?;
     let allowed = before_files(purpose, &tree);
     let (tree, _) = both(tree, allowed)?;
     Ok(tree)

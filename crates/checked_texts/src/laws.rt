@@ -1,10 +1,15 @@
-ghost use Rattle.checked_texts.specs.Laws.{DefinedInterfacesCanBeSpelled, DefinitionsComeToOne, FaultsComeInOrder, ProgramsComeToOne, ReadModulesCanBeKept, StampsNeedNoInterface, TextsBeginOnce};
+ghost use Rattle.checked_texts.specs.Laws.{DefinedInterfacesCanBeSpelled, DefinitionsComeToOne, FaultsComeInOrder, ProgramsComeToOne, ReadModulesCanBeKept, StampsNeedNoInterface, TextsBeginOnce, TextsHaveOneTree};
 
 use check_rules::laws::spelled_interfaces_are_in_order;
 use checking_laws::laws::used_items_are_few;
 use written_trees::{
     checked_texts_are_sound, checked_texts_can_be_spelled, checked_texts_have_names,
 };
+
+/// A text has at most one tree and at most one lexical or syntax fault, and never both.
+pub fn texts_have_one_tree()
+    ensures { TextsHaveOneTree }
+{}
 
 /// A text that is compiled for one purpose has at most one tree that may be checked and at most one fault before any interface is read, and never both.
 pub fn texts_begin_once()

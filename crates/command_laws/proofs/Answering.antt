@@ -8,20 +8,22 @@ use Rattle.line_pieces.specs.Outputs.{Stream, PrintsAll}
 use Rattle.command_rules.specs.Binding.{bound_in}
 use Rattle.command_rules.specs.Case.{Case, Absent, Done, Memory, Refused, Usage, status_of}
 use Rattle.command_rules.specs.declared.trouble.Trouble.TheVariants.{TooLarge}
-use Rattle.command_rules.specs.Comes.{Compiles, not_compiled, compiled, Defines, not_defined, defined, Binds, not_bound, bound, Loads, not_read, Goes, not_configured, Shows, not_shown, shown, not_printed, Upgrades, not_held, Exercises, no_end, ended, not_summed, Comes}
-use Rattle.command_rules.specs.Complete.{NoFault, Tells, IsAnswer, IsCall, StopsOver, MakesOver, IsRefused, IsTooLarge, IsUnresolved, IsUnresolvedWithin, IsNotLoaded, IsStored, IsComplete, IsRun, IsListed, IsUpgraded, IsExercised, Answered}
+use Rattle.command_rules.specs.Comes.{Compiles, not_compiled, compiled, Defines, not_defined, defined, Binds, not_bound, bound, Loads, not_read, Goes, not_configured, Upgrades, not_held, Exercises, no_end, ended, not_summed, Comes}
+use Rattle.command_rules.specs.Complete.{NoFault, Tells, IsAnswer, IsCall, StopsOver, MakesOver, IsRefused, IsTooLarge, IsUnresolved, IsUnresolvedWithin, IsNotLoaded, IsStored, IsComplete, IsRun, IsListed, IsPlanned, IsUpgraded, IsExercised, Answered}
 use Rattle.command_rules.specs.Configurations.{program, source_in}
 use Rattle.command_rules.specs.Exercise.{chain, exercise_shelf, within}
-use Rattle.command_rules.specs.Forms.{Source, OfConfig, FileKind, Form, Compile, Define, Bind, Run, Go, Show, Upgrade, Exercise, HasNoForm, WritesAlone, kind_file, module_file, image_file}
+use Rattle.command_rules.specs.Forms.{Source, OfConfig, FileKind, Form, Compile, Define, Bind, Run, Go, Show, Upgrade, Exercise, Plan, HasNoForm, WritesAlone, kind_file, module_file, image_file}
 use Rattle.command_rules.specs.Listing.{listing_in, value_in}
 use Rattle.command_rules.specs.Modules.{interface_in, module_in}
 use Rattle.command_rules.specs.Objects.{image_in}
-use Rattle.command_rules.specs.Passes.{Trail, Pass}
+use Rattle.command_rules.specs.Passes.{Has, IsExact, Trail, Pass}
 use Rattle.command_rules.specs.Passing.{Fails, refused, failed, memory}
+use Rattle.command_rules.specs.Planning.{plan_in}
+use Rattle.command_rules.specs.Printing.{Report, Prints}
 use Rattle.command_rules.specs.Shown.{image_names, program_names}
 use Rattle.command_rules.specs.Worlds.{Shelf, Scene, World}
 use Rattle.command_rules.specs.Writing.{Target, IsSmall, IsFirstTooLarge, NotStored, StoresAll, Written}
-use Rattle.command_rules.proofs.Stopping.{IsOfFiles, PassStopsSo, source_so, module_so, interface_in_so, bound_so, image_so, listing_so, value_so}
+use Rattle.command_rules.proofs.Stopping.{IsOfFiles, PassStopsSo, source_so, module_so, interface_in_so, bound_so, image_so, listing_so, plan_so, value_so}
 use Rattle.command_laws.specs.Laws.{PassesAreExact, CasesAreAnswers}
 use Rattle.command_laws.proofs.Came.{streams}
 use Rattle.command_laws.proofs.Exercising.{exercised_stopped, exercised_large, exercised_lacking, exercised_whole}
@@ -30,7 +32,7 @@ use Rattle.command_laws.proofs.Loading.{loads_so, loaded_stopped, loaded_lacking
 use Rattle.command_laws.proofs.Making.{OfCompile, OfDefine, OfBind, compile_made, define_made, bind_made, compiles_likely, defines_likely, binds_likely, made_stopped, made_large, made_whole}
 use Rattle.command_laws.proofs.OneCase.{FormComes, Meets, no_form, of_form, meets, of_its_form}
 use Rattle.command_laws.proofs.OneEnd.{run_used}
-use Rattle.command_laws.proofs.Showing.{over, shows_so, showed_stopped, showed_whole, upgrades_so, renewed_stopped, renewed_whole}
+use Rattle.command_laws.proofs.Showing.{over, prints_so, printed_stopped, printed_whole, upgrades_so, renewed_stopped, renewed_whole}
 use Rattle.command_laws.proofs.Sizes.{is_first, are_small}
 
 -- ---- Usage
@@ -91,13 +93,12 @@ goes_used source base turns folder folder' old new case (Goes.not_stored trail m
 goes_used source base turns folder folder' old new case (Goes.ran trail m _ all stored ends) e =
     run_used (program_names (program m.configured)) _ turns old new case ends.machine e
 
-shows_used : (kind : FileKind) (base : List ℕ) (folder folder' : Shelf) (old new : Scene) (case : Case) → Shows kind base folder folder' old new case
+prints_used : (p : Pass Case Report) → PassStopsSo p → (folder folder' : Shelf) (old new : Scene) (case : Case) → Prints p folder folder' old new case
     → status_of case ≢ status.Usage
-shows_used kind base folder folder' old new case (not_shown _ why onward same) e =
-    fails_used (listing_in kind (kind_file kind base)) (listing_so kind (kind_file kind base)) folder folder' case why e
-shows_used kind base folder folder' old new case (Shows.no_memory text gives same) e = cc
-shows_used kind base folder folder' old new case (shown text gives prints input steps) e = cc
-shows_used kind base folder folder' old new case (not_printed text gives rose prints input steps) e = cc
+prints_used p so folder folder' old new case (Prints.not_read _ why onward same) e = fails_used p so folder folder' case why e
+prints_used p so folder folder' old new case (Prints.no_memory r gives same) e = cc
+prints_used p so folder folder' old new case (Prints.printed r gives missed prints input steps) e = cc
+prints_used p so folder folder' old new case (Prints.not_printed r gives rose prints input steps) e = cc
 
 upgrades_used : (kind : FileKind) (base : List ℕ) (folder folder' : Shelf) (case : Case) → Upgrades kind base folder folder' case
     → status_of case ≢ status.Usage
@@ -121,9 +122,11 @@ form_used (Define base stamp) folder folder' old new case it e = defines_used ba
 form_used (Bind base) folder folder' old new case it e = binds_used base folder folder' case it e
 form_used (Run base turns) folder folder' old new case it e = loads_used base turns folder folder' old new case it e
 form_used (Go source base turns) folder folder' old new case it e = goes_used source base turns folder folder' old new case it e
-form_used (Show kind base) folder folder' old new case it e = shows_used kind base folder folder' old new case it e
+form_used (Show kind base) folder folder' old new case it e =
+    prints_used (listing_in kind (kind_file kind base)) (listing_so kind (kind_file kind base)) folder folder' old new case it e
 form_used (Upgrade kind base) folder folder' old new case it e = upgrades_used kind base folder folder' case it e
 form_used (Exercise links turns) folder folder' old new case it e = exercises_used links turns old new case it e
+form_used (Plan bases) folder folder' old new case it e = prints_used (plan_in bases) (plan_so bases) folder folder' old new case it e
 
 usage_only : (words : List (List ℕ)) (folder folder' : Shelf) (old new : Scene) (case : Case) → Meets words folder folder' old new case
     → status_of case ≡ status.Usage → HasNoForm words
@@ -177,13 +180,17 @@ module _ (exact : PassesAreExact) (law : DepthsDoNotMatter) where
       went_stopped source base turns files (exact.sources source base) folder folder' old new case c
       (record { trail = it.0; comes = it.1 }) (goes_so source base turns files folder folder' old new case e calm.no_folder_fault x)
   form_stopped (Show kind base) folder folder' old new files case c e calm it x =
-      showed_stopped kind base files (exact.listings kind (kind_file kind base)) old new case c
-      (record { trail = it.0; comes = it.1 }) (shows_so kind base files folder folder' old new case e calm.no_folder_fault calm.no_out_fault x)
+      printed_stopped (listing_in kind (kind_file kind base)) files (exact.listings kind (kind_file kind base)) old new case c
+      (record { trail = it.0; comes = it.1 })
+      (prints_so (listing_in kind (kind_file kind base)) files folder folder' old new case e calm.no_folder_fault calm.no_out_fault x)
   form_stopped (Upgrade kind base) folder folder' old new files case c e calm it x =
       renewed_stopped kind base files folder folder' case c
       (record { trail = it.0; comes = it.1 }) (upgrades_so kind base files folder folder' case e calm.no_folder_fault x)
   form_stopped (Exercise links turns) folder folder' old new files case c e calm it x =
       exercised_stopped links turns (exact.sources OfConfig chain) old new calm.no_out_fault case c (record { trail = it.0; comes = it.1 }) x
+  form_stopped (Plan bases) folder folder' old new files case c e calm it x =
+      printed_stopped (plan_in bases) files (exact.plans bases) old new case c (record { trail = it.0; comes = it.1 })
+      (prints_so (plan_in bases) files folder folder' old new case e calm.no_folder_fault calm.no_out_fault x)
 
   -- the first file that would be too large
   form_large : (form : Form) (folder folder' : Shelf) (old new : Scene) (files : Files) (case : Case) (targets : List Target) (file : List ℕ) → folder.files ≡ Some files
@@ -205,6 +212,7 @@ module _ (exact : PassesAreExact) (law : DepthsDoNotMatter) where
       (goes_so source base turns files folder folder' old new case e calm.no_folder_fault x)
   form_large (Show kind base) folder folder' old new files case targets file e calm it first x = absurd it
   form_large (Upgrade kind base) folder folder' old new files case targets file e calm it first x = absurd it
+  form_large (Plan bases) folder folder' old new files case targets file e calm it first x = absurd it
   form_large (Exercise links turns) folder folder' old new files case targets file e calm it first x =
       exercised_large links turns (exact.sources OfConfig chain) old new calm.no_out_fault it.1.configured it.1.objects
       (record { trail = it.0; comes = it.1.comes }) it.1.their case file (is_first _ file (subst (λ ts. IsFirstTooLarge ts file) it.2 first)) x
@@ -227,6 +235,7 @@ module _ (exact : PassesAreExact) (law : DepthsDoNotMatter) where
   form_stored (Show kind base) folder folder' old new files case targets e calm is it small x = absurd is
   form_stored (Upgrade kind base) folder folder' old new files case targets e calm is it small x = absurd it
   form_stored (Exercise links turns) folder folder' old new files case targets e calm is it small x = absurd is
+  form_stored (Plan bases) folder folder' old new files case targets e calm is it small x = absurd is
 
   module _ (words : List (List ℕ)) (before after : World) (s : Status) (case : Case) (comes : Comes words before.folder after.folder before.scene after.scene case)
       (tells : Tells case before.err after.err s) where
@@ -287,12 +296,22 @@ module _ (exact : PassesAreExact) (law : DepthsDoNotMatter) where
         (loads_so base turns files before.folder after.folder before.scene after.scene case call.told call.no_fault.no_folder_fault
         (comes_of (Run base turns) files call)))
 
+    prints : (p : Pass Case Report) (form : Form) (files : Files) (trail : Trail) (r : Report) → IsExact p → IsCall words before after form files
+        → p.comes (Some files) trail (Has r) → Prints p before.folder after.folder before.scene after.scene case
+        → (Tells Done before.err after.err s × PrintsAll r.text before.scene.out after.scene.out) ⊎ (s ≡ status.Memory)
+    prints p form files trail r one call reads it =
+        told case Done (PrintsAll r.text before.scene.out after.scene.out) before.err after.err s tells
+        (printed_whole p files one before.scene after.scene case r (record { trail = trail; comes = reads })
+        (prints_so p files before.folder after.folder before.scene after.scene case call.told call.no_fault.no_folder_fault call.no_fault.no_out_fault it))
+
     lists : IsListed words before after s
-    lists kind base files trail text call reads =
-        told case Done (PrintsAll text before.scene.out after.scene.out) before.err after.err s tells
-        (showed_whole kind base files (exact.listings kind (kind_file kind base)) before.scene after.scene case text (record { trail = trail; comes = reads })
-        (shows_so kind base files before.folder after.folder before.scene after.scene case call.told call.no_fault.no_folder_fault call.no_fault.no_out_fault
-        (comes_of (Show kind base) files call)))
+    lists kind base files trail r call reads =
+        prints (listing_in kind (kind_file kind base)) (Show kind base) files trail r (exact.listings kind (kind_file kind base)) call reads
+        (comes_of (Show kind base) files call)
+
+    plans : IsPlanned words before after s
+    plans bases files trail r call reads =
+        prints (plan_in bases) (Plan bases) files trail r (exact.plans bases) call reads (comes_of (Plan bases) files call)
 
     upgrades : IsUpgraded words before after s
     upgrades kind base files trail v call reads =
@@ -325,6 +344,7 @@ module _ (exact : PassesAreExact) (law : DepthsDoNotMatter) where
       listed = lists;
       upgraded = upgrades;
       exercised = exercises;
+      planned = plans;
     }
 
   pub is_answered : CasesAreAnswers

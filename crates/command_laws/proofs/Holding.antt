@@ -57,19 +57,19 @@ whole_value kind file bytes v (is_image version i h) = h.whole
 
 -- ---- bytes hold one of these, or there is one reason why they don't
 
-one_part : (kind : FileKind) (file bytes : List ℕ) (v w : Value) → Holds file bytes kind (Has v) → Holds file bytes kind (Has w) → part_of v ≡ part_of w
+pub one_part : (kind : FileKind) (file bytes : List ℕ) (v w : Value) → Holds file bytes kind (Has v) → Holds file bytes kind (Has w) → part_of v ≡ part_of w
 one_part kind file bytes v w (is_interface a x h) (is_interface b y k) = ap InterfacePart (one_file (codes "MIF") interface interface_law a b x y bytes h k).1
 one_part kind file bytes v w (is_object a x h) (is_object b y k) =
     ap ObjectPart (one_file (codes "MOB") module_form module_law a b (parts_of x) (parts_of y) bytes h.file k.file).1
 one_part kind file bytes v w (is_image a x h) (is_image b y k) =
     ap LinkedPart (one_file (codes "MIM") image_form image_law a b (parts_of_image x) (parts_of_image y) bytes h.file k.file).1
 
-part_or_stop : (kind : FileKind) (file bytes : List ℕ) (v : Value) (c : Case) → Holds file bytes kind (Has v) → Holds file bytes kind (Stops c) → ⊥
+pub part_or_stop : (kind : FileKind) (file bytes : List ℕ) (v : Value) (c : Case) → Holds file bytes kind (Has v) → Holds file bytes kind (Stops c) → ⊥
 part_or_stop kind file bytes v c (is_interface a x h) (no_interface why k) = file_or_fault (codes "MIF") interface interface_law refl a x bytes why h k
 part_or_stop kind file bytes v c (is_object a x h) (no_object why k) = object_or_fault a x bytes why h k
 part_or_stop kind file bytes v c (is_image a x h) (no_image why k) = image_or_fault a x bytes why h k
 
-one_stop : (kind : FileKind) (file bytes : List ℕ) (c d : Case) → Holds file bytes kind (Stops c) → Holds file bytes kind (Stops d) → c ≡ d
+pub one_stop : (kind : FileKind) (file bytes : List ℕ) (c d : Case) → Holds file bytes kind (Stops c) → Holds file bytes kind (Stops d) → c ≡ d
 one_stop kind file bytes c d (no_interface why k) (no_interface more h) =
     ap (λ e. Refused file (File (file_fault e))) (one_first_fault (codes "MIF") interface interface_law refl bytes why more k h)
 one_stop kind file bytes c d (no_object why k) (no_object more h) = ap (λ e. Refused file (File e)) (one_object_fault bytes why more k h)
@@ -194,7 +194,8 @@ value_listing (OfImage x) (OfImage y) of_v of_w e = linked_listing x y of_v of_w
 
 lists_one : (kind : FileKind) (file bytes : List ℕ) → One (Lists kind file bytes)
 lists_one kind file bytes o r (listed v h) (listed w k) =
-    ap Has (value_listing v w (whole_value kind file bytes v h) (whole_value kind file bytes w k) (one_part kind file bytes v w h k))
+    ap (λ text. Has (record { text = text; missing = [] }))
+    (value_listing v w (whole_value kind file bytes v h) (whole_value kind file bytes w k) (one_part kind file bytes v w h k))
 lists_one kind file bytes o r (listed v h) (Lists.is_none c k) = absurd (part_or_stop kind file bytes v c h k)
 lists_one kind file bytes o r (Lists.is_none c k) (listed v h) = absurd (part_or_stop kind file bytes v c h k)
 lists_one kind file bytes o r (Lists.is_none c h) (Lists.is_none d k) = ap Stops (one_stop kind file bytes c d h k)

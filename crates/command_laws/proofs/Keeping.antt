@@ -1,11 +1,15 @@
 -- What a form leaves as it was, whatever it answers.
 use Rattle.std.proofs.Common.{◌≡◌, ℕ, List, ap, subst}
 use Rattle.command_rules.specs.Case.{Case}
-use Rattle.command_rules.specs.Comes.{Comes, Shows, not_shown, shown, not_printed, Exercises, no_end, ended, not_summed}
-use Rattle.command_rules.specs.Forms.{FileKind, Form, Compile, Define, Bind, Run, Go, Show, Upgrade, Exercise, HasForm, HasNoForm, WritesAlone, KeepsFiles, KeepsInput, KeepsSteps, KeepsFolder}
+use Rattle.command_rules.specs.Comes.{Comes, Exercises, no_end, ended, not_summed}
+use Rattle.command_rules.specs.Forms.{Form, Compile, Define, Bind, Run, Go, Show, Upgrade, Exercise, Plan, HasForm, HasNoForm, WritesAlone, KeepsFiles, KeepsInput, KeepsSteps, KeepsFolder, kind_file}
+use Rattle.command_rules.specs.Listing.{listing_in}
 use Rattle.command_rules.specs.Order.{FormsKeep}
+use Rattle.command_rules.specs.Passes.{Pass}
+use Rattle.command_rules.specs.Planning.{plan_in}
+use Rattle.command_rules.specs.Printing.{Report, Prints}
 use Rattle.command_rules.specs.Worlds.{Shelf, Scene}
-use Rattle.command_rules.proofs.Order.{loads_keep, shows_keep}
+use Rattle.command_rules.proofs.Order.{loads_keep, prints_keep}
 use Rattle.command_laws.proofs.OneForm.{one_form}
 
 record Kept (form : Form) (folder folder' : Shelf) (old new : Scene) : Type 0 where
@@ -20,19 +24,17 @@ data Keeps (words : List (List ℕ)) (folder folder' : Shelf) (old new : Scene) 
   no_form : HasNoForm words → Keeps words folder folder' old new
   of_form : (form : Form) → HasForm words form → Kept form folder folder' old new → Keeps words folder folder' old new
 
-shows_input : (kind : FileKind) (base : List ℕ) (folder folder' : Shelf) (old new : Scene) (case : Case) → Shows kind base folder folder' old new case
-    → new.input ≡ old.input
-shows_input kind base folder folder' old new case (not_shown _ why onward same) = ap (λ (s : Scene). s.input) same
-shows_input kind base folder folder' old new case (Shows.no_memory text gives same) = ap (λ (s : Scene). s.input) same
-shows_input kind base folder folder' old new case (shown text gives prints input steps) = input
-shows_input kind base folder folder' old new case (not_printed text gives rose prints input steps) = input
+prints_input : (p : Pass Case Report) (folder folder' : Shelf) (old new : Scene) (case : Case) → Prints p folder folder' old new case → new.input ≡ old.input
+prints_input p folder folder' old new case (Prints.not_read _ why onward same) = ap (λ (s : Scene). s.input) same
+prints_input p folder folder' old new case (Prints.no_memory r gives same) = ap (λ (s : Scene). s.input) same
+prints_input p folder folder' old new case (Prints.printed r gives missed prints input steps) = input
+prints_input p folder folder' old new case (Prints.not_printed r gives rose prints input steps) = input
 
-shows_steps : (kind : FileKind) (base : List ℕ) (folder folder' : Shelf) (old new : Scene) (case : Case) → Shows kind base folder folder' old new case
-    → new.steps ≡ old.steps
-shows_steps kind base folder folder' old new case (not_shown _ why onward same) = ap (λ (s : Scene). s.steps) same
-shows_steps kind base folder folder' old new case (Shows.no_memory text gives same) = ap (λ (s : Scene). s.steps) same
-shows_steps kind base folder folder' old new case (shown text gives prints input steps) = steps
-shows_steps kind base folder folder' old new case (not_printed text gives rose prints input steps) = steps
+prints_steps : (p : Pass Case Report) (folder folder' : Shelf) (old new : Scene) (case : Case) → Prints p folder folder' old new case → new.steps ≡ old.steps
+prints_steps p folder folder' old new case (Prints.not_read _ why onward same) = ap (λ (s : Scene). s.steps) same
+prints_steps p folder folder' old new case (Prints.no_memory r gives same) = ap (λ (s : Scene). s.steps) same
+prints_steps p folder folder' old new case (Prints.printed r gives missed prints input steps) = steps
+prints_steps p folder folder' old new case (Prints.not_printed r gives rose prints input steps) = steps
 
 exercises_input : (links turns : ℕ) (old new : Scene) (case : Case) → Exercises links turns old new case → new.input ≡ old.input
 exercises_input links turns old new case (Exercises.no_memory same) = ap (λ (s : Scene). s.input) same
@@ -47,6 +49,17 @@ alone form folder folder' old new changes asks same = record {
   input = λ _. ap (λ (s : Scene). s.input) same;
   out = λ _. ap (λ (s : Scene). s.out) same;
   steps = λ _. ap (λ (s : Scene). s.steps) same;
+  folder_is = λ is. absurd (asks is);
+}
+
+-- what is read is printed, and the form is none that writes alone, or asks for no file
+printing : (form : Form) (p : Pass Case Report) (folder folder' : Shelf) (old new : Scene) (case : Case) → (WritesAlone form → ⊥) → (KeepsFolder form → ⊥)
+    → Prints p folder folder' old new case → Kept form folder folder' old new
+printing form p folder folder' old new case speaks asks it = record {
+  files = λ _. prints_keep p folder folder' old new case it;
+  input = λ _. prints_input p folder folder' old new case it;
+  out = λ is. absurd (speaks is);
+  steps = λ _. prints_steps p folder folder' old new case it;
   folder_is = λ is. absurd (asks is);
 }
 
@@ -75,13 +88,9 @@ keeps words folder folder' old new case (Comes.goes source base turns _ has it) 
       folder_is = λ h. absurd h;
     })
 keeps words folder folder' old new case (Comes.shows kind base _ has it) =
-    of_form (Show kind base) has (record {
-      files = λ _. shows_keep kind base folder folder' old new case it;
-      input = λ _. shows_input kind base folder folder' old new case it;
-      out = λ h. absurd h;
-      steps = λ _. shows_steps kind base folder folder' old new case it;
-      folder_is = λ h. absurd h;
-    })
+    of_form (Show kind base) has (printing (Show kind base) (listing_in kind (kind_file kind base)) folder folder' old new case (λ h. h) (λ h. h) it)
+keeps words folder folder' old new case (Comes.plans bases _ has it) =
+    of_form (Plan bases) has (printing (Plan bases) (plan_in bases) folder folder' old new case (λ h. h) (λ h. h) it)
 keeps words folder folder' old new case (Comes.exercises links turns _ has it here) =
     of_form (Exercise links turns) has (record {
       files = λ _. ap (λ (s : Shelf). s.files) here;

@@ -10,6 +10,7 @@ pub mod Came
 pub mod Versions
 pub mod Making
 pub mod Holding
+pub mod Planning
 pub mod Showing
 pub mod Going
 pub mod Exercising

@@ -4,12 +4,14 @@ use Rattle.mesa_base.specs.Outside.{Files}
 use Rattle.depth_laws.specs.Laws.{DepthsDoNotMatter}
 use Rattle.command_rules.specs.Binding.{bound_in}
 use Rattle.command_rules.specs.Case.{Case, Memory, Usage}
-use Rattle.command_rules.specs.Comes.{Compiles, Defines, Binds, Loads, Goes, Shows, Upgrades, Exercises, Comes}
+use Rattle.command_rules.specs.Comes.{Compiles, Defines, Binds, Loads, Goes, Shows, Plans, Upgrades, Exercises, Comes}
 use Rattle.command_rules.specs.Complete.{NoFault, OneCaseComes}
 use Rattle.command_rules.specs.Ends.{TellsInput}
 use Rattle.command_rules.specs.Exercise.{chain}
-use Rattle.command_rules.specs.Forms.{OfConfig, Form, Compile, Define, Bind, Run, Go, Show, Upgrade, Exercise, HasForm, HasNoForm, kind_file, module_file, image_file}
+use Rattle.command_rules.specs.Forms.{OfConfig, Form, Compile, Define, Bind, Run, Go, Show, Upgrade, Exercise, Plan, HasForm, HasNoForm, kind_file, module_file, image_file}
+use Rattle.command_rules.specs.Listing.{listing_in}
 use Rattle.command_rules.specs.Modules.{interface_in, module_in}
+use Rattle.command_rules.specs.Planning.{plan_in}
 use Rattle.command_rules.specs.Worlds.{Shelf, Scene}
 use Rattle.command_laws.specs.Laws.{PassesAreExact}
 use Rattle.command_laws.proofs.Came.{streams}
@@ -18,7 +20,7 @@ use Rattle.command_laws.proofs.Going.{goes_so, one_went}
 use Rattle.command_laws.proofs.Loading.{loads_so, one_loaded}
 use Rattle.command_laws.proofs.Making.{OfCompile, OfDefine, OfBind, compile_made, define_made, bind_made, compiles_likely, defines_likely, binds_likely, one_made}
 use Rattle.command_laws.proofs.OneForm.{one_form}
-use Rattle.command_laws.proofs.Showing.{shows_so, one_showed, upgrades_so, one_renewed}
+use Rattle.command_laws.proofs.Showing.{prints_so, one_printed, upgrades_so, one_renewed}
 
 -- what comes of a form
 abbrev pub FormComes : Form → (folder folder' : Shelf) → (old new : Scene) → Case → Type 0
@@ -30,6 +32,7 @@ FormComes (Go source base turns) folder folder' old new case = Goes source base 
 FormComes (Show kind base) folder folder' old new case = Shows kind base folder folder' old new case
 FormComes (Upgrade kind base) folder folder' old new case = Upgrades kind base folder folder' case
 FormComes (Exercise links turns) folder folder' old new case = Exercises links turns old new case
+FormComes (Plan bases) folder folder' old new case = Plans bases folder folder' old new case
 
 pub data Meets (words : List (List ℕ)) (folder folder' : Shelf) (old new : Scene) : Case → Type 0 where
   no_form : HasNoForm words → Meets words folder folder' old new Usage
@@ -46,6 +49,7 @@ meets words folder folder' old new case (Comes.goes source base turns _ form it)
 meets words folder folder' old new case (Comes.shows kind base _ form it) = of_form (Show kind base) case form it
 meets words folder folder' old new case (Comes.upgrades kind base _ form it same) = of_form (Upgrade kind base) case form it
 meets words folder folder' old new case (Comes.exercises links turns _ form it here) = of_form (Exercise links turns) case form it
+meets words folder folder' old new case (Comes.plans bases _ form it) = of_form (Plan bases) case form it
 
 met_so : (words : List (List ℕ)) (folder folder' : Shelf) (old new : Scene) (form : Form) (case : Case) → HasForm words form
     → Meets words folder folder' old new case → FormComes form folder folder' old new case
@@ -79,14 +83,18 @@ module _ (exact : PassesAreExact) (law : DepthsDoNotMatter) where
       one_went source base turns files (exact.sources source base) folder folder' last old new new' input c d i calm still m n
       (goes_so source base turns files folder folder' old new c e calm.no_folder_fault x) (goes_so source base turns files folder last old new' d e still.no_folder_fault y)
   one_of_form (Show kind base) folder folder' last old new new' files input c d e i calm still m n x y =
-      one_showed kind base files (exact.listings kind (kind_file kind base)) old new new' c d m n
-      (shows_so kind base files folder folder' old new c e calm.no_folder_fault calm.no_out_fault x)
-      (shows_so kind base files folder last old new' d e still.no_folder_fault still.no_out_fault y)
+      one_printed (listing_in kind (kind_file kind base)) files (exact.listings kind (kind_file kind base)) old new new' c d m n
+      (prints_so (listing_in kind (kind_file kind base)) files folder folder' old new c e calm.no_folder_fault calm.no_out_fault x)
+      (prints_so (listing_in kind (kind_file kind base)) files folder last old new' d e still.no_folder_fault still.no_out_fault y)
   one_of_form (Upgrade kind base) folder folder' last old new new' files input c d e i calm still m n x y =
       one_renewed kind base files folder folder' last c d m n
       (upgrades_so kind base files folder folder' c e calm.no_folder_fault x) (upgrades_so kind base files folder last d e still.no_folder_fault y)
   one_of_form (Exercise links turns) folder folder' last old new new' files input c d e i calm still m n x y =
       one_exercised links turns (exact.sources OfConfig chain) old new new' c d calm.no_out_fault still.no_out_fault m n x y
+  one_of_form (Plan bases) folder folder' last old new new' files input c d e i calm still m n x y =
+      one_printed (plan_in bases) files (exact.plans bases) old new new' c d m n
+      (prints_so (plan_in bases) files folder folder' old new c e calm.no_folder_fault calm.no_out_fault x)
+      (prints_so (plan_in bases) files folder last old new' d e still.no_folder_fault still.no_out_fault y)
 
   agree : (words : List (List ℕ)) (folder folder' last : Shelf) (old new new' : Scene) (files : Files) (input : List ℕ) (c d : Case) → folder.files ≡ Some files
       → TellsInput old input → NoFault folder folder' old new → NoFault folder last old new' → c ≢ Memory → d ≢ Memory

@@ -5,7 +5,7 @@ use Rattle.std.proofs.lemmas.Fmt.{decimal_injective}
 use Rattle.std.proofs.lemmas.List.{append_cancel_right}
 use Rattle.std.proofs.lemmas.Option.{same_Some}
 use Rattle.mesa_base.specs.Stamp.{stamp_of}
-use Rattle.command_rules.specs.Forms.{Source, OfModule, OfConfig, source_file, FileKind, InterfaceFile, ObjectFile, ImageFile, kind_file, most_links, Form, Compile, Define, Bind, Run, Go, Show, Upgrade, Exercise, HasForm, compile, define, bind, run, go, list, upgrade, exercise}
+use Rattle.command_rules.specs.Forms.{Source, OfModule, OfConfig, source_file, FileKind, InterfaceFile, ObjectFile, ImageFile, kind_file, most_links, Form, Compile, Define, Bind, Run, Go, Show, Upgrade, Exercise, Plan, HasForm, compile, define, bind, run, go, list, upgrade, exercise, plan}
 
 -- ---- the names of files
 
@@ -66,6 +66,10 @@ third : List (List ℕ) → List ℕ
 third [] = []
 third (a ∷ rest) = second rest
 
+others : List (List ℕ) → List (List ℕ)
+others [] = []
+others (a ∷ rest) = rest
+
 data Said (words : List (List ℕ)) : Form → Type 0 where
   is_compile : (base : List ℕ) → words ≡ codes "compile" ∷ base ∷ [] → Said words (Compile base)
   is_define : (base word : List ℕ) (stamp : ℕ) → words ≡ codes "compile" ∷ base ∷ word ∷ [] → stamp_of word ≡ Some stamp → Said words (Define base stamp)
@@ -77,6 +81,7 @@ data Said (words : List (List ℕ)) : Form → Type 0 where
   is_upgrade : (kind : FileKind) (base : List ℕ) → words ≡ codes "upgrade" ∷ kind_file kind base ∷ [] → Said words (Upgrade kind base)
   is_exercise : (links turns : ℕ) → words ≡ codes "exercise" ∷ decimal links ∷ decimal turns ∷ [] → links < 2 ^ 64 → turns < 2 ^ 64
       → Said words (Exercise links turns)
+  is_plan : (bases : List (List ℕ)) → words ≡ codes "plan" ∷ bases → Said words (Plan bases)
 
 few_links : (links : ℕ) → links ≤ most_links → links < 2 ^ 64
 few_links links few = omega (arith, few)
@@ -90,6 +95,7 @@ said words form (go source base turns is few) = is_go source base turns refl few
 said words form (list kind base is) = is_list kind base refl
 said words form (upgrade kind base is) = is_upgrade kind base refl
 said words form (exercise links turns some most few) = is_exercise links turns refl (few_links links most) few
+said words form (plan bases some most all distinct) = is_plan bases refl
 
 -- ---- forms of two kinds differ in the first word, or in how many words there are
 
@@ -102,6 +108,7 @@ data Kind : Type 0 where
   Shows : Kind
   Upgrades : Kind
   Exercises : Kind
+  Plans : Kind
 
 kind_of : Form → Kind
 kind_of (Compile base) = Compiles
@@ -112,6 +119,7 @@ kind_of (Go source base turns) = Goes
 kind_of (Show kind base) = Shows
 kind_of (Upgrade kind base) = Upgrades
 kind_of (Exercise links turns) = Exercises
+kind_of (Plan bases) = Plans
 
 first_letter : List ℕ → ℕ
 first_letter [] = 0
@@ -128,7 +136,8 @@ kind_by letter many =
     else (if nat_eq letter 114 then Runs
     else (if nat_eq letter 103 then Goes
     else (if nat_eq letter 108 then Shows
-    else (if nat_eq letter 117 then Upgrades else Exercises)))))
+    else (if nat_eq letter 117 then Upgrades
+    else (if nat_eq letter 112 then Plans else Exercises))))))
 
 its_kind : (words : List (List ℕ)) (f : Form) → Said words f → kind_by (letter words) (length words) ≡ kind_of f
 unfolding kind_of kind_by letter first first_letter
@@ -140,6 +149,7 @@ its_kind words f (is_go source base turns e few) = ap (λ w. kind_by (letter w) 
 its_kind words f (is_list kind base e) = ap (λ w. kind_by (letter w) (length w)) e
 its_kind words f (is_upgrade kind base e) = ap (λ w. kind_by (letter w) (length w)) e
 its_kind words f (is_exercise links turns e some few) = ap (λ w. kind_by (letter w) (length w)) e
+its_kind words f (is_plan bases e) = ap (λ w. kind_by (letter w) (length w)) e
 
 one_kind : (words : List (List ℕ)) (f g : Form) → Said words f → Said words g → kind_of f ≡ kind_of g
 one_kind words f g x y = sym (its_kind words f x) ∙ its_kind words g y
@@ -148,7 +158,7 @@ go_is : (s t : Source) (a b : List ℕ) (n m : ℕ) → (s ≡ t) × (a ≡ b) �
 go_is s t a b n m p e = ap (λ z. Go z a n) p.0 ∙ ap (λ z. Go t z n) p.1 ∙ ap (λ z. Go t b z) e
 
 one_said : (words : List (List ℕ)) (f g : Form) → Said words f → Said words g → kind_of f ≡ kind_of g → f ≡ g
-unfolding first second third kind_of
+unfolding first second third others kind_of
 one_said words f g (is_compile a e) (is_compile b d) same = ap Compile (ap second (sym e ∙ d))
 one_said words f g (is_define a v n e told) (is_define b w m d also) same =
     ap (λ z. Define z n) (ap second (sym e ∙ d)) ∙ ap (Define b) (same_Some n m (sym told ∙ ap stamp_of (ap third (sym e ∙ d)) ∙ also))
@@ -164,6 +174,7 @@ one_said words f g (is_upgrade s a e) (is_upgrade t b d) same =
 one_said words f g (is_exercise l n e few less) (is_exercise k m d one some) same =
     ap (λ z. Exercise z n) (decimal_injective l k few one (ap second (sym e ∙ d)))
     ∙ ap (λ z. Exercise k z) (decimal_injective n m less some (ap third (sym e ∙ d)))
+one_said words f g (is_plan a e) (is_plan b d) same = ap Plan (ap others (sym e ∙ d))
 one_said words f g x y same = cc
 
 pub one_form : (words : List (List ℕ)) (f g : Form) → HasForm words f → HasForm words g → f ≡ g

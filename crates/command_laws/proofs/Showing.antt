@@ -1,12 +1,13 @@
--- The cases of `list` and `upgrade`, over files that are told and without faults.
+-- The cases of `list` and `plan`, which print what their pass comes to, and of `upgrade`, over files that are told and without faults.
 use Rattle.std.proofs.Common.{◌≡◌, ◌≢◌, ◌⊎◌, ℕ, List, [], ◌∷◌, Some, refl, sym, subst, inl, inr}
 use Rattle.mesa_base.specs.Outside.{Files}
 use Rattle.line_pieces.specs.Outputs.{HasFaulted, PrintsAll}
 use Rattle.command_rules.specs.Case.{Case, Done, Memory}
-use Rattle.command_rules.specs.Comes.{Shows, not_shown, shown, not_printed, Upgrades, not_held}
+use Rattle.command_rules.specs.Comes.{Upgrades, not_held}
 use Rattle.command_rules.specs.Forms.{FileKind, kind_file}
-use Rattle.command_rules.specs.Listing.{listing_in, value_in}
-use Rattle.command_rules.specs.Passes.{Outcome, Has, Stops, IsExact}
+use Rattle.command_rules.specs.Listing.{value_in}
+use Rattle.command_rules.specs.Passes.{Outcome, Has, Stops, Pass, IsExact}
+use Rattle.command_rules.specs.Printing.{Report, Prints}
 use Rattle.command_rules.specs.Worlds.{Shelf, Scene}
 use Rattle.command_rules.specs.Writing.{Target, Value, holding, StoresAll}
 use Rattle.command_laws.proofs.Came.{Came, IsStill, came_to_stop, came_to_value, came_so, same_stop, same_value, never_both}
@@ -14,48 +15,46 @@ use Rattle.command_laws.proofs.Holding.{part_of, to_parts, parts_in, parts_exact
 use Rattle.command_laws.proofs.Likeness.{one_like, stored_like}
 use Rattle.command_laws.proofs.Making.{not_kept}
 
--- ---- list
+-- ---- list and plan
 
-pub data Showed (kind : FileKind) (base : List ℕ) (files : Files) (old new : Scene) : Case → Type 0 where
-  halted : (case : Case) → Came (listing_in kind (kind_file kind base)) files (Stops case) → Showed kind base files old new case
-  printed : (text : List ℕ) → Came (listing_in kind (kind_file kind base)) files (Has text) → PrintsAll text old.out new.out → Showed kind base files old new Done
-  no_text : Showed kind base files old new Memory
+pub data Printed (p : Pass Case Report) (files : Files) (old new : Scene) : Case → Type 0 where
+  halted : (case : Case) → Came p files (Stops case) → Printed p files old new case
+  printed : (r : Report) → Came p files (Has r) → PrintsAll r.text old.out new.out → Printed p files old new Done
+  no_text : Printed p files old new Memory
 
-showed_stop : (kind : FileKind) (base : List ℕ) (files : Files) (old new : Scene) (case : Case)
-    → (case ≡ Memory) ⊎ Came (listing_in kind (kind_file kind base)) files (Stops case) → Showed kind base files old new case
-showed_stop kind base files old new case (inl e) = subst (λ z. Showed kind base files old new z) (sym e) no_text
-showed_stop kind base files old new case (inr came) = halted case came
+printed_stop : (p : Pass Case Report) (files : Files) (old new : Scene) (case : Case) → (case ≡ Memory) ⊎ Came p files (Stops case) → Printed p files old new case
+printed_stop p files old new case (inl e) = subst (λ z. Printed p files old new z) (sym e) no_text
+printed_stop p files old new case (inr came) = halted case came
 
-pub shows_so : (kind : FileKind) (base : List ℕ) (files : Files) (folder folder' : Shelf) (old new : Scene) (case : Case) → folder.files ≡ Some files
-    → IsStill folder folder' → ¬ (HasFaulted old.out new.out) → Shows kind base folder folder' old new case → Showed kind base files old new case
-shows_so kind base files folder folder' old new case e still calm (not_shown _ why onward same) =
-    showed_stop kind base files old new case (came_to_stop (listing_in kind (kind_file kind base)) folder folder' files case e still why)
-shows_so kind base files folder folder' old new case e still calm (Shows.no_memory text gives same) = no_text
-shows_so kind base files folder folder' old new case e still calm (shown text gives prints input steps) =
-    printed text (came_to_value (listing_in kind (kind_file kind base)) folder folder' files text e gives) prints
-shows_so kind base files folder folder' old new case e still calm (not_printed text gives rose prints input steps) = absurd (calm rose)
+pub prints_so : (p : Pass Case Report) (files : Files) (folder folder' : Shelf) (old new : Scene) (case : Case) → folder.files ≡ Some files
+    → IsStill folder folder' → ¬ (HasFaulted old.out new.out) → Prints p folder folder' old new case → Printed p files old new case
+prints_so p files folder folder' old new case e still calm (Prints.not_read _ why onward same) =
+    printed_stop p files old new case (came_to_stop p folder folder' files case e still why)
+prints_so p files folder folder' old new case e still calm (Prints.no_memory r gives same) = no_text
+prints_so p files folder folder' old new case e still calm (Prints.printed r gives missed prints input steps) =
+    printed r (came_to_value p folder folder' files r e gives) prints
+prints_so p files folder folder' old new case e still calm (Prints.not_printed r gives rose prints input steps) = absurd (calm rose)
 
-module _ (kind : FileKind) (base : List ℕ) (files : Files) (one : IsExact (listing_in kind (kind_file kind base))) where
-  pub one_showed : (old new last : Scene) (c d : Case) → c ≢ Memory → d ≢ Memory → Showed kind base files old new c → Showed kind base files old last d → c ≡ d
-  one_showed old new last c d m n no_text y = absurd (m refl)
-  one_showed old new last c d m n x no_text = absurd (n refl)
-  one_showed old new last c d m n (halted _ x) (halted _ y) = same_stop (listing_in kind (kind_file kind base)) files c d one x y
-  one_showed old new last c d m n (halted _ x) (printed t y p) = absurd (never_both (listing_in kind (kind_file kind base)) files t c one y x)
-  one_showed old new last c d m n (printed t y p) (halted _ x) = absurd (never_both (listing_in kind (kind_file kind base)) files t d one y x)
-  one_showed old new last c d m n (printed t x p) (printed u y q) = refl
+module _ (p : Pass Case Report) (files : Files) (one : IsExact p) where
+  pub one_printed : (old new last : Scene) (c d : Case) → c ≢ Memory → d ≢ Memory → Printed p files old new c → Printed p files old last d → c ≡ d
+  one_printed old new last c d m n no_text y = absurd (m refl)
+  one_printed old new last c d m n x no_text = absurd (n refl)
+  one_printed old new last c d m n (halted _ x) (halted _ y) = same_stop p files c d one x y
+  one_printed old new last c d m n (halted _ x) (printed r y all) = absurd (never_both p files r c one y x)
+  one_printed old new last c d m n (printed r y all) (halted _ x) = absurd (never_both p files r d one y x)
+  one_printed old new last c d m n (printed r x all) (printed q y every) = refl
 
-  pub showed_stopped : (old new : Scene) (case c : Case) → Came (listing_in kind (kind_file kind base)) files (Stops c) → Showed kind base files old new case
-      → (case ≡ Memory) ⊎ (case ≡ c)
-  showed_stopped old new case c x no_text = inl refl
-  showed_stopped old new case c x (halted _ y) = inr (same_stop (listing_in kind (kind_file kind base)) files case c one y x)
-  showed_stopped old new case c x (printed t y p) = absurd (never_both (listing_in kind (kind_file kind base)) files t c one y x)
+  pub printed_stopped : (old new : Scene) (case c : Case) → Came p files (Stops c) → Printed p files old new case → (case ≡ Memory) ⊎ (case ≡ c)
+  printed_stopped old new case c x no_text = inl refl
+  printed_stopped old new case c x (halted _ y) = inr (same_stop p files case c one y x)
+  printed_stopped old new case c x (printed r y all) = absurd (never_both p files r c one y x)
 
-  pub showed_whole : (old new : Scene) (case : Case) (text : List ℕ) → Came (listing_in kind (kind_file kind base)) files (Has text)
-      → Showed kind base files old new case → ((case ≡ Done) × PrintsAll text old.out new.out) ⊎ (case ≡ Memory)
-  showed_whole old new case text x no_text = inr refl
-  showed_whole old new case text x (halted _ y) = absurd (never_both (listing_in kind (kind_file kind base)) files text case one x y)
-  showed_whole old new case text x (printed t y p) =
-      inl (refl, subst (λ z. PrintsAll z old.out new.out) (same_value (listing_in kind (kind_file kind base)) files t text one y x) p)
+  pub printed_whole : (old new : Scene) (case : Case) (r : Report) → Came p files (Has r) → Printed p files old new case
+      → ((case ≡ Done) × PrintsAll r.text old.out new.out) ⊎ (case ≡ Memory)
+  printed_whole old new case r x no_text = inr refl
+  printed_whole old new case r x (halted _ y) = absurd (never_both p files r case one x y)
+  printed_whole old new case r x (printed q y all) =
+      inl (refl, subst (λ (z : Report). PrintsAll z.text old.out new.out) (same_value p files q r one y x) all)
 
 -- ---- upgrade
 

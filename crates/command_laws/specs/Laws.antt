@@ -21,6 +21,7 @@ use Rattle.command_rules.specs.Listing.{Holds, listing_in, value_in}
 use Rattle.command_rules.specs.Modules.{interface_for, interface_in, module_in}
 use Rattle.command_rules.specs.Objects.{image_in, object_in}
 use Rattle.command_rules.specs.Passes.{Outcome, Has, Stops, IsExact, Trail}
+use Rattle.command_rules.specs.Planning.{plan_in}
 use Rattle.command_rules.specs.Shown.{image_names}
 use Rattle.command_rules.specs.Worlds.{Scene, World}
 use Rattle.command_rules.specs.Writing.{Value, IsFileOf, size_of}
@@ -47,6 +48,7 @@ pub record PassesAreExact : Type 0 where
   pub bound : (base : List ℕ) → IsExact (bound_in base)
   pub sources : (source : Source) (base : List ℕ) → IsExact (source_in source base)
   pub listings : (kind : FileKind) (file : List ℕ) → IsExact (listing_in kind file)
+  pub plans : (bases : List (List ℕ)) → IsExact (plan_in bases)
   pub values : (kind : FileKind) (file : List ℕ) → ValuesAreAlike kind file
 
 -- what is configured has as many bases as modules, so that each module's object has its file

@@ -3,8 +3,11 @@ ghost use Rattle.command_laws.specs.Laws.{BasesFit, CasesAreAnswers, PassesAreEx
 ghost use Rattle.command_rules.specs.Complete.{OneCaseComes};
 ghost use Rattle.command_rules.specs.Order.{FormsKeep, NeverAnswered, OrderIsKept};
 
-use checked_texts::{definitions_come_to_one, programs_come_to_one, texts_begin_once};
+use checked_texts::{
+    definitions_come_to_one, programs_come_to_one, texts_begin_once, texts_have_one_tree,
+};
 use depth_laws::depths_do_not_matter;
+use include_rules::plans_come_once;
 use linked_programs::{singles_are_one, trees_are_one};
 
 /// A law: where the files of a folder are told, one thing comes of each pass, and after the same files.
@@ -16,6 +19,8 @@ pub fn passes_are_exact()
     definitions_come_to_one();
     trees_are_one();
     singles_are_one();
+    texts_have_one_tree();
+    plans_come_once();
 }
 
 /// A law: what is configured has as many bases as modules.
@@ -28,8 +33,8 @@ pub fn order_is_kept()
     ensures { OrderIsKept }
 {}
 
-/// A law: `list`, `run` and `exercise` change no file, all forms but `run` and `go` leave the input, those that write a file alone leave `out`, those
-/// that run nothing the steps, and `exercise` the folder.
+/// A law: `list`, `plan`, `run` and `exercise` change no file, all forms but `run` and `go` leave the input, those that write a file alone leave `out`,
+/// those that run nothing the steps, and `exercise` the folder.
 pub fn forms_keep()
     ensures { FormsKeep }
 {}

@@ -1,4 +1,5 @@
 mod Counted
 mod Ended
 mod Forming
+mod Planning
 mod Told

@@ -1,11 +1,12 @@
 //! The forms of a command line: `compile NAME`, `compile NAME STAMP`, `bind NAME`, `run NAME TURNS`, `go NAME.mesa TURNS`,
-//! `go NAME.config TURNS`, `list FILE`, `upgrade FILE` and `exercise N TURNS` (rule of this project).
+//! `go NAME.config TURNS`, `list FILE`, `upgrade FILE`, `exercise N TURNS` and `plan NAME ..` (rule of this project).
 
-ghost use Rattle.std.specs.Prelude.{◌≡◌, ◌≤◌, ℕ, ◌∷◌, [], IfSome, IfNone, MatchOption, codes, decimal};
+ghost use Rattle.std.specs.Prelude.{◌≡◌, ◌≢◌, ◌≤◌, ℕ, ◌∷◌, [], IfSome, IfNone, MatchOption, codes, decimal};
 ghost use Rattle.command_rules.specs.Forms.{HasForm, HasNoForm, most_links};
 ghost use Rattle.command_lines.specs.Words.{form_in};
 
 use crate::kinds::{Source, named_kind, named_source};
+use crate::plan_words::{begins_plan, plan_of};
 use crate::words::{is_word, three_words, two_words};
 use checked_texts::is_file_base;
 use listed_files::FileKind;
@@ -14,7 +15,8 @@ use mesa_base::{Stamp, Words, decimal_value};
 /// An exercise has at most so many links.
 const MOST_LINKS: u64 = 1000;
 
-/// What the words ask for. A base is a letter, then letters, digits, `-` and `_`, 64 bytes at most; an exercise has 1 to 1000 links.
+/// What the words ask for. A base is a letter, then letters, digits, `-` and `_`, 64 bytes at most; an exercise has 1 to 1000 links, a plan 1 to 64 bases, no
+/// two of which are the same.
 #[derive(Clone, Copy)]
 pub enum Form<'a> {
     Compile {
@@ -48,6 +50,10 @@ pub enum Form<'a> {
         links: u16,
         turns: u64,
     },
+    /// The bases are the words behind the first.
+    Plan {
+        words: &'a Words,
+    },
 }
 
 /// None exactly where the words have no form.
@@ -55,6 +61,9 @@ pub fn form_of(words: &Words) -> Option<Form<'_>>
     ensures form { IfSome result (λ f. HasForm words.now (form_in f)) }
     ensures formless { IfNone result (HasNoForm words.now) }
 {
+    if begins_plan(words) {
+        return plan_of(words);
+    }
     if let Some(two) = two_words(words) {
         return form_of_two(two.first, two.second);
     }
@@ -62,8 +71,9 @@ pub fn form_of(words: &Words) -> Option<Form<'_>>
     form_of_three(three.first, three.second, three.third)
 }
 
-/// The form of two words.
+/// The form of two words, which are no plan's.
 fn form_of_two<'a>(verb: &[u8], name: &'a [u8]) -> Option<Form<'a>>
+    requires { verb.now ≢ codes "plan" }
     ensures form { IfSome result (λ f. HasForm (verb.now ∷ name.now ∷ []) (form_in f)) }
     ensures formless { IfNone result (HasNoForm (verb.now ∷ name.now ∷ [])) }
 {
@@ -80,8 +90,9 @@ fn form_of_two<'a>(verb: &[u8], name: &'a [u8]) -> Option<Form<'a>>
     }
 }
 
-/// The form of three words.
+/// The form of three words, which are no plan's.
 fn form_of_three<'a>(verb: &[u8], name: &'a [u8], last: &[u8]) -> Option<Form<'a>>
+    requires { verb.now ≢ codes "plan" }
     ensures form { IfSome result (λ f. HasForm (verb.now ∷ name.now ∷ last.now ∷ []) (form_in f)) }
     ensures formless { IfNone result (HasNoForm (verb.now ∷ name.now ∷ last.now ∷ [])) }
 {

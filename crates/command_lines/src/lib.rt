@@ -6,6 +6,7 @@ mod ending;
 mod form;
 mod items;
 mod kinds;
+mod plan_words;
 mod refusals;
 mod stops;
 mod words;

@@ -1,9 +1,10 @@
 //! The line of a file that is refused.
 
-ghost use Rattle.std.specs.Prelude.{◌≡◌};
+ghost use Rattle.std.specs.Prelude.{◌≡◌, ◌++◌, codes, flat_map};
 ghost use Rattle.object_rules.specs.declared.object_fault.ObjectFault.TheVariants.{BadField, Code};
 ghost use Rattle.checked_texts.specs.TextFaults.{fault_name, fault_place};
 ghost use Rattle.line_pieces.specs.Outputs.{stream, Receives};
+ghost use Rattle.line_pieces.specs.Texts.{with_blank};
 ghost use Rattle.command_rules.specs.Lines.{file_cause, of_cause, of_file, refusal};
 
 use crate::causes::{code_cause, field_name, tell_cause, tell_number, tell_place, tree_cause};
@@ -12,7 +13,7 @@ use checked_texts::TextFault;
 use code_forms::CodeFault;
 use command_rules::Trouble;
 use line_pieces::{Piece, say_all};
-use mesa_base::{Field, Sink};
+use mesa_base::{Bytes, Field, Sink};
 use object_rules::ObjectFault;
 
 /// The line of a text's fault: at its place, where it has one.
@@ -83,6 +84,19 @@ fn tell_file<E: Sink>(file: &str, fault: ObjectFault, err: &mut E)
     }
 }
 
+/// FILE: Cycle NAME ..
+fn tell_cycle<'a, E: Sink>(file: &'a str, bases: &'a [Bytes], err: &mut E)
+    ensures { Receives (of_file file.now (codes "Cycle" ++ flat_map with_blank bases.now)) (stream (E.written err.old) (E.faults err.old)) (stream (E.written err.new) (E.faults err.new)) }
+{
+    let pieces = [
+        Piece::Text(file),
+        Piece::Text(": Cycle"),
+        Piece::Spaced(bases),
+        Piece::Text("\n"),
+    ];
+    say_all(&pieces, err);
+}
+
 /// The line of a file that is refused.
 pub(crate) fn tell_refusal<E: Sink>(file: &str, why: &Trouble, err: &mut E)
     ensures { Receives (refusal file.now why.now) (stream (E.written err.old) (E.faults err.old)) (stream (E.written err.new) (E.faults err.new)) }
@@ -94,5 +108,6 @@ pub(crate) fn tell_refusal<E: Sink>(file: &str, why: &Trouble, err: &mut E)
         Trouble::Item(fault) => tell_item(file, fault, err),
         Trouble::Unresolved(item) => tell_unresolved(file, item, err),
         Trouble::TooLarge => tell_cause(file, "TooLarge", err),
+        Trouble::Cycle(bases) => tell_cycle(file, bases.as_slice(), err),
     }
 }

@@ -5,6 +5,7 @@ use Rattle.std.proofs.Math.Seq.{take-length}
 use Rattle.mesa_lexer.specs.Tokens.{HasLexFault, text_too_long, no_token, not_in_text, open_text, too_large, too_long}
 use Rattle.mesa_lexer.specs.declared.fault.LexFault.{LexFault}
 use Rattle.mesa_lexer.specs.declared.fault.LexFault.TheVariants as lex
+use Rattle.syntax_trees.specs.declared.syntax.Module.{Module}
 use Rattle.checked_texts.specs.declared.purpose.Purpose.{Purpose}
 use Rattle.checked_texts.specs.declared.text_fault.TextFault.{TextFault}
 use Rattle.checked_texts.specs.Texts as text
@@ -43,13 +44,18 @@ lexical_whole part whole (lex.NumberTooLarge place) e h = lexical_moves part who
 lexical_whole part whole (lex.TokenTooLong place) e h = lexical_moves part whole (lex.TokenTooLong place) e (λ no. cc) h
 lexical_whole part whole lex.Memory e x = elim x [ ]
 
+pub tree_whole : (part whole : List ℕ) (tree : Module) → part ≡ take 1048577 whole → IsTreeOf part tree → IsTreeOf whole tree
+tree_whole part whole tree e h = subst (λ t. IsTreeOf t tree) (is_whole part whole e h.are_its_own.not_long) h
+
+pub no_tree_whole : (part whole : List ℕ) (why : TextFault) → part ≡ take 1048577 whole → text.HasNoTree part why → text.HasNoTree whole why
+no_tree_whole part whole _ e (text.lexical why h) = text.lexical why (lexical_whole part whole why e h)
+no_tree_whole part whole _ e (text.syntactic why h) =
+    text.syntactic why (subst (λ t. text.HasSyntaxFault t why) (is_whole part whole e h.has_tokens.not_long) h)
+
 early_whole : (purpose : Purpose) (part whole : List ℕ) (why : TextFault) → part ≡ take 1048577 whole → text.HasEarlyFault part purpose why
     → text.HasEarlyFault whole purpose why
-early_whole purpose part whole _ e (text.lexical why h) = text.lexical why (lexical_whole part whole why e h)
-early_whole purpose part whole _ e (text.syntactic why h) =
-    text.syntactic why (subst (λ t. text.HasSyntaxFault t why) (is_whole part whole e h.has_tokens.not_long) h)
-early_whole purpose part whole _ e (text.wrong tree why h is) =
-    text.wrong tree why (subst (λ t. IsTreeOf t tree) (is_whole part whole e h.are_its_own.not_long) h) is
+early_whole purpose part whole _ e (text.no_tree why h) = text.no_tree why (no_tree_whole part whole why e h)
+early_whole purpose part whole _ e (text.wrong tree why h is) = text.wrong tree why (tree_whole part whole tree e h) is
 
 pub begins_moves : (file : List ℕ) (purpose : Purpose) → Moves 1048576 (Begins file purpose)
 begins_moves file purpose part whole _ e (begun tree h) =

@@ -9,7 +9,7 @@ use Rattle.frame_machine.specs.declared.outcome.Outcome.{Outcome}
 use Rattle.frame_machine.specs.declared.outcome.RunFault.{RunFault}
 use Rattle.command_rules.specs.Case.{Case, Refused, Absent, FolderFault, status_of, IsBeforeRun}
 use Rattle.command_rules.specs.declared.trouble.Trouble.TheVariants.{TooLarge}
-use Rattle.command_rules.specs.Comes.{Goes, not_configured, Shows, not_shown, shown, not_printed, Upgrades, not_held, Exercised, Exercises, no_end, ended, not_summed}
+use Rattle.command_rules.specs.Comes.{Goes, not_configured, Upgrades, not_held, Exercised, Exercises, no_end, ended, not_summed}
 use Rattle.command_rules.specs.Configurations.{program, source_in}
 use Rattle.command_rules.specs.Ends as run
 use Rattle.command_rules.specs.Ends.{Runs, RunsTo}
@@ -19,11 +19,13 @@ use Rattle.command_rules.specs.Listing.{listing_in, value_in}
 use Rattle.command_rules.specs.Order.{NeverAnswered}
 use Rattle.command_rules.specs.Passes.{Pass, Trail}
 use Rattle.command_rules.specs.Passing.{Fails, refused, failed, memory}
+use Rattle.command_rules.specs.Planning.{plan_in}
+use Rattle.command_rules.specs.Printing.{Report, Prints}
 use Rattle.command_rules.specs.Shown.{Names, case_of_end, case_of_run, program_names}
 use Rattle.command_rules.specs.Worlds.{Shelf, Scene}
 use Rattle.command_rules.specs.Writing.{Target, NotStored}
 use Rattle.command_rules.proofs.Order.{fails_before, not_stored_before, not_stored_run}
-use Rattle.command_rules.proofs.Stopping.{IsOfFiles, PassStopsSo, listing_so, source_so, value_so}
+use Rattle.command_rules.proofs.Stopping.{IsOfFiles, PassStopsSo, listing_so, plan_so, source_so, value_so}
 
 -- what is before a run is no fault of the input or of `out`
 
@@ -33,15 +35,14 @@ not_read case h e = subst IsBeforeRun e h
 not_printed_so : (case : Case) → IsBeforeRun (status_of case) → status_of case ≢ status.WriteFault
 not_printed_so case h e = subst IsBeforeRun e h
 
--- ---- list
+-- ---- list and plan
 
-list_read : (kind : FileKind) (base : List ℕ) (folder folder' : Shelf) (old new : Scene) (case : Case) → Shows kind base folder folder' old new case
+prints_read : (p : Pass Case Report) → PassStopsSo p → (folder folder' : Shelf) (old new : Scene) (case : Case) → Prints p folder folder' old new case
     → status_of case ≢ status.ReadFault
-list_read kind base folder folder' old new case (not_shown _ why onward same) e =
-    not_read case (fails_before (listing_in kind (kind_file kind base)) (listing_so kind (kind_file kind base)) folder folder' case why) e
-list_read kind base folder folder' old new case (Shows.no_memory text gives same) e = cc
-list_read kind base folder folder' old new case (shown text gives prints input steps) e = cc
-list_read kind base folder folder' old new case (not_printed text gives rose prints input steps) e = cc
+prints_read p so folder folder' old new case (Prints.not_read _ why onward same) e = not_read case (fails_before p so folder folder' case why) e
+prints_read p so folder folder' old new case (Prints.no_memory r gives same) e = cc
+prints_read p so folder folder' old new case (Prints.printed r gives missed prints input steps) e = cc
+prints_read p so folder folder' old new case (Prints.not_printed r gives rose prints input steps) e = cc
 
 -- ---- upgrade
 
@@ -172,7 +173,8 @@ exercise_read links turns old new case (not_summed mid _ e rose prints input ste
 
 pub never_answered : NeverAnswered
 never_answered = record {
-  list_read = list_read;
+  list_read = λ kind base. prints_read (listing_in kind (kind_file kind base)) (listing_so kind (kind_file kind base));
+  plan_read = λ bases. prints_read (plan_in bases) (plan_so bases);
   upgrade_read = upgrade_read;
   upgrade_write = upgrade_write;
   upgrade_large = upgrade_large;

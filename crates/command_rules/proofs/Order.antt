@@ -11,14 +11,17 @@ use Rattle.frame_machine.specs.declared.outcome.RunFault.{RunFault}
 use Rattle.frame_machine.specs.declared.outcome.RunFault.TheVariants as fault
 use Rattle.command_rules.specs.Case.{Case, Done, Uncaught, Spent, FrameLimit, Refused, Absent, ReadFault, WriteFault, FolderFault, Memory, Usage, status_of, IsBeforeWrite, IsBeforeRun}
 use Rattle.command_rules.specs.declared.trouble.Trouble.TheVariants.{Unresolved}
-use Rattle.command_rules.specs.Comes.{Compiles, not_compiled, compiled, Defines, not_defined, defined, Binds, not_bound, bound, Loads, not_read, Goes, not_configured, Shows, not_shown, shown, not_printed, Upgrades, not_held, Exercises, no_end, ended, not_summed, Comes}
+use Rattle.command_rules.specs.Comes.{Compiles, not_compiled, compiled, Defines, not_defined, defined, Binds, not_bound, bound, Loads, not_read, Goes, not_configured, Upgrades, not_held, Exercises, no_end, ended, not_summed, Comes}
 use Rattle.command_rules.specs.Configurations.{program, source_in}
 use Rattle.command_rules.specs.Ends.{RunsTo}
 use Rattle.command_rules.specs.Exercise.{chain, exercise_shelf, within}
-use Rattle.command_rules.specs.Forms.{Source, OfConfig, FileKind}
+use Rattle.command_rules.specs.Forms.{Source, OfConfig, FileKind, kind_file}
+use Rattle.command_rules.specs.Listing.{listing_in}
 use Rattle.command_rules.specs.Order.{HasSmall, HasStored, OrderIsKept}
 use Rattle.command_rules.specs.Passes.{Pass, Trail}
 use Rattle.command_rules.specs.Passing.{Fails, refused, failed, memory}
+use Rattle.command_rules.specs.Planning.{plan_in}
+use Rattle.command_rules.specs.Printing.{Report, Prints}
 use Rattle.command_rules.specs.Shown.{Names, case_of_end, case_of_run, image_names, program_names}
 use Rattle.command_rules.specs.Worlds.{Shelf, Scene}
 use Rattle.command_rules.specs.Writing.{Target, NotStored, Written}
@@ -74,12 +77,12 @@ goes_before source base turns folder folder' old new case (Goes.not_stored trail
 goes_before source base turns folder folder' old new case (Goes.ran trail m _ all stored ends) h =
     absurd (ran_so (program_names (program m.configured)) _ turns old new case ends.machine h)
 
-shows_before : (kind : FileKind) (base : List ℕ) (folder folder' : Shelf) (old new : Scene) (case : Case) → Shows kind base folder folder' old new case
+prints_before : (p : Pass Case Report) (folder folder' : Shelf) (old new : Scene) (case : Case) → Prints p folder folder' old new case
     → IsBeforeRun (status_of case) → new ≡ old
-shows_before kind base folder folder' old new case (not_shown _ why onward same) h = same
-shows_before kind base folder folder' old new case (Shows.no_memory text gives same) h = same
-shows_before kind base folder folder' old new case (shown text gives prints input steps) h = absurd h
-shows_before kind base folder folder' old new case (not_printed text gives rose prints input steps) h = absurd h
+prints_before p folder folder' old new case (Prints.not_read _ why onward same) h = same
+prints_before p folder folder' old new case (Prints.no_memory r gives same) h = same
+prints_before p folder folder' old new case (Prints.printed r gives missed prints input steps) h = absurd h
+prints_before p folder folder' old new case (Prints.not_printed r gives rose prints input steps) h = absurd h
 
 as_within : (old mid new : Scene) → mid ≡ within old → new.input ≡ old.input → new.out ≡ mid.out → new.steps ≡ mid.steps → new ≡ old
 as_within old mid new same input out steps =
@@ -101,9 +104,10 @@ run_before words folder folder' old new case (Comes.defines base stamp _ has it 
 run_before words folder folder' old new case (Comes.binds base _ has it same) h = same
 run_before words folder folder' old new case (Comes.loads base turns _ has it) h = loads_before base turns folder folder' old new case it h
 run_before words folder folder' old new case (Comes.goes source base turns _ has it) h = goes_before source base turns folder folder' old new case it h
-run_before words folder folder' old new case (Comes.shows kind base _ has it) h = shows_before kind base folder folder' old new case it h
+run_before words folder folder' old new case (Comes.shows kind base _ has it) h = prints_before (listing_in kind (kind_file kind base)) folder folder' old new case it h
 run_before words folder folder' old new case (Comes.upgrades kind base _ has it same) h = same
 run_before words folder folder' old new case (Comes.exercises links turns _ has it here) h = exercises_before links turns old new case it h
+run_before words folder folder' old new case (Comes.plans bases _ has it) h = prints_before (plan_in bases) folder folder' old new case it h
 
 -- ---- nothing is written before
 
@@ -152,12 +156,12 @@ goes_unwritten source base turns folder folder' old new case (Goes.not_stored tr
 goes_unwritten source base turns folder folder' old new case (Goes.ran trail m _ all stored ends) h =
     absurd (ran_so (program_names (program m.configured)) _ turns old new case ends.machine (before_both (status_of case) h))
 
-pub shows_keep : (kind : FileKind) (base : List ℕ) (folder folder' : Shelf) (old new : Scene) (case : Case) → Shows kind base folder folder' old new case
+pub prints_keep : (p : Pass Case Report) (folder folder' : Shelf) (old new : Scene) (case : Case) → Prints p folder folder' old new case
     → folder'.files ≡ folder.files
-shows_keep kind base folder folder' old new case (not_shown _ why onward same) = onward.files
-shows_keep kind base folder folder' old new case (Shows.no_memory text gives same) = gives.asked.onward.files
-shows_keep kind base folder folder' old new case (shown text gives prints input steps) = gives.asked.onward.files
-shows_keep kind base folder folder' old new case (not_printed text gives rose prints input steps) = gives.asked.onward.files
+prints_keep p folder folder' old new case (Prints.not_read _ why onward same) = onward.files
+prints_keep p folder folder' old new case (Prints.no_memory r gives same) = gives.asked.onward.files
+prints_keep p folder folder' old new case (Prints.printed r gives missed prints input steps) = gives.asked.onward.files
+prints_keep p folder folder' old new case (Prints.not_printed r gives rose prints input steps) = gives.asked.onward.files
 
 upgrades_before : (kind : FileKind) (base : List ℕ) (folder folder' : Shelf) (case : Case) → Upgrades kind base folder folder' case
     → IsBeforeWrite (status_of case) → folder'.files ≡ folder.files
@@ -174,9 +178,10 @@ written_before words folder folder' old new case (Comes.defines base stamp _ has
 written_before words folder folder' old new case (Comes.binds base _ has it same) h = binds_before base folder folder' case it h
 written_before words folder folder' old new case (Comes.loads base turns _ has it) h = loads_keep base turns folder folder' old new case it
 written_before words folder folder' old new case (Comes.goes source base turns _ has it) h = goes_unwritten source base turns folder folder' old new case it h
-written_before words folder folder' old new case (Comes.shows kind base _ has it) h = shows_keep kind base folder folder' old new case it
+written_before words folder folder' old new case (Comes.shows kind base _ has it) h = prints_keep (listing_in kind (kind_file kind base)) folder folder' old new case it
 written_before words folder folder' old new case (Comes.upgrades kind base _ has it same) h = upgrades_before kind base folder folder' case it h
 written_before words folder folder' old new case (Comes.exercises links turns _ has it here) h = ap (λ (s : Shelf). s.files) here
+written_before words folder folder' old new case (Comes.plans bases _ has it) h = prints_keep (plan_in bases) folder folder' old new case it
 
 -- ---- sizes come before items that are none of the host's
 

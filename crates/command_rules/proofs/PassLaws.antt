@@ -1,7 +1,7 @@
 -- Passes are exact where their parts are.
 use Rattle.std.proofs.Common.{◌≡◌, ℕ, List, [], ◌∷◌, ◌++◌, Option, Some, None, refl, sym, ◌∙◌, ap, subst}
 use Rattle.mesa_base.specs.Outside.{Files}
-use Rattle.command_rules.specs.Passes.{Outcome, Has, Stops, Trail, Pass, decided, given, FromFile, held, missing, from_file, Follows, stopped, went, and_then, each, IsExact}
+use Rattle.command_rules.specs.Passes.{Outcome, Has, Stops, Trail, Pass, decided, given, FromFile, held, missing, from_file, IfThere, asked, if_there, Follows, stopped, went, and_then, each, IsExact}
 
 -- a relation of one outcome
 abbrev pub One : {C A : Type 0} → (Outcome C A → Type 0) → Type 0
@@ -32,6 +32,16 @@ file_exact file absent R one files t u o r (missing none) (missing also) = (refl
 pub from_file_exact : {C A : Type 0} (file : List ℕ) (absent : C) (R : List ℕ → Outcome C A → Type 0) → ((bytes : List ℕ) → One (R bytes))
     → IsExact (from_file file absent R)
 from_file_exact file absent R one files t u o r p q = file_exact file absent R one files t u o r p q
+
+there_exact : {C A : Type 0} (file : List ℕ) (R : Option (List ℕ) → Outcome C A → Type 0) → ((bytes : Option (List ℕ)) → One (R bytes))
+    → (files : Files) (t u : Trail) (o r : Outcome C A) → IfThere file R (Some files) t o → IfThere file R (Some files) u r → (t ≡ u) × (o ≡ r)
+there_exact file R one files t u o r (asked bytes _ is p) (asked more _ so q) =
+    let same : bytes ≡ more = sym is ∙ so in
+    (refl, one more o r (subst (λ b. R b o) same p) q)
+
+pub if_there_exact : {C A : Type 0} (file : List ℕ) (R : Option (List ℕ) → Outcome C A → Type 0) → ((bytes : Option (List ℕ)) → One (R bytes))
+    → IsExact (if_there file R)
+if_there_exact file R one files t u o r p q = there_exact file R one files t u o r p q
 
 value_or : {C A : Type 0} → A → Outcome C A → A
 value_or d (Has a) = a

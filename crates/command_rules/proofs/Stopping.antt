@@ -10,20 +10,22 @@ use Rattle.config_rules.specs.Components.{components}
 use Rattle.config_rules.specs.Through as through
 use Rattle.config_rules.specs.Tree.{IsTree, IsSingle}
 use Rattle.config_rules.specs.declared.tree.Tree.{Tree}
+use Rattle.include_rules.specs.declared.entries.TextEntry.{TextEntry}
 use Rattle.bound_images.specs.Programs.{shape_of}
 use Rattle.checked_texts.specs.Asked.{asks}
 use Rattle.checked_texts.specs.declared.purpose.Purpose.{Purpose}
 use Rattle.checked_texts.specs.declared.purpose.Purpose.TheVariants.{Program, Interface}
 use Rattle.command_rules.specs.Binding.{object_of, objects_of, binding_of, bound_in}
 use Rattle.command_rules.specs.Case.{Case, Done, Uncaught, Spent, FrameLimit, Refused, Absent, ReadFault, WriteFault, FolderFault, Memory, Usage, Trouble}
-use Rattle.command_rules.specs.declared.trouble.Trouble.TheVariants.{Text, Tree as OfTree, File, Item, Unresolved, TooLarge}
+use Rattle.command_rules.specs.declared.trouble.Trouble.TheVariants.{Text, Tree as OfTree, File, Item, Unresolved, TooLarge, Cycle}
 use Rattle.command_rules.specs.Configurations.{config_in, source_in, tree_in, single_of, bases_of, component_in, modules_of, configuration_of, Grows, fault, Binds, bad, Configures, lexical, syntactic, no_base}
 use Rattle.command_rules.specs.Forms.{Source, OfModule, OfConfig, FileKind, module_file, config_file, interface_file, object_file}
 use Rattle.command_rules.specs.Listing.{Holds, no_interface, no_object, no_image, value_in, Lists, listing_in}
 use Rattle.command_rules.specs.Modules as m
 use Rattle.command_rules.specs.Modules.{interface_for, interfaces_for, Begun, begun_for, module_in, interface_in, definitions_of, Checks, checked, Defines, defined, Decodes, Begins, begun, refused}
 use Rattle.command_rules.specs.Objects.{HoldsObject, HoldsImage, object_in, image_in, shape_in}
-use Rattle.command_rules.specs.Passes.{Outcome, Has, Stops, Trail, Pass, decided, given, FromFile, held, missing, from_file, Follows, stopped, went, and_then, each}
+use Rattle.command_rules.specs.Passes.{Outcome, Has, Stops, Trail, Pass, decided, given, FromFile, held, missing, from_file, IfThere, asked, if_there, Follows, stopped, went, and_then, each}
+use Rattle.command_rules.specs.Planning.{Parses, text_in, file_made, kind_made, Faces, faces_in, numbered, Gathered, gathered_in, Concludes, plan_in}
 
 -- a fault of what a file holds
 abbrev pub IsOfFile : Trouble → Type 0
@@ -33,6 +35,7 @@ IsOfFile (File why) = Unit {0}
 IsOfFile (Item why) = Unit {0}
 IsOfFile (Unresolved item) = ⊥
 IsOfFile TooLarge = ⊥
+IsOfFile (Cycle bases) = Unit {0}
 
 abbrev pub IsOfFiles : Case → Type 0
 IsOfFiles Done = ⊥
@@ -71,6 +74,13 @@ file_so file R so files trail case (missing none) = tt
 
 from_file_so : {A : Type 0} (file : List ℕ) (R : List ℕ → Outcome Case A → Type 0) → ((bytes : List ℕ) → StopsSo (R bytes)) → PassStopsSo (from_file file (Absent file) R)
 from_file_so file R so files trail case h = file_so file R so files trail case h
+
+there_so : {A : Type 0} (file : List ℕ) (R : Option (List ℕ) → Outcome Case A → Type 0) → ((bytes : Option (List ℕ)) → StopsSo (R bytes)) → (files : Option Files)
+    (trail : Trail) (case : Case) → IfThere file R files trail (Stops case) → IsOfFiles case
+there_so file R so files trail case (asked bytes _ is r) = so bytes case r
+
+if_there_so : {A : Type 0} (file : List ℕ) (R : Option (List ℕ) → Outcome Case A → Type 0) → ((bytes : Option (List ℕ)) → StopsSo (R bytes)) → PassStopsSo (if_there file R)
+if_there_so file R so files trail case h = there_so file R so files trail case h
 
 follow_so : {A B : Type 0} (p : Pass Case A) (q : A → Pass Case B) → PassStopsSo p → ((a : A) → PassStopsSo (q a)) → (files : Option Files) (trail : Trail) (case : Case)
     → Follows p q files trail (Stops case) → IsOfFiles case
@@ -213,3 +223,36 @@ value_so kind file = from_file_so file (λ bytes. Holds file bytes kind) (holds_
 pub listing_so : (kind : FileKind) (file : List ℕ) → PassStopsSo (listing_in kind file)
 unfolding listing_in
 listing_so kind file = from_file_so file (Lists kind file) (lists_so kind file)
+
+-- ---- texts that are planned
+
+parses_so : (file bytes : List ℕ) → StopsSo (Parses file bytes)
+parses_so file bytes case (Parses.refused why h) = tt
+
+text_so : (base : List ℕ) → PassStopsSo (text_in base)
+unfolding text_in
+text_so base =
+    and_then_so (from_file (module_file base) (Absent (module_file base)) (Parses (module_file base))) _
+    (from_file_so (module_file base) (Parses (module_file base)) (parses_so (module_file base))) (λ tree.
+    given_so (record { base = base; «module» = tree }))
+
+looks_so : (number : ℕ) (file : List ℕ) (kind : FileKind) (bytes : Option (List ℕ)) → StopsSo (Faces number file kind bytes)
+looks_so number file kind bytes case (Faces.is_none some _ h) = holds_so kind file some case h
+
+faces_so : (x : ℕ × TextEntry) → PassStopsSo (faces_in x)
+unfolding faces_in
+faces_so (number, t) = if_there_so (file_made t) (Faces number (file_made t) (kind_made t.module.kind)) (looks_so number (file_made t) (kind_made t.module.kind))
+
+gathered_so : (bases : List (List ℕ)) → PassStopsSo (gathered_in bases)
+unfolding gathered_in
+gathered_so bases =
+    and_then_so (each text_in bases) _ (each_so text_in text_so bases) (λ texts.
+    and_then_so (each faces_in (numbered 0 texts)) _ (each_so faces_in faces_so (numbered 0 texts)) (λ made.
+    given_so (record { texts = texts; made = made })))
+
+concludes_so : (g : Gathered) → StopsSo (Concludes g)
+concludes_so g case (Concludes.circling k rest h) = tt
+
+pub plan_so : (bases : List (List ℕ)) → PassStopsSo (plan_in bases)
+unfolding plan_in
+plan_so bases = and_then_so (gathered_in bases) (λ g. decided (Concludes g)) (gathered_so bases) (λ g. decided_so (Concludes g) (concludes_so g))

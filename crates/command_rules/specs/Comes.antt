@@ -18,12 +18,14 @@ use Rattle.command_rules.specs.Case.{Case, Done, Refused, WriteFault, Memory, Us
 use Rattle.command_rules.specs.Configurations.{Configured, left_to_loader, program, source_in}
 use Rattle.command_rules.specs.Ends.{Ends, RunsTo}
 use Rattle.command_rules.specs.Exercise.{IsNoEnd, chain, exercise_shelf, summary, within}
-use Rattle.command_rules.specs.Forms.{Source, OfConfig, FileKind, Compile, Define, Bind, Run, Go, Show, Upgrade, Exercise, HasForm, HasNoForm, kind_file, module_file, interface_file, object_file, image_file}
+use Rattle.command_rules.specs.Forms.{Source, OfConfig, FileKind, Compile, Define, Bind, Run, Go, Show, Upgrade, Exercise, Plan, HasForm, HasNoForm, kind_file, module_file, interface_file, object_file, image_file}
 use Rattle.command_rules.specs.Listing.{listing_in, value_in}
 use Rattle.command_rules.specs.Modules.{interface_in, module_in}
 use Rattle.command_rules.specs.Objects.{IsImageWith, image_in}
 use Rattle.command_rules.specs.Passes.{Has, Trail}
 use Rattle.command_rules.specs.Passing.{Fails, Gives}
+use Rattle.command_rules.specs.Planning.{plan_in}
+use Rattle.command_rules.specs.Printing.{Prints}
 use Rattle.command_rules.specs.Reading.{Asked, Onward}
 use Rattle.command_rules.specs.Shown.{image_names}
 use Rattle.command_rules.specs.Worlds.{Shelf, Scene}
@@ -104,15 +106,13 @@ pub data Goes (source : Source) (base : List ℕ) (turns : ℕ) (folder folder' 
 
 -- ---- list FILE: its listing is printed
 
-pub data Shows (kind : FileKind) (base : List ℕ) (folder folder' : Shelf) (old new : Scene) : Case → Type 0 where
-  not_shown : (case : Case) → Fails (listing_in kind (kind_file kind base)) folder folder' case → Onward folder folder' → new ≡ old
-      → Shows kind base folder folder' old new case
-  no_memory : (text : List ℕ) → Gives (listing_in kind (kind_file kind base)) folder folder' text → new ≡ old
-      → Shows kind base folder folder' old new Memory
-  shown : (text : List ℕ) → Gives (listing_in kind (kind_file kind base)) folder folder' text → PrintsAll text old.out new.out
-      → new.input ≡ old.input → new.steps ≡ old.steps → Shows kind base folder folder' old new Done
-  not_printed : (text : List ℕ) → Gives (listing_in kind (kind_file kind base)) folder folder' text → HasFaulted old.out new.out
-      → PrintsPrefix text old.out new.out → new.input ≡ old.input → new.steps ≡ old.steps → Shows kind base folder folder' old new WriteFault
+abbrev pub Shows : FileKind → (base : List ℕ) → (folder folder' : Shelf) → (old new : Scene) → Case → Type 0
+Shows kind base folder folder' old new case = Prints (listing_in kind (kind_file kind base)) folder folder' old new case
+
+-- ---- plan NAME ..: the plan is printed
+
+abbrev pub Plans : (bases : List (List ℕ)) → (folder folder' : Shelf) → (old new : Scene) → Case → Type 0
+Plans bases folder folder' old new case = Prints (plan_in bases) folder folder' old new case
 
 -- ---- upgrade FILE: what it holds is written over it in version 2. That is never too large: both spellings of a value have one length.
 
@@ -177,4 +177,6 @@ pub data Comes (words : List (List ℕ)) (folder folder' : Shelf) (old new : Sce
   upgrades : (kind : FileKind) (base : List ℕ) (case : Case) → HasForm words (Upgrade kind base) → Upgrades kind base folder folder' case → new ≡ old
       → Comes words folder folder' old new case
   exercises : (links turns : ℕ) (case : Case) → HasForm words (Exercise links turns) → Exercises links turns old new case → folder' ≡ folder
+      → Comes words folder folder' old new case
+  plans : (bases : List (List ℕ)) (case : Case) → HasForm words (Plan bases) → Plans bases folder folder' old new case
       → Comes words folder folder' old new case

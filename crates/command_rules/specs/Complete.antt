@@ -25,12 +25,14 @@ use Rattle.command_rules.specs.Comes.{Comes, Made, MadeWithin, summary_of, targe
 use Rattle.command_rules.specs.Configurations.{left_to_loader, program, source_in}
 use Rattle.command_rules.specs.Ends.{TellsInput}
 use Rattle.command_rules.specs.Exercise.{chain, exercise_shelf, within}
-use Rattle.command_rules.specs.Forms.{Source, OfConfig, FileKind, Form, Compile, Define, Bind, Run, Go, Show, Upgrade, Exercise, HasForm, HasNoForm, WritesAlone, kind_file, module_file, interface_file, object_file, image_file}
+use Rattle.command_rules.specs.Forms.{Source, OfConfig, FileKind, Form, Compile, Define, Bind, Run, Go, Show, Upgrade, Exercise, Plan, HasForm, HasNoForm, WritesAlone, kind_file, module_file, interface_file, object_file, image_file}
 use Rattle.command_rules.specs.Lines.{line_of}
 use Rattle.command_rules.specs.Listing.{listing_in, value_in}
 use Rattle.command_rules.specs.Modules.{interface_in, module_in}
 use Rattle.command_rules.specs.Objects.{IsImageWith, image_in}
 use Rattle.command_rules.specs.Passes.{Has, Stops, Trail}
+use Rattle.command_rules.specs.Planning.{plan_in}
+use Rattle.command_rules.specs.Printing.{Report}
 use Rattle.command_rules.specs.Shown.{IsShownAs, case_of_end, image_names}
 use Rattle.command_rules.specs.Worlds.{Shelf, Scene, World}
 use Rattle.command_rules.specs.Writing.{Target, Value, holding, OfInterface, OfObject, OfImage, IsSmall, IsFirstTooLarge, StoresAll}
@@ -62,6 +64,7 @@ StopsOver (Go source base turns) files case = (trail : Trail) × (source_in sour
 StopsOver (Show kind base) files case = (trail : Trail) × (listing_in kind (kind_file kind base)).comes (Some files) trail (Stops case)
 StopsOver (Upgrade kind base) files case = (trail : Trail) × (value_in kind (kind_file kind base)).comes (Some files) trail (Stops case)
 StopsOver (Exercise links turns) files case = (trail : Trail) × (source_in OfConfig chain).comes (exercise_shelf links).files trail (Stops case)
+StopsOver (Plan bases) files case = (trail : Trail) × (plan_in bases).comes (Some files) trail (Stops case)
 
 -- these files are to be written, if none is too large; what is upgraded never is (`IsUpgraded`)
 abbrev pub MakesOver : Form → Files → List Target → Type 0
@@ -76,6 +79,7 @@ MakesOver (Go source base turns) files targets = (trail : Trail) × (m : Made so
 MakesOver (Show kind base) files targets = ⊥
 MakesOver (Upgrade kind base) files targets = ⊥
 MakesOver (Exercise links turns) files targets = (trail : Trail) × (m : MadeWithin links trail) × (targets ≡ targets_of chain m)
+MakesOver (Plan bases) files targets = ⊥
 
 -- ---- what must be answered
 
@@ -157,9 +161,15 @@ IsRun words before after s = (base : List ℕ) (turns : ℕ) (files : Files) (tr
 
 -- what a file holds is listed
 abbrev pub IsListed : List (List ℕ) → World → World → Status → Type 0
-IsListed words before after s = (kind : FileKind) (base : List ℕ) (files : Files) (trail : Trail) (text : List ℕ)
-    → IsCall words before after (Show kind base) files → (listing_in kind (kind_file kind base)).comes (Some files) trail (Has text)
-    → (Tells Done before.err after.err s × PrintsAll text before.scene.out after.scene.out) ⊎ (s ≡ status.Memory)
+IsListed words before after s = (kind : FileKind) (base : List ℕ) (files : Files) (trail : Trail) (r : Report)
+    → IsCall words before after (Show kind base) files → (listing_in kind (kind_file kind base)).comes (Some files) trail (Has r)
+    → (Tells Done before.err after.err s × PrintsAll r.text before.scene.out after.scene.out) ⊎ (s ≡ status.Memory)
+
+-- texts that have an order are planned
+abbrev pub IsPlanned : List (List ℕ) → World → World → Status → Type 0
+IsPlanned words before after s = (bases : List (List ℕ)) (files : Files) (trail : Trail) (r : Report)
+    → IsCall words before after (Plan bases) files → (plan_in bases).comes (Some files) trail (Has r)
+    → (Tells Done before.err after.err s × PrintsAll r.text before.scene.out after.scene.out) ⊎ (s ≡ status.Memory)
 
 -- what a file holds is written over it in version 2
 abbrev pub IsUpgraded : List (List ℕ) → World → World → Status → Type 0
@@ -193,6 +203,7 @@ pub record Answered (words : List (List ℕ)) (before after : World) (s : Status
   pub listed : IsListed words before after s
   pub upgraded : IsUpgraded words before after s
   pub exercised : IsExercised words before after s
+  pub planned : IsPlanned words before after s
 
 -- for words, files and an input of bytes that are told, one case comes where no call failed, want of memory aside
 abbrev pub OneCaseComes : Type 0

@@ -1,7 +1,8 @@
 -- The forms of a command line (rule of this project).
-use Rattle.std.specs.Prelude.{◌≡◌, ℕ, ◌<◌, ◌≤◌, ◌^◌, true, List, [], ◌∷◌, ◌++◌, Some, codes, decimal}
+use Rattle.std.specs.Prelude.{◌≡◌, ◌≢◌, ℕ, ◌<◌, ◌≤◌, ◌^◌, true, List, [], ◌∷◌, ◌++◌, length, All, AllPairs, Some, codes, decimal}
 use Rattle.mesa_base.specs.Stamp.{stamp_of}
 use Rattle.config_rules.specs.Components.{is_file_base}
+use Rattle.include_rules.specs.Plans.{most_texts}
 
 -- the files of a base
 abbrev pub module_file : List ℕ → List ℕ
@@ -60,8 +61,11 @@ pub data Form : Type 0 where
   Upgrade : FileKind → (base : List ℕ) → Form
   -- exercise N TURNS
   Exercise : (links turns : ℕ) → Form
+  -- plan NAME ..
+  Plan : (bases : List (List ℕ)) → Form
 
--- the turns stand in decimal digits without a leading zero, at most 2^64 - 1, and so do the links, from 1 to 1000; the stamp in 12 hexadecimal digits
+-- the turns stand in decimal digits without a leading zero, at most 2^64 - 1, and so do the links, from 1 to 1000; the stamp in 12 hexadecimal digits;
+-- a plan has from 1 to 64 names, no two of which are the same
 pub data HasForm : List (List ℕ) → Form → Type 0 where
   compile : (base : List ℕ) → is_file_base base ≡ true → HasForm (codes "compile" ∷ base ∷ []) (Compile base)
   define : (base word : List ℕ) (stamp : ℕ) → is_file_base base ≡ true → stamp_of word ≡ Some stamp
@@ -74,6 +78,8 @@ pub data HasForm : List (List ℕ) → Form → Type 0 where
   upgrade : (kind : FileKind) (base : List ℕ) → is_file_base base ≡ true → HasForm (codes "upgrade" ∷ kind_file kind base ∷ []) (Upgrade kind base)
   exercise : (links turns : ℕ) → 1 ≤ links → links ≤ most_links → turns < 2 ^ 64
       → HasForm (codes "exercise" ∷ decimal links ∷ decimal turns ∷ []) (Exercise links turns)
+  plan : (bases : List (List ℕ)) → 1 ≤ length bases → length bases ≤ most_texts → All (λ base. is_file_base base ≡ true) bases
+      → AllPairs (λ a b. a ≢ b) bases → HasForm (codes "plan" ∷ bases) (Plan bases)
 
 -- every other command line
 abbrev pub HasNoForm : List (List ℕ) → Type 0
@@ -91,6 +97,7 @@ WritesAlone (Go source base turns) = ⊥
 WritesAlone (Show kind base) = ⊥
 WritesAlone (Upgrade kind base) = Unit {0}
 WritesAlone (Exercise links turns) = ⊥
+WritesAlone (Plan bases) = ⊥
 
 -- no file is changed
 abbrev pub KeepsFiles : Form → Type 0
@@ -102,6 +109,7 @@ KeepsFiles (Go source base turns) = ⊥
 KeepsFiles (Show kind base) = Unit {0}
 KeepsFiles (Upgrade kind base) = ⊥
 KeepsFiles (Exercise links turns) = Unit {0}
+KeepsFiles (Plan bases) = Unit {0}
 
 -- the input is not asked
 abbrev pub KeepsInput : Form → Type 0
@@ -113,6 +121,7 @@ KeepsInput (Go source base turns) = ⊥
 KeepsInput (Show kind base) = Unit {0}
 KeepsInput (Upgrade kind base) = Unit {0}
 KeepsInput (Exercise links turns) = Unit {0}
+KeepsInput (Plan bases) = Unit {0}
 
 -- nothing is run
 abbrev pub KeepsSteps : Form → Type 0
@@ -124,6 +133,7 @@ KeepsSteps (Go source base turns) = ⊥
 KeepsSteps (Show kind base) = Unit {0}
 KeepsSteps (Upgrade kind base) = Unit {0}
 KeepsSteps (Exercise links turns) = ⊥
+KeepsSteps (Plan bases) = Unit {0}
 
 -- no file is asked for
 abbrev pub KeepsFolder : Form → Type 0
@@ -135,3 +145,4 @@ KeepsFolder (Go source base turns) = ⊥
 KeepsFolder (Show kind base) = ⊥
 KeepsFolder (Upgrade kind base) = ⊥
 KeepsFolder (Exercise links turns) = Unit {0}
+KeepsFolder (Plan bases) = ⊥

@@ -13,6 +13,8 @@ pub mod Objects
 pub mod Order
 pub mod Passes
 pub mod Passing
+pub mod Planning
+pub mod Printing
 pub mod Reading
 pub mod Shown
 pub mod Worlds

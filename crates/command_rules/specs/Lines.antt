@@ -1,5 +1,5 @@
 -- The line on `err` that says how a call ends (rule of this project).
-use Rattle.std.specs.Prelude.{ℕ, List, [], ◌++◌, Option, Some, None, codes, decimal}
+use Rattle.std.specs.Prelude.{ℕ, List, [], ◌++◌, flat_map, Option, Some, None, codes, decimal}
 use Rattle.mesa_base.specs.declared.place.Place.{Place}
 use Rattle.mesa_base.specs.declared.file_fault.Field.{Field}
 use Rattle.mesa_base.specs.declared.file_fault.Field.TheVariants as field
@@ -13,8 +13,8 @@ use Rattle.config_rules.specs.declared.fault.TreeCause.TheVariants as tree
 use Rattle.import_binder.specs.declared.fault.BindFault.{BindFault}
 use Rattle.import_binder.specs.declared.fault.BindFault.TheVariants as bind
 use Rattle.checked_texts.specs.TextFaults.{fault_name, fault_place}
-use Rattle.line_pieces.specs.Texts.{path_text, stamp_text}
-use Rattle.command_rules.specs.Case.{Case, Done, Uncaught, Spent, FrameLimit, Refused, Absent, ReadFault, WriteFault, FolderFault, Memory, Usage, Trouble, Text, Tree, File, Item, Unresolved, TooLarge}
+use Rattle.line_pieces.specs.Texts.{path_text, stamp_text, with_blank}
+use Rattle.command_rules.specs.Case.{Case, Done, Uncaught, Spent, FrameLimit, Refused, Absent, ReadFault, WriteFault, FolderFault, Memory, Usage, Trouble, Text, Tree, File, Item, Unresolved, TooLarge, Cycle}
 
 -- ---- what lines are made of
 
@@ -91,6 +91,7 @@ refusal name (File why) = of_file name (file_cause why)
 refusal name (Item why) = of_file name (bind_cause why)
 refusal name (Unresolved i) = of_file name (codes "Unresolved " ++ (item_text i ++ (codes " " ++ stamp_text i.stamp)))
 refusal name TooLarge = of_file name (codes "TooLarge")
+refusal name (Cycle bases) = of_file name (codes "Cycle" ++ flat_map with_blank bases)
 
 -- the line, ended by a line feed; there is none where the call is done
 abbrev pub line_of : Case → List ℕ

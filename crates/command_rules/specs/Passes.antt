@@ -39,6 +39,16 @@ from_file file absent R = record {
   asks = λ files trail other. (trail ≡ []) × (other ≡ file);
 }
 
+-- the file is asked for: its bytes, all of them, or that it is not there, come to something
+pub data IfThere {C A : Type 0} (file : List ℕ) (R : Option (List ℕ) → Outcome C A → Type 0) (files : Option Files) : Trail → Outcome C A → Type 0 where
+  asked : (bytes : Option (List ℕ)) (o : Outcome C A) → IfSome files (λ all. all file ≡ bytes) → R bytes o → IfThere file R files (file ∷ []) o
+
+abbrev pub if_there : {C A : Type 0} → (file : List ℕ) → (Option (List ℕ) → Outcome C A → Type 0) → Pass C A
+if_there file R = record {
+  comes = IfThere file R;
+  asks = λ files trail other. (trail ≡ []) × (other ≡ file);
+}
+
 -- one pass, and behind it another that its value says
 pub data Follows {C A B : Type 0} (p : Pass C A) (q : A → Pass C B) (files : Option Files) : Trail → Outcome C B → Type 0 where
   stopped : (trail : Trail) (c : C) → p.comes files trail (Stops c) → Follows p q files trail (Stops c)

@@ -4,7 +4,7 @@ use checked_texts::TextFault;
 use config_rules::TreeCause;
 use import_binder::BindFault;
 use interface_records::WantedItem;
-use mesa_base::Place;
+use mesa_base::{Place, Texts};
 use object_rules::ObjectFault;
 
 /// Why a file is refused, with what its line shows.
@@ -22,4 +22,6 @@ pub enum Trouble {
     Unresolved(WantedItem),
     /// The file would have more than 536,870,912 bytes.
     TooLarge,
+    /// The bases of texts each of which names the next, and the last the first.
+    Cycle(Texts),
 }

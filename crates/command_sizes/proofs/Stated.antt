@@ -11,22 +11,24 @@ use Rattle.object_files.specs.declared.image.Image.{Image}
 use Rattle.command_rules.specs.Binding.{bound_in}
 use Rattle.command_rules.specs.Case.{Case, Refused}
 use Rattle.command_rules.specs.declared.trouble.Trouble.TheVariants.{TooLarge}
-use Rattle.command_rules.specs.Comes.{Compiles, not_compiled, compiled, Defines, not_defined, defined, Binds, not_bound, bound, Loads, not_read, Goes, not_configured, Made, targets_of, Shows, not_shown, Exercises, no_end, ended}
+use Rattle.command_rules.specs.Comes.{Compiles, not_compiled, compiled, Defines, not_defined, defined, Binds, not_bound, bound, Loads, not_read, Goes, not_configured, Made, targets_of, Exercises, no_end, ended}
 use Rattle.command_rules.specs.Complete.{MakesOver}
 use Rattle.command_rules.specs.Configurations.{program, source_in}
 use Rattle.command_rules.specs.Exercise.{chain, exercise_shelf, within}
-use Rattle.command_rules.specs.Forms.{FileKind, Form, Source, OfConfig, Compile, Define, Bind, Run, Go, Show, Upgrade, Exercise, image_file, interface_file, kind_file, module_file, object_file}
+use Rattle.command_rules.specs.Forms.{Form, Source, OfConfig, Compile, Define, Bind, Run, Go, Show, Upgrade, Exercise, Plan, image_file, interface_file, kind_file, module_file, object_file}
 use Rattle.command_rules.specs.Listing.{listing_in}
 use Rattle.command_rules.specs.Modules.{interface_in, module_in}
 use Rattle.command_rules.specs.Objects.{image_in}
 use Rattle.command_rules.specs.Passes.{Has, Trail, Pass}
 use Rattle.command_rules.specs.Passing.{Fails, refused, failed, memory}
+use Rattle.command_rules.specs.Planning.{plan_in}
+use Rattle.command_rules.specs.Printing.{Report, Prints}
 use Rattle.command_rules.specs.Shown.{Names, case_of_end, case_of_run, image_names, program_names}
 use Rattle.command_rules.specs.Worlds.{Shelf, Scene}
 use Rattle.command_rules.specs.Ends.{RunsTo}
 use Rattle.command_rules.specs.Writing.{Target, holding, OfInterface, OfObject, OfImage, IsSmall, IsFirstTooLarge, NotStored, Written}
 use Rattle.command_rules.specs.Order.{NeverAnswered}
-use Rattle.command_rules.proofs.Stopping.{IsOfFiles, PassStopsSo, source_so, module_so, interface_in_so, bound_so, image_so, listing_so}
+use Rattle.command_rules.proofs.Stopping.{IsOfFiles, PassStopsSo, source_so, module_so, interface_in_so, bound_so, image_so, listing_so, plan_so}
 use Rattle.command_laws.proofs.OneCase.{FormComes, of_its_form}
 use Rattle.command_laws.proofs.Sizes.{are_small, is_first, none_first}
 use Rattle.exercise_texts.specs.Files.{exercise_files}
@@ -72,13 +74,12 @@ loads_not base turns folder folder' old new case file (Loads.unresolved parts i 
 loads_not base turns folder folder' old new case file (Loads.no_memory parts gives same) e = cc
 loads_not base turns folder folder' old new case file (Loads.ran parts image _ gives is all it) e = runs_not (image_names image) image turns old new case file it e
 
-shows_not : (kind : FileKind) (base : List ℕ) (folder folder' : Shelf) (old new : Scene) (case : Case) (file : List ℕ) → Shows kind base folder folder' old new case
+prints_not : (p : Pass Case Report) → PassStopsSo p → (folder folder' : Shelf) (old new : Scene) (case : Case) (file : List ℕ) → Prints p folder folder' old new case
     → Large case file → ⊥
-shows_not kind base folder folder' old new case file (not_shown _ why onward same) e =
-    fails_not (listing_in kind (kind_file kind base)) (listing_so kind (kind_file kind base)) folder folder' case file why e
-shows_not kind base folder folder' old new case file (Shows.no_memory text gives same) e = cc
-shows_not kind base folder folder' old new case file (Shows.shown text gives all same_input same_steps) e = cc
-shows_not kind base folder folder' old new case file (Shows.not_printed text gives fault part same_input same_steps) e = cc
+prints_not p so folder folder' old new case file (Prints.not_read _ why onward same) e = fails_not p so folder folder' case file why e
+prints_not p so folder folder' old new case file (Prints.no_memory r gives same) e = cc
+prints_not p so folder folder' old new case file (Prints.printed r gives missed all same_input same_steps) e = cc
+prints_not p so folder folder' old new case file (Prints.not_printed r gives fault part same_input same_steps) e = cc
 
 -- ---- where it comes from
 
@@ -159,9 +160,11 @@ module _ (never : NeverAnswered) (files : Files) (folder folder' : Shelf) (told 
   form_large (Bind base) old new it = binds_large files folder folder' told file base (Refused file TooLarge) it refl
   form_large (Run base turns) old new it = absurd (loads_not base turns folder folder' old new (Refused file TooLarge) file it refl)
   form_large (Go source base turns) old new it = goes_large files folder folder' told file source base turns old new (Refused file TooLarge) it refl
-  form_large (Show kind base) old new it = absurd (shows_not kind base folder folder' old new (Refused file TooLarge) file it refl)
+  form_large (Show kind base) old new it =
+      absurd (prints_not (listing_in kind (kind_file kind base)) (listing_so kind (kind_file kind base)) folder folder' old new (Refused file TooLarge) file it refl)
   form_large (Upgrade kind base) old new it = absurd (never.upgrade_large kind base file folder folder' it)
   form_large (Exercise links turns) old new it = within_large links turns files old new (Refused file TooLarge) file it refl
+  form_large (Plan bases) old new it = absurd (prints_not (plan_in bases) (plan_so bases) folder folder' old new (Refused file TooLarge) file it refl)
 
 -- ---- the sum
 
@@ -187,6 +190,7 @@ module _ (sums : SumsAreTold) (small : FilesAreSmall) (never : NeverAnswered) wh
       let m = it.makes in summed (Go source base turns) files file (m.0, (m.1).configured, (m.1).comes) it
   above (Show kind base) files file it = absurd it.makes
   above (Upgrade kind base) files file it = absurd it.makes
+  above (Plan bases) files file it = absurd it.makes
   above (Exercise links turns) files file it =
       let m = it.makes in summed (Exercise links turns) files file (m.0, (m.1).configured, (m.1).comes) it
 

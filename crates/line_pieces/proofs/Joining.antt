@@ -27,32 +27,33 @@ joined-whole [] (suc i) h k = refl
 joined-whole (p ∷ ps) zero h k = absurd (omega arith)
 joined-whole (p ∷ ps) (suc i) h k = ap (λ z. bytes_of p ++ z) (joined-whole ps i (omega arith) (omega arith))
 
--- ---- names with dots
+-- ---- names, each with something beside it
 
-dotted-taken : (xs : List (List ℕ)) (i : ℕ) (x : List ℕ) → i < length xs → x ≡ get_or xs i x
-    → flat_map with_dot (take (suc i) xs) ≡ flat_map with_dot (take i xs) ++ with_dot x
-dotted-taken [] i x h is = absurd (omega arith)
-dotted-taken (y ∷ xs) zero x h is = append-nil (with_dot y) ∙ ap with_dot (sym is)
-dotted-taken (y ∷ xs) (suc i) x h is =
-    ap (λ z. with_dot y ++ z) (dotted-taken xs i x (omega arith) is) ∙ sym (append_assoc (with_dot y) (flat_map with_dot (take i xs)) (with_dot x))
+module _ (f : List ℕ → List ℕ) where
+  names-taken : (xs : List (List ℕ)) (i : ℕ) (x : List ℕ) → i < length xs → x ≡ get_or xs i x
+      → flat_map f (take (suc i) xs) ≡ flat_map f (take i xs) ++ f x
+  names-taken [] i x h is = absurd (omega arith)
+  names-taken (y ∷ xs) zero x h is = append-nil (f y) ∙ ap f (sym is)
+  names-taken (y ∷ xs) (suc i) x h is =
+      ap (λ z. f y ++ z) (names-taken xs i x (omega arith) is) ∙ sym (append_assoc (f y) (flat_map f (take i xs)) (f x))
 
-pub dotted-next : (xs : List (List ℕ)) (i : ℕ) (x : List ℕ) → i < length xs → x ≡ get_or xs i x
-    → flat_map with_dot (take (i + 1) xs) ≡ flat_map with_dot (take i xs) ++ with_dot x
-dotted-next xs i x h is = let e : i + 1 ≡ suc i = omega arith in ap (λ n. flat_map with_dot (take n xs)) e ∙ dotted-taken xs i x h is
+  pub names-next : (xs : List (List ℕ)) (i : ℕ) (x : List ℕ) → i < length xs → x ≡ get_or xs i x
+      → flat_map f (take (i + 1) xs) ≡ flat_map f (take i xs) ++ f x
+  names-next xs i x h is = let e : i + 1 ≡ suc i = omega arith in ap (λ n. flat_map f (take n xs)) e ∙ names-taken xs i x h is
 
-pub dotted-split : (xs : List (List ℕ)) (i : ℕ) (x : List ℕ) → i < length xs → x ≡ get_or xs i x
-    → flat_map with_dot xs ≡ flat_map with_dot (take i xs) ++ (with_dot x ++ flat_map with_dot (drop (suc i) xs))
-dotted-split [] i x h is = absurd (omega arith)
-dotted-split (y ∷ xs) zero x h is = ap (λ z. with_dot z ++ flat_map with_dot xs) (sym is)
-dotted-split (y ∷ xs) (suc i) x h is =
-    ap (λ z. with_dot y ++ z) (dotted-split xs i x (omega arith) is)
-    ∙ sym (append_assoc (with_dot y) (flat_map with_dot (take i xs)) (with_dot x ++ flat_map with_dot (drop (suc i) xs)))
+  pub names-split : (xs : List (List ℕ)) (i : ℕ) (x : List ℕ) → i < length xs → x ≡ get_or xs i x
+      → flat_map f xs ≡ flat_map f (take i xs) ++ (f x ++ flat_map f (drop (suc i) xs))
+  names-split [] i x h is = absurd (omega arith)
+  names-split (y ∷ xs) zero x h is = ap (λ z. f z ++ flat_map f xs) (sym is)
+  names-split (y ∷ xs) (suc i) x h is =
+      ap (λ z. f y ++ z) (names-split xs i x (omega arith) is)
+      ∙ sym (append_assoc (f y) (flat_map f (take i xs)) (f x ++ flat_map f (drop (suc i) xs)))
 
-pub dotted-whole : (xs : List (List ℕ)) (i : ℕ) → i ≤ length xs → length xs ≤ i → flat_map with_dot (take i xs) ≡ flat_map with_dot xs
-dotted-whole [] zero h k = refl
-dotted-whole [] (suc i) h k = refl
-dotted-whole (x ∷ xs) zero h k = absurd (omega arith)
-dotted-whole (x ∷ xs) (suc i) h k = ap (λ z. with_dot x ++ z) (dotted-whole xs i (omega arith) (omega arith))
+  pub names-whole : (xs : List (List ℕ)) (i : ℕ) → i ≤ length xs → length xs ≤ i → flat_map f (take i xs) ≡ flat_map f xs
+  names-whole [] zero h k = refl
+  names-whole [] (suc i) h k = refl
+  names-whole (x ∷ xs) zero h k = absurd (omega arith)
+  names-whole (x ∷ xs) (suc i) h k = ap (λ z. f x ++ z) (names-whole xs i (omega arith) (omega arith))
 
 -- a path is its names but the last, each with a dot behind it, and the last
 pub path-last : (xs : List (List ℕ)) (x : List ℕ) → path_text (xs ++ x ∷ []) ≡ flat_map with_dot xs ++ x

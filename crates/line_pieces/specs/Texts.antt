@@ -5,6 +5,10 @@ use Rattle.std.specs.Prelude.{ℕ, ◌+◌, ◌/◌, ◌%◌, ◌^◌, List, [],
 abbrev pub with_dot : List ℕ → List ℕ
 with_dot name = name ++ codes "."
 
+-- a name with a blank before it
+abbrev pub with_blank : List ℕ → List ℕ
+with_blank name = codes " " ++ name
+
 -- the names of a path and a last name, with dots between
 abbrev pub dotted : List (List ℕ) → List ℕ → List ℕ
 dotted names last = flat_map with_dot names ++ last

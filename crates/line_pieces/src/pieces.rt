@@ -4,9 +4,9 @@ ghost use Rattle.std.specs.Prelude.{◌≡◌, ◌≤◌, IsTrue, false};
 ghost use Rattle.line_pieces.specs.Outputs.{stream, PrintsAll, PrintsPrefix, HasFaulted, Receives};
 ghost use Rattle.line_pieces.specs.Joined.{bytes_of, joined};
 
-use crate::sending::{send, send_dotted, send_path};
+use crate::sending::{send, send_dotted, send_path, send_spaced};
 use crate::stamps::stamp_digits;
-use mesa_base::{Decimal, Name, Sink};
+use mesa_base::{Bytes, Decimal, Name, Sink};
 
 /// A piece of a line.
 #[derive(Clone, Copy)]
@@ -20,6 +20,8 @@ pub enum Piece<'a> {
     Names(&'a [Name]),
     /// Names, each with a dot behind it.
     Dotted(&'a [Name]),
+    /// Names, each with a blank before it.
+    Spaced(&'a [Bytes]),
 }
 
 /// The pieces in order, each only where those before were taken; whether all were.
@@ -57,5 +59,6 @@ fn send_piece<E: Sink>(piece: Piece<'_>, err: &mut E) -> bool
         Piece::Digits(stamp) => send(&stamp_digits(stamp), err),
         Piece::Names(path) => send_path(path, err),
         Piece::Dotted(names) => send_dotted(names, err),
+        Piece::Spaced(names) => send_spaced(names, err),
     }
 }

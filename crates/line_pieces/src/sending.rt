@@ -2,9 +2,9 @@
 
 ghost use Rattle.std.specs.Prelude.{◌≡◌, ◌++◌, ◌≤◌, IsTrue, false, flat_map};
 ghost use Rattle.line_pieces.specs.Outputs.{stream, PrintsAll, PrintsPrefix, HasFaulted};
-ghost use Rattle.line_pieces.specs.Texts.{path_text, with_dot};
+ghost use Rattle.line_pieces.specs.Texts.{path_text, with_blank, with_dot};
 
-use mesa_base::{Name, Sink};
+use mesa_base::{Bytes, Name, Sink};
 
 /// Whether the whole piece was taken.
 pub(crate) fn send<E: Sink>(piece: &[u8], err: &mut E) -> bool
@@ -35,6 +35,21 @@ pub(crate) fn send_dotted<E: Sink>(names: &[Name], err: &mut E) -> bool
 {
     for name in names {
         if !send_both(name.bytes(), b".", err) {
+            return false;
+        }
+    }
+    true
+}
+
+/// Whether all names were taken, each with a blank before it.
+pub(crate) fn send_spaced<E: Sink>(names: &[Bytes], err: &mut E) -> bool
+    ensures whole { IsTrue result → PrintsAll (flat_map with_blank names.now) (stream (E.written err.old) (E.faults err.old)) (stream (E.written err.new) (E.faults err.new)) }
+    ensures cut { result ≡ false → PrintsPrefix (flat_map with_blank names.now) (stream (E.written err.old) (E.faults err.old)) (stream (E.written err.new) (E.faults err.new)) }
+    ensures fault { result ≡ false → HasFaulted (stream (E.written err.old) (E.faults err.old)) (stream (E.written err.new) (E.faults err.new)) }
+    ensures faults_stay { E.faults err.old ≤ E.faults err.new }
+{
+    for name in names {
+        if !send_both(b" ", name.as_slice(), err) {
             return false;
         }
     }

@@ -2,7 +2,7 @@
 use Rattle.std.proofs.Common.{◌≡◌, ℕ, List, [], ◌∷◌, Option, Result, Ok, Err, refl, sym, subst}
 use Rattle.line_pieces.specs.Outputs.{Stream}
 use Rattle.command_rules.specs.Case.{Case, Done, WriteFault, Memory}
-use Rattle.command_rules.specs.Comes.{Shows, not_shown, shown, not_printed, Upgrades, not_held, stored, not_stored}
+use Rattle.command_rules.specs.Comes.{Upgrades, not_held, stored, not_stored}
 use Rattle.command_rules.specs.Comes as rules
 use Rattle.command_rules.specs.Forms.{FileKind, kind_file}
 use Rattle.command_rules.specs.Listing.{listing_in, value_in}
@@ -20,28 +20,13 @@ use Rattle.command_passes.specs.declared.stop.Stop.TheVariants as stop
 use Rattle.command_sources.specs.Stops.{stored_case}
 use Rattle.command_writes.specs.Storing.{StoreEnds}
 use Rattle.command_listings.specs.Upgrading.{IsUpgraded}
-use Rattle.mesa_command.specs.Printing.{PrintsTo, printed, ListingEnds}
-use Rattle.mesa_command.specs.Printing as printing
+use Rattle.mesa_command.specs.Printing.{ReportPasses}
 
 -- ---- list FILE
 
-module _ (kind : FileKind) (base : List ℕ) (s t : Shelf) (input : Feed) (steps : ℕ) where
-  -- the text is printed, or not
-  prints : (text : List ℕ) (old new : Stream) (case : Case) → Gives (listing_in kind (kind_file kind base)) s t text → PrintsTo text old new case
-      → Shows kind base s t (scene input old steps) (scene input new steps) case
-  prints text old new _ g (printed all) = shown text g all refl refl
-  prints text old new _ g (printing.not_printed fault part) = not_printed text g fault part refl refl
-
-  pub shows : (r : Result (List ℕ) Stop) (old new : Stream) (case : Case) → Passes (λ text. text) (listing_in kind (kind_file kind base)) s t r → Onward s t
-      → ListingEnds r old new case → Shows kind base s t (scene input old steps) (scene input new steps) case
-  shows (Ok text) old new case g on ends = prints text old new case g ends
-  shows (Err why) old new case f on ends =
-      subst (λ (x : Stream). Shows kind base s t (scene input old steps) (scene input x steps) case) (sym ends.1)
-      (subst (Shows kind base s t (scene input old steps) (scene input old steps)) (sym ends.0) (not_shown (stop_case why) f on refl))
-
 -- memory was wanting for the name of the file
 pub no_room_listed : (kind : FileKind) (base : List ℕ) (s : Shelf) (why : Stop) → why ≡ stop.Memory
-    → Passes {X = List ℕ} (λ text. text) (listing_in kind (kind_file kind base)) s s (Err why)
+    → ReportPasses (listing_in kind (kind_file kind base)) s s (Err why)
 no_room_listed kind base s why e =
     subst (λ w. Fails (listing_in kind (kind_file kind base)) s s (stop_case w)) (sym e) passing.memory
 

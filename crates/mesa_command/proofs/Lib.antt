@@ -1,6 +1,8 @@
+mod Behind
 mod Calls
 mod Ending
 mod Exercised
 mod Files
 mod Filing
 mod Forming
+mod Printed

@@ -1,11 +1,12 @@
 -- What comes of a form of the words (rule of this project).
-use Rattle.std.specs.Prelude.{◌≡◌, ℕ, List, true}
+use Rattle.std.specs.Prelude.{◌≡◌, ◌≤◌, ℕ, List, length, All, true}
 use Rattle.interface_records.specs.Spelled.{InSixBytes}
 use Rattle.config_rules.specs.Components.{is_file_base}
 use Rattle.command_rules.specs.Case.{Case}
-use Rattle.command_rules.specs.Comes.{Compiles, Defines, Binds, Loads, Goes, Shows, Upgrades, Exercises}
-use Rattle.command_rules.specs.Forms.{Form, Compile, Define, Bind, Run, Go, Show, Upgrade, Exercise}
+use Rattle.command_rules.specs.Comes.{Compiles, Defines, Binds, Loads, Goes, Shows, Plans, Upgrades, Exercises}
+use Rattle.command_rules.specs.Forms.{Form, Compile, Define, Bind, Run, Go, Show, Upgrade, Exercise, Plan}
 use Rattle.command_rules.specs.Worlds.{Shelf, Scene}
+use Rattle.include_rules.specs.Plans.{most_texts}
 
 abbrev pub IsBase : List ℕ → Type 0
 IsBase base = is_file_base base ≡ true
@@ -13,6 +14,10 @@ IsBase base = is_file_base base ≡ true
 pub record CanBeDefined (base : List ℕ) (stamp : ℕ) : Type 0 where
   pub named : IsBase base
   pub six : InSixBytes stamp
+
+pub record ArePlanned (bases : List (List ℕ)) : Type 0 where
+  pub few : length bases ≤ most_texts
+  pub named : All IsBase bases
 
 -- what is so of the parts of each form that words have
 abbrev pub IsWellFormed : Form → Type 0
@@ -24,6 +29,7 @@ IsWellFormed (Go source base turns) = IsBase base
 IsWellFormed (Show kind base) = IsBase base
 IsWellFormed (Upgrade kind base) = IsBase base
 IsWellFormed (Exercise links turns) = Unit {0}
+IsWellFormed (Plan bases) = ArePlanned bases
 
 abbrev pub ComesOfForm : Form → (folder folder' : Shelf) → (old new : Scene) → Case → Type 0
 ComesOfForm (Compile base) folder folder' old new case = Compiles base folder folder' case × (new ≡ old)
@@ -34,3 +40,4 @@ ComesOfForm (Go source base turns) folder folder' old new case = Goes source bas
 ComesOfForm (Show kind base) folder folder' old new case = Shows kind base folder folder' old new case
 ComesOfForm (Upgrade kind base) folder folder' old new case = Upgrades kind base folder folder' case × (new ≡ old)
 ComesOfForm (Exercise links turns) folder folder' old new case = Exercises links turns old new case × (folder' ≡ folder)
+ComesOfForm (Plan bases) folder folder' old new case = Plans bases folder folder' old new case

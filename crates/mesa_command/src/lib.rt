@@ -7,6 +7,8 @@ mod exercising;
 mod going;
 mod listing;
 mod loading;
+mod planning;
+mod printing;
 mod running;
 mod storing;
 mod top;

@@ -15,8 +15,10 @@ use crate::binding::bound;
 use crate::compiling::{compiled, defined};
 use crate::exercising::{exercise_built, sum_or_tell};
 use crate::going::built;
-use crate::listing::{listing, print_or_tell};
+use crate::listing::listing;
 use crate::loading::loaded;
+use crate::planning::report;
+use crate::printing::print_or_tell;
 use crate::running::run_or_tell;
 use crate::storing::told;
 use crate::upgrading::upgraded;
@@ -37,7 +39,9 @@ use std::sync::ledger::Ledger;
 /// - `list FILE`: writes the listing of the interface in NAME.mif, the object in NAME.mob or the image in NAME.mim to `out`;
 /// - `upgrade FILE`: writes what is in such a file over it in version 2 of the formats;
 /// - `exercise N TURNS`: does what `go` does with the configuration of N links that stands in a folder and on an empty input of its own, and writes the
-///   summary of its run to `out`: how many instances there are, how it ended, and the turns that are left.
+///   summary of its run to `out`: how many instances there are, how it ended, and the turns that are left;
+/// - `plan NAME ..`: writes to `out` in which order to compile the texts in NAME.mesa, which of their objects are stale, and which of their files are
+///   missing.
 ///
 /// The interfaces that a text names are read from their files. The line of the answer goes to `err`.
 pub fn mesa<F: Folder, S: Source, K: Sink, E: Sink, L: Ledger>(
@@ -164,6 +168,7 @@ fn to_form<F: Folder, S: Source, K: Sink, E: Sink, L: Ledger>(
         }
         Form::Show { kind, base } => print_or_tell(listing(alloc, folder, kind, base), out, err),
         Form::Upgrade { kind, base } => told(upgraded(alloc, folder, kind, base), err),
+        Form::Plan { words } => print_or_tell(report(alloc, folder, words), out, err),
         Form::Exercise { links, turns } => {
             sum_or_tell(exercise_built(alloc, links), turns, out, err, steps)
         }

@@ -3,7 +3,11 @@ use Rattle.command_lines.specs.Words.{source_in as form_source}
 use Rattle.command_passes.specs.Kinds.{kind_in}
 use Rattle.mesa_command.proofs.Calls.{goes, loads}
 use Rattle.mesa_command.proofs.Exercised.{exercises}
-use Rattle.mesa_command.proofs.Files.{shows}
+use Rattle.command_lines.specs.Words.{behind_first}
+use Rattle.command_rules.specs.Forms.{kind_file}
+use Rattle.command_rules.specs.Listing.{listing_in}
+use Rattle.command_rules.specs.Planning.{plan_in}
+use Rattle.mesa_command.proofs.Printed.{prints_so}
 use Rattle.mesa_command.proofs.top.to_form.Goals as goal
 
 pub returns-in-Run-clause-comes : goal.returns-in-Run-clause-comes
@@ -26,7 +30,17 @@ returns-in-Show-clause-comes g c =
     let it = c.print_or_tell.ensures.ends in
     rw c.in-Show.is (
       it.0,
-      shows (kind_in c.in-Show.kind) c.in-Show.base.now _ _ _ _ c.listing.result _ _ it.0 c.listing.ensures.passes c.listing.ensures.onward it.1,
+      prints_so (listing_in (kind_in c.in-Show.kind) (kind_file (kind_in c.in-Show.kind) c.in-Show.base.now)) _ _ _ _ c.listing.result _ _ it.0
+          c.listing.ensures.passes c.listing.ensures.onward it.1,
+      it.2,
+    )
+
+pub returns-in-Plan-clause-comes : goal.returns-in-Plan-clause-comes
+returns-in-Plan-clause-comes g c =
+    let it = c.print_or_tell-in-Plan.ensures.ends in
+    rw c.in-Plan.is (
+      it.0,
+      prints_so (plan_in (behind_first c.in-Plan.words.now)) _ _ _ _ c.report.result _ _ it.0 c.report.ensures.passes c.report.ensures.onward it.1,
       it.2,
     )
 

@@ -1,5 +1,5 @@
 use Rattle.mesa_command.specs.Printing.{not_printed, printed}
-use Rattle.mesa_command.proofs.listing.printed.Goals as goal
+use Rattle.mesa_command.proofs.printing.printed.Goals as goal
 
 pub returns-in-Ok : goal.returns-in-Ok
 returns-in-Ok g c = printed c.in-Ok.ensures.appended
