@@ -1,10 +1,11 @@
-"""What `bind NAME`, `run NAME TURNS`, `list FILE` and `upgrade FILE` answer over some files, by the model."""
+"""What `bind NAME`, `run NAME TURNS`, `list FILE`, `upgrade FILE` and `plan NAME ..` answer over some files, by the model."""
 from collections import namedtuple
 
 from model.binding import image_of
 from model.listing import listing, read
 from model.machine import Machine, unresolved
 from model.objects import image_in
+from model.planning import plan
 from model.reading import Wrong
 
 DONE, UNCAUGHT, SPENT, FULL, REFUSED, ABSENT = range(6)
@@ -66,3 +67,10 @@ def upgraded(file, files):
         return Answer(DONE, b"", b"", {file: of_second_version(held)})
 
     return of_file(file, files, answer)
+
+
+def planned(bases, files):
+    try:
+        return Answer(DONE, plan(bases, files).encode(), b"", {})
+    except Wrong as why:
+        return refused(str(why))
