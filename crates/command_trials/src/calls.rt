@@ -2,32 +2,43 @@
 ghost use Rattle.std.specs.Prelude.{◌≡◌, ◌<◌};
 
 use mesa_base::{
-    Bytes, List, MemoryFolder, MemorySink, MemorySource, Numbers, OutOfMemory, Status, Steps, Words,
+    Bytes, List, MemoryFolder, MemorySink, MemorySource, Numbers, OutOfMemory, Source, Status,
+    Steps, Words,
 };
 use mesa_command::mesa;
 use std::alloc::{AllocError, Global};
 use std::marker::Brand;
 use std::sync::ledger::{Blank, Ledger};
 
-/// What a call is made on: its words with blanks between, the one text in the folder, the bytes of the input, and the calls that
-/// fail.
+/// What a call is made on beside its folder: its words with blanks between, the bytes of the input, and the calls on the streams
+/// that fail.
 #[derive(Clone, Copy)]
 pub struct Call<'a> {
     pub words: &'a str,
-    pub text: &'a [u8],
     pub bytes: &'a [u8],
-    pub folder: &'a [u32],
     pub input: &'a [u32],
     pub out: &'a [u32],
     pub err: &'a [u32],
 }
 
-/// What a call left: its exit status, and what `out` and `err` received.
+/// A call in which no call on the streams fails.
+pub fn made_call<'a>(words: &'a str, bytes: &'a str) -> Call<'a> {
+    Call {
+        words,
+        bytes: bytes.as_bytes(),
+        input: &[],
+        out: &[],
+        err: &[],
+    }
+}
+
+/// What a call left: its exit status, what `out` and `err` received, and the byte that the input gives next.
 #[derive(Drop)]
 pub struct Left {
     pub status: u8,
     pub out: Bytes,
     pub err: Bytes,
+    pub next: Option<u8>,
 }
 
 fn numbers(alloc: Global, all: &[u32]) -> Result<Numbers, OutOfMemory> {
@@ -52,10 +63,16 @@ struct Streams {
     err: MemorySink,
 }
 
-fn folder_with(alloc: Global, call: &Call<'_>) -> Result<MemoryFolder, OutOfMemory> {
-    let failing = numbers(alloc, call.folder)?;
-    let mut folder = MemoryFolder::new(alloc, failing);
-    folder.insert("M.mesa", call.text)?;
+/// An empty folder, whose calls with these numbers fail.
+pub fn folder_failing(alloc: Global, failing: &[u32]) -> Result<MemoryFolder, OutOfMemory> {
+    let failing = numbers(alloc, failing)?;
+    Ok(MemoryFolder::new(alloc, failing))
+}
+
+/// A folder with this text in M.mesa.
+pub fn folder_with(alloc: Global, text: &str) -> Result<MemoryFolder, OutOfMemory> {
+    let mut folder = folder_failing(alloc, &[])?;
+    folder.insert("M.mesa", text.as_bytes())?;
     Ok(folder)
 }
 
@@ -99,17 +116,19 @@ fn counted<L: Ledger>(
     )
 }
 
-fn left_in(alloc: Global, status: Status, streams: &Streams) -> Result<Left, OutOfMemory> {
+fn left_in(alloc: Global, status: Status, streams: &mut Streams) -> Result<Left, OutOfMemory> {
     let out = List::from_slice(alloc, streams.out.bytes())?;
     let err = List::from_slice(alloc, streams.err.bytes())?;
+    let next = streams.input.next().unwrap_or(None);
     Ok(Left {
         status: status.code(),
         out,
         err,
+        next,
     })
 }
 
-fn called_on(
+pub fn called(
     alloc: Global,
     folder: &mut MemoryFolder,
     call: &Call<'_>,
@@ -117,44 +136,23 @@ fn called_on(
     let words = words_of(alloc, call.words)?;
     let mut streams = streams_of(alloc, call)?;
     let status = counted::<Brand>(alloc, Blank::new(1), &words, folder, &mut streams);
-    left_in(alloc, status, &streams)
+    left_in(alloc, status, &mut streams)
 }
 
-pub fn called(alloc: Global, call: &Call<'_>) -> Result<Left, OutOfMemory> {
-    let mut folder = folder_with(alloc, call)?;
-    called_on(alloc, &mut folder, call)
-}
-
-/// A call on this folder, without input, in which no call on the outside fails.
+/// A call on this folder, in which no call on the streams fails.
 pub fn left_on(
     rt: &HostRuntime,
     folder: &mut MemoryFolder,
     words: &str,
+    bytes: &str,
 ) -> Result<Left, OutOfMemory> {
-    let made = Call {
-        words,
-        text: &[],
-        bytes: &[],
-        folder: &[],
-        input: &[],
-        out: &[],
-        err: &[],
-    };
-    called_on(rt.alloc(), folder, &made)
+    called(rt.alloc(), folder, &made_call(words, bytes))
 }
 
-/// A call without input, in which no call on the outside fails.
+/// A call without input on a folder with this text in M.mesa, in which no call on the outside fails.
 pub fn left_by(rt: &HostRuntime, words: &str, text: &str) -> Result<Left, OutOfMemory> {
-    let made = Call {
-        words,
-        text: text.as_bytes(),
-        bytes: &[],
-        folder: &[],
-        input: &[],
-        out: &[],
-        err: &[],
-    };
-    called(rt.alloc(), &made)
+    let mut folder = folder_with(rt.alloc(), text)?;
+    left_on(rt, &mut folder, words, "")
 }
 
 pub fn is_left(left: &Left, status: u8, out: &str, err: &str) -> bool {

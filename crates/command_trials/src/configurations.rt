@@ -1,73 +1,46 @@
-//! Definitions, programs and a configuration, each in a file of its own.
-use crate::calls::{is_left, left_on};
-use mesa_base::{List, MemoryFolder, OutOfMemory};
-use std::alloc::Global;
+//! A configuration that runs, and items that are bad: nothing is written then.
+use crate::demo::{BOTH, DEFINE, OUTPUT, leaves, texts_with};
+use mesa_base::{MemoryFolder, OutOfMemory};
 use std::test::Fail;
 
-const DEFINITIONS: &str = "AskDefs: DEFINITIONS = BEGIN \
-    Ask: PROCEDURE [x: INTEGER] RETURNS [INTEGER]; S: SIGNAL [x: INTEGER] RETURNS [INTEGER]; END.";
-
-const SERVER: &str = "DIRECTORY AskDefs: FROM \"AskDefs\"; Server: PROGRAM EXPORTS AskDefs = BEGIN \
-    S: PUBLIC SIGNAL [x: INTEGER] RETURNS [INTEGER] = CODE; \
-    Ask: PUBLIC PROCEDURE [x: INTEGER] RETURNS [INTEGER] = BEGIN \
-    k: INTEGER ← 9; r: INTEGER; r ← SIGNAL S[x]; RETURN[r * 10 + k]; END; END.";
-
-const CLIENT: &str = "DIRECTORY AskDefs: FROM \"AskDefs\", IODefs: FROM \"IODefs\"; \
-    Main: PROGRAM IMPORTS AskDefs, IODefs = BEGIN \
-    IODefs.WriteDecimal[AskDefs.Ask[4 ! AskDefs.S => RESUME[x + 1]]]; END.";
-
-const BOTH: &str = "Demo: CONFIGURATION IMPORTS IODefs CONTROL Main = BEGIN Server; Main; END.";
-
-/// The files of a configuration with this text.
-fn files_with(alloc: Global, config: &str) -> Result<MemoryFolder, OutOfMemory> {
-    let mut folder = MemoryFolder::new(alloc, List::new(alloc));
-    folder.insert("AskDefs.mesa", DEFINITIONS.as_bytes())?;
-    folder.insert("Server.mesa", SERVER.as_bytes())?;
-    folder.insert("Main.mesa", CLIENT.as_bytes())?;
-    folder.insert("Demo.config", config.as_bytes())?;
-    Ok(folder)
+/// Whether no file is there that `go` writes.
+fn is_unwritten(folder: &MemoryFolder) -> bool {
+    ["Server.mob", "Main.mob", "Main.mim", "Demo.mim"]
+        .iter()
+        .all(|name| folder.get(name).is_none())
 }
 
-/// Whether the words leave this on these files.
-fn leaves(
-    rt: &HostRuntime,
-    folder: &mut MemoryFolder,
-    words: &str,
-    status: u8,
-    printed: &str,
-    said: &str,
-) -> Result<bool, Fail> {
-    let left = left_on(rt, folder, words)?;
-    Ok(is_left(&left, status, printed, said))
-}
-
-fn is_compiled(rt: &HostRuntime, folder: &mut MemoryFolder) -> Result<bool, Fail> {
-    leaves(rt, folder, "compile AskDefs 00000000000A", 0, "", "")
+/// Whether it is done where its interface is compiled, and else nothing is written.
+fn runs_with_its_interface(rt: &HostRuntime) -> Result<bool, OutOfMemory> {
+    let words = "go Demo.config 22";
+    let mut folder = texts_with(rt.alloc(), BOTH)?;
+    Ok(
+        leaves(rt, &mut folder, words, 5, "", "AskDefs.mif: absent\n")?
+            && is_unwritten(&folder)
+            && leaves(rt, &mut folder, DEFINE, 0, "", "")?
+            && leaves(rt, &mut folder, words, 0, OUTPUT, "")?,
+    )
 }
 
 #[test]
 fn caught_in_another_module(rt: HostRuntime) -> Result<(), Fail> {
-    let mut folder = files_with(rt.alloc(), BOTH)?;
-    assert!(rt;
-        leaves(
-            &rt,
-            &mut folder,
-            "go Demo.config 6",
-            5,
-            "",
-            "AskDefs.mif: absent\n"
-        )?
-    );
-    assert!(rt; is_compiled(&rt, &mut folder)?);
-    assert!(rt; leaves(&rt, &mut folder, "go Demo.config 6", 0, "59", "")?);
+    assert!(rt; runs_with_its_interface(&rt)?);
     Ok(())
 }
 
-/// Whether the configuration with this text is refused with this line.
-fn is_refused(rt: &HostRuntime, config: &str, line: &str) -> Result<bool, Fail> {
-    let mut folder = files_with(rt.alloc(), config)?;
-    let compiled = is_compiled(rt, &mut folder)?;
-    Ok(compiled && leaves(rt, &mut folder, "go Demo.config 6", 4, "", line)?)
+/// Whether the words are refused with this line where the configuration has this text, and nothing is written.
+fn is_refused(
+    rt: &HostRuntime,
+    config: &str,
+    words: &str,
+    line: &str,
+) -> Result<bool, OutOfMemory> {
+    let mut folder = texts_with(rt.alloc(), config)?;
+    Ok(
+        leaves(rt, &mut folder, DEFINE, 0, "", "")?
+            && leaves(rt, &mut folder, words, 4, "", line)?
+            && is_unwritten(&folder),
+    )
 }
 
 #[test]
@@ -76,6 +49,7 @@ fn items_that_are_bad(rt: HostRuntime) -> Result<(), Fail> {
         is_refused(
             &rt,
             "Demo: CONFIGURATION IMPORTS IODefs CONTROL Main = BEGIN Main; END.",
+            "go Demo.config 22",
             "Demo.config: NoExporter Main AskDefs.Ask\n"
         )?
     );
@@ -83,7 +57,16 @@ fn items_that_are_bad(rt: HostRuntime) -> Result<(), Fail> {
         is_refused(
             &rt,
             "Demo: CONFIGURATION IMPORTS IODefs, AskDefs CONTROL Main = BEGIN Main; END.",
+            "go Demo.config 22",
             "Demo.mim: Unresolved AskDefs.Ask 00000000000A\n"
+        )?
+    );
+    assert!(rt;
+        is_refused(
+            &rt,
+            BOTH,
+            "go Main.mesa 22",
+            "Main.mesa: NoExporter Main AskDefs.Ask\n"
         )?
     );
     Ok(())

@@ -1,12 +1,13 @@
-//! Words without a form, files that are not there, and calls on the outside that fail.
-use crate::calls::{Call, called, is_left, left_by, module_with};
+//! Words without a form, files that are not there, and calls on the outside that fail where one module is run.
+use crate::calls::{Call, called, folder_with, is_left, left_by, left_on, made_call, module_with};
+use crate::requests::{Request, Stream, folder_fails_in_turn, stream_fails_in_turn};
+use mesa_base::{MemoryFolder, OutOfMemory};
 use std::test::Fail;
 
 const NOTHING: &str = "Nothing: PROGRAM = BEGIN END.";
 
 const COUNT: &str =
-    "DIRECTORY IODefs: FROM \"IODefs\"; M: PROGRAM IMPORTS IODefs = BEGIN OPEN IODefs; \
-    i: INTEGER ← 3; WHILE i > 0 DO WriteDecimal[i]; i ← i - 1; ENDLOOP; WriteChar['x]; END.";
+    "i: INTEGER ← 3; WHILE i > 0 DO WriteDecimal[i]; i ← i - 1; ENDLOOP; WriteChar['x];";
 
 const SUM: &str =
     "n: INTEGER ← 0; UNTIL EndOfInput[] DO n ← n + (ReadChar[] - '0) ENDLOOP; WriteDecimal[n];";
@@ -18,28 +19,45 @@ const UNWINDING: &str =
 
 const USAGE: &str = "usage: mesa compile, bind, list, run, go or exercise\n";
 
-/// Whether these words have no form.
-fn is_no_form(rt: &HostRuntime, words: &str) -> Result<bool, Fail> {
-    let left = left_by(rt, words, NOTHING)?;
-    Ok(is_left(&left, 10, "", USAGE))
+const WITHOUT_A_FORM: [&str; 22] = [
+    "",
+    "go",
+    "go M.mesa",
+    "go M.mesa 01",
+    "go M.mesa +1",
+    "go M.mesa 18446744073709551616",
+    "go M.mesa 1 1",
+    "go M 1",
+    "go .mesa 1",
+    "go 1M.mesa 1",
+    "Go M.mesa 1",
+    "go A2345678901234567890123456789012345678901234567890123456789012345.mesa 1",
+    "list M.mesa",
+    "upgrade M.mesa",
+    "exercise 0 1",
+    "plan",
+    "plan M M",
+    "plan M.mesa",
+    "compile",
+    "compile M.mesa",
+    "bind M 1",
+    "run M",
+];
+
+/// Whether none of these words have a form.
+fn are_no_forms(rt: &HostRuntime, all_words: &[&str]) -> Result<bool, OutOfMemory> {
+    for words in all_words {
+        let left = left_by(rt, words, NOTHING)?;
+        if !is_left(&left, 10, "", USAGE) {
+            return Ok(false);
+        }
+    }
+    Ok(true)
 }
 
 #[test]
 fn words_without_a_form(rt: HostRuntime) -> Result<(), Fail> {
-    let long = "go A2345678901234567890123456789012345678901234567890123456789012345.mesa 1";
-    assert!(rt; is_no_form(&rt, "")? && is_no_form(&rt, "go")? && is_no_form(&rt, "go M.mesa")?);
-    assert!(rt; is_no_form(&rt, "go M.mesa 01")? && is_no_form(&rt, "go M.mesa +1")?);
-    assert!(rt;
-        is_no_form(&rt, "go M.mesa 18446744073709551616")? && is_no_form(&rt, "go M.mesa 1 1")?
-    );
-    assert!(rt;
-        is_no_form(&rt, "go M 1")?
-            && is_no_form(&rt, "go .mesa 1")?
-            && is_no_form(&rt, "go 1M.mesa 1")?
-    );
-    assert!(rt;
-        is_no_form(&rt, "Go M.mesa 1")? && is_no_form(&rt, long)? && is_no_form(&rt, "list M.mesa")?
-    );
+    assert!(rt; are_no_forms(&rt, &WITHOUT_A_FORM)?);
     Ok(())
 }
 
@@ -57,93 +75,69 @@ fn files_that_are_not_there(rt: HostRuntime) -> Result<(), Fail> {
     Ok(())
 }
 
-/// A call of a program with enough turns.
-fn call<'a>(words: &'a str, text: &'a str, bytes: &'a str) -> Call<'a> {
-    Call {
-        words,
-        text: text.as_bytes(),
-        bytes: bytes.as_bytes(),
-        folder: &[],
-        input: &[],
-        out: &[],
-        err: &[],
+const FILES: &[&str] = &["M.mesa", "M.mob", "M.mim"];
+
+/// The request that runs one module.
+fn go<'a>(bytes: &'a str, printed: &'a str) -> Request<'a> {
+    Request {
+        words: "go M.mesa 18",
+        bytes,
+        files: FILES,
+        reads: 1,
+        printed,
     }
 }
 
-/// Whether it ends so, where these calls of `folder`, `out` and `err` fail.
-fn ends(
-    rt: &HostRuntime,
-    failing: [&[u32]; 3],
-    status: u8,
-    printed: &str,
-    said: &str,
-) -> Result<bool, Fail> {
-    let [folder, out, err] = failing;
+/// The text of the module with this inside, with the files that `go` makes of it.
+fn whole_of(rt: &HostRuntime, inside: &str) -> Result<MemoryFolder, Fail> {
+    let text = module_with(rt.alloc(), inside)?;
+    let mut folder = folder_with(rt.alloc(), text.as_str())?;
+    left_on(rt, &mut folder, go("", "").words, "")?;
+    Ok(folder)
+}
+
+/// Whether this is left of the line where `out` fails, and `err` as well.
+fn line_fails_too(rt: &HostRuntime, whole: &mut MemoryFolder) -> Result<bool, OutOfMemory> {
     let made = Call {
-        folder,
-        out,
-        err,
-        ..call("go M.mesa 8", COUNT, "")
+        out: &[0],
+        err: &[0],
+        ..made_call("go M.mesa 18", "")
     };
-    let left = called(rt.alloc(), &made)?;
-    Ok(is_left(&left, status, printed, said))
+    let left = called(rt.alloc(), whole, &made)?;
+    Ok(is_left(&left, 7, "", "output "))
 }
 
 #[test]
 fn calls_that_fail(rt: HostRuntime) -> Result<(), Fail> {
-    assert!(rt; ends(&rt, [&[0], &[], &[]], 8, "", "M.mesa: folder failed\n")?);
-    assert!(rt; ends(&rt, [&[1], &[], &[]], 8, "", "M.mob: folder failed\n")?);
-    assert!(rt; ends(&rt, [&[2], &[], &[]], 8, "", "M.mim: folder failed\n")?);
-    assert!(rt; ends(&rt, [&[3], &[], &[]], 0, "321x", "")?);
-    assert!(rt; ends(&rt, [&[], &[1], &[]], 7, "3", "output failed\n")?);
-    assert!(rt; ends(&rt, [&[], &[3], &[]], 7, "321", "output failed\n")?);
-    assert!(rt; ends(&rt, [&[], &[0], &[0]], 7, "", "output ")?);
+    let mut whole = whole_of(&rt, COUNT)?;
+    assert!(rt; folder_fails_in_turn(&rt, &whole, &go("0", "321x"))?);
+    assert!(rt; line_fails_too(&rt, &mut whole)?);
     Ok(())
 }
 
-/// Whether this is printed where the write of this number fails.
-fn is_cut(rt: &HostRuntime, text: &str, failing: u32, printed: &str) -> Result<bool, Fail> {
-    let made = Call {
-        out: &[failing],
-        ..call("go M.mesa 12", text, "")
-    };
-    let left = called(rt.alloc(), &made)?;
-    Ok(is_left(&left, 7, printed, "output failed\n"))
+/// Whether each call on the stream ends the run of the module where it fails.
+fn is_cut_in_turn(
+    rt: &HostRuntime,
+    inside: &str,
+    request: &Request<'_>,
+    stream: Stream,
+    outputs: &[&str],
+) -> Result<bool, Fail> {
+    let whole = whole_of(rt, inside)?;
+    stream_fails_in_turn(rt, &whole, request, stream, outputs)
 }
 
 /// Each write of a run that unwinds fails in turn: what was written before is there.
 #[test]
 fn writes_that_fail(rt: HostRuntime) -> Result<(), Fail> {
-    let module = module_with(rt.alloc(), UNWINDING)?;
-    let text = module.as_str();
-    assert!(rt; is_cut(&rt, text, 0, "")? && is_cut(&rt, text, 1, "a")?);
-    assert!(rt; is_cut(&rt, text, 2, "ac")? && is_cut(&rt, text, 3, "acb")?);
+    let before = ["", "a", "ac", "acb"];
+    assert!(rt; is_cut_in_turn(&rt, UNWINDING, &go("", "acbd"), Stream::Out, &before)?);
     Ok(())
-}
-
-/// Whether a run ends so where the read of this number fails.
-fn reads(
-    rt: &HostRuntime,
-    failing: u32,
-    status: u8,
-    printed: &str,
-    said: &str,
-) -> Result<bool, Fail> {
-    let text = module_with(rt.alloc(), SUM)?;
-    let made = Call {
-        input: &[failing],
-        ..call("go M.mesa 18", text.as_str(), "12345")
-    };
-    let left = called(rt.alloc(), &made)?;
-    Ok(is_left(&left, status, printed, said))
 }
 
 /// Each read of a run fails in turn, the one that finds the end of the input too.
 #[test]
 fn reads_that_fail(rt: HostRuntime) -> Result<(), Fail> {
-    for failing in 0..6 {
-        assert!(rt; reads(&rt, failing, 6, "", "input failed\n")?);
-    }
-    assert!(rt; reads(&rt, 6, 0, "15", "")?);
+    assert!(rt; is_cut_in_turn(&rt, SUM, &go("12345", "15"), Stream::Input, &[""; 6])?);
     Ok(())
 }

@@ -6,6 +6,12 @@ mod calls;
 #[cfg(test)]
 mod configurations;
 #[cfg(test)]
+mod demo;
+#[cfg(test)]
 mod failing;
 #[cfg(test)]
 mod limits;
+#[cfg(test)]
+mod requests;
+#[cfg(test)]
+mod storing;
