@@ -64,7 +64,7 @@ views_alike [] (y ∷ ys) s = absurd s
 views_alike (x ∷ xs) [] s = absurd s
 views_alike (x ∷ xs) (y ∷ ys) s = λ i. same_view x.code y.code s.0.code i ∷ views_alike xs ys s.1 i
 
-fetched : (code : List CodeEntry) (offset : ℕ) → instruction_at (map bare_entry code) offset ≡ instruction_at code offset
+pub fetched : (code : List CodeEntry) (offset : ℕ) → instruction_at (map bare_entry code) offset ≡ instruction_at code offset
 unfolding instruction_at
 fetched [] offset = refl
 fetched (e ∷ code) offset = ap (λ t. if nat_eq e.at offset then Some e.instruction else t) (fetched code offset)

@@ -35,6 +35,7 @@ use Rattle.survey_rules.specs.Reached.{Reached, in_arm, StandsIn}
 use Rattle.survey_rules.proofs.Codes.{code_there, one_code, under_at}
 use Rattle.survey_rules.proofs.Coming.{come_alive, ComesTo, comes_to}
 use Rattle.survey_rules.proofs.Living.{Alive}
+use Rattle.survey_rules.proofs.Instructions.{reached_starts}
 use Rattle.survey_rules.proofs.Following.{follows_with, follows_spend, follows_enter, follows_give}
 use Rattle.survey_rules.proofs.Tracing.{Reaches, RunsBy, Started, ForSignal, WhyFrom, RoleFrom, Trace, Named, SeeksComing, Follows, under}
 
@@ -45,17 +46,18 @@ unfolding arm_under phrases_under procedure_under
 arm_bare image b n arm e = e
 
 -- the arm of a phrase in whose range an offset is reached begins at a reached offset
-pub arm_reached : (image : Image) (b : Bare) (p : CodeProcedure) (m : ModuleCode) → IsCode image b.instance b.procedure m p → (place : Place) → IsPlace p.phrases place
+pub arm_reached : (image : Image) → World image → (b : Bare) (p : CodeProcedure) (m : ModuleCode) → IsCode image b.instance b.procedure m p → (place : Place) → IsPlace p.phrases place
     → Alive m p place.phrase → (n : ℕ) → n ≡ arms_before p.phrases place.phrase + place.arm → (arm : Arm) → arm_under image b n ≡ Some arm
     → Reaches image (record b { offset = arm.start })
-arm_reached image b p m c place is alive n number arm e = λ m' p' c'.
+arm_reached image w b p m c place is alive n number arm e = λ m' p' c'.
+    let there_is = reached_starts image w b.instance b.procedure m p c alive.at alive.reached in
     let x = arm_at_place p.phrases place is in
     let same : x.0 ≡ arm = same_Some x.0 arm (sym (arm_found image b p c.is_procedure place x.0 x.1 n number) ∙ e) in
     let phrase : (x.1).phrase ≡ alive.phrase = same_Some (x.1).phrase alive.phrase (sym (x.1).is ∙ alive.is) in
     let there : slice_get alive.phrase.arms place.arm ≡ Some arm =
     subst (λ (ph : Phrase). slice_get ph.arms place.arm ≡ Some arm) phrase ((x.1).there ∙ ap Some same) in
     one_code (λ k q. Reached k q arm.start) image b.instance b.procedure m m' p p' c c'
-    (in_arm alive.at place.phrase place.arm alive.phrase arm alive.reached alive.is alive.covered there)
+    (in_arm alive.at place.phrase place.arm there_is.instruction alive.phrase arm alive.reached there_is.is alive.is alive.covered there)
 
 pub follows_arm : (image : Image) (n : ℕ) (b : Active) (q : ℕ) (why : Why) (words : List ℕ) (S : Activations) (m : Store)
     → ((arm : Arm) → arm_under image (bare b) n ≡ Some arm → Reaches image (record (bare b) { offset = arm.start })) → WhyFrom image b.instance b.procedure n why (bares S)
@@ -156,7 +158,7 @@ module _ (image : Image) (w : World image) where
       subst (λ o. position (fits_signal (links_of image b.instance) signal) (arms_of o) ≡ Some place.arm) alive.is comes.1 in
       let there : IsPlace p.phrases place = record { phrase = alive.phrase; is = alive.is; arm = position_within _ alive.phrase.arms place.arm first } in
       follows_arm image _ b q _ args S m
-      (λ arm e. arm_reached image (bare b) p h.code code place there alive _ refl arm e)
+      (λ arm e. arm_reached image w (bare b) p h.code code place there alive _ refl arm e)
       (record { p = p; is = of; place = place; number_is = refl; first = comes.1; rest = refl; comes = comes.0 })
       t c
 

@@ -78,7 +78,7 @@ ending = procedure 0 0 0 0 (Call 1 ∷ Return ∷ ArmEnd ∷ []) (phrase 0 5 (en
 
 ends : (m : ModuleCode) → StandsIn m ending end_arm ArmEnd
 unfolding instruction_at
-ends m = record { at = 6; stands = record { reached = in_arm 0 0 0 (phrase 0 5 (end_arm ∷ [])) end_arm first refl refl refl; is = refl }; behind = omega arith; before = omega arith }
+ends m = record { at = 6; stands = record { reached = in_arm 0 0 0 (Call 1) (phrase 0 5 (end_arm ∷ [])) end_arm first refl refl refl refl; is = refl }; behind = omega arith; before = omega arith }
 
 ending_lets : Escapes (small (with_body 0 ending) refl) (Own 0 0)
 unfolding instruction_at around_at around
@@ -96,7 +96,7 @@ resuming = procedure 0 0 0 0 (Call 1 ∷ Return ∷ Resume 0 ∷ []) (phrase 0 5
 
 resumes : (m : ModuleCode) → StandsIn m resuming resume_arm (Resume 0)
 unfolding instruction_at
-resumes m = record { at = 6; stands = record { reached = in_arm 0 0 0 (phrase 0 5 (resume_arm ∷ [])) resume_arm first refl refl refl; is = refl }; behind = omega arith; before = omega arith }
+resumes m = record { at = 6; stands = record { reached = in_arm 0 0 0 (Call 1) (phrase 0 5 (resume_arm ∷ [])) resume_arm first refl refl refl refl; is = refl }; behind = omega arith; before = omega arith }
 
 too_few : takes_back (small (with_body 1 resuming) refl) (Own 0 0) 0 ≡ true → ⊥
 unfolding takes_back takes_in takes_of signal_of code_of module_number code_in
@@ -121,7 +121,7 @@ raised_in_arm : Escapes (small (with_body 0 raising) refl) (Own 0 0)
 unfolding instruction_at around_at around
 raised_in_arm = escapes 0 (0, omega arith, refl)
     (raised 0 0 6 (its (with_body 0 raising) refl) raising (Raise 0) (code_small (with_body 0 raising) refl 0 raising refl)
-    (record { reached = in_arm 0 0 0 (phrase 0 5 (raise_arm ∷ [])) raise_arm first refl refl refl; is = refl }) (rule.own 0))
+    (record { reached = in_arm 0 0 0 (Call 1) (phrase 0 5 (raise_arm ∷ [])) raise_arm first refl refl refl refl; is = refl }) (rule.own 0))
 
 -- A call of another instance, whose start raises a signal: its procedure does nothing.
 

@@ -32,7 +32,7 @@ reached_starts image w j n m p c _ (onward at i before is goes) =
 reached_starts image w j n m p c _ (jumped at target i before is leads) =
     let h = has_code image w j n m p c in
     start_there p.code target (leads_start (routine m p) at target i (stands_at image j p h at i is).stood.jump leads)
-reached_starts image w j n m p c _ (in_arm at number k phrase arm before is covered arm_is) =
+reached_starts image w j n m p c _ (in_arm at number k i phrase arm before there is covered arm_is) =
     let h = has_code image w j n m p c in
     start_there p.code arm.start
     (arm_filled (spots p.code) p.phrases h.valid.phrases (record { phrase = number; arm = k }) arm (record { phrase = phrase; is = is; there = arm_is })).0

@@ -148,7 +148,7 @@ module _ (image : Image) (w : World image) where
       let code = code_there image a.instance a.procedure p of h in
       let alive = found_alive image w a.instance a.procedure h.code p code false search (ask h.code p code) f.before (f.place).phrase f.behind f.parts in
       follows_arm image n a (length S) (ForJump target after) [] (a ∷ S) m
-      (λ arm g. arm_reached image (bare a) p h.code code f.place f.is alive n f.number arm g) (
+      (λ arm g. arm_reached image w (bare a) p h.code code f.place f.is alive n f.number arm g) (
         up,
         λ k q c' x g. one_code (λ y z. Alive y z x) image a.instance a.procedure h.code k p q code c'
             (next_alive image w a.instance a.procedure h.code p code false (f.place).phrase alive x (ap (λ (y : Search). y.phrase) (sym f.rest) ∙ g)),

@@ -71,7 +71,7 @@ holds image w j n m p c _ (jumped at target i before is leads) s o q a e =
     let h = has_code image w j n m p c in
     let out = leads_outer (routine m p) at target i (stands_at image j p h at i is).stood.jump leads in
     holds image w j n m p c at before s (more_outer p.phrases (region_at p.phrases at) (region_at p.phrases target) s out o) q a e
-holds image w j n m p c _ (in_arm at number k phrase arm before is covered arm_is) s o q a e =
+holds image w j n m p c _ (in_arm at number k i phrase arm before there is covered arm_is) s o q a e =
     let h = has_code image w j n m p c in
     let place : ArmAtPlace p.phrases (record { phrase = number; arm = k }) arm = record { phrase = phrase; is = is; there = arm_is } in
     let filled = arm_filled (spots p.code) p.phrases h.valid.phrases (record { phrase = number; arm = k }) arm place in

@@ -20,13 +20,14 @@ LeadsTo (JumpBack goal) target = goal ≡ target
 LeadsTo (Leave arms goal) target = goal ≡ target
 LeadsTo _ target = ⊥
 
--- the offset 0; what comes behind an instruction that goes on; where a jump leads; the start of each arm of a phrase in whose range one is reached
+-- the offset 0; what comes behind an instruction that goes on; where a jump leads; the start of each arm of a phrase in whose range an instruction is
+-- reached
 pub data Reached (m : ModuleCode) (p : CodeProcedure) : ℕ → Type 0 where
   first : Reached m p 0
   onward : (at : ℕ) (i : Instruction) → Reached m p at → instruction_at p.code at ≡ Some i → goes_on (routine m p) i ≡ true → Reached m p (at + bytes_of i)
   jumped : (at target : ℕ) (i : Instruction) → Reached m p at → instruction_at p.code at ≡ Some i → LeadsTo i target → Reached m p target
-  in_arm : (at n k : ℕ) (phrase : Phrase) (arm : Arm) → Reached m p at → slice_get p.phrases n ≡ Some phrase → covers phrase at ≡ true
-      → slice_get phrase.arms k ≡ Some arm → Reached m p arm.start
+  in_arm : (at n k : ℕ) (i : Instruction) (phrase : Phrase) (arm : Arm) → Reached m p at → instruction_at p.code at ≡ Some i
+      → slice_get p.phrases n ≡ Some phrase → covers phrase at ≡ true → slice_get phrase.arms k ≡ Some arm → Reached m p arm.start
 
 -- an instruction that is reached
 pub record Stands (m : ModuleCode) (p : CodeProcedure) (at : ℕ) (i : Instruction) : Type 0 where

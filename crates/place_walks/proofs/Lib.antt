@@ -1,0 +1,4 @@
+pub mod Cells
+pub mod Closing
+pub mod Marking
+pub mod Tables

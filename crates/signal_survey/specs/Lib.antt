@@ -1,0 +1,12 @@
+pub mod Adding
+pub mod Catching
+pub mod Follows
+pub mod Fresh
+pub mod Graph
+pub mod Happenings
+pub mod Laws
+pub mod Modules
+pub mod Ranges
+pub mod Reading
+pub mod Shapes
+pub mod Signals

@@ -1,0 +1,11 @@
+pub mod Around
+pub mod Endings
+pub mod Events
+pub mod Graphs
+pub mod Laws
+pub mod Leads
+pub mod Listing
+pub mod Marking
+pub mod Passings
+pub mod Reading
+pub mod Sites
