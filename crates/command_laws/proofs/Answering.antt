@@ -9,10 +9,10 @@ use Rattle.command_rules.specs.Binding.{bound_in}
 use Rattle.command_rules.specs.Case.{Case, Absent, Done, Memory, Refused, Usage, status_of}
 use Rattle.command_rules.specs.declared.trouble.Trouble.TheVariants.{TooLarge}
 use Rattle.command_rules.specs.Comes.{Compiles, not_compiled, compiled, Defines, not_defined, defined, Binds, not_bound, bound, Loads, not_read, Goes, not_configured, Upgrades, not_held, Exercises, no_end, ended, not_summed, Comes}
-use Rattle.command_rules.specs.Complete.{NoFault, Tells, IsAnswer, IsCall, StopsOver, MakesOver, IsRefused, IsTooLarge, IsUnresolved, IsUnresolvedWithin, IsNotLoaded, IsStored, IsComplete, IsRun, IsListed, IsPlanned, IsUpgraded, IsExercised, Answered}
+use Rattle.command_rules.specs.Complete.{NoFault, Tells, IsAnswer, IsCall, StopsOver, MakesOver, IsRefused, IsTooLarge, IsUnresolved, IsUnresolvedWithin, IsNotLoaded, IsStored, IsComplete, IsRun, IsListed, IsPlanned, IsSurveyed, IsUpgraded, IsExercised, Answered}
 use Rattle.command_rules.specs.Configurations.{program, source_in}
 use Rattle.command_rules.specs.Exercise.{chain, exercise_shelf, within}
-use Rattle.command_rules.specs.Forms.{Source, OfConfig, FileKind, Form, Compile, Define, Bind, Run, Go, Show, Upgrade, Exercise, Plan, HasNoForm, WritesAlone, kind_file, module_file, image_file}
+use Rattle.command_rules.specs.Forms.{Source, OfConfig, FileKind, Form, Compile, Define, Bind, Run, Go, Show, Upgrade, Exercise, Plan, Survey, HasNoForm, WritesAlone, kind_file, module_file, image_file}
 use Rattle.command_rules.specs.Listing.{listing_in, value_in}
 use Rattle.command_rules.specs.Modules.{interface_in, module_in}
 use Rattle.command_rules.specs.Objects.{image_in}
@@ -21,9 +21,10 @@ use Rattle.command_rules.specs.Passing.{Fails, refused, failed, memory}
 use Rattle.command_rules.specs.Planning.{plan_in}
 use Rattle.command_rules.specs.Printing.{Report, Prints}
 use Rattle.command_rules.specs.Shown.{image_names, program_names}
+use Rattle.command_rules.specs.Surveying.{survey_in}
 use Rattle.command_rules.specs.Worlds.{Shelf, Scene, World}
 use Rattle.command_rules.specs.Writing.{Target, IsSmall, IsFirstTooLarge, NotStored, StoresAll, Written}
-use Rattle.command_rules.proofs.Stopping.{IsOfFiles, PassStopsSo, source_so, module_so, interface_in_so, bound_so, image_so, listing_so, plan_so, value_so}
+use Rattle.command_rules.proofs.Stopping.{IsOfFiles, PassStopsSo, source_so, module_so, interface_in_so, bound_so, image_so, listing_so, plan_so, survey_so, value_so}
 use Rattle.command_laws.specs.Laws.{PassesAreExact, CasesAreAnswers}
 use Rattle.command_laws.proofs.Came.{streams}
 use Rattle.command_laws.proofs.Exercising.{exercised_stopped, exercised_large, exercised_lacking, exercised_whole}
@@ -127,6 +128,7 @@ form_used (Show kind base) folder folder' old new case it e =
 form_used (Upgrade kind base) folder folder' old new case it e = upgrades_used kind base folder folder' case it e
 form_used (Exercise links turns) folder folder' old new case it e = exercises_used links turns old new case it e
 form_used (Plan bases) folder folder' old new case it e = prints_used (plan_in bases) (plan_so bases) folder folder' old new case it e
+form_used (Survey base) folder folder' old new case it e = prints_used (survey_in base) (survey_so base) folder folder' old new case it e
 
 usage_only : (words : List (List ℕ)) (folder folder' : Shelf) (old new : Scene) (case : Case) → Meets words folder folder' old new case
     → status_of case ≡ status.Usage → HasNoForm words
@@ -191,6 +193,9 @@ module _ (exact : PassesAreExact) (law : DepthsDoNotMatter) where
   form_stopped (Plan bases) folder folder' old new files case c e calm it x =
       printed_stopped (plan_in bases) files (exact.plans bases) old new case c (record { trail = it.0; comes = it.1 })
       (prints_so (plan_in bases) files folder folder' old new case e calm.no_folder_fault calm.no_out_fault x)
+  form_stopped (Survey base) folder folder' old new files case c e calm it x =
+      printed_stopped (survey_in base) files (exact.surveys base) old new case c (record { trail = it.0; comes = it.1 })
+      (prints_so (survey_in base) files folder folder' old new case e calm.no_folder_fault calm.no_out_fault x)
 
   -- the first file that would be too large
   form_large : (form : Form) (folder folder' : Shelf) (old new : Scene) (files : Files) (case : Case) (targets : List Target) (file : List ℕ) → folder.files ≡ Some files
@@ -213,6 +218,7 @@ module _ (exact : PassesAreExact) (law : DepthsDoNotMatter) where
   form_large (Show kind base) folder folder' old new files case targets file e calm it first x = absurd it
   form_large (Upgrade kind base) folder folder' old new files case targets file e calm it first x = absurd it
   form_large (Plan bases) folder folder' old new files case targets file e calm it first x = absurd it
+  form_large (Survey base) folder folder' old new files case targets file e calm it first x = absurd it
   form_large (Exercise links turns) folder folder' old new files case targets file e calm it first x =
       exercised_large links turns (exact.sources OfConfig chain) old new calm.no_out_fault it.1.configured it.1.objects
       (record { trail = it.0; comes = it.1.comes }) it.1.their case file (is_first _ file (subst (λ ts. IsFirstTooLarge ts file) it.2 first)) x
@@ -236,6 +242,7 @@ module _ (exact : PassesAreExact) (law : DepthsDoNotMatter) where
   form_stored (Upgrade kind base) folder folder' old new files case targets e calm is it small x = absurd it
   form_stored (Exercise links turns) folder folder' old new files case targets e calm is it small x = absurd is
   form_stored (Plan bases) folder folder' old new files case targets e calm is it small x = absurd is
+  form_stored (Survey base) folder folder' old new files case targets e calm is it small x = absurd is
 
   module _ (words : List (List ℕ)) (before after : World) (s : Status) (case : Case) (comes : Comes words before.folder after.folder before.scene after.scene case)
       (tells : Tells case before.err after.err s) where
@@ -313,6 +320,10 @@ module _ (exact : PassesAreExact) (law : DepthsDoNotMatter) where
     plans bases files trail r call reads =
         prints (plan_in bases) (Plan bases) files trail r (exact.plans bases) call reads (comes_of (Plan bases) files call)
 
+    surveys : IsSurveyed words before after s
+    surveys base files trail r call reads =
+        prints (survey_in base) (Survey base) files trail r (exact.surveys base) call reads (comes_of (Survey base) files call)
+
     upgrades : IsUpgraded words before after s
     upgrades kind base files trail v call reads =
         told case Done (StoresAll (over kind base v) before.folder.files after.folder.files) before.err after.err s tells
@@ -345,6 +356,7 @@ module _ (exact : PassesAreExact) (law : DepthsDoNotMatter) where
       upgraded = upgrades;
       exercised = exercises;
       planned = plans;
+      surveyed = surveys;
     }
 
   pub is_answered : CasesAreAnswers

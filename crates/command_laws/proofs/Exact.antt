@@ -13,6 +13,7 @@ use Rattle.checked_texts.specs.Asked.{asks}
 use Rattle.checked_texts.specs.declared.purpose.Purpose.{Purpose}
 use Rattle.checked_texts.specs.declared.purpose.Purpose.TheVariants.{Program, Interface}
 use Rattle.checked_texts.specs.Laws.{TextsBeginOnce, TextsHaveOneTree, ProgramsComeToOne, DefinitionsComeToOne}
+use Rattle.depth_laws.specs.Laws.{DepthsDoNotMatter, SurveysAreOne}
 use Rattle.include_rules.specs.Laws.{PlansComeOnce}
 use Rattle.linked_programs.specs.Laws.{TreesAreOne, SinglesAreOne}
 use Rattle.command_rules.specs.Binding.{object_of, objects_of, binding_of, bound_in}
@@ -27,6 +28,7 @@ use Rattle.command_rules.proofs.PassLaws.{decided_exact, given_exact, from_file_
 use Rattle.command_laws.specs.Laws.{PassesAreExact}
 use Rattle.command_laws.proofs.Holding.{listing_exact, values_alike}
 use Rattle.command_laws.proofs.Planning.{plan_exact}
+use Rattle.command_laws.proofs.Surveying.{survey_exact}
 use Rattle.command_laws.proofs.Parts.{decodes_one, object_one, image_one, begins_one, checks_one, defines_one, configures_one, grows_one, binds_one}
 
 interface_exact : (asked : Option (List ℕ)) → IsExact (interface_for asked)
@@ -55,7 +57,7 @@ unfolding image_in
 image_exact file = from_file_exact file (Absent file) (HoldsImage file) (image_one file)
 
 module _ (begin : TextsBeginOnce) (programs : ProgramsComeToOne) (definitions : DefinitionsComeToOne) (trees : TreesAreOne) (singles : SinglesAreOne)
-    (parse : TextsHaveOneTree) (orders : PlansComeOnce) where
+    (parse : TextsHaveOneTree) (orders : PlansComeOnce) (depths : DepthsDoNotMatter) (surveys : SurveysAreOne) where
   begun_exact : (file : List ℕ) (purpose : Purpose) → IsExact (begun_for file purpose)
   begun_exact file purpose = from_file_exact file (Absent file) (Begins file purpose) (begins_one begin file purpose)
 
@@ -124,5 +126,6 @@ module _ (begin : TextsBeginOnce) (programs : ProgramsComeToOne) (definitions : 
     sources = source_exact;
     listings = listing_exact;
     plans = plan_exact parse orders;
+    surveys = survey_exact depths surveys;
     values = values_alike;
   }

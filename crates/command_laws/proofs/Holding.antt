@@ -28,6 +28,7 @@ use Rattle.command_rules.specs.declared.trouble.Trouble.TheVariants.{File}
 use Rattle.command_rules.specs.Forms.{FileKind}
 use Rattle.command_rules.specs.Listing.{Holds, is_interface, is_object, is_image, no_interface, no_object, no_image, value_in, listing_of, Lists, listed, listing_in}
 use Rattle.command_rules.specs.Passes.{Outcome, Has, Stops, Trail, Pass, FromFile, held, missing, from_file, IsExact}
+use Rattle.command_rules.specs.Printing.{text_alone}
 use Rattle.command_rules.specs.Writing.{Value, OfInterface, OfObject, OfImage, holding}
 use Rattle.command_rules.proofs.PassLaws.{One, from_file_exact}
 use Rattle.command_laws.specs.Laws.{AreAlike, ValuesAreAlike}
@@ -194,7 +195,7 @@ value_listing (OfImage x) (OfImage y) of_v of_w e = linked_listing x y of_v of_w
 
 lists_one : (kind : FileKind) (file bytes : List ℕ) → One (Lists kind file bytes)
 lists_one kind file bytes o r (listed v h) (listed w k) =
-    ap (λ text. Has (record { text = text; missing = [] }))
+    ap (λ text. Has (text_alone text))
     (value_listing v w (whole_value kind file bytes v h) (whole_value kind file bytes w k) (one_part kind file bytes v w h k))
 lists_one kind file bytes o r (listed v h) (Lists.is_none c k) = absurd (part_or_stop kind file bytes v c h k)
 lists_one kind file bytes o r (Lists.is_none c k) (listed v h) = absurd (part_or_stop kind file bytes v c h k)

@@ -2,12 +2,13 @@
 use Rattle.std.proofs.Common.{◌≡◌, ℕ, List, ap, subst}
 use Rattle.command_rules.specs.Case.{Case}
 use Rattle.command_rules.specs.Comes.{Comes, Exercises, no_end, ended, not_summed}
-use Rattle.command_rules.specs.Forms.{Form, Compile, Define, Bind, Run, Go, Show, Upgrade, Exercise, Plan, HasForm, HasNoForm, WritesAlone, KeepsFiles, KeepsInput, KeepsSteps, KeepsFolder, kind_file}
+use Rattle.command_rules.specs.Forms.{Form, Compile, Define, Bind, Run, Go, Show, Upgrade, Exercise, Plan, Survey, HasForm, HasNoForm, WritesAlone, KeepsFiles, KeepsInput, KeepsSteps, KeepsFolder, kind_file}
 use Rattle.command_rules.specs.Listing.{listing_in}
 use Rattle.command_rules.specs.Order.{FormsKeep}
 use Rattle.command_rules.specs.Passes.{Pass}
 use Rattle.command_rules.specs.Planning.{plan_in}
 use Rattle.command_rules.specs.Printing.{Report, Prints}
+use Rattle.command_rules.specs.Surveying.{survey_in}
 use Rattle.command_rules.specs.Worlds.{Shelf, Scene}
 use Rattle.command_rules.proofs.Order.{loads_keep, prints_keep}
 use Rattle.command_laws.proofs.OneForm.{one_form}
@@ -91,6 +92,8 @@ keeps words folder folder' old new case (Comes.shows kind base _ has it) =
     of_form (Show kind base) has (printing (Show kind base) (listing_in kind (kind_file kind base)) folder folder' old new case (λ h. h) (λ h. h) it)
 keeps words folder folder' old new case (Comes.plans bases _ has it) =
     of_form (Plan bases) has (printing (Plan bases) (plan_in bases) folder folder' old new case (λ h. h) (λ h. h) it)
+keeps words folder folder' old new case (Comes.surveys base _ has it) =
+    of_form (Survey base) has (printing (Survey base) (survey_in base) folder folder' old new case (λ h. h) (λ h. h) it)
 keeps words folder folder' old new case (Comes.exercises links turns _ has it here) =
     of_form (Exercise links turns) has (record {
       files = λ _. ap (λ (s : Shelf). s.files) here;

@@ -11,10 +11,12 @@ pub mod Versions
 pub mod Making
 pub mod Holding
 pub mod Planning
+pub mod Surveying
 pub mod Showing
 pub mod Going
 pub mod Exercising
 pub mod Loading
+pub mod Uncaught
 pub mod OneCase
 pub mod Answering
 pub mod Growing

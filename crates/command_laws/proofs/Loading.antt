@@ -46,7 +46,7 @@ same_image parts x y of_x of_y =
       control = ap (λ (p : ImagePart). p.control) e;
     }
 
-names_same : (x y : Image) → IsSameImage x y → RunAlike x y → image_names x ≡ image_names y
+pub names_same : (x y : Image) → IsSameImage x y → RunAlike x y → image_names x ≡ image_names y
 names_same x y same alike = λ i j k. dotted (path_of (slice_get (same.instances i) j)) (signal_name (alike.signals j k i))
 
 ended_is : (e f : machine.End) → Ended e ≡ Ended f → e ≡ f

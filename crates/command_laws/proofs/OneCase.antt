@@ -4,14 +4,15 @@ use Rattle.mesa_base.specs.Outside.{Files}
 use Rattle.depth_laws.specs.Laws.{DepthsDoNotMatter}
 use Rattle.command_rules.specs.Binding.{bound_in}
 use Rattle.command_rules.specs.Case.{Case, Memory, Usage}
-use Rattle.command_rules.specs.Comes.{Compiles, Defines, Binds, Loads, Goes, Shows, Plans, Upgrades, Exercises, Comes}
+use Rattle.command_rules.specs.Comes.{Compiles, Defines, Binds, Loads, Goes, Shows, Plans, ShowsEscapes, Upgrades, Exercises, Comes}
 use Rattle.command_rules.specs.Complete.{NoFault, OneCaseComes}
 use Rattle.command_rules.specs.Ends.{TellsInput}
 use Rattle.command_rules.specs.Exercise.{chain}
-use Rattle.command_rules.specs.Forms.{OfConfig, Form, Compile, Define, Bind, Run, Go, Show, Upgrade, Exercise, Plan, HasForm, HasNoForm, kind_file, module_file, image_file}
+use Rattle.command_rules.specs.Forms.{OfConfig, Form, Compile, Define, Bind, Run, Go, Show, Upgrade, Exercise, Plan, Survey, HasForm, HasNoForm, kind_file, module_file, image_file}
 use Rattle.command_rules.specs.Listing.{listing_in}
 use Rattle.command_rules.specs.Modules.{interface_in, module_in}
 use Rattle.command_rules.specs.Planning.{plan_in}
+use Rattle.command_rules.specs.Surveying.{survey_in}
 use Rattle.command_rules.specs.Worlds.{Shelf, Scene}
 use Rattle.command_laws.specs.Laws.{PassesAreExact}
 use Rattle.command_laws.proofs.Came.{streams}
@@ -33,6 +34,7 @@ FormComes (Show kind base) folder folder' old new case = Shows kind base folder 
 FormComes (Upgrade kind base) folder folder' old new case = Upgrades kind base folder folder' case
 FormComes (Exercise links turns) folder folder' old new case = Exercises links turns old new case
 FormComes (Plan bases) folder folder' old new case = Plans bases folder folder' old new case
+FormComes (Survey base) folder folder' old new case = ShowsEscapes base folder folder' old new case
 
 pub data Meets (words : List (List ℕ)) (folder folder' : Shelf) (old new : Scene) : Case → Type 0 where
   no_form : HasNoForm words → Meets words folder folder' old new Usage
@@ -50,6 +52,7 @@ meets words folder folder' old new case (Comes.shows kind base _ form it) = of_f
 meets words folder folder' old new case (Comes.upgrades kind base _ form it same) = of_form (Upgrade kind base) case form it
 meets words folder folder' old new case (Comes.exercises links turns _ form it here) = of_form (Exercise links turns) case form it
 meets words folder folder' old new case (Comes.plans bases _ form it) = of_form (Plan bases) case form it
+meets words folder folder' old new case (Comes.surveys base _ form it) = of_form (Survey base) case form it
 
 met_so : (words : List (List ℕ)) (folder folder' : Shelf) (old new : Scene) (form : Form) (case : Case) → HasForm words form
     → Meets words folder folder' old new case → FormComes form folder folder' old new case
@@ -95,6 +98,10 @@ module _ (exact : PassesAreExact) (law : DepthsDoNotMatter) where
       one_printed (plan_in bases) files (exact.plans bases) old new new' c d m n
       (prints_so (plan_in bases) files folder folder' old new c e calm.no_folder_fault calm.no_out_fault x)
       (prints_so (plan_in bases) files folder last old new' d e still.no_folder_fault still.no_out_fault y)
+  one_of_form (Survey base) folder folder' last old new new' files input c d e i calm still m n x y =
+      one_printed (survey_in base) files (exact.surveys base) old new new' c d m n
+      (prints_so (survey_in base) files folder folder' old new c e calm.no_folder_fault calm.no_out_fault x)
+      (prints_so (survey_in base) files folder last old new' d e still.no_folder_fault still.no_out_fault y)
 
   agree : (words : List (List ℕ)) (folder folder' last : Shelf) (old new new' : Scene) (files : Files) (input : List ℕ) (c d : Case) → folder.files ≡ Some files
       → TellsInput old input → NoFault folder folder' old new → NoFault folder last old new' → c ≢ Memory → d ≢ Memory

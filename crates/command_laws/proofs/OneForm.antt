@@ -5,7 +5,7 @@ use Rattle.std.proofs.lemmas.Fmt.{decimal_injective}
 use Rattle.std.proofs.lemmas.List.{append_cancel_right}
 use Rattle.std.proofs.lemmas.Option.{same_Some}
 use Rattle.mesa_base.specs.Stamp.{stamp_of}
-use Rattle.command_rules.specs.Forms.{Source, OfModule, OfConfig, source_file, FileKind, InterfaceFile, ObjectFile, ImageFile, kind_file, most_links, Form, Compile, Define, Bind, Run, Go, Show, Upgrade, Exercise, Plan, HasForm, compile, define, bind, run, go, list, upgrade, exercise, plan}
+use Rattle.command_rules.specs.Forms.{Source, OfModule, OfConfig, source_file, FileKind, InterfaceFile, ObjectFile, ImageFile, kind_file, most_links, Form, Compile, Define, Bind, Run, Go, Show, Upgrade, Exercise, Plan, Survey, HasForm, compile, define, bind, run, go, list, upgrade, exercise, plan, survey}
 
 -- ---- the names of files
 
@@ -82,6 +82,7 @@ data Said (words : List (List ℕ)) : Form → Type 0 where
   is_exercise : (links turns : ℕ) → words ≡ codes "exercise" ∷ decimal links ∷ decimal turns ∷ [] → links < 2 ^ 64 → turns < 2 ^ 64
       → Said words (Exercise links turns)
   is_plan : (bases : List (List ℕ)) → words ≡ codes "plan" ∷ bases → Said words (Plan bases)
+  is_survey : (base : List ℕ) → words ≡ codes "survey" ∷ base ∷ [] → Said words (Survey base)
 
 few_links : (links : ℕ) → links ≤ most_links → links < 2 ^ 64
 few_links links few = omega (arith, few)
@@ -96,6 +97,7 @@ said words form (list kind base is) = is_list kind base refl
 said words form (upgrade kind base is) = is_upgrade kind base refl
 said words form (exercise links turns some most few) = is_exercise links turns refl (few_links links most) few
 said words form (plan bases some most all distinct) = is_plan bases refl
+said words form (survey base is) = is_survey base refl
 
 -- ---- forms of two kinds differ in the first word, or in how many words there are
 
@@ -109,6 +111,7 @@ data Kind : Type 0 where
   Upgrades : Kind
   Exercises : Kind
   Plans : Kind
+  Surveys : Kind
 
 kind_of : Form → Kind
 kind_of (Compile base) = Compiles
@@ -120,6 +123,7 @@ kind_of (Show kind base) = Shows
 kind_of (Upgrade kind base) = Upgrades
 kind_of (Exercise links turns) = Exercises
 kind_of (Plan bases) = Plans
+kind_of (Survey base) = Surveys
 
 first_letter : List ℕ → ℕ
 first_letter [] = 0
@@ -137,7 +141,8 @@ kind_by letter many =
     else (if nat_eq letter 103 then Goes
     else (if nat_eq letter 108 then Shows
     else (if nat_eq letter 117 then Upgrades
-    else (if nat_eq letter 112 then Plans else Exercises))))))
+    else (if nat_eq letter 112 then Plans
+    else (if nat_eq letter 115 then Surveys else Exercises)))))))
 
 its_kind : (words : List (List ℕ)) (f : Form) → Said words f → kind_by (letter words) (length words) ≡ kind_of f
 unfolding kind_of kind_by letter first first_letter
@@ -150,6 +155,7 @@ its_kind words f (is_list kind base e) = ap (λ w. kind_by (letter w) (length w)
 its_kind words f (is_upgrade kind base e) = ap (λ w. kind_by (letter w) (length w)) e
 its_kind words f (is_exercise links turns e some few) = ap (λ w. kind_by (letter w) (length w)) e
 its_kind words f (is_plan bases e) = ap (λ w. kind_by (letter w) (length w)) e
+its_kind words f (is_survey base e) = ap (λ w. kind_by (letter w) (length w)) e
 
 one_kind : (words : List (List ℕ)) (f g : Form) → Said words f → Said words g → kind_of f ≡ kind_of g
 one_kind words f g x y = sym (its_kind words f x) ∙ its_kind words g y
@@ -175,6 +181,7 @@ one_said words f g (is_exercise l n e few less) (is_exercise k m d one some) sam
     ap (λ z. Exercise z n) (decimal_injective l k few one (ap second (sym e ∙ d)))
     ∙ ap (λ z. Exercise k z) (decimal_injective n m less some (ap third (sym e ∙ d)))
 one_said words f g (is_plan a e) (is_plan b d) same = ap Plan (ap others (sym e ∙ d))
+one_said words f g (is_survey a e) (is_survey b d) same = ap Survey (ap second (sym e ∙ d))
 one_said words f g x y same = cc
 
 pub one_form : (words : List (List ℕ)) (f g : Form) → HasForm words f → HasForm words g → f ≡ g

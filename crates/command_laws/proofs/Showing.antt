@@ -1,4 +1,4 @@
--- The cases of `list` and `plan`, which print what their pass comes to, and of `upgrade`, over files that are told and without faults.
+-- The cases of `list`, `plan` and `survey`, which print what their pass comes to, and of `upgrade`, over files that are told and without faults.
 use Rattle.std.proofs.Common.{◌≡◌, ◌≢◌, ◌⊎◌, ℕ, List, [], ◌∷◌, Some, refl, sym, subst, inl, inr}
 use Rattle.mesa_base.specs.Outside.{Files}
 use Rattle.line_pieces.specs.Outputs.{HasFaulted, PrintsAll}
@@ -15,7 +15,7 @@ use Rattle.command_laws.proofs.Holding.{part_of, to_parts, parts_in, parts_exact
 use Rattle.command_laws.proofs.Likeness.{one_like, stored_like}
 use Rattle.command_laws.proofs.Making.{not_kept}
 
--- ---- list and plan
+-- ---- list, plan and survey
 
 pub data Printed (p : Pass Case Report) (files : Files) (old new : Scene) : Case → Type 0 where
   halted : (case : Case) → Came p files (Stops case) → Printed p files old new case

@@ -1,5 +1,5 @@
 -- Each pass is exact, and what a call answers follows from its case (rule of this project).
-use Rattle.std.specs.Prelude.{◌≡◌, ◌↔◌, ℕ, ◌≤◌, List, length, Option, Some}
+use Rattle.std.specs.Prelude.{◌≡◌, ◌↔◌, ℕ, ◌≤◌, List, ◌++◌, length, Option, Some, codes}
 use Rattle.mesa_base.specs.Outside.{Files, Rose}
 use Rattle.mesa_base.specs.declared.limits.TheConstants.{FILE_BYTES}
 use Rattle.mesa_base.specs.declared.status.Status.{Status}
@@ -11,8 +11,8 @@ use Rattle.bound_images.specs.Programs.{program_of}
 use Rattle.built_runs.specs.Linked.{IsLinkedFrom}
 use Rattle.object_files.specs.declared.image.Image.{Image}
 use Rattle.command_rules.specs.Binding.{bound_in}
-use Rattle.command_rules.specs.Case.{Case}
-use Rattle.command_rules.specs.Comes.{Comes}
+use Rattle.command_rules.specs.Case.{Case, Uncaught}
+use Rattle.command_rules.specs.Comes.{Comes, Loads}
 use Rattle.command_rules.specs.Complete.{Answered, Tells}
 use Rattle.command_rules.specs.Configurations.{Configured, config_in, source_in}
 use Rattle.command_rules.specs.Ends.{Ends, RunsTo, TellsInput}
@@ -22,8 +22,10 @@ use Rattle.command_rules.specs.Modules.{interface_for, interface_in, module_in}
 use Rattle.command_rules.specs.Objects.{image_in, object_in}
 use Rattle.command_rules.specs.Passes.{Outcome, Has, Stops, IsExact, Trail}
 use Rattle.command_rules.specs.Planning.{plan_in}
+use Rattle.command_rules.specs.Printing.{Report}
 use Rattle.command_rules.specs.Shown.{image_names}
-use Rattle.command_rules.specs.Worlds.{Scene, World}
+use Rattle.command_rules.specs.Surveying.{survey_in}
+use Rattle.command_rules.specs.Worlds.{Scene, Shelf, World}
 use Rattle.command_rules.specs.Writing.{Value, IsFileOf, size_of}
 use Rattle.line_pieces.specs.Outputs.{HasFaulted}
 
@@ -49,6 +51,7 @@ pub record PassesAreExact : Type 0 where
   pub sources : (source : Source) (base : List ℕ) → IsExact (source_in source base)
   pub listings : (kind : FileKind) (file : List ℕ) → IsExact (listing_in kind file)
   pub plans : (bases : List (List ℕ)) → IsExact (plan_in bases)
+  pub surveys : (base : List ℕ) → IsExact (survey_in base)
   pub values : (kind : FileKind) (file : List ℕ) → ValuesAreAlike kind file
 
 -- what is configured has as many bases as modules, so that each module's object has its file
@@ -86,3 +89,16 @@ abbrev pub RunsAreMeant : Type 0
 RunsAreMeant = (t : Tree) (modules : List Module) (image : Image) (turns : ℕ) (old new : Scene) (case : Case) → IsLinkedFrom t modules image → WantsTheHost image
     → (ran : RunsTo (image_names image) image turns old new case)
     → (e : Ends (program_of t modules) image turns old new case) × (e.machine.end ≡ ran.end)
+
+-- among others the text has this line
+pub record HasLine (text line : List ℕ) : Type 0 where
+  pub before : List ℕ
+  pub after : List ℕ
+  pub is : text ≡ before ++ (line ++ after)
+
+-- where `run` says that nothing caught a signal, each survey of the same file has the line of that signal. So where a survey says that no signal escapes, no
+-- run of that file says so
+abbrev pub UncaughtIsSurveyed : Type 0
+UncaughtIsSurveyed = (base : List ℕ) (turns : ℕ) (files : Files) (trail : Trail) (r : Report) (folder folder' : Shelf) (old new : Scene) (name : List ℕ)
+    → folder.files ≡ Some files → (survey_in base).comes (Some files) trail (Has r) → Loads base turns folder folder' old new (Uncaught name)
+    → HasLine r.text (codes "escapes " ++ (name ++ codes "\n"))

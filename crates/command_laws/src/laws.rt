@@ -1,14 +1,17 @@
 //! The laws above the cases of a call.
-ghost use Rattle.command_laws.specs.Laws.{BasesFit, CasesAreAnswers, PassesAreExact, RunsAreMeant, RunsEndOnce, ValuesKeepTheirSize, WordsHaveOneForm};
+ghost use Rattle.command_laws.specs.Laws.{BasesFit, CasesAreAnswers, PassesAreExact, RunsAreMeant, RunsEndOnce, UncaughtIsSurveyed, ValuesKeepTheirSize, WordsHaveOneForm};
 ghost use Rattle.command_rules.specs.Complete.{OneCaseComes};
 ghost use Rattle.command_rules.specs.Order.{FormsKeep, NeverAnswered, OrderIsKept};
 
 use checked_texts::{
     definitions_come_to_one, programs_come_to_one, texts_begin_once, texts_have_one_tree,
 };
-use depth_laws::depths_do_not_matter;
+use depth_laws::{depths_do_not_matter, surveys_are_one};
 use include_rules::plans_come_once;
 use linked_programs::{singles_are_one, trees_are_one};
+use machine_ready::ordered_can_run;
+use read_files::images_of_files_are_in_order;
+use survey_rules::uncaught_signals_escape;
 
 /// A law: where the files of a folder are told, one thing comes of each pass, and after the same files.
 pub fn passes_are_exact()
@@ -21,6 +24,8 @@ pub fn passes_are_exact()
     singles_are_one();
     texts_have_one_tree();
     plans_come_once();
+    depths_do_not_matter();
+    surveys_are_one();
 }
 
 /// A law: what is configured has as many bases as modules.
@@ -33,7 +38,7 @@ pub fn order_is_kept()
     ensures { OrderIsKept }
 {}
 
-/// A law: `list`, `plan`, `run` and `exercise` change no file, all forms but `run` and `go` leave the input, those that write a file alone leave `out`,
+/// A law: `list`, `plan`, `survey`, `run` and `exercise` change no file, all forms but `run` and `go` leave the input, those that write a file alone leave `out`,
 /// those that run nothing the steps, and `exercise` the folder.
 pub fn forms_keep()
     ensures { FormsKeep }
@@ -63,6 +68,17 @@ pub fn runs_end_once()
 pub fn runs_are_meant()
     ensures { RunsAreMeant }
 {}
+
+/// A law: where `run` says that nothing caught a signal, each survey of the same file lists that signal. So where a survey says that no signal escapes, no run of
+/// that file says so.
+pub fn uncaught_is_surveyed()
+    ensures { UncaughtIsSurveyed }
+{
+    uncaught_signals_escape();
+    depths_do_not_matter();
+    ordered_can_run();
+    images_of_files_are_in_order();
+}
 
 /// A law: for words, files and an input that are told one case comes where no call failed, want of memory aside.
 pub fn one_case()

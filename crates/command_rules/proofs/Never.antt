@@ -22,10 +22,11 @@ use Rattle.command_rules.specs.Passing.{Fails, refused, failed, memory}
 use Rattle.command_rules.specs.Planning.{plan_in}
 use Rattle.command_rules.specs.Printing.{Report, Prints}
 use Rattle.command_rules.specs.Shown.{Names, case_of_end, case_of_run, program_names}
+use Rattle.command_rules.specs.Surveying.{survey_in}
 use Rattle.command_rules.specs.Worlds.{Shelf, Scene}
 use Rattle.command_rules.specs.Writing.{Target, NotStored}
 use Rattle.command_rules.proofs.Order.{fails_before, not_stored_before, not_stored_run}
-use Rattle.command_rules.proofs.Stopping.{IsOfFiles, PassStopsSo, listing_so, plan_so, source_so, value_so}
+use Rattle.command_rules.proofs.Stopping.{IsOfFiles, PassStopsSo, listing_so, plan_so, source_so, survey_so, value_so}
 
 -- what is before a run is no fault of the input or of `out`
 
@@ -35,7 +36,7 @@ not_read case h e = subst IsBeforeRun e h
 not_printed_so : (case : Case) → IsBeforeRun (status_of case) → status_of case ≢ status.WriteFault
 not_printed_so case h e = subst IsBeforeRun e h
 
--- ---- list and plan
+-- ---- list, plan and survey
 
 prints_read : (p : Pass Case Report) → PassStopsSo p → (folder folder' : Shelf) (old new : Scene) (case : Case) → Prints p folder folder' old new case
     → status_of case ≢ status.ReadFault
@@ -175,6 +176,7 @@ pub never_answered : NeverAnswered
 never_answered = record {
   list_read = λ kind base. prints_read (listing_in kind (kind_file kind base)) (listing_so kind (kind_file kind base));
   plan_read = λ bases. prints_read (plan_in bases) (plan_so bases);
+  survey_read = λ base. prints_read (survey_in base) (survey_so base);
   upgrade_read = upgrade_read;
   upgrade_write = upgrade_write;
   upgrade_large = upgrade_large;

@@ -23,6 +23,7 @@ use Rattle.command_rules.specs.Passing.{Fails, refused, failed, memory}
 use Rattle.command_rules.specs.Planning.{plan_in}
 use Rattle.command_rules.specs.Printing.{Report, Prints}
 use Rattle.command_rules.specs.Shown.{Names, case_of_end, case_of_run, image_names, program_names}
+use Rattle.command_rules.specs.Surveying.{survey_in}
 use Rattle.command_rules.specs.Worlds.{Shelf, Scene}
 use Rattle.command_rules.specs.Writing.{Target, NotStored, Written}
 use Rattle.command_rules.proofs.Stopping.{IsOfFiles, PassStopsSo, source_so}
@@ -108,6 +109,7 @@ run_before words folder folder' old new case (Comes.shows kind base _ has it) h 
 run_before words folder folder' old new case (Comes.upgrades kind base _ has it same) h = same
 run_before words folder folder' old new case (Comes.exercises links turns _ has it here) h = exercises_before links turns old new case it h
 run_before words folder folder' old new case (Comes.plans bases _ has it) h = prints_before (plan_in bases) folder folder' old new case it h
+run_before words folder folder' old new case (Comes.surveys base _ has it) h = prints_before (survey_in base) folder folder' old new case it h
 
 -- ---- nothing is written before
 
@@ -182,6 +184,7 @@ written_before words folder folder' old new case (Comes.shows kind base _ has it
 written_before words folder folder' old new case (Comes.upgrades kind base _ has it same) h = upgrades_before kind base folder folder' case it h
 written_before words folder folder' old new case (Comes.exercises links turns _ has it here) h = ap (λ (s : Shelf). s.files) here
 written_before words folder folder' old new case (Comes.plans bases _ has it) h = prints_keep (plan_in bases) folder folder' old new case it
+written_before words folder folder' old new case (Comes.surveys base _ has it) h = prints_keep (survey_in base) folder folder' old new case it
 
 -- ---- sizes come before items that are none of the host's
 

@@ -19,13 +19,14 @@ use Rattle.command_rules.specs.Binding.{object_of, objects_of, binding_of, bound
 use Rattle.command_rules.specs.Case.{Case, Done, Uncaught, Spent, FrameLimit, Refused, Absent, ReadFault, WriteFault, FolderFault, Memory, Usage, Trouble}
 use Rattle.command_rules.specs.declared.trouble.Trouble.TheVariants.{Text, Tree as OfTree, File, Item, Unresolved, TooLarge, Cycle}
 use Rattle.command_rules.specs.Configurations.{config_in, source_in, tree_in, single_of, bases_of, component_in, modules_of, configuration_of, Grows, fault, Binds, bad, Configures, lexical, syntactic, no_base}
-use Rattle.command_rules.specs.Forms.{Source, OfModule, OfConfig, FileKind, module_file, config_file, interface_file, object_file}
+use Rattle.command_rules.specs.Forms.{Source, OfModule, OfConfig, FileKind, ImageFile, module_file, config_file, interface_file, object_file, image_file}
 use Rattle.command_rules.specs.Listing.{Holds, no_interface, no_object, no_image, value_in, Lists, listing_in}
 use Rattle.command_rules.specs.Modules as m
 use Rattle.command_rules.specs.Modules.{interface_for, interfaces_for, Begun, begun_for, module_in, interface_in, definitions_of, Checks, checked, Defines, defined, Decodes, Begins, begun, refused}
 use Rattle.command_rules.specs.Objects.{HoldsObject, HoldsImage, object_in, image_in, shape_in}
 use Rattle.command_rules.specs.Passes.{Outcome, Has, Stops, Trail, Pass, decided, given, FromFile, held, missing, from_file, IfThere, asked, if_there, Follows, stopped, went, and_then, each}
 use Rattle.command_rules.specs.Planning.{Parses, text_in, file_made, kind_made, Faces, faces_in, numbered, Gathered, gathered_in, Concludes, plan_in}
+use Rattle.command_rules.specs.Surveying.{Surveys, survey_in}
 
 -- a fault of what a file holds
 abbrev pub IsOfFile : Trouble → Type 0
@@ -256,3 +257,12 @@ concludes_so g case (Concludes.circling k rest h) = tt
 pub plan_so : (bases : List (List ℕ)) → PassStopsSo (plan_in bases)
 unfolding plan_in
 plan_so bases = and_then_so (gathered_in bases) (λ g. decided (Concludes g)) (gathered_so bases) (λ g. decided_so (Concludes g) (concludes_so g))
+
+-- ---- images that are surveyed
+
+surveys_so : (file bytes : List ℕ) → StopsSo (Surveys file bytes)
+surveys_so file bytes case (Surveys.is_none _ h) = holds_so ImageFile file bytes case h
+
+pub survey_so : (base : List ℕ) → PassStopsSo (survey_in base)
+unfolding survey_in
+survey_so base = from_file_so (image_file base) (Surveys (image_file base)) (surveys_so (image_file base))

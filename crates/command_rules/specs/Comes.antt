@@ -18,7 +18,7 @@ use Rattle.command_rules.specs.Case.{Case, Done, Refused, WriteFault, Memory, Us
 use Rattle.command_rules.specs.Configurations.{Configured, left_to_loader, program, source_in}
 use Rattle.command_rules.specs.Ends.{Ends, RunsTo}
 use Rattle.command_rules.specs.Exercise.{IsNoEnd, chain, exercise_shelf, summary, within}
-use Rattle.command_rules.specs.Forms.{Source, OfConfig, FileKind, Compile, Define, Bind, Run, Go, Show, Upgrade, Exercise, Plan, HasForm, HasNoForm, kind_file, module_file, interface_file, object_file, image_file}
+use Rattle.command_rules.specs.Forms.{Source, OfConfig, FileKind, Compile, Define, Bind, Run, Go, Show, Upgrade, Exercise, Plan, Survey, HasForm, HasNoForm, kind_file, module_file, interface_file, object_file, image_file}
 use Rattle.command_rules.specs.Listing.{listing_in, value_in}
 use Rattle.command_rules.specs.Modules.{interface_in, module_in}
 use Rattle.command_rules.specs.Objects.{IsImageWith, image_in}
@@ -28,6 +28,7 @@ use Rattle.command_rules.specs.Planning.{plan_in}
 use Rattle.command_rules.specs.Printing.{Prints}
 use Rattle.command_rules.specs.Reading.{Asked, Onward}
 use Rattle.command_rules.specs.Shown.{image_names}
+use Rattle.command_rules.specs.Surveying.{survey_in}
 use Rattle.command_rules.specs.Worlds.{Shelf, Scene}
 use Rattle.command_rules.specs.Writing.{Target, Value, holding, OfInterface, OfObject, OfImage, IsSmall, IsFirstTooLarge, Stored, NotStored, Written}
 
@@ -114,6 +115,11 @@ Shows kind base folder folder' old new case = Prints (listing_in kind (kind_file
 abbrev pub Plans : (bases : List (List ℕ)) → (folder folder' : Shelf) → (old new : Scene) → Case → Type 0
 Plans bases folder folder' old new case = Prints (plan_in bases) folder folder' old new case
 
+-- ---- survey NAME: the signals that may escape the image are printed
+
+abbrev pub ShowsEscapes : (base : List ℕ) → (folder folder' : Shelf) → (old new : Scene) → Case → Type 0
+ShowsEscapes base folder folder' old new case = Prints (survey_in base) folder folder' old new case
+
 -- ---- upgrade FILE: what it holds is written over it in version 2. That is never too large: both spellings of a value have one length.
 
 pub data Upgrades (kind : FileKind) (base : List ℕ) (folder folder' : Shelf) : Case → Type 0 where
@@ -179,4 +185,6 @@ pub data Comes (words : List (List ℕ)) (folder folder' : Shelf) (old new : Sce
   exercises : (links turns : ℕ) (case : Case) → HasForm words (Exercise links turns) → Exercises links turns old new case → folder' ≡ folder
       → Comes words folder folder' old new case
   plans : (bases : List (List ℕ)) (case : Case) → HasForm words (Plan bases) → Plans bases folder folder' old new case
+      → Comes words folder folder' old new case
+  surveys : (base : List ℕ) (case : Case) → HasForm words (Survey base) → ShowsEscapes base folder folder' old new case
       → Comes words folder folder' old new case

@@ -25,7 +25,7 @@ use Rattle.command_rules.specs.Comes.{Comes, Made, MadeWithin, summary_of, targe
 use Rattle.command_rules.specs.Configurations.{left_to_loader, program, source_in}
 use Rattle.command_rules.specs.Ends.{TellsInput}
 use Rattle.command_rules.specs.Exercise.{chain, exercise_shelf, within}
-use Rattle.command_rules.specs.Forms.{Source, OfConfig, FileKind, Form, Compile, Define, Bind, Run, Go, Show, Upgrade, Exercise, Plan, HasForm, HasNoForm, WritesAlone, kind_file, module_file, interface_file, object_file, image_file}
+use Rattle.command_rules.specs.Forms.{Source, OfConfig, FileKind, Form, Compile, Define, Bind, Run, Go, Show, Upgrade, Exercise, Plan, Survey, HasForm, HasNoForm, WritesAlone, kind_file, module_file, interface_file, object_file, image_file}
 use Rattle.command_rules.specs.Lines.{line_of}
 use Rattle.command_rules.specs.Listing.{listing_in, value_in}
 use Rattle.command_rules.specs.Modules.{interface_in, module_in}
@@ -34,6 +34,7 @@ use Rattle.command_rules.specs.Passes.{Has, Stops, Trail}
 use Rattle.command_rules.specs.Planning.{plan_in}
 use Rattle.command_rules.specs.Printing.{Report}
 use Rattle.command_rules.specs.Shown.{IsShownAs, case_of_end, image_names}
+use Rattle.command_rules.specs.Surveying.{survey_in}
 use Rattle.command_rules.specs.Worlds.{Shelf, Scene, World}
 use Rattle.command_rules.specs.Writing.{Target, Value, holding, OfInterface, OfObject, OfImage, IsSmall, IsFirstTooLarge, StoresAll}
 
@@ -65,6 +66,7 @@ StopsOver (Show kind base) files case = (trail : Trail) × (listing_in kind (kin
 StopsOver (Upgrade kind base) files case = (trail : Trail) × (value_in kind (kind_file kind base)).comes (Some files) trail (Stops case)
 StopsOver (Exercise links turns) files case = (trail : Trail) × (source_in OfConfig chain).comes (exercise_shelf links).files trail (Stops case)
 StopsOver (Plan bases) files case = (trail : Trail) × (plan_in bases).comes (Some files) trail (Stops case)
+StopsOver (Survey base) files case = (trail : Trail) × (survey_in base).comes (Some files) trail (Stops case)
 
 -- these files are to be written, if none is too large; what is upgraded never is (`IsUpgraded`)
 abbrev pub MakesOver : Form → Files → List Target → Type 0
@@ -80,6 +82,7 @@ MakesOver (Show kind base) files targets = ⊥
 MakesOver (Upgrade kind base) files targets = ⊥
 MakesOver (Exercise links turns) files targets = (trail : Trail) × (m : MadeWithin links trail) × (targets ≡ targets_of chain m)
 MakesOver (Plan bases) files targets = ⊥
+MakesOver (Survey base) files targets = ⊥
 
 -- ---- what must be answered
 
@@ -171,6 +174,12 @@ IsPlanned words before after s = (bases : List (List ℕ)) (files : Files) (trai
     → IsCall words before after (Plan bases) files → (plan_in bases).comes (Some files) trail (Has r)
     → (Tells Done before.err after.err s × PrintsAll r.text before.scene.out after.scene.out) ⊎ (s ≡ status.Memory)
 
+-- an image is surveyed
+abbrev pub IsSurveyed : List (List ℕ) → World → World → Status → Type 0
+IsSurveyed words before after s = (base : List ℕ) (files : Files) (trail : Trail) (r : Report)
+    → IsCall words before after (Survey base) files → (survey_in base).comes (Some files) trail (Has r)
+    → (Tells Done before.err after.err s × PrintsAll r.text before.scene.out after.scene.out) ⊎ (s ≡ status.Memory)
+
 -- what a file holds is written over it in version 2
 abbrev pub IsUpgraded : List (List ℕ) → World → World → Status → Type 0
 IsUpgraded words before after s = (kind : FileKind) (base : List ℕ) (files : Files) (trail : Trail) (v : Value)
@@ -204,6 +213,7 @@ pub record Answered (words : List (List ℕ)) (before after : World) (s : Status
   pub upgraded : IsUpgraded words before after s
   pub exercised : IsExercised words before after s
   pub planned : IsPlanned words before after s
+  pub surveyed : IsSurveyed words before after s
 
 -- for words, files and an input of bytes that are told, one case comes where no call failed, want of memory aside
 abbrev pub OneCaseComes : Type 0

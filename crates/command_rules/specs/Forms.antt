@@ -63,6 +63,8 @@ pub data Form : Type 0 where
   Exercise : (links turns : ℕ) → Form
   -- plan NAME ..
   Plan : (bases : List (List ℕ)) → Form
+  -- survey NAME
+  Survey : (base : List ℕ) → Form
 
 -- the turns stand in decimal digits without a leading zero, at most 2^64 - 1, and so do the links, from 1 to 1000; the stamp in 12 hexadecimal digits;
 -- a plan has from 1 to 64 names, no two of which are the same
@@ -80,6 +82,7 @@ pub data HasForm : List (List ℕ) → Form → Type 0 where
       → HasForm (codes "exercise" ∷ decimal links ∷ decimal turns ∷ []) (Exercise links turns)
   plan : (bases : List (List ℕ)) → 1 ≤ length bases → length bases ≤ most_texts → All (λ base. is_file_base base ≡ true) bases
       → AllPairs (λ a b. a ≢ b) bases → HasForm (codes "plan" ∷ bases) (Plan bases)
+  survey : (base : List ℕ) → is_file_base base ≡ true → HasForm (codes "survey" ∷ base ∷ []) (Survey base)
 
 -- every other command line
 abbrev pub HasNoForm : List (List ℕ) → Type 0
@@ -98,6 +101,7 @@ WritesAlone (Show kind base) = ⊥
 WritesAlone (Upgrade kind base) = Unit {0}
 WritesAlone (Exercise links turns) = ⊥
 WritesAlone (Plan bases) = ⊥
+WritesAlone (Survey base) = ⊥
 
 -- no file is changed
 abbrev pub KeepsFiles : Form → Type 0
@@ -110,6 +114,7 @@ KeepsFiles (Show kind base) = Unit {0}
 KeepsFiles (Upgrade kind base) = ⊥
 KeepsFiles (Exercise links turns) = Unit {0}
 KeepsFiles (Plan bases) = Unit {0}
+KeepsFiles (Survey base) = Unit {0}
 
 -- the input is not asked
 abbrev pub KeepsInput : Form → Type 0
@@ -122,6 +127,7 @@ KeepsInput (Show kind base) = Unit {0}
 KeepsInput (Upgrade kind base) = Unit {0}
 KeepsInput (Exercise links turns) = Unit {0}
 KeepsInput (Plan bases) = Unit {0}
+KeepsInput (Survey base) = Unit {0}
 
 -- nothing is run
 abbrev pub KeepsSteps : Form → Type 0
@@ -134,6 +140,7 @@ KeepsSteps (Show kind base) = Unit {0}
 KeepsSteps (Upgrade kind base) = Unit {0}
 KeepsSteps (Exercise links turns) = ⊥
 KeepsSteps (Plan bases) = Unit {0}
+KeepsSteps (Survey base) = Unit {0}
 
 -- no file is asked for
 abbrev pub KeepsFolder : Form → Type 0
@@ -146,3 +153,4 @@ KeepsFolder (Show kind base) = ⊥
 KeepsFolder (Upgrade kind base) = ⊥
 KeepsFolder (Exercise links turns) = Unit {0}
 KeepsFolder (Plan bases) = ⊥
+KeepsFolder (Survey base) = ⊥

@@ -17,5 +17,6 @@ pub mod Planning
 pub mod Printing
 pub mod Reading
 pub mod Shown
+pub mod Surveying
 pub mod Worlds
 pub mod Writing

@@ -1,6 +1,6 @@
 -- What a file that is listed or upgraded holds, in either version, and its listing (rule of this project). The values of one file differ in the
 -- depths of instructions at most, which are neither written nor listed.
-use Rattle.std.specs.Prelude.{ℕ, List, []}
+use Rattle.std.specs.Prelude.{ℕ, List}
 use Rattle.mesa_base.specs.declared.file_fault.FileFault.{FileFault}
 use Rattle.interface_records.specs.declared.interface.Interface.{Interface}
 use Rattle.object_files.specs.declared.image.Image.{Image}
@@ -15,7 +15,7 @@ use Rattle.listing_rules.specs.Objects.{object_listing}
 use Rattle.command_rules.specs.Case.{Case, Refused, Absent, File}
 use Rattle.command_rules.specs.Forms.{FileKind, InterfaceFile, ObjectFile, ImageFile}
 use Rattle.command_rules.specs.Passes.{Outcome, Has, Stops, Pass, from_file}
-use Rattle.command_rules.specs.Printing.{Report}
+use Rattle.command_rules.specs.Printing.{Report, text_alone}
 use Rattle.command_rules.specs.Writing.{Value, OfInterface, OfObject, OfImage}
 
 -- the bytes are a file of this kind that holds this value, or they are none
@@ -37,7 +37,7 @@ listing_of (OfImage i) = image_listing i
 
 -- the listing of what the bytes hold
 pub data Lists (kind : FileKind) (file bytes : List ℕ) : Outcome Case Report → Type 0 where
-  listed : (v : Value) → Holds file bytes kind (Has v) → Lists kind file bytes (Has (record { text = listing_of v; missing = [] }))
+  listed : (v : Value) → Holds file bytes kind (Has v) → Lists kind file bytes (Has (text_alone (listing_of v)))
   is_none : (case : Case) → Holds file bytes kind (Stops case) → Lists kind file bytes (Stops case)
 
 unfoldable pub listing_in : FileKind → (file : List ℕ) → Pass Case Report

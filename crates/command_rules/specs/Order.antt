@@ -4,7 +4,7 @@ use Rattle.std.specs.Prelude.{◌≡◌, ◌≢◌, ℕ, List, All}
 use Rattle.mesa_base.specs.declared.status.Status.TheVariants as status
 use Rattle.interface_records.specs.declared.wanted.WantedItem.{WantedItem}
 use Rattle.command_rules.specs.Case.{Case, Refused, TooLarge, Unresolved, status_of, IsBeforeWrite, IsBeforeRun}
-use Rattle.command_rules.specs.Comes.{Comes, Goes, Made, Shows, Plans, Upgrades, Exercises, targets_of}
+use Rattle.command_rules.specs.Comes.{Comes, Goes, Made, Shows, Plans, ShowsEscapes, Upgrades, Exercises, targets_of}
 use Rattle.command_rules.specs.Forms.{FileKind, Form, HasForm, Source, WritesAlone, KeepsFiles, KeepsInput, KeepsSteps, KeepsFolder}
 use Rattle.command_rules.specs.Passes.{Trail}
 use Rattle.command_rules.specs.Worlds.{Shelf, Scene}
@@ -59,6 +59,8 @@ pub record NeverAnswered : Type 0 where
       → Shows kind base folder folder' old new case → status_of case ≢ status.ReadFault
   pub plan_read : (bases : List (List ℕ)) (folder folder' : Shelf) (old new : Scene) (case : Case)
       → Plans bases folder folder' old new case → status_of case ≢ status.ReadFault
+  pub survey_read : (base : List ℕ) (folder folder' : Shelf) (old new : Scene) (case : Case)
+      → ShowsEscapes base folder folder' old new case → status_of case ≢ status.ReadFault
   pub upgrade_read : (kind : FileKind) (base : List ℕ) (folder folder' : Shelf) (case : Case)
       → Upgrades kind base folder folder' case → status_of case ≢ status.ReadFault
   pub upgrade_write : (kind : FileKind) (base : List ℕ) (folder folder' : Shelf) (case : Case)

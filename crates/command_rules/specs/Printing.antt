@@ -1,5 +1,5 @@
 -- What comes of a form that reads files and prints what they come to (rule of this project).
-use Rattle.std.specs.Prelude.{◌≡◌, ℕ, List, All}
+use Rattle.std.specs.Prelude.{◌≡◌, ℕ, List, [], All}
 use Rattle.mesa_base.specs.Outside.{Rose}
 use Rattle.line_pieces.specs.Outputs.{HasFaulted, PrintsAll, PrintsPrefix}
 use Rattle.command_rules.specs.Case.{Case, Done, WriteFault, Memory}
@@ -12,6 +12,10 @@ use Rattle.command_rules.specs.Worlds.{Shelf, Scene}
 pub record Report : Type 0 where
   pub text : List ℕ
   pub missing : List (List ℕ)
+
+-- a text alone: no file is missing
+abbrev pub text_alone : List ℕ → Report
+text_alone text = record { text = text; missing = [] }
 
 -- of each of these files a count says that it was not there
 abbrev pub AreMissed : (files : List (List ℕ)) → Shelf → Shelf → Type 0

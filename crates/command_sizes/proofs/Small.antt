@@ -23,7 +23,7 @@ use Rattle.image_sizes.specs.Trees.{size_sum}
 use Rattle.command_rules.specs.Comes.{Made, each_holding, targets_of}
 use Rattle.command_rules.specs.Configurations.{Configured, source_in}
 use Rattle.command_rules.specs.Exercise.{chain}
-use Rattle.command_rules.specs.Forms.{Source, Compile, Define, Bind, Run, Go, image_file, object_file, OfConfig, Show, Upgrade, Exercise, Plan}
+use Rattle.command_rules.specs.Forms.{Source, Compile, Define, Bind, Run, Go, image_file, object_file, OfConfig, Show, Upgrade, Exercise, Plan, Survey}
 use Rattle.exercise_texts.specs.Files.{exercise_files}
 use Rattle.command_rules.specs.Passes.{Has, Trail}
 use Rattle.command_rules.specs.Writing.{Target, holding, OfObject, OfImage, IsSmall, size_of}
@@ -170,3 +170,4 @@ module _ (grounds : Grounds) where
   files_are_small (Upgrade kind base) files targets sum it h few = absurd h
   files_are_small (Exercise links turns) files targets sum it h few = go_small OfConfig chain (exercise_files links) targets sum it.0 it.1 it.2 h few
   files_are_small (Plan bases) files targets sum it h few = absurd h
+  files_are_small (Survey base) files targets sum it h few = absurd h

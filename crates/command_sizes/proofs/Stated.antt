@@ -15,7 +15,7 @@ use Rattle.command_rules.specs.Comes.{Compiles, not_compiled, compiled, Defines,
 use Rattle.command_rules.specs.Complete.{MakesOver}
 use Rattle.command_rules.specs.Configurations.{program, source_in}
 use Rattle.command_rules.specs.Exercise.{chain, exercise_shelf, within}
-use Rattle.command_rules.specs.Forms.{Form, Source, OfConfig, Compile, Define, Bind, Run, Go, Show, Upgrade, Exercise, Plan, image_file, interface_file, kind_file, module_file, object_file}
+use Rattle.command_rules.specs.Forms.{Form, Source, OfConfig, Compile, Define, Bind, Run, Go, Show, Upgrade, Exercise, Plan, Survey, image_file, interface_file, kind_file, module_file, object_file}
 use Rattle.command_rules.specs.Listing.{listing_in}
 use Rattle.command_rules.specs.Modules.{interface_in, module_in}
 use Rattle.command_rules.specs.Objects.{image_in}
@@ -24,11 +24,12 @@ use Rattle.command_rules.specs.Passing.{Fails, refused, failed, memory}
 use Rattle.command_rules.specs.Planning.{plan_in}
 use Rattle.command_rules.specs.Printing.{Report, Prints}
 use Rattle.command_rules.specs.Shown.{Names, case_of_end, case_of_run, image_names, program_names}
+use Rattle.command_rules.specs.Surveying.{survey_in}
 use Rattle.command_rules.specs.Worlds.{Shelf, Scene}
 use Rattle.command_rules.specs.Ends.{RunsTo}
 use Rattle.command_rules.specs.Writing.{Target, holding, OfInterface, OfObject, OfImage, IsSmall, IsFirstTooLarge, NotStored, Written}
 use Rattle.command_rules.specs.Order.{NeverAnswered}
-use Rattle.command_rules.proofs.Stopping.{IsOfFiles, PassStopsSo, source_so, module_so, interface_in_so, bound_so, image_so, listing_so, plan_so}
+use Rattle.command_rules.proofs.Stopping.{IsOfFiles, PassStopsSo, source_so, module_so, interface_in_so, bound_so, image_so, listing_so, plan_so, survey_so}
 use Rattle.command_laws.proofs.OneCase.{FormComes, of_its_form}
 use Rattle.command_laws.proofs.Sizes.{are_small, is_first, none_first}
 use Rattle.exercise_texts.specs.Files.{exercise_files}
@@ -165,6 +166,7 @@ module _ (never : NeverAnswered) (files : Files) (folder folder' : Shelf) (told 
   form_large (Upgrade kind base) old new it = absurd (never.upgrade_large kind base file folder folder' it)
   form_large (Exercise links turns) old new it = within_large links turns files old new (Refused file TooLarge) file it refl
   form_large (Plan bases) old new it = absurd (prints_not (plan_in bases) (plan_so bases) folder folder' old new (Refused file TooLarge) file it refl)
+  form_large (Survey base) old new it = absurd (prints_not (survey_in base) (survey_so base) folder folder' old new (Refused file TooLarge) file it refl)
 
 -- ---- the sum
 
@@ -191,6 +193,7 @@ module _ (sums : SumsAreTold) (small : FilesAreSmall) (never : NeverAnswered) wh
   above (Show kind base) files file it = absurd it.makes
   above (Upgrade kind base) files file it = absurd it.makes
   above (Plan bases) files file it = absurd it.makes
+  above (Survey base) files file it = absurd it.makes
   above (Exercise links turns) files file it =
       let m = it.makes in summed (Exercise links turns) files file (m.0, (m.1).configured, (m.1).comes) it
 

@@ -6,7 +6,7 @@ use Rattle.mesa_types.specs.Typed.{Module}
 use Rattle.image_sizes.specs.Trees.{size_sum}
 use Rattle.command_rules.specs.Configurations.{Configured, source_in}
 use Rattle.command_rules.specs.Exercise.{chain}
-use Rattle.command_rules.specs.Forms.{Form, Source, OfConfig, Compile, Define, Bind, Run, Go, Show, Upgrade, Exercise, Plan, module_file}
+use Rattle.command_rules.specs.Forms.{Form, Source, OfConfig, Compile, Define, Bind, Run, Go, Show, Upgrade, Exercise, Plan, Survey, module_file}
 use Rattle.command_laws.proofs.Came.{same_value}
 use Rattle.exercise_texts.specs.Files.{exercise_files}
 use Rattle.command_sizes.specs.Grounds.{Grounds}
@@ -74,6 +74,7 @@ module _ (grounds : Grounds) where
   one (Upgrade kind base) files a b x y = absurd x
   one (Exercise links turns) files a b x y = one_go OfConfig chain (exercise_files links) a b x y
   one (Plan bases) files a b x y = absurd x
+  one (Survey base) files a b x y = absurd x
 
   some : (form : Form) (files : Files) → HasTexts form files → (sum : ℕ) × IsSizeSum form files sum
   some (Compile base) files it = size_of files base it.1 (from_file grounds files base it.1 (record { trail = it.0; comes = it.2 }))
@@ -85,6 +86,7 @@ module _ (grounds : Grounds) where
   some (Upgrade kind base) files it = absurd it
   some (Exercise links turns) files it = some_go OfConfig chain (exercise_files links) it
   some (Plan bases) files it = absurd it
+  some (Survey base) files it = absurd it
 
   pub sums_are_told : SumsAreTold
   sums_are_told = record { some = some; one = one }

@@ -14,7 +14,7 @@ use Rattle.command_rules.specs.Comes.{Comes, Made, targets_of}
 use Rattle.command_rules.specs.Complete.{Answered, Does, IsCall, MakesOver, Tells}
 use Rattle.command_rules.specs.Configurations.{Configured, left_to_loader, program, source_in}
 use Rattle.command_rules.specs.Exercise.{chain}
-use Rattle.command_rules.specs.Forms.{Source, OfConfig, Form, Compile, Define, Bind, Run, Go, Show, Upgrade, Exercise, Plan, HasForm, module_file, object_file}
+use Rattle.command_rules.specs.Forms.{Source, OfConfig, Form, Compile, Define, Bind, Run, Go, Show, Upgrade, Exercise, Plan, Survey, HasForm, module_file, object_file}
 use Rattle.command_rules.specs.Modules.{module_in}
 use Rattle.command_rules.specs.Passes.{Has, Trail}
 use Rattle.command_rules.specs.Worlds.{Shelf, Scene, World}
@@ -39,6 +39,7 @@ HasTexts (Show kind base) files = ⊥
 HasTexts (Upgrade kind base) files = ⊥
 HasTexts (Exercise links turns) files = HasGoTexts OfConfig chain (exercise_files links)
 HasTexts (Plan bases) files = ⊥
+HasTexts (Survey base) files = ⊥
 
 -- then there is one sum
 pub record SumsAreTold : Type 0 where
@@ -70,6 +71,7 @@ IsAbove (Show kind base) files = ⊥
 IsAbove (Upgrade kind base) files = ⊥
 IsAbove (Exercise links turns) files = (sum : ℕ) × HasGoSum OfConfig chain (exercise_files links) sum × (most < sum)
 IsAbove (Plan bases) files = ⊥
+IsAbove (Survey base) files = ⊥
 
 -- of the files that the form makes this is the first with more than 536,870,912 bytes, and the size sum is above
 pub record IsTooLarge (form : Form) (files : Files) (file : List ℕ) : Type 0 where

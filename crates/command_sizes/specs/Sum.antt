@@ -11,7 +11,7 @@ use Rattle.file_sizes.specs.Sizes.{total}
 use Rattle.image_sizes.specs.Trees.{size_sum}
 use Rattle.command_rules.specs.Configurations.{Configured, source_in}
 use Rattle.command_rules.specs.Exercise.{chain}
-use Rattle.command_rules.specs.Forms.{Form, Source, OfConfig, Compile, Define, Bind, Run, Go, Show, Upgrade, Exercise, Plan, interface_file, module_file}
+use Rattle.command_rules.specs.Forms.{Form, Source, OfConfig, Compile, Define, Bind, Run, Go, Show, Upgrade, Exercise, Plan, Survey, interface_file, module_file}
 use Rattle.command_rules.specs.Passes.{Has, Trail}
 use Rattle.exercise_texts.specs.Files.{exercise_files}
 
@@ -63,6 +63,7 @@ IsSizeSum (Show kind base) files sum = ⊥
 IsSizeSum (Upgrade kind base) files sum = ⊥
 IsSizeSum (Exercise links turns) files sum = HasGoSum OfConfig chain (exercise_files links) sum
 IsSizeSum (Plan bases) files sum = ⊥
+IsSizeSum (Survey base) files sum = ⊥
 
 -- up to this sum no file is too large
 abbrev pub most : ℕ
