@@ -1,7 +1,7 @@
 -- Which words are those of a plan.
 use Rattle.std.proofs.Common.{◌≡◌, ◌≢◌, ℕ, zero, suc, ◌+◌, ◌<◌, ◌≤◌, Bool, true, false, nat_eq, List, [], ◌∷◌, length, get_or, Some, codes, slice_get, refl, sym, ◌∙◌, ap, subst, arith}
 use Rattle.config_rules.specs.Components.{is_file_base}
-use Rattle.command_rules.specs.Forms.{Form, Plan, HasForm, HasNoForm, compile, define, bind, run, go, list, upgrade, exercise, plan}
+use Rattle.command_rules.specs.Forms.{Form, Plan, HasForm, HasNoForm, compile, define, bind, run, go, list, upgrade, exercise, plan, survey}
 use Rattle.command_lines.specs.Words.{IsFit, behind_first}
 
 got : {A : Type 0} (xs : List A) (k : ℕ) (d : A) → k < length xs → slice_get xs k ≡ Some (get_or xs k d)
@@ -83,6 +83,7 @@ plans_so words form e (go source base turns is few) = absurd (other 103 refl (ap
 plans_so words form e (list kind base is) = absurd (other 108 refl (ap first_letter e))
 plans_so words form e (upgrade kind base is) = absurd (other 117 refl (ap first_letter e))
 plans_so words form e (exercise links turns some most few) = absurd (other 101 refl (ap first_letter e))
+plans_so words form e (survey base is) = absurd (other 115 refl (ap first_letter e))
 plans_so words form e (plan bases some few named differ) = record { some = omega (arith, some); few = omega (arith, few); all = fit_of bases named differ }
 
 pub no_plan : (words : List (List ℕ)) → words ≡ codes "plan" ∷ behind_first words → (PlansSo words → ⊥) → HasNoForm words

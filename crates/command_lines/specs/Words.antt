@@ -6,7 +6,7 @@ use Rattle.command_passes.specs.Kinds.{kind_in}
 use Rattle.command_lines.specs.declared.kinds.Source.{Source}
 use Rattle.command_lines.specs.declared.kinds.Source.TheVariants.{OfModule, OfConfig}
 use Rattle.command_lines.specs.declared.form.Form.{Form}
-use Rattle.command_lines.specs.declared.form.Form.TheVariants.{Compile, Define, Bind, Run, Go, Show, Upgrade, Exercise, Plan}
+use Rattle.command_lines.specs.declared.form.Form.TheVariants.{Compile, Define, Bind, Run, Go, Show, Upgrade, Exercise, Plan, Survey}
 
 abbrev pub source_in : Source → rules.Source
 source_in OfModule = rules.OfModule
@@ -27,6 +27,7 @@ form_in (Show kind base) = rules.Show (kind_in kind) base.now
 form_in (Upgrade kind base) = rules.Upgrade (kind_in kind) base.now
 form_in (Exercise links turns) = rules.Exercise links turns
 form_in (Plan words) = rules.Plan (behind_first words.now)
+form_in (Survey base) = rules.Survey base.now
 
 -- the word at this place is a base of a file, and no word behind the first and before it is the same
 pub record IsFit (words : List (List ℕ)) (at : ℕ) : Type 0 where

@@ -1,5 +1,5 @@
 //! The forms of a command line: `compile NAME`, `compile NAME STAMP`, `bind NAME`, `run NAME TURNS`, `go NAME.mesa TURNS`,
-//! `go NAME.config TURNS`, `list FILE`, `upgrade FILE`, `exercise N TURNS` and `plan NAME ..` (rule of this project).
+//! `go NAME.config TURNS`, `list FILE`, `upgrade FILE`, `exercise N TURNS`, `plan NAME ..` and `survey NAME` (rule of this project).
 
 ghost use Rattle.std.specs.Prelude.{◌≡◌, ◌≢◌, ◌≤◌, ℕ, ◌∷◌, [], IfSome, IfNone, MatchOption, codes, decimal};
 ghost use Rattle.command_rules.specs.Forms.{HasForm, HasNoForm, most_links};
@@ -54,6 +54,9 @@ pub enum Form<'a> {
     Plan {
         words: &'a Words,
     },
+    Survey {
+        base: &'a [u8],
+    },
 }
 
 /// None exactly where the words have no form.
@@ -85,6 +88,8 @@ fn form_of_two<'a>(verb: &[u8], name: &'a [u8]) -> Option<Form<'a>>
         list_of(name)
     } else if is_word(verb, "upgrade") {
         upgrade_of(name)
+    } else if is_word(verb, "survey") {
+        survey_of(name)
     } else {
         None
     }
@@ -155,6 +160,18 @@ fn upgrade_of(name: &[u8]) -> Option<Form<'_>>
         kind: named.kind,
         base: named.base,
     })
+}
+
+/// The form of `survey` with this word.
+fn survey_of(base: &[u8]) -> Option<Form<'_>>
+    ensures form { IfSome result (λ f. HasForm (codes "survey" ∷ base.now ∷ []) (form_in f)) }
+    ensures formless { IfNone result (HasNoForm (codes "survey" ∷ base.now ∷ [])) }
+{
+    if is_file_base(base) {
+        Some(Form::Survey { base })
+    } else {
+        None
+    }
 }
 
 /// The form of `compile` with these two words.

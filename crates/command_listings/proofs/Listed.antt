@@ -10,12 +10,11 @@ use Rattle.command_rules.specs.Forms as rules
 use Rattle.command_rules.specs.Forms.{InterfaceFile, ObjectFile, ImageFile}
 use Rattle.command_rules.specs.Listing.{Holds, Lists, listed, is_none, is_interface, is_object, is_image}
 use Rattle.command_rules.specs.Passes.{Outcome, Has, Stops}
-use Rattle.command_rules.specs.Printing.{Report}
+use Rattle.command_rules.specs.Printing.{Report, text_alone}
 use Rattle.command_rules.specs.Writing.{OfInterface, OfObject, OfImage}
 use Rattle.command_rules.proofs.Passing.{Moves}
 use Rattle.command_passes.specs.Kinds.{kind_in}
 use Rattle.command_passes.proofs.Files.{NeverAbsent}
-use Rattle.command_listings.specs.Reports.{listed_report}
 use Rattle.command_listings.proofs.Holding.{holds_moves, holds_absent, refused}
 
 pub lists_moves : (kind : rules.FileKind) (file : List ℕ) → Moves 536870912 (Lists kind file)
@@ -31,13 +30,13 @@ pub lists_absent : (kind : rules.FileKind) (file bytes : List ℕ) → NeverAbse
 lists_absent kind file bytes other x = never kind file bytes other (Stops (Absent other)) x refl
 
 -- the listing that is told of bytes
-pub is_listed : (kind : FileKind) (file bytes text : List ℕ) → IsListing kind bytes text → Lists (kind_in kind) file bytes (Has (listed_report text))
+pub is_listed : (kind : FileKind) (file bytes text : List ℕ) → IsListing kind bytes text → Lists (kind_in kind) file bytes (Has (text_alone text))
 is_listed Interface file bytes text h =
-    subst (λ t. Lists InterfaceFile file bytes (Has (listed_report t))) (sym h.is) (listed (OfInterface h.value) (is_interface h.version h.value h.file))
+    subst (λ t. Lists InterfaceFile file bytes (Has (text_alone t))) (sym h.is) (listed (OfInterface h.value) (is_interface h.version h.value h.file))
 is_listed Object file bytes text h =
-    subst (λ t. Lists ObjectFile file bytes (Has (listed_report t))) (sym h.is) (listed (OfObject h.value) (is_object h.version h.value h.file))
+    subst (λ t. Lists ObjectFile file bytes (Has (text_alone t))) (sym h.is) (listed (OfObject h.value) (is_object h.version h.value h.file))
 is_listed Image file bytes text h =
-    subst (λ t. Lists ImageFile file bytes (Has (listed_report t))) (sym h.is) (listed (OfImage h.value) (is_image h.version h.value h.file))
+    subst (λ t. Lists ImageFile file bytes (Has (text_alone t))) (sym h.is) (listed (OfImage h.value) (is_image h.version h.value h.file))
 
 -- and their fault
 pub not_listed : (kind : FileKind) (file bytes : List ℕ) (fault : ObjectFault) → HasFault kind bytes fault

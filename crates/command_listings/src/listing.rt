@@ -1,11 +1,11 @@
 //! The listing of a file.
 
 ghost use Rattle.command_rules.specs.Listing.{Lists, listing_in};
+ghost use Rattle.command_rules.specs.Printing.{text_alone};
 ghost use Rattle.command_rules.specs.Reading.{Onward};
 ghost use Rattle.command_rules.specs.Worlds.{shelf};
 ghost use Rattle.command_passes.specs.Kinds.{kind_in};
 ghost use Rattle.command_passes.specs.Shelves.{Decides, Passes};
-ghost use Rattle.command_listings.specs.Reports.{listed_report};
 
 use command_passes::{FileName, Stop, unfit, unread};
 use listed_files::FileKind;
@@ -16,7 +16,7 @@ use std::alloc::Global;
 
 /// The listing of a file's bytes, or their first fault.
 fn listed(alloc: Global, file: FileName, bytes: &[u8], kind: FileKind) -> Result<Bytes, Stop>
-    ensures { Decides listed_report (Lists (kind_in kind) file bytes.now) result }
+    ensures { Decides text_alone (Lists (kind_in kind) file bytes.now) result }
 {
     match list(alloc, bytes, kind) {
         Ok(text) => Ok(text),
@@ -32,7 +32,7 @@ pub fn listing_of_file<F: Folder>(
     file: FileName,
     kind: FileKind,
 ) -> Result<Bytes, Stop>
-    ensures passes { Passes listed_report (listing_in (kind_in kind) file)
+    ensures passes { Passes text_alone (listing_in (kind_in kind) file)
         (shelf (F.files folder.old) (F.calls folder.old) (F.faults folder.old) (F.misses folder.old))
         (shelf (F.files folder.new) (F.calls folder.new) (F.faults folder.new) (F.misses folder.new)) result }
     ensures onward { Onward (shelf (F.files folder.old) (F.calls folder.old) (F.faults folder.old) (F.misses folder.old))

@@ -8,8 +8,8 @@ use Rattle.interface_records.specs.Spelled.{InSixBytes}
 use Rattle.bound_images.proofs.Chosen.{both_true}
 use Rattle.command_laws.specs.Laws.{WordsHaveOneForm}
 use Rattle.command_rules.specs.Case.{Case}
-use Rattle.command_rules.specs.Comes.{Comes, compiles, defines, binds, loads, goes, shows, upgrades, exercises, plans}
-use Rattle.command_rules.specs.Forms.{Form, Compile, Define, Bind, Run, Go, Show, Upgrade, Exercise, Plan, HasForm, compile, define, bind, run, go, list, upgrade, exercise, plan}
+use Rattle.command_rules.specs.Comes.{Comes, compiles, defines, binds, loads, goes, shows, upgrades, exercises, plans, surveys}
+use Rattle.command_rules.specs.Forms.{Form, Compile, Define, Bind, Run, Go, Show, Upgrade, Exercise, Plan, Survey, HasForm, compile, define, bind, run, go, list, upgrade, exercise, plan, survey}
 use Rattle.command_rules.specs.Worlds.{Shelf, Scene}
 use Rattle.mesa_command.specs.Forms.{ComesOfForm, IsWellFormed}
 
@@ -34,6 +34,7 @@ well_formed _ _ (list kind base named) = named
 well_formed _ _ (upgrade kind base named) = named
 well_formed _ _ (exercise links turns some few bounded) = tt
 well_formed _ _ (plan bases some few named differ) = record { few = few; named = named }
+well_formed _ _ (survey base named) = named
 
 -- what is so of a form that words have is so of the one that was found
 pub kept : WordsHaveOneForm → (P : Form → Type 0) (words : List (List ℕ)) (f g : Form) → HasForm words f → HasForm words g → P g → P f
@@ -50,3 +51,4 @@ comes_of words (Show kind base) s t old new case has h = shows kind base case ha
 comes_of words (Upgrade kind base) s t old new case has h = upgrades kind base case has h.0 h.1
 comes_of words (Exercise links turns) s t old new case has h = exercises links turns case has h.0 h.1
 comes_of words (Plan bases) s t old new case has h = plans bases case has h
+comes_of words (Survey base) s t old new case has h = surveys base case has h

@@ -4,24 +4,23 @@ use Rattle.line_pieces.specs.Outputs.{Stream, PrintsAll, PrintsPrefix}
 use Rattle.command_rules.specs.Case.{Case}
 use Rattle.command_rules.specs.Passes.{Pass}
 use Rattle.command_rules.specs.Passing.{Fails, Gives, memory}
-use Rattle.command_rules.specs.Printing.{Report, AreMissed, Prints, not_read, printed, not_printed}
+use Rattle.command_rules.specs.Printing.{Report, text_alone, AreMissed, Prints, not_read, printed, not_printed}
 use Rattle.command_rules.specs.Reading.{Onward}
 use Rattle.command_rules.specs.Worlds.{Shelf, Feed, scene}
 use Rattle.command_passes.specs.Shelves.{Passes}
 use Rattle.command_passes.specs.Stops.{stop_case}
 use Rattle.command_passes.specs.declared.stop.Stop.{Stop}
 use Rattle.command_passes.specs.declared.stop.Stop.TheVariants as stop
-use Rattle.command_listings.specs.Reports.{listed_report}
 use Rattle.mesa_command.specs.Printing as text
 use Rattle.mesa_command.specs.Printing.{PrintsTo, TextEnds, IsReported, ReportPasses}
 
--- no file is missing of a listing
+-- no file is missing of a text alone
 none_missed : (s t : Shelf) → AreMissed [] s t
 none_missed s t k d h = absurd (omega (arith, h))
 
-pub listing_passes : (p : Pass Case Report) (s t : Shelf) (r : Result (List ℕ) Stop) → Passes listed_report p s t r → ReportPasses p s t r
-listing_passes p s t (Ok listing) g = record { report = listed_report listing; gives = g; missed = none_missed s t; is = refl }
-listing_passes p s t (Err why) f = f
+pub alone_passes : (p : Pass Case Report) (s t : Shelf) (r : Result (List ℕ) Stop) → Passes text_alone p s t r → ReportPasses p s t r
+alone_passes p s t (Ok listing) g = record { report = text_alone listing; gives = g; missed = none_missed s t; is = refl }
+alone_passes p s t (Err why) f = f
 
 -- memory was wanting before any file was asked for
 pub no_room : (p : Pass Case Report) (s : Shelf) (why : Stop) → why ≡ stop.Memory → ReportPasses p s s (Err why)

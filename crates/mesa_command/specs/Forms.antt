@@ -3,8 +3,8 @@ use Rattle.std.specs.Prelude.{◌≡◌, ◌≤◌, ℕ, List, length, All, true
 use Rattle.interface_records.specs.Spelled.{InSixBytes}
 use Rattle.config_rules.specs.Components.{is_file_base}
 use Rattle.command_rules.specs.Case.{Case}
-use Rattle.command_rules.specs.Comes.{Compiles, Defines, Binds, Loads, Goes, Shows, Plans, Upgrades, Exercises}
-use Rattle.command_rules.specs.Forms.{Form, Compile, Define, Bind, Run, Go, Show, Upgrade, Exercise, Plan}
+use Rattle.command_rules.specs.Comes.{Compiles, Defines, Binds, Loads, Goes, Shows, Plans, ShowsEscapes, Upgrades, Exercises}
+use Rattle.command_rules.specs.Forms.{Form, Compile, Define, Bind, Run, Go, Show, Upgrade, Exercise, Plan, Survey}
 use Rattle.command_rules.specs.Worlds.{Shelf, Scene}
 use Rattle.include_rules.specs.Plans.{most_texts}
 
@@ -30,6 +30,7 @@ IsWellFormed (Show kind base) = IsBase base
 IsWellFormed (Upgrade kind base) = IsBase base
 IsWellFormed (Exercise links turns) = Unit {0}
 IsWellFormed (Plan bases) = ArePlanned bases
+IsWellFormed (Survey base) = IsBase base
 
 abbrev pub ComesOfForm : Form → (folder folder' : Shelf) → (old new : Scene) → Case → Type 0
 ComesOfForm (Compile base) folder folder' old new case = Compiles base folder folder' case × (new ≡ old)
@@ -41,3 +42,4 @@ ComesOfForm (Show kind base) folder folder' old new case = Shows kind base folde
 ComesOfForm (Upgrade kind base) folder folder' old new case = Upgrades kind base folder folder' case × (new ≡ old)
 ComesOfForm (Exercise links turns) folder folder' old new case = Exercises links turns old new case × (folder' ≡ folder)
 ComesOfForm (Plan bases) folder folder' old new case = Plans bases folder folder' old new case
+ComesOfForm (Survey base) folder folder' old new case = ShowsEscapes base folder folder' old new case

@@ -11,6 +11,7 @@ mod planning;
 mod printing;
 mod running;
 mod storing;
+mod surveying;
 mod top;
 mod upgrading;
 

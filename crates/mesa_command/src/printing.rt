@@ -1,4 +1,4 @@
-//! A text that is printed: a listing, or the report of a plan.
+//! A text that is printed: a listing, the report of a plan, or a survey.
 
 ghost use Rattle.std.specs.Prelude.{◌≡◌};
 ghost use Rattle.command_rules.specs.Case.{Case, IsBeforeRun};

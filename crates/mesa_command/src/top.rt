@@ -21,6 +21,7 @@ use crate::planning::report;
 use crate::printing::print_or_tell;
 use crate::running::run_or_tell;
 use crate::storing::told;
+use crate::surveying::surveyed;
 use crate::upgrading::upgraded;
 use command_laws::{cases_are_answers, order_is_kept, runs_are_meant, words_have_one_form};
 use command_lines::{Form, form_of, told_usage};
@@ -41,7 +42,8 @@ use std::sync::ledger::Ledger;
 /// - `exercise N TURNS`: does what `go` does with the configuration of N links that stands in a folder and on an empty input of its own, and writes the
 ///   summary of its run to `out`: how many instances there are, how it ended, and the turns that are left;
 /// - `plan NAME ..`: writes to `out` in which order to compile the texts in NAME.mesa, which of their objects are stale, and which of their files are
-///   missing.
+///   missing;
+/// - `survey NAME`: writes to `out` which signals may escape the image in NAME.mim, one a line, or that none does.
 ///
 /// The interfaces that a text names are read from their files. The line of the answer goes to `err`.
 pub fn mesa<F: Folder, S: Source, K: Sink, E: Sink, L: Ledger>(
@@ -169,6 +171,7 @@ fn to_form<F: Folder, S: Source, K: Sink, E: Sink, L: Ledger>(
         Form::Show { kind, base } => print_or_tell(listing(alloc, folder, kind, base), out, err),
         Form::Upgrade { kind, base } => told(upgraded(alloc, folder, kind, base), err),
         Form::Plan { words } => print_or_tell(report(alloc, folder, words), out, err),
+        Form::Survey { base } => print_or_tell(surveyed(alloc, folder, base), out, err),
         Form::Exercise { links, turns } => {
             sum_or_tell(exercise_built(alloc, links), turns, out, err, steps)
         }

@@ -4,7 +4,7 @@ use Rattle.command_passes.proofs.Bases.{base_ascii}
 use Rattle.command_rules.specs.Forms.{kind_file}
 use Rattle.command_rules.specs.Listing.{listing_in}
 use Rattle.mesa_command.proofs.Files.{no_room_listed}
-use Rattle.mesa_command.proofs.Printed.{listing_passes}
+use Rattle.mesa_command.proofs.Printed.{alone_passes}
 use Rattle.mesa_command.proofs.listing.listing.Goals as goal
 
 pub file_of_kind-requires : goal.file_of_kind-requires
@@ -17,5 +17,5 @@ returns-in_err-file-clause-passes g c =
 
 pub returns-clause-passes : goal.returns-clause-passes
 returns-clause-passes g c =
-    listing_passes (listing_in (kind_in c.args.kind) (kind_file (kind_in c.args.kind) c.args.base.now)) _ _ c.listing_of_file.result
+    alone_passes (listing_in (kind_in c.args.kind) (kind_file (kind_in c.args.kind) c.args.base.now)) _ _ c.listing_of_file.result
     (rw c.in_ok-file.ensures at c.listing_of_file.ensures.passes)

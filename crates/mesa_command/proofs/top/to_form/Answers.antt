@@ -7,6 +7,7 @@ use Rattle.command_lines.specs.Words.{behind_first}
 use Rattle.command_rules.specs.Forms.{kind_file}
 use Rattle.command_rules.specs.Listing.{listing_in}
 use Rattle.command_rules.specs.Planning.{plan_in}
+use Rattle.command_rules.specs.Surveying.{survey_in}
 use Rattle.mesa_command.proofs.Printed.{prints_so}
 use Rattle.mesa_command.proofs.top.to_form.Goals as goal
 
@@ -41,6 +42,15 @@ returns-in-Plan-clause-comes g c =
     rw c.in-Plan.is (
       it.0,
       prints_so (plan_in (behind_first c.in-Plan.words.now)) _ _ _ _ c.report.result _ _ it.0 c.report.ensures.passes c.report.ensures.onward it.1,
+      it.2,
+    )
+
+pub returns-in-Survey-clause-comes : goal.returns-in-Survey-clause-comes
+returns-in-Survey-clause-comes g c =
+    let it = c.print_or_tell-in-Survey.ensures.ends in
+    rw c.in-Survey.is (
+      it.0,
+      prints_so (survey_in c.in-Survey.base.now) _ _ _ _ c.surveyed.result _ _ it.0 c.surveyed.ensures.passes c.surveyed.ensures.onward it.1,
       it.2,
     )
 

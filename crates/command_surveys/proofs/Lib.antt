@@ -1,0 +1,4 @@
+mod Naming
+mod Read
+mod Surveyed
+mod Texts
