@@ -1,4 +1,4 @@
-"""What `bind NAME`, `run NAME TURNS`, `list FILE`, `upgrade FILE` and `plan NAME ..` answer over some files, by the model."""
+"""What `bind NAME`, `run NAME TURNS`, `list FILE`, `upgrade FILE`, `plan NAME ..` and `survey NAME` answer over some files, by the model."""
 from collections import namedtuple
 
 from model.binding import image_of
@@ -7,6 +7,7 @@ from model.machine import Machine, unresolved
 from model.objects import image_in
 from model.planning import plan
 from model.reading import Wrong
+from model.survey import survey
 
 DONE, UNCAUGHT, SPENT, FULL, REFUSED, ABSENT = range(6)
 # The status, what is printed, the line on standard error, and the files that are written.
@@ -67,6 +68,10 @@ def upgraded(file, files):
         return Answer(DONE, b"", b"", {file: of_second_version(held)})
 
     return of_file(file, files, answer)
+
+
+def surveyed(base, files):
+    return of_file(f"{base}.mim", files, lambda held: Answer(DONE, survey(image_in(held)).encode(), b"", {}))
 
 
 def planned(bases, files):
