@@ -1,3 +1,5 @@
+pub use Rattle.machine_rules
+pub use Rattle.agreement_rules
 pub mod Answers
 pub mod Chains
 pub mod Contexts

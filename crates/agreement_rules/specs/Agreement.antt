@@ -5,8 +5,8 @@ use Rattle.source_meaning.specs.State.{Ending, End, Fault, Answer, Normal, Gives
 use Rattle.source_meaning.specs.Lawful.{Lawful}
 use Rattle.source_meaning.specs.Means.{Means}
 use Rattle.object_files.specs.declared.image.Image.{Image}
-use Rattle.signaller.specs.declared.signal_id.SignalId.{SignalId}
-use Rattle.signaller.specs.declared.signal_id.SignalId.TheVariants as id
+use Rattle.machine_rules.specs.signaller.specs.declared.signal_id.SignalId.{SignalId}
+use Rattle.machine_rules.specs.signaller.specs.declared.signal_id.SignalId.TheVariants as id
 use Rattle.machine_rules.specs.declared.end.End.TheVariants as end
 use Rattle.machine_rules.specs.State as machine
 use Rattle.machine_rules.specs.Steps.{Steps}

@@ -5,8 +5,8 @@ use Rattle.mesa_types.specs.declared.faces.Import.{Import}
 use Rattle.mesa_types.specs.declared.faces.Item.{Item}
 use Rattle.source_meaning.specs.Program.{Target, ToProcedure, ToHost, ToSignal, SignalOf, BoundsFault, ZeroDivisor, NoInput, Unnamed, Program}
 use Rattle.source_meaning.specs.Program as source
-use Rattle.interface_records.specs.Hosts.{SameItem, IsHostItem}
-use Rattle.interface_records.specs.declared.wanted.Wanted.{Wanted as WantedItem}
+use Rattle.object_files.specs.interface_records.specs.Hosts.{SameItem, IsHostItem}
+use Rattle.object_files.specs.interface_records.specs.declared.wanted.Wanted.{Wanted as WantedItem}
 use Rattle.object_files.specs.declared.image.Image.{Image}
 use Rattle.object_files.specs.declared.image.Instance.{Instance}
 use Rattle.object_files.specs.declared.image.Link.{Link}

@@ -16,8 +16,8 @@ use Rattle.code_forms.specs.declared.module_code.ModuleCode.{ModuleCode}
 use Rattle.code_forms.specs.Routine.{Routine}
 use Rattle.code_rules.specs.Modules.{CodeFor, ProcedureCode, ProceduresCode, procedures_of, kind_code, words_of_fields, signal_code, link_code}
 use Rattle.object_files.specs.declared.image.Image.{Image}
-use Rattle.machine_rules.specs.LookUps.{code_of, procedure_of, called, signal_of}
-use Rattle.machine_activations.specs.Links.{IsLike, IsOfInstance}
+use Rattle.machine_ready.specs.machine_rules.specs.LookUps.{code_of, procedure_of, called, signal_of}
+use Rattle.machine_ready.specs.machine_activations.specs.Links.{IsLike, IsOfInstance}
 use Rattle.agreement_laws.proofs.Linked.{kinds_same}
 use Rattle.bound_images.proofs.Elements.{get_map}
 

@@ -17,9 +17,9 @@ use Rattle.interface_records.specs.declared.wanted.Wanted.{Wanted as Entry}
 use Rattle.object_files.specs.declared.image.Instance.{Instance}
 use Rattle.object_files.specs.declared.image.Link.{Link}
 use Rattle.object_files.specs.declared.image.Link.TheVariants.{Wanted}
-use Rattle.machine_rules.specs.LookUps.{module_number, code_in, code_of, bound_to}
-use Rattle.machine_rules.specs.LookUps as machine
-use Rattle.machine_activations.specs.Links.{IsLike, IsOfInstance}
+use Rattle.machine_ready.specs.machine_rules.specs.LookUps.{module_number, code_in, code_of, bound_to}
+use Rattle.machine_ready.specs.machine_rules.specs.LookUps as machine
+use Rattle.machine_ready.specs.machine_activations.specs.Links.{IsLike, IsOfInstance}
 use Rattle.machine_ready.specs.Order.{code_kind, IsBoundAlike, ImageInOrder}
 use Rattle.source_meaning.specs.Lawful.{Supplies}
 use Rattle.source_meaning.specs.Program as source

@@ -6,7 +6,7 @@ use Rattle.mesa_types.specs.declared.faces.Item.{Item}
 use Rattle.mesa_types.specs.declared.faces.ItemKind.TheVariants.{Signal}
 use Rattle.mesa_types.specs.declared.faces.Shape.{Shape}
 use Rattle.interface_records.specs.Faces.{iodefs}
-use Rattle.cmesa_grammar.specs.Syntax.{Configuration, AndDeclare, AndInstance}
+use Rattle.config_rules.specs.cmesa_grammar.specs.Syntax.{Configuration, AndDeclare, AndInstance}
 use Rattle.source_meaning.specs.Program.{Target, ToProcedure, ToHost, ToSignal, SignalOf, NoInput, Unnamed, WriteDecimal, host_of, host_target}
 use Rattle.config_rules.specs.Exporters.{outside_of, stepped, step_in, goes_on, reach, outlets_of, outlets_from, is_named, is_given, exporters}
 use Rattle.config_rules.specs.Resolves.{from_outside, source, given_for, chosen, resolved_at, resolved}

@@ -2,7 +2,7 @@
 use Rattle.std.proofs.Common.{List, sym, subst}
 use Rattle.mesa_types.specs.Typed.{Module}
 use Rattle.agreement_laws.proofs.Agreement.{images_run}
-use Rattle.agreement_rules.specs.Stands.{Stands, WantsTheHost}
+use Rattle.agreement_laws.specs.agreement_rules.specs.Stands.{Stands, WantsTheHost}
 use Rattle.config_rules.specs.declared.tree.Tree.{Tree}
 use Rattle.machine_ready.specs.Order.{ImageInOrder}
 use Rattle.object_files.specs.declared.image.Image.{Image}

@@ -17,10 +17,10 @@ use Rattle.interface_records.specs.declared.wanted.Wanted.{Wanted as Entry}
 use Rattle.object_files.specs.declared.image.Instance.{Instance}
 use Rattle.object_files.specs.declared.image.Link.{Link}
 use Rattle.object_files.specs.declared.object.Object.{Object}
-use Rattle.machine_rules.specs.LookUps.{module_number, code_in, code_of, bound_to}
+use Rattle.machine_ready.specs.machine_rules.specs.LookUps.{module_number, code_in, code_of, bound_to}
 use Rattle.source_meaning.specs.Program.{Target, Host, host_of, host_target}
 use Rattle.source_meaning.specs.Program as source
-use Rattle.agreement_rules.specs.Stands.{IsWanted, BoundTo, InstanceStands, Stands, WantsTheHost}
+use Rattle.agreement_laws.specs.agreement_rules.specs.Stands.{IsWanted, BoundTo, InstanceStands, Stands, WantsTheHost}
 use Rattle.config_rules.specs.Bindings.{binding_of}
 use Rattle.config_rules.specs.declared.tree.TreeInstance.{TreeInstance}
 use Rattle.config_rules.specs.Resolves.{Resolution, Left, Bound, NoExporter, Twice, OtherInterface, OtherStamp, Want, is_bad, wants_in, wants}

@@ -6,7 +6,7 @@ use Rattle.mesa_types.specs.declared.faces.Face.{Face}
 use Rattle.interface_records.specs.Faces.{iodefs}
 use Rattle.code_forms.specs.Valid.{Valid}
 use Rattle.code_rules.specs.Modules.{CodeFor}
-use Rattle.agreement_rules.specs.Stands.{TextFits}
+use Rattle.agreement_laws.specs.agreement_rules.specs.Stands.{TextFits}
 use Rattle.object_files.specs.declared.image.Image.{Image}
 use Rattle.object_files.specs.declared.object.Object.{Object}
 use Rattle.config_rules.specs.declared.tree.Tree.{Tree}

@@ -6,8 +6,8 @@ use Rattle.object_files.specs.declared.object.Object.{Object}
 use Rattle.source_meaning.specs.Lawful.{Lawful}
 use Rattle.source_meaning.specs.Means.{Means}
 use Rattle.source_meaning.specs.State.{Ending, Answer}
-use Rattle.agreement_rules.specs.Agreement.{RunsAlike}
-use Rattle.agreement_rules.specs.Stands.{Stands, WantsTheHost}
+use Rattle.agreement_laws.specs.agreement_rules.specs.Agreement.{RunsAlike}
+use Rattle.agreement_laws.specs.agreement_rules.specs.Stands.{Stands, WantsTheHost}
 use Rattle.machine_ready.specs.Order.{ImageInOrder}
 use Rattle.config_rules.specs.declared.tree.Tree.{Tree}
 use Rattle.bound_images.specs.Programs.{program_of}

@@ -2,8 +2,8 @@
 use Rattle.std.specs.Prelude.{List}
 use Rattle.mesa_types.specs.Typed.{Module}
 use Rattle.object_files.specs.declared.image.Image.{Image}
-use Rattle.agreement_rules.specs.Stands.{WantsTheHost}
-use Rattle.config_rules.specs.declared.tree.Tree.{Tree}
+use Rattle.linked_run.specs.agreement_rules.specs.Stands.{WantsTheHost}
+use Rattle.import_binder.specs.config_rules.specs.declared.tree.Tree.{Tree}
 use Rattle.bound_images.specs.Programs.{program_of}
 use Rattle.bound_images.proofs.Running.{programs_are_lawful, images_stand, leave_to_the_host}
 use Rattle.linked_run.specs.Meant.{IsImageOf}

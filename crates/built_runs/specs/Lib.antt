@@ -1,1 +1,10 @@
+pub use Rattle.linked_run.specs.machine_rules
+pub use Rattle.bound_images.specs.machine_ready
+pub use Rattle.linked_run
+pub use Rattle.bound_images.specs.link_tables
+pub use Rattle.import_binder
+pub use Rattle.linked_run.specs.frame_machine
+pub use Rattle.import_binder.specs.config_tree
+pub use Rattle.bound_images
+pub use Rattle.linked_run.specs.agreement_rules
 pub mod Linked

@@ -3,4 +3,7 @@
 
 mod running;
 
+pub use bound_images::{link_tables, machine_ready};
+pub use import_binder;
+pub use import_binder::config_tree;
 pub use running::{TypedModules, run_image};

@@ -2,17 +2,17 @@ ghost use Rattle.std.specs.Prelude.{◌≡◌, ◌-◌, ◌≤◌, map, IfOk, If
 ghost use Rattle.mesa_base.specs.Asked.{AskedOnce};
 ghost use Rattle.mesa_base.specs.Outside.{Rose};
 ghost use Rattle.mesa_types.specs.Plain.{plain};
-ghost use Rattle.agreement_rules.specs.Stands.{WantsTheHost};
-ghost use Rattle.frame_machine.specs.Running.{AreBytes, BreaksAtInput, BreaksAtOutput, Completes, EndIsInRange};
+ghost use Rattle.linked_run.specs.agreement_rules.specs.Stands.{WantsTheHost};
+ghost use Rattle.linked_run.specs.frame_machine.specs.Running.{AreBytes, BreaksAtInput, BreaksAtOutput, Completes, EndIsInRange};
 ghost use Rattle.linked_run.specs.Meant.{Ran, BrokenOff, CutOff};
-ghost use Rattle.config_rules.specs.Bindings.{bindings_of};
+ghost use Rattle.import_binder.specs.config_rules.specs.Bindings.{bindings_of};
 ghost use Rattle.bound_images.specs.Programs.{program_of};
 ghost use Rattle.built_runs.specs.Linked.{IsLinkedFrom};
 
-use config_rules::Tree;
-use frame_machine::{Outcome, RunFault};
+use bound_images::machine_ready::Machine;
 use import_binder::Bindings;
-use machine_ready::Machine;
+use import_binder::config_rules::Tree;
+use linked_run::frame_machine::{Outcome, RunFault};
 use mesa_base::{List, Sink, Source, Steps};
 use mesa_types::TypedModule;
 use std::sync::ledger::Ledger;

@@ -1,2 +1,3 @@
+pub use Rattle.check_jumps
 pub mod Naming
 pub mod Views

@@ -13,11 +13,11 @@ ghost use Rattle.check_state.specs.Views as view;
 
 use check_rules::{Cause, CheckFault};
 use check_state::{Around, Meaning, base_of, is_text};
+use interface_records::typed_answers::constant;
 use mesa_base::Place;
 use mesa_types::{TypeTree, TypedExpr};
 use std::alloc::Global;
 use syntax_trees::syntax::Expr;
-use typed_answers::constant;
 
 /// Whether the text of a value is a string literal, perhaps in parentheses.
 #[tactic(auto, using(syntax_trees::proofs::PlainForms::expr_forms), unfolding(check_rules::specs::Statements::is_text_literal))]

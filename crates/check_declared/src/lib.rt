@@ -9,6 +9,7 @@ mod selecting;
 mod sources;
 mod variables;
 
+pub use check_jumps;
 pub use constants::constant_meaning;
 pub use counting::{Counter, Rounds, counter_of, given, rounds_of};
 pub use differing::{different, new_labels, numbers_from};

@@ -9,7 +9,7 @@ use Rattle.syntax_trees.specs.declared.syntax.QualifiedName.{QualifiedName}
 use Rattle.syntax_trees.specs.declared.syntax.Sign.{Sign}
 use Rattle.mesa_types.specs.declared.faces.ItemKind.TheVariants as item
 use Rattle.check_rules.specs.Typed as t
-use Rattle.interface_records.specs.PlainTypes.{PlainField, PlainType}
+use Rattle.check_rules.specs.interface_records.specs.PlainTypes.{PlainField, PlainType}
 use Rattle.check_rules.specs.Around.{Around}
 use Rattle.check_rules.specs.Checking as spec
 use Rattle.check_rules.specs.Meanings.{Meaning}

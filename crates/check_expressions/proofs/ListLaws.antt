@@ -15,13 +15,13 @@ use Rattle.mesa_types.specs.declared.types.FieldType.{FieldType}
 use Rattle.check_rules.specs.Around.{Around}
 use Rattle.check_rules.specs.Checking as spec
 use Rattle.check_rules.specs.Parts.{Found, first, count, keys, kinds, kind_by, number_by, has_name, found, field_named, are_fields, complete, places_of}
-use Rattle.interface_records.specs.PlainTypes.{PlainField, PlainType, plain_field, words_of}
+use Rattle.check_rules.specs.interface_records.specs.PlainTypes.{PlainField, PlainType, plain_field, words_of}
 use Rattle.check_rules.specs.Ranges.{Arguments, Typed, Into}
 use Rattle.check_rules.specs.Reached.{Shape, OfFields, OfElements, NoShape, shape_of}
 use Rattle.check_rules.specs.declared.fault.Cause.TheVariants.{TypeMismatch, WrongCount}
 use Rattle.check_rules.specs.Steps.{Check, Checked, State, and_then, ◌>>=◌, pure, lift, fail, refuse, or_refuse, ensure, spend}
 use Rattle.check_rules.specs.Values.{by_keys, by_shape, in_fields, in_order, made}
-use Rattle.check_selectors.specs.Keys.{places, places_if}
+use Rattle.check_operands.specs.check_selectors.specs.Keys.{places, places_if}
 use Rattle.check_operands.specs.Folds.{folded}
 use Rattle.check_operands.specs.Lists as lists
 use Rattle.check_operands.specs.Lists.{kind_in, kind_placed, value_for, value_turn}

@@ -31,7 +31,7 @@ use Rattle.mesa_types.specs.declared.typed_tree.TypedExpr.{TypedExpr}
 use Rattle.syntax_trees.proofs.PlainForms.{parts_of_operation, suffix_at}
 use Rattle.check_rules.specs.Around.{Around}
 use Rattle.check_rules.specs.Checking as spec
-use Rattle.interface_records.specs.PlainTypes.{PlainType}
+use Rattle.check_rules.specs.interface_records.specs.PlainTypes.{PlainType}
 use Rattle.check_rules.specs.Ranges.{Typed}
 use Rattle.check_rules.specs.Reached.{Reached, Use, field, may_apply, settled}
 use Rattle.check_rules.specs.declared.fault.Cause.TheVariants.{TypeMismatch}

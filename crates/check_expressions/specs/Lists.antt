@@ -2,7 +2,7 @@
 use Rattle.std.specs.Prelude.{ℕ, List, Ok, length, nat_eq}
 use Rattle.mesa_base.specs.declared.place.Place.{Place}
 use Rattle.check_rules.specs.Typed as t
-use Rattle.interface_records.specs.PlainTypes.{PlainField, PlainType}
+use Rattle.check_rules.specs.interface_records.specs.PlainTypes.{PlainField, PlainType}
 use Rattle.check_rules.specs.Ranges.{Typed, Aim, Arguments, finish}
 use Rattle.check_rules.specs.Reached.{Reached, shape_of}
 use Rattle.check_rules.specs.Steps.{Check, Checked, and_then, ◌>>=◌, pure, lift, only, refuse, spend}

@@ -5,11 +5,11 @@ ghost use Rattle.mesa_types.specs.Plain.{expr};
 ghost use Rattle.syntax_trees.specs.PlainSyntax as plain;
 ghost use Rattle.syntax_trees.specs.Syntax as s;
 ghost use Rattle.check_rules.specs.Checking as spec;
-ghost use Rattle.interface_records.specs.PlainTypes as v;
+ghost use Rattle.check_rules.specs.interface_records.specs.PlainTypes as v;
 ghost use Rattle.check_state.specs.Gives.{Gives};
 ghost use Rattle.check_state.specs.Views as words;
-ghost use Rattle.check_selectors.specs.Views as reaching;
-ghost use Rattle.check_values.specs.Views as values;
+ghost use Rattle.check_operands.specs.check_selectors.specs.Views as reaching;
+ghost use Rattle.check_operands.specs.check_values.specs.Views as values;
 ghost use Rattle.syntax_trees.specs.declared.syntax.Brackets.{out-Brackets};
 ghost use Rattle.check_expressions.specs.Lists as forms;
 ghost use Rattle.check_operands.specs.Lists as lists;
@@ -19,19 +19,19 @@ ghost use Rattle.check_operands.specs.Views as view;
 use crate::lists::{bare, none_given, nothing_in, target_of};
 use crate::literals::{one_word, text};
 use crate::phrases::Phrases;
+use check_operands::check_selectors::{
+    Bracketed, Reached, Use, at_index, field, led_to, may_apply, places, settled, value,
+};
+use check_operands::check_values::{
+    Ends, compared, finish, is_truth, letter, not_of, number, signed, truth, truth_operand, within,
+};
 use check_operands::{
     Applied, Arguments, At, Level, Raises, Sum, Wanted, aim_for, all_of, applied_to, begun, behind,
     called, counted, ended, first, has_parts, in_order, keyed_fields, level_of, made, only,
     ordered, raised, some_of, truth_literal, unnamed, what_is_raised, words_given,
 };
 use check_rules::{Cause, CheckFault};
-use check_selectors::{
-    Bracketed, Reached, Use, at_index, field, led_to, may_apply, places, settled, value,
-};
 use check_state::{Aim, Around, State, Typed, named, size};
-use check_values::{
-    Ends, compared, finish, is_truth, letter, not_of, number, signed, truth, truth_operand, within,
-};
 use held_trees::{LetGo, both, boxed, pushed};
 use mesa_base::{List, Place, Shared};
 use mesa_types::{Callee, Exprs, FieldType, Item, ItemKind, TypeTree, TypedExpr};

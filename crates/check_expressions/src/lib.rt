@@ -6,5 +6,6 @@ mod lists;
 mod literals;
 mod phrases;
 
+pub use check_operands;
 pub use expressions::Checker;
 pub use phrases::Phrases;

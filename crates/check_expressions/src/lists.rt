@@ -1,14 +1,14 @@
 //! What is asked of lists before their values, and lists without values.
-ghost use Rattle.interface_records.specs.PlainTypes as v;
+ghost use Rattle.check_rules.specs.interface_records.specs.PlainTypes as v;
 ghost use Rattle.check_state.specs.Gives.{Gives, GivesOnly};
 ghost use Rattle.check_state.specs.Views as words;
 ghost use Rattle.check_operands.specs.Lists as parts;
 ghost use Rattle.check_operands.specs.Views as view;
 ghost use Rattle.check_expressions.specs.Lists as lists;
 
+use check_operands::check_selectors::{Shape, shape_of};
 use check_operands::{Arguments, At, Raises, bare_raise, nothing_given};
 use check_rules::{Cause, CheckFault};
-use check_selectors::{Shape, shape_of};
 use check_state::{Aim, State, Typed};
 use mesa_base::Place;
 use mesa_types::{FieldType, TypeTree};

@@ -3,9 +3,9 @@ ghost use Rattle.check_state.specs.Gives.{Gives};
 ghost use Rattle.check_state.specs.Views as words;
 ghost use Rattle.check_expressions.specs.Lists as lists;
 
+use check_operands::check_values::{finish, string};
 use check_rules::CheckFault;
 use check_state::{Aim, Around, State, Typed};
-use check_values::{finish, string};
 use held_trees::both;
 use mesa_base::Place;
 use std::alloc::Global;

@@ -21,7 +21,7 @@ use Rattle.check_rules.specs.Ranges.{Into}
 use Rattle.check_rules.specs.Statements.{constant_meaning}
 use Rattle.check_rules.specs.Steps.{Fault, State, Check, Checked, and_then, ensure, only}
 use Rattle.check_rules.specs.declared.fault.Cause.TheVariants.{FrameTooLarge}
-use Rattle.check_expressions.proofs.Folding.{in_turn}
+use Rattle.check_written_types.specs.check_expressions.proofs.Folding.{in_turn}
 use Rattle.check_jumps.proofs.Tests.{at_drop}
 use Rattle.check_heads.specs.Again.{after}
 use Rattle.check_heads.specs.Forms as form

@@ -1,3 +1,4 @@
+pub use Rattle.check_faces
 pub mod Again
 pub mod Forms
 pub mod Views

@@ -10,11 +10,11 @@ ghost use Rattle.check_heads.specs.Views as view;
 
 use crate::headings::heading;
 use crate::items::item_names;
-use check_declared::{constant_meaning, few_operands, first_name};
-use check_expressions::{Checker, Phrases};
-use check_operands::first;
 use check_rules::CheckFault;
 use check_state::{Aim, Around, Meaning, State};
+use check_written_types::check_declared::{constant_meaning, few_operands, first_name};
+use check_written_types::check_expressions::{Checker, Phrases};
+use check_written_types::check_operands::first;
 use check_written_types::type_exp;
 use held_trees::{LetGo, both};
 use interface_records::{Constant, Constants, NamedType, NamedTypes};

@@ -10,10 +10,10 @@ ghost use Rattle.check_heads.specs.Views as view;
 
 use crate::heads::Heading;
 use crate::naming::name_parameters;
-use check_expressions::{Checker, Phrases};
 use check_rules::CheckFault;
 use check_scopes::Names;
 use check_state::{Around, Meaning, State};
+use check_written_types::check_expressions::{Checker, Phrases};
 use check_written_types::{and_fields, type_exp, unnamed_fields};
 use held_trees::both;
 use mesa_base::{Identifiers, List, OutOfMemory};

@@ -12,9 +12,9 @@ ghost use Rattle.check_heads.specs.Views as view;
 
 use crate::again::{Tries, second_fault};
 use crate::definitions::{AllDefined, definition};
-use check_expressions::{Checker, Phrases};
 use check_rules::CheckFault;
 use check_state::{Around, State};
+use check_written_types::check_expressions::{Checker, Phrases};
 use mesa_base::{Identifier, Identifiers, List, OutOfMemory};
 use std::alloc::Global;
 use syntax_trees::syntax::{Defined, Labeled};

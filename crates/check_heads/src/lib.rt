@@ -11,6 +11,7 @@ mod naming;
 mod scopes;
 
 pub use again::{Tries, second_fault};
+pub use check_faces;
 pub use definitions::AllDefined;
 pub use headings::heading;
 pub use heads::Heading;

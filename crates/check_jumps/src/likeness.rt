@@ -13,14 +13,14 @@ use mesa_types::{FieldType, Item, ItemKind};
 pub fn same_types(a: &[FieldType], b: &[FieldType]) -> bool
     ensures { result ≡ parts.same_types (view.fields a.now) (view.fields b.now) }
 {
-    typed_answers::same_types(a, b)
+    interface_records::typed_answers::same_types(a, b)
 }
 
 /// Whether the fields have the same names and types, in order.
 pub fn same_fields(a: &[FieldType], b: &[FieldType]) -> bool
     ensures { result ≡ parts.same_fields (view.fields a.now) (view.fields b.now) }
 {
-    typed_answers::same_fields(a, b)
+    interface_records::typed_answers::same_fields(a, b)
 }
 
 fn is_signal(kind: ItemKind) -> bool

@@ -1,8 +1,8 @@
 //! What is known of a module before what stands in it is read.
 ghost use Rattle.std.specs.Prelude.{◌≡◌, [], map, IfOk};
 ghost use Rattle.check_state.specs.Views as view;
-ghost use Rattle.check_rules.specs.CheckedModule as spec;
-ghost use Rattle.check_rules.specs.Mentions.{of_kind, texts};
+ghost use Rattle.check_mentions.specs.check_rules.specs.CheckedModule as spec;
+ghost use Rattle.check_mentions.specs.check_rules.specs.Mentions.{of_kind, texts};
 ghost use Rattle.interface_records.specs.PlainTypes.{plain_interface};
 ghost use Rattle.syntax_trees.specs.PlainSyntax.{kind, syntax};
 

@@ -4,4 +4,5 @@
 
 mod known;
 
+pub use check_directory;
 pub use known::known_of;

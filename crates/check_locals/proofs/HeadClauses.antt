@@ -14,8 +14,8 @@ use Rattle.check_rules.specs.Ranges.{Into}
 use Rattle.check_rules.specs.Scopes.{Scope, innermost}
 use Rattle.check_rules.specs.Statements.{Headed, Nothing, Variables, constant_meaning, declare, few_globals, meaning_of, variables}
 use Rattle.check_rules.specs.Steps.{Check, Checked, State, and_then, ◌>>=◌, lift, pure, seeing, top, with_top, within_operands}
-use Rattle.check_declared.specs.Naming.{declared}
-use Rattle.check_expressions.proofs.Folding.{in_turn}
+use Rattle.check_simple_statements.specs.check_declared.specs.Naming.{declared}
+use Rattle.check_simple_statements.specs.check_expressions.proofs.Folding.{in_turn}
 use Rattle.check_simple_statements.specs.Whole.{counting}
 use Rattle.check_simple_statements.proofs.WholeLaws.{numbered_is, within_is}
 use Rattle.check_locals.specs.Rules.{constant_head, constant_value, initial_head, type_head, valued, variable_head, whole_value}

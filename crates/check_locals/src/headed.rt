@@ -5,9 +5,9 @@ ghost use Rattle.check_state.specs.Gives.{Gives};
 ghost use Rattle.check_state.specs.Views as words;
 ghost use Rattle.check_locals.specs.Views as view;
 
-use check_declared::declare_variables;
 use check_rules::CheckFault;
 use check_scopes::Names;
+use check_simple_statements::check_declared::declare_variables;
 use check_state::{Around, Meaning, State};
 use held_trees::{InList, LetGo, both};
 use mesa_base::{Identifier, List};

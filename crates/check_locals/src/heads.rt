@@ -7,11 +7,11 @@ ghost use Rattle.check_locals.specs.Rules as rules;
 ghost use Rattle.check_locals.specs.Views as view;
 
 use crate::headed::{Headed, declare};
-use check_declared::{constant_meaning, first_name};
-use check_expressions::{Checker, Phrases};
-use check_operands::first;
 use check_rules::CheckFault;
-use check_selectors::let_meaning_go;
+use check_simple_statements::check_declared::{constant_meaning, first_name};
+use check_simple_statements::check_expressions::{Checker, Phrases};
+use check_simple_statements::check_operands::first;
+use check_simple_statements::check_selectors::let_meaning_go;
 use check_simple_statements::count_ended;
 use check_state::{Aim, Around, Meaning, State};
 use check_written_types::type_exp;

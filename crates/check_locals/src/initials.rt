@@ -13,13 +13,13 @@ ghost use Rattle.check_locals.specs.Rules as rules;
 ghost use Rattle.check_locals.specs.Views as view;
 
 use crate::headed::Headed;
-use check_declared::first_name;
-use check_expressions::{Checker, Phrases};
-use check_operands::first;
-use check_phrases::holds;
 use check_rules::CheckFault;
 use check_scopes::Names;
 use check_simple_statements::Whole;
+use check_simple_statements::check_declared::first_name;
+use check_simple_statements::check_expressions::{Checker, Phrases};
+use check_simple_statements::check_operands::first;
+use check_simple_statements::check_phrases::holds;
 use check_state::{Aim, Around, Meaning, State};
 use held_trees::{LetGo, both};
 use mesa_base::Identifier;

@@ -1,2 +1,3 @@
+pub use Rattle.check_rules
 pub mod Gathering
 pub mod Parts

@@ -1,3 +1,5 @@
+pub use Rattle.check_selectors.specs.check_values
+pub use Rattle.check_selectors
 pub mod Folds
 pub mod Lists
 pub mod Runs

@@ -13,7 +13,7 @@ use Rattle.check_rules.specs.Around.{Around}
 use Rattle.check_rules.specs.Checking as spec
 use Rattle.check_rules.specs.Names.{qualified}
 use Rattle.check_rules.specs.Parts.{first, last_of}
-use Rattle.interface_records.specs.PlainTypes.{PlainField, PlainType, words_of, words_of_fields}
+use Rattle.check_rules.specs.interface_records.specs.PlainTypes.{PlainField, PlainType, words_of, words_of_fields}
 use Rattle.check_rules.specs.Ranges.{Arguments}
 use Rattle.check_rules.specs.Reached.{Reached, Results, shape_of}
 use Rattle.check_rules.specs.Steps.{Check, Checked, ◌>>=◌, pure, lift, spend, ensure, refuse}

@@ -11,7 +11,7 @@ use Rattle.check_rules.specs.Around.{Around}
 use Rattle.check_rules.specs.Checking as spec
 use Rattle.check_rules.specs.Names.{named}
 use Rattle.check_rules.specs.Parts.{and_operation, first}
-use Rattle.interface_records.specs.PlainTypes.{PlainType, PlainItem, words_of_fields}
+use Rattle.check_rules.specs.interface_records.specs.PlainTypes.{PlainType, PlainItem, words_of_fields}
 use Rattle.check_rules.specs.Ranges.{Typed, Aim, Free, finish}
 use Rattle.check_rules.specs.Meanings.{Meaning, Procedure, TypeName}
 use Rattle.check_rules.specs.Reached.{Reached, Variable, Value, Results, Named, Use, Read, Bracketed, at_index, indexed, reached, text_at, value}

@@ -6,7 +6,7 @@ use Rattle.mesa_types.specs.Plain.{expr}
 use Rattle.mesa_types.specs.Typed as t
 use Rattle.mesa_types.specs.declared.typed_tree.Operation.{Operation}
 use Rattle.mesa_types.specs.declared.typed_tree.TypedExpr.{TypedExpr}
-use Rattle.interface_records.specs.PlainTypes.{PlainType, plain, plain_item}
+use Rattle.check_rules.specs.interface_records.specs.PlainTypes.{PlainType, plain, plain_item}
 use Rattle.check_rules.specs.Ranges as ranges
 use Rattle.check_rules.specs.Reached as reached
 use Rattle.check_rules.specs.Values as values

@@ -2,7 +2,7 @@
 ghost use Rattle.std.specs.Prelude.{◌≡◌, [], option_map, true, IfOk};
 ghost use Rattle.std.specs.Option.{option_copied};
 ghost use Rattle.mesa_types.specs.Plain.{expr, phrase};
-ghost use Rattle.interface_records.specs.PlainTypes.{PlainField, plain, plain_field};
+ghost use Rattle.check_rules.specs.interface_records.specs.PlainTypes.{PlainField, plain, plain_field};
 ghost use Rattle.check_rules.specs.Typed as t;
 ghost use Rattle.check_rules.specs.Reached as rule;
 ghost use Rattle.check_rules.specs.Values as spec;

@@ -11,6 +11,8 @@ pub use arguments::{
     has_parts, in_order, keyed_fields, made, nothing_given, ordered, raised, unnamed,
     what_is_raised, words_given,
 };
+pub use check_selectors;
+pub use check_selectors::check_values;
 pub use first_tokens::{first, first_of_interval};
 pub use steps::{
     At, Level, Sum, all_of, begun, behind, ended, level_of, only, some_of, truth_literal,

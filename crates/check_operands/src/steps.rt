@@ -5,24 +5,24 @@ ghost use Rattle.mesa_types.specs.Operators as operators;
 ghost use Rattle.syntax_trees.specs.PlainSyntax as tree;
 ghost use Rattle.mesa_types.specs.Typed as t;
 ghost use Rattle.check_rules.specs.Parts.{and_operation};
-ghost use Rattle.interface_records.specs.PlainTypes.{plain};
+ghost use Rattle.check_rules.specs.interface_records.specs.PlainTypes.{plain};
 ghost use Rattle.check_rules.specs.Values as spec;
 ghost use Rattle.check_state.specs.Gives.{GivesOnly};
 ghost use Rattle.check_state.specs.Views.{typed};
-ghost use Rattle.check_values.specs.Views as values;
+ghost use Rattle.check_selectors.specs.check_values.specs.Views as values;
 ghost use Rattle.check_operands.specs.Runs as runs;
 ghost use Rattle.check_operands.specs.Views as view;
 
 use check_rules::CheckFault;
+use check_rules::typed_answers::truth as word_of;
 use check_selectors::Reached;
+use check_selectors::check_values::{Done, step, truth};
 use check_state::{Typed, of_kind};
-use check_values::{Done, step, truth};
 use held_trees::{LetGo, both, boxed, pushed};
 use mesa_base::{List, OutOfMemory, Place};
 use mesa_types::{Exprs, Operation, Operations, Operator, Range, TypeTree, TypedExpr};
 use std::alloc::Global;
 use syntax_trees::syntax;
-use typed_answers::truth as word_of;
 
 /// Where suffixes have led: the place of the last name, and what was reached.
 pub struct At {

@@ -6,7 +6,7 @@ use Rattle.syntax_trees.specs.declared.syntax.Declaration.{Declaration}
 use Rattle.check_rules.specs.Around.{Around}
 use Rattle.check_rules.specs.Programs.{before_others, declaration}
 use Rattle.check_rules.specs.Steps.{State, Fault}
-use Rattle.check_jumps.proofs.Tests.{at_drop}
+use Rattle.check_statement_lists.specs.check_jumps.proofs.Tests.{at_drop}
 use Rattle.check_programs.specs.Again.{dropped, next_rule, or_before, so_far}
 use Rattle.check_programs.specs.Found.{Found}
 use Rattle.check_programs.proofs.AgainLaws.{before_is, so_far_more, value_dropped}

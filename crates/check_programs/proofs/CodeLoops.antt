@@ -6,7 +6,7 @@ use Rattle.syntax_trees.specs.declared.syntax.Declaration.{Declaration}
 use Rattle.check_rules.specs.Around.{Around}
 use Rattle.check_rules.specs.Programs.{Values, before_others, declaration, value_of}
 use Rattle.check_rules.specs.Steps.{State, Fault}
-use Rattle.check_jumps.proofs.Tests.{at_drop}
+use Rattle.check_statement_lists.specs.check_jumps.proofs.Tests.{at_drop}
 use Rattle.check_programs.specs.Again.{next_rule}
 use Rattle.check_programs.specs.Found.{Found}
 use Rattle.check_programs.specs.Turns.{behind, no_values}

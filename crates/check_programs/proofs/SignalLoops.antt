@@ -10,7 +10,7 @@ use Rattle.interface_records.specs.PlainTypes.{PlainItem, plain_item}
 use Rattle.check_rules.specs.Programs.{Offer, procedure_offer, signal_meanings, signal_offers}
 use Rattle.check_rules.specs.Steps.{State}
 use Rattle.check_rules.specs.Typed.{OwnSignal}
-use Rattle.check_jumps.proofs.Tests.{at_drop}
+use Rattle.check_statement_lists.specs.check_jumps.proofs.Tests.{at_drop}
 use Rattle.check_programs.proofs.FoundLaws.{append_nil}
 
 is_below : (a n : ℕ) → true ≡ nat_le a n → a ≤ n

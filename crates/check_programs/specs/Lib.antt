@@ -1,3 +1,5 @@
+pub use Rattle.check_heads
+pub use Rattle.check_heads.specs.check_faces
 pub mod Again
 pub mod Found
 pub mod Frames

@@ -4,7 +4,7 @@ use Rattle.mesa_types.specs.Plain.{kinds_of, plain_body, plain_procedure, stmt}
 use Rattle.mesa_types.specs.Typed as t
 use Rattle.interface_records.specs.PlainTypes.{plain_item}
 use Rattle.check_rules.specs.Programs as program
-use Rattle.check_faces.specs.Offers.{offer}
+use Rattle.check_heads.specs.check_faces.specs.Offers.{offer}
 use Rattle.check_state.specs.Views.{names}
 use Rattle.check_programs.specs.Found as found_rule
 use Rattle.check_programs.specs.Shown as shown_rule
@@ -16,7 +16,7 @@ use Rattle.check_programs.specs.declared.values.Value.TheVariants as value_varia
 use Rattle.check_programs.specs.declared.values.Values.{Values}
 use Rattle.check_programs.specs.declared.whole.Parts.{Parts}
 use Rattle.check_programs.specs.declared.whole.Whole.{Whole}
-use Rattle.check_locals.specs.Views.{headed}
+use Rattle.check_statements.specs.check_locals.specs.Views.{headed}
 use Rattle.check_statement_lists.specs.Views.{stmts}
 
 abbrev pub stated : Stated → program.Stated

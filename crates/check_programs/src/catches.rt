@@ -1,8 +1,8 @@
 //! What checks the catch phrases of heads and initial values.
 
-use check_expressions::Phrases;
 use check_rules::CheckFault;
 use check_state::{Around, State};
+use check_statement_lists::check_expressions::Phrases;
 use check_statements::phrase;
 use mesa_types::Phrase;
 use std::alloc::Global;

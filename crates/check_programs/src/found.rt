@@ -3,10 +3,10 @@ ghost use Rattle.std.specs.Prelude.{◌≡◌, ◌+◌, length, IfOk};
 ghost use Rattle.check_programs.specs.Found as spec;
 ghost use Rattle.check_programs.specs.Views as view;
 
-use check_faces::Offer;
-use check_locals::Headed;
+use check_heads::check_faces::Offer;
 use check_scopes::Names;
 use check_state::{Meaning, narrow, next};
+use check_statements::check_locals::Headed;
 use mesa_base::{List, OutOfMemory, Shared};
 use mesa_types::Item;
 use std::alloc::Global;

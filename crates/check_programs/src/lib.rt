@@ -14,6 +14,9 @@ mod values;
 mod whole;
 
 pub use catches::Catches;
+pub use check_heads;
+pub use check_heads::check_faces;
+pub use check_statement_lists::check_expressions;
 pub use found::{Found, ProcedureHead, Stated};
 pub use procedures::around_body;
 pub use trying::all_declared;

@@ -1,10 +1,10 @@
 //! What is public.
 ghost use Rattle.std.specs.Prelude.{◌≡◌, [], ◌∷◌, ◌++◌, map, OnOk, IfOk};
-ghost use Rattle.check_faces.specs.Offers.{offer};
+ghost use Rattle.check_heads.specs.check_faces.specs.Offers.{offer};
 ghost use Rattle.interface_records.specs.PlainTypes.{plain_item};
 ghost use Rattle.check_rules.specs.Programs as spec;
 
-use check_faces::Offer;
+use check_heads::check_faces::Offer;
 use check_state::next;
 use mesa_base::{Identifier, OutOfMemory, Shared};
 use mesa_types::Item;

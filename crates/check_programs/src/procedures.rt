@@ -12,10 +12,10 @@ ghost use Rattle.syntax_trees.specs.PlainSyntax as plain;
 
 use crate::found::ProcedureHead;
 use crate::frames::{close_frame, few_locals, open_frame};
-use check_declared::{few_operands, first_name};
 use check_rules::CheckFault;
 use check_scopes::Names;
 use check_state::{ArmHere, Around, Known, Meaning, State};
+use check_statement_lists::check_declared::{few_operands, first_name};
 use check_statements::block;
 use held_trees::{both, shared};
 use mesa_base::{Identifier, OutOfMemory};

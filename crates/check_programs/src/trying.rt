@@ -14,10 +14,10 @@ ghost use Rattle.syntax_trees.specs.declared.syntax.Declaration.{Declaration as 
 use crate::catches::Catches;
 use crate::declaring::declaration;
 use crate::found::{Found, Numbers};
-use check_expressions::Checker;
 use check_heads::{Starts, Tries, second_fault};
 use check_rules::CheckFault;
 use check_state::{Around, State};
+use check_statement_lists::check_expressions::Checker;
 use mesa_base::Identifier;
 use syntax_trees::syntax::Declaration;
 

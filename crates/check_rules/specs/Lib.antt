@@ -1,3 +1,6 @@
+pub use Rattle.syntax_trees
+pub use Rattle.mesa_types
+pub use Rattle.interface_records
 pub mod Around
 pub mod Checking
 pub mod CheckedModule

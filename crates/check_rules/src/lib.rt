@@ -5,3 +5,8 @@ mod fault;
 pub mod laws;
 
 pub use fault::{Cause, CheckFault};
+pub use interface_records::typed_answers;
+pub use mesa_base;
+pub use mesa_types;
+pub use mesa_types::held_trees;
+pub use syntax_trees;

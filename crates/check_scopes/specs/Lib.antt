@@ -1,3 +1,4 @@
+pub use Rattle.mesa_base
 pub mod Counts
 pub mod Marks
 pub mod Scopes

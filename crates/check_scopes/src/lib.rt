@@ -10,5 +10,6 @@ mod scopes;
 pub use index::Index;
 pub use layers::shared_all;
 pub use marks::Marks;
+pub use mesa_base;
 pub use names::Names;
 pub use scopes::Scopes;

@@ -6,7 +6,7 @@ use Rattle.std.specs.Option.{option_or}
 use Rattle.std.specs.Prelude.{cond, bytes_eq, option_map, nat_eq, if◌then◌else◌}
 use Rattle.std.specs.Cmp.Lexicographic.{nat_list_eq_equiv}
 use Rattle.mesa_base.specs.declared.identifier.Identifier.{Identifier}
-use Rattle.syntax_trees.specs.declared.syntax.Keyed.{Keyed}
+use Rattle.check_rules.specs.syntax_trees.specs.declared.syntax.Keyed.{Keyed}
 use Rattle.mesa_types.specs.declared.types.FieldType.{FieldType, out-FieldType}
 use Rattle.check_scopes.specs.Scopes.{Scope, nothing, over, with_name, has}
 use Rattle.interface_records.specs.PlainTypes.{PlainField, PlainType, plain_field, words_of}

@@ -1,18 +1,18 @@
 //! Lists in which each value has the name of a field as its key.
 ghost use Rattle.std.specs.Prelude.{◌≡◌, ◌++◌, ◌∷◌, [], map, true, IfOk, OnOk};
 ghost use Rattle.mesa_base.specs.declared.identifier.Identifier.{Identifier};
-ghost use Rattle.syntax_trees.specs.declared.syntax.Keyed.{Keyed};
+ghost use Rattle.check_rules.specs.syntax_trees.specs.declared.syntax.Keyed.{Keyed};
 ghost use Rattle.interface_records.specs.PlainTypes.{plain_field};
 ghost use Rattle.check_scopes.specs.Scopes.{over, with_name};
 ghost use Rattle.check_scopes.specs.Shows.{means};
 ghost use Rattle.check_selectors.specs.Keys as spec;
 
+use check_rules::syntax_trees::syntax::Keyed;
 use check_scopes::Names;
 use check_state::next;
 use mesa_base::{Identifier, List, Name, Numbers, OutOfMemory};
 use mesa_types::FieldType;
 use std::alloc::Global;
-use syntax_trees::syntax::Keyed;
 
 fn and_field(
     alloc: Global,

@@ -7,6 +7,7 @@ mod keys;
 mod reached;
 
 pub use brackets::{Bracketed, at_index, indexed, text_at};
+pub use check_values;
 pub use fields::{Found, field, field_named};
 pub use keys::places;
 pub use reached::{

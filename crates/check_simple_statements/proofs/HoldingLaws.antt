@@ -13,7 +13,7 @@ use Rattle.syntax_trees.specs.declared.syntax.Test.{Test}
 use Rattle.syntax_trees.specs.declared.syntax.Test.TheVariants.{Inside}
 use Rattle.syntax_trees.proofs.PlainForms.{of_inside, parts_of_case}
 use Rattle.check_rules.specs.Phrases.{in_cases, in_interval, in_keyed_lefts, in_left, in_lefts, in_tests}
-use Rattle.check_jumps.proofs.Tests.{at_drop}
+use Rattle.check_declared.specs.check_jumps.proofs.Tests.{at_drop}
 
 pub lefts_at : (all : List Left) (i : ℕ) (x : Left) → i < length all → x ≡ get_or all i x
     → in_lefts (plain.lefts (drop i all)) ≡ (in_left (plain.left x) || in_lefts (plain.lefts (drop (i + 1) all)))

@@ -9,7 +9,7 @@ use Rattle.check_scopes.specs.Scopes.{Scope, over}
 use Rattle.check_rules.specs.Parts.{Found, found, has_name}
 use Rattle.interface_records.specs.PlainTypes.{PlainField, PlainType, plain, plain_field, words_of}
 use Rattle.check_state.proofs.TypeForms.{parts_of_field}
-use Rattle.check_jumps.proofs.Tests.{at_drop}
+use Rattle.check_declared.specs.check_jumps.proofs.Tests.{at_drop}
 use Rattle.check_simple_statements.specs.Spots.{named_spot, spot}
 use Rattle.check_simple_statements.specs.declared.spots.Spot.{Spot}
 

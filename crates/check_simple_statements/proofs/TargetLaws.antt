@@ -25,7 +25,7 @@ use Rattle.check_rules.specs.Statements.{extracted}
 use Rattle.check_rules.specs.Steps.{Checked, State, and_then, ensure, only, or_refuse, refuse}
 use Rattle.check_rules.specs.declared.fault.Cause.TheVariants.{TwiceDeclared, WrongCount}
 use Rattle.check_declared.specs.Naming.{HasNames}
-use Rattle.check_jumps.proofs.Tests.{at_drop}
+use Rattle.check_declared.specs.check_jumps.proofs.Tests.{at_drop}
 use Rattle.check_expressions.proofs.Folding.{in_turn}
 use Rattle.check_simple_statements.specs.Views as view
 use Rattle.check_simple_statements.specs.Rules.{keyed_target, next_target, target_for}

@@ -35,7 +35,7 @@ use Rattle.check_rules.specs.Parts.{first}
 use Rattle.check_rules.specs.Ranges.{Typed}
 use Rattle.check_rules.specs.Statements.{tested, tested_inside}
 use Rattle.check_rules.specs.Steps.{Checked, State, and_then, ◌>>=◌, lift}
-use Rattle.check_jumps.proofs.Tests.{at_drop}
+use Rattle.check_declared.specs.check_jumps.proofs.Tests.{at_drop}
 use Rattle.check_operands.specs.Runs.{freely}
 use Rattle.check_expressions.proofs.Folding.{in_turn}
 use Rattle.check_simple_statements.specs.Rules.{first_test}

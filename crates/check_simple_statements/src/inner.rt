@@ -13,9 +13,9 @@ ghost use Rattle.check_simple_statements.specs.Rules as rules;
 ghost use Rattle.check_simple_statements.specs.Views as view;
 
 use crate::storing::{target, targets};
+use check_declared::check_jumps::{resumed, return_jump};
 use check_declared::{Source, source_of};
 use check_expressions::{Checker, Phrases};
-use check_jumps::{resumed, return_jump};
 use check_operands::{Arguments, At, first, nothing_given};
 use check_rules::{Cause, CheckFault};
 use check_selectors::{Target, Use, led_to, performed};

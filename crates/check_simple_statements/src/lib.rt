@@ -10,6 +10,11 @@ mod statements;
 mod storing;
 mod whole;
 
+pub use check_declared;
+pub use check_expressions;
+pub use check_operands;
+pub use check_phrases;
+pub use check_selectors;
 pub use controls::{Controlled, Counted, control, looped, truth_of};
 pub use holding::cases_hold;
 pub use selecting::tests;

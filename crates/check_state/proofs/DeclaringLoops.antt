@@ -2,8 +2,8 @@
 use Rattle.std.proofs.Common.{◌≡◌, ◌<◌, ◌≤◌, ◌+◌, ℕ, Bool, true, false, List, ◌∷◌, map, drop, length, get_or, Ok, refl, sym, ap, ◌∙◌}
 use Rattle.std.specs.Prelude.{not}
 use Rattle.std.proofs.lemmas.List.{drop_more, drop_all}
-use Rattle.mesa_base.specs.declared.identifier.Identifier.{Identifier}
-use Rattle.mesa_base.specs.declared.place.Place.{Place}
+use Rattle.mesa_types.specs.mesa_base.specs.declared.identifier.Identifier.{Identifier}
+use Rattle.mesa_types.specs.mesa_base.specs.declared.place.Place.{Place}
 use Rattle.check_rules.specs.Meanings.{Meaning, Later}
 use Rattle.check_rules.specs.Names.{announce, settle, shown, each_means, is_declared, coming}
 use Rattle.check_rules.specs.Steps.{State, Checked, and_then, only}

@@ -2,7 +2,7 @@
 use Rattle.std.proofs.Common.{◌≡◌, ℕ, zero, suc, Bool, true, false, List, [], ◌∷◌, map, Option, Some, None, refl, sym, ap, ◌∙◌}
 use Rattle.std.specs.Option.{option_or}
 use Rattle.std.specs.Prelude.{cond, bytes_eq, option_map, unwrap_or, is_some, slice_get}
-use Rattle.check_scopes.specs.Scopes.{Scope, with_name, over, find, innermost, outer}
+use Rattle.interface_records.specs.check_scopes.specs.Scopes.{Scope, with_name, over, find, innermost, outer}
 use Rattle.check_rules.specs.Names.{or_empty}
 use Rattle.check_state.specs.Views.{seen_as}
 

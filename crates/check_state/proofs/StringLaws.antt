@@ -5,8 +5,8 @@ use Rattle.std.specs.Option.{option_or}
 use Rattle.std.specs.Prelude.{cond, nat_le}
 use Rattle.std.specs.Str.{bytes_eq}
 use Rattle.std.specs.Cmp.Lexicographic.{nat_list_eq_equiv}
-use Rattle.mesa_base.specs.declared.limits.TheConstants.{DISTINCT_STRINGS}
-use Rattle.check_scopes.specs.Scopes.{Scope, with_name, over, nothing}
+use Rattle.mesa_types.specs.mesa_base.specs.declared.limits.TheConstants.{DISTINCT_STRINGS}
+use Rattle.interface_records.specs.check_scopes.specs.Scopes.{Scope, with_name, over, nothing}
 use Rattle.check_rules.specs.Values.{number_in}
 
 abbrev pub numbers : ℕ → List (List ℕ) → Scope ℕ

@@ -1,6 +1,6 @@
 -- One step of what is announced.
 use Rattle.std.specs.Prelude.{Ok, not}
-use Rattle.mesa_base.specs.declared.identifier.Identifier.{Identifier}
+use Rattle.mesa_types.specs.mesa_base.specs.declared.identifier.Identifier.{Identifier}
 use Rattle.check_rules.specs.Meanings.{Later}
 use Rattle.check_rules.specs.Names.{is_declared, coming}
 use Rattle.check_rules.specs.Steps.{Check, and_then, only}

@@ -4,10 +4,10 @@ use Rattle.std.specs.Option.{option_copied}
 use denote.Ref.{Bor}
 use Rattle.mesa_types.specs.Plain.{expr, kinds_of}
 use Rattle.mesa_types.specs.declared.types.FieldType.{FieldType}
-use Rattle.check_scopes.specs.Scopes.{Scope, nothing, over}
-use Rattle.check_scopes.specs.Shows.{means, shows}
-use Rattle.check_scopes.specs.declared.names.Names.{Names}
-use Rattle.check_scopes.specs.declared.scopes.Scopes.{Scopes}
+use Rattle.interface_records.specs.check_scopes.specs.Scopes.{Scope, nothing, over}
+use Rattle.interface_records.specs.check_scopes.specs.Shows.{means, shows}
+use Rattle.interface_records.specs.check_scopes.specs.declared.names.Names.{Names}
+use Rattle.interface_records.specs.check_scopes.specs.declared.scopes.Scopes.{Scopes}
 use Rattle.interface_records.specs.PlainTypes.{PlainField, plain, plain_field, plain_item}
 use Rattle.check_rules.specs.Meanings as m
 use Rattle.check_rules.specs.Names.{or_nothing}

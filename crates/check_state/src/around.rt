@@ -6,8 +6,8 @@ ghost use Rattle.check_state.specs.Views as view;
 use crate::counts::next;
 use crate::known::Known;
 use crate::meaning::Meaning;
-use check_scopes::Names;
-use mesa_base::{OutOfMemory, Place, Shared};
+use interface_records::check_scopes::Names;
+use mesa_types::mesa_base::{OutOfMemory, Place, Shared};
 use mesa_types::{FieldType, Item, Raised};
 
 /// A label, with the number of arms around it.

@@ -1,7 +1,7 @@
 //! Counts of words and numbers. One that has no room in its type is no module's, and wants memory.
 ghost use Rattle.std.specs.Prelude.{◌≡◌, ◌+◌, IfOk};
 
-use mesa_base::OutOfMemory;
+use mesa_types::mesa_base::OutOfMemory;
 
 pub fn sum(count: u64, more: u32) -> Result<u64, OutOfMemory>
     ensures { IfOk result (λ both. both ≡ count + more) }

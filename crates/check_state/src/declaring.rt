@@ -8,8 +8,8 @@ ghost use Rattle.check_state.specs.Views as view;
 use crate::meaning::Meaning;
 use crate::state::State;
 use check_rules::{Cause, CheckFault};
-use check_scopes::Names;
-use mesa_base::{Identifier, OutOfMemory};
+use interface_records::check_scopes::Names;
+use mesa_types::mesa_base::{Identifier, OutOfMemory};
 use std::alloc::Global;
 use std::mem::replace;
 

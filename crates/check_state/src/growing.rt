@@ -2,9 +2,9 @@
 ghost use Rattle.std.specs.Prelude.{◌≡◌, [], ◌∷◌, ◌++◌, IfOk, OnOk, IfErr};
 ghost use Rattle.check_state.specs.Growing.{together};
 
-use check_scopes::shared_all;
-use held_trees::{both, put};
-use mesa_base::{List, Name, OutOfMemory, Shared};
+use interface_records::check_scopes::shared_all;
+use mesa_types::held_trees::{both, put};
+use mesa_types::mesa_base::{List, Name, OutOfMemory, Shared};
 use mesa_types::{FieldType, Fields};
 use std::alloc::{AllocFailed, Global};
 use std::marker::Model;

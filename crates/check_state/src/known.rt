@@ -1,8 +1,8 @@
 use crate::meaning::Meaning;
 use crate::origins::Origins;
 use crate::strings::Strings;
-use check_scopes::Names;
-use mesa_base::{Name, Stamp};
+use interface_records::check_scopes::Names;
+use mesa_types::mesa_base::{Name, Stamp};
 
 /// Of the module.
 #[derive(Drop)]

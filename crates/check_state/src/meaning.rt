@@ -1,6 +1,6 @@
 ghost use Rattle.std.specs.Prelude.{◌≡◌, IfOk};
 
-use mesa_base::{OutOfMemory, Shared};
+use mesa_types::mesa_base::{OutOfMemory, Shared};
 use mesa_types::{Callee, Home, Item, Raised, TypeTree};
 use std::alloc::Global;
 

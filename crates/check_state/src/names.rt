@@ -12,13 +12,13 @@ use crate::around::Around;
 use crate::meaning::Meaning;
 use crate::state::State;
 use crate::types::base_of;
+use check_rules::syntax_trees::syntax::{QualifiedName, TypeBase};
 use check_rules::{Cause, CheckFault};
-use check_scopes::Names;
-use mesa_base::{Identifier, OutOfMemory, Place};
+use interface_records::check_scopes::Names;
 use mesa_types::TypeTree;
+use mesa_types::mesa_base::{Identifier, OutOfMemory, Place};
 use std::alloc::Global;
 use std::mem::drop;
-use syntax_trees::syntax::{QualifiedName, TypeBase};
 
 fn shared(alloc: Global, found: Option<&Meaning>) -> Result<Option<Meaning>, OutOfMemory>
     ensures { IfOk result (λ copy. copy ≡ option_copied found.entry) }

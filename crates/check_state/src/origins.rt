@@ -1,7 +1,7 @@
 //! The tokens at which the records and enumerations of a module begin.
 ghost use Rattle.std.specs.Prelude.{◌≡◌, filter, length, nat_lt, IfOk};
 
-use mesa_base::{Numbers, OutOfMemory};
+use mesa_types::mesa_base::{Numbers, OutOfMemory};
 use std::alloc::Global;
 use std::marker::Model;
 

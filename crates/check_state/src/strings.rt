@@ -1,11 +1,11 @@
 //! The distinct string literals of a module, each with its number.
 ghost use Rattle.std.specs.Prelude.{◌≡◌, [], List as Items, ℕ, take, IfOk};
-ghost use Rattle.check_scopes.specs.Shows.{means};
+ghost use Rattle.interface_records.specs.check_scopes.specs.Shows.{means};
 ghost use Rattle.check_rules.specs.Values.{number_in};
 
-use check_scopes::Names;
-use mesa_base::limits::DISTINCT_STRINGS;
-use mesa_base::{Bytes, List, OutOfMemory, Texts};
+use interface_records::check_scopes::Names;
+use mesa_types::mesa_base::limits::DISTINCT_STRINGS;
+use mesa_types::mesa_base::{Bytes, List, OutOfMemory, Texts};
 use std::alloc::Global;
 use std::marker::Model;
 
@@ -18,7 +18,7 @@ pub struct Strings {
 
 impl Model for Strings {
     ghost use Rattle.std.specs.Prelude.{◌≡◌, List, ℕ};
-    ghost use Rattle.check_scopes.specs.Shows.{means};
+    ghost use Rattle.interface_records.specs.check_scopes.specs.Shows.{means};
     ghost use Rattle.check_rules.specs.Values.{number_in};
 
     ghost Value = { List (List ℕ) };

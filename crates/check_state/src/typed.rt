@@ -4,8 +4,8 @@ ghost use Rattle.interface_records.specs.PlainTypes.{plain};
 ghost use Rattle.check_rules.specs.Ranges as spec;
 ghost use Rattle.check_state.specs.Views as view;
 
-use held_trees::LetGo;
-use mesa_base::{Place, Shared};
+use mesa_types::held_trees::LetGo;
+use mesa_types::mesa_base::{Place, Shared};
 use mesa_types::{Item, TypeTree, TypedExpr};
 
 /// What an expression gave where it is a call or raise: nothing, or the results of this head.

@@ -4,14 +4,14 @@ ghost use Rattle.std.specs.Option.{option_copied};
 ghost use Rattle.interface_records.specs.PlainTypes as spec;
 ghost use Rattle.interface_records.specs.PlainTypes.{plain, plain_field};
 
-use mesa_base::OutOfMemory;
+use mesa_types::mesa_base::OutOfMemory;
 use mesa_types::{Base, FieldType, TypeTree};
 
 /// Whether two types are the same.
 pub fn same(a: &TypeTree, b: &TypeTree) -> bool
     ensures { result ≡ spec.same (plain a.now) (plain b.now) }
 {
-    typed_answers::same_type(a, b)
+    interface_records::typed_answers::same_type(a, b)
 }
 
 #[tactic(auto, using(crate::proofs::TypeForms::type_forms))]
@@ -124,7 +124,7 @@ pub fn fields(t: &TypeTree) -> Option<&[FieldType]>
 pub fn base_of(t: &TypeTree) -> Option<&TypeTree>
     ensures { option_map plain (option_copied result) ≡ spec.base_of (plain t.now) }
 {
-    typed_answers::base(t)
+    interface_records::typed_answers::base(t)
 }
 
 fn is_number(t: &TypeTree) -> bool
@@ -174,7 +174,7 @@ pub fn sign_of(t: &TypeTree) -> Base
 pub fn elements_of(t: &TypeTree) -> usize
     ensures { result ≡ spec.elements_of (plain t.now) }
 {
-    typed_answers::elements(t)
+    interface_records::typed_answers::elements(t)
 }
 
 /// The size of a type in words, or 4,294,967,295 where it is greater.
@@ -182,7 +182,7 @@ pub fn elements_of(t: &TypeTree) -> usize
 pub fn words_of(t: &TypeTree) -> u32
     ensures { result ≡ min (spec.words_of (plain t.now)) 4294967295 }
 {
-    typed_answers::size_words(t)
+    interface_records::typed_answers::size_words(t)
 }
 
 /// The size of fields, parameters or results together, or 4,294,967,295 where it is greater.
@@ -190,7 +190,7 @@ pub fn words_of(t: &TypeTree) -> u32
 pub fn words_of_fields(fields: &[FieldType]) -> u32
     ensures { result ≡ min (spec.words_of_fields (map plain_field fields.now)) 4294967295 }
 {
-    typed_answers::fields_words(fields)
+    interface_records::typed_answers::fields_words(fields)
 }
 
 /// The size of a type in words, which each type of a module has.

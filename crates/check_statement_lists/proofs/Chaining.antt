@@ -2,7 +2,7 @@
 use Rattle.std.proofs.Common.{◌≡◌, ◌<◌, ◌≤◌, ◌+◌, ℕ, List, [], ◌∷◌, drop, length, get_or, Ok, Err, refl, sym, ap, ◌∙◌}
 use Rattle.std.proofs.lemmas.List.{drop_all}
 use Rattle.check_rules.specs.Steps.{Check, Checked, Fault, State, and_then, ◌>>=◌, pure}
-use Rattle.check_jumps.proofs.Tests.{at_drop}
+use Rattle.check_declared.specs.check_jumps.proofs.Tests.{at_drop}
 
 -- ---- steps one after the other
 

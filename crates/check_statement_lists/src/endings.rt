@@ -14,8 +14,8 @@ ghost use Rattle.check_statement_lists.specs.Views as views;
 
 use crate::nesting::Nested;
 use crate::phrases::NestedChecker;
+use check_declared::check_jumps::names_of;
 use check_declared::{different, new_labels, numbers_from};
-use check_jumps::names_of;
 use check_rules::CheckFault;
 use check_scopes::Names;
 use check_state::{Around, State};

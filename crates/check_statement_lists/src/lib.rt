@@ -6,6 +6,9 @@ mod lists;
 mod nesting;
 mod phrases;
 
+pub use check_declared;
+pub use check_declared::check_jumps;
+pub use check_expressions;
 pub use endings::Left;
 pub use nesting::{Nested, StatementFunction};
 pub use phrases::NestedChecker;

@@ -11,8 +11,8 @@ ghost use Rattle.check_statement_lists.specs.Turns as turns;
 ghost use Rattle.check_statement_lists.specs.Views as views;
 
 use crate::nesting::Nested;
+use check_declared::check_jumps::{ArmPlace, arm_labels, enter_arm, in_arm, labels_of};
 use check_expressions::Phrases;
-use check_jumps::{ArmPlace, arm_labels, enter_arm, in_arm, labels_of};
 use check_rules::CheckFault;
 use check_scopes::Names;
 use check_state::{Around, Meaning, State};

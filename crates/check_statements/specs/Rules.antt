@@ -7,7 +7,7 @@ use Rattle.check_rules.specs.Checking as spec
 use Rattle.check_rules.specs.Scopes.{nothing}
 use Rattle.check_rules.specs.Statements.{Held, labels_of_exits, labels_of_repeats, looped}
 use Rattle.check_rules.specs.Steps.{Check, ◌>>=◌, pure, hide, in_scope}
-use Rattle.check_operands.specs.Runs.{freely}
+use Rattle.check_simple_statements.specs.check_operands.specs.Runs.{freely}
 use Rattle.check_simple_statements.specs.Rules.{truth_of}
 use Rattle.check_statement_lists.specs.Turns.{statements_behind}
 

@@ -6,8 +6,8 @@ ghost use Rattle.check_rules.specs.Checking as spec;
 ghost use Rattle.check_state.specs.Gives.{Gives};
 ghost use Rattle.check_state.specs.Views as view;
 
-use check_expressions::{Checker, Phrases};
 use check_rules::CheckFault;
+use check_simple_statements::check_expressions::{Checker, Phrases};
 use check_state::{Around, State};
 use check_statement_lists::{Nested, NestedChecker};
 use mesa_types::{Phrase, TypedStmt};

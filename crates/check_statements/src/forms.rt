@@ -7,13 +7,15 @@ ghost use Rattle.check_state.specs.Views as view;
 
 use crate::checker::StatementChecker;
 use crate::making::nothing;
-use check_jumps::{continue_arm, exit_loop, go_to, next_round, reject, retry};
 use check_rules::CheckFault;
 use check_simple_statements::{
     assign, call, extract, raise_statement, resume_statement, return_statement,
 };
 use check_state::{Around, State};
 use check_statement_lists::Nested;
+use check_statement_lists::check_jumps::{
+    continue_arm, exit_loop, go_to, next_round, reject, retry,
+};
 use mesa_types::TypedStmt;
 use syntax_trees::syntax::Statement;
 

@@ -11,4 +11,5 @@ mod making;
 mod numbered;
 mod selections;
 
+pub use check_locals;
 pub use checking::{block, exits, phrase, statements_behind};

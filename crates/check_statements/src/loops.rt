@@ -10,11 +10,11 @@ ghost use Rattle.check_statements.specs.Rules as rules;
 
 use crate::checker::StatementChecker;
 use crate::making::{block_of, loop_of, marked, no_exits};
-use check_jumps::{in_round, labels_of_repeats};
 use check_rules::CheckFault;
 use check_simple_statements::{Controlled, Whole, control, looped};
 use check_state::{Around, State};
 use check_statement_lists::Nested;
+use check_statement_lists::check_jumps::{in_round, labels_of_repeats};
 use held_trees::{both, boxed};
 use mesa_base::Place;
 use mesa_types::TypedStmt;

@@ -13,9 +13,9 @@ ghost use Rattle.check_statements.specs.Views as views;
 
 use crate::checker::StatementChecker;
 use crate::making::{case_of, choice, nothing, selection};
-use check_operands::first;
-use check_phrases::holds;
 use check_rules::CheckFault;
+use check_simple_statements::check_operands::first;
+use check_simple_statements::check_phrases::holds;
 use check_simple_statements::{Whole, cases_hold, tests, truth_of};
 use check_state::{Aim, Around, State, Typed};
 use check_statement_lists::Nested;

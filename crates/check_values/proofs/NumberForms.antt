@@ -2,7 +2,7 @@
 use Rattle.std.proofs.Common.{◌≡◌, ◌≤◌, ◌<◌, ℕ, true, false, None, refl, ap, arith}
 use Rattle.std.specs.Prelude.{nat_le, min}
 use Rattle.check_rules.specs.Typed as t
-use Rattle.interface_records.specs.PlainTypes as v
+use Rattle.check_rules.specs.interface_records.specs.PlainTypes as v
 use Rattle.check_rules.specs.Ranges.{typed}
 use Rattle.check_rules.specs.Values.{number, letter}
 

@@ -1,6 +1,6 @@
 -- What the code's values stand for.
-use Rattle.mesa_types.specs.Plain.{expr}
-use Rattle.interface_records.specs.PlainTypes.{plain}
+use Rattle.check_rules.specs.mesa_types.specs.Plain.{expr}
+use Rattle.check_rules.specs.interface_records.specs.PlainTypes.{plain}
 use Rattle.check_rules.specs.Operators as operators
 use Rattle.check_rules.specs.Statements as statements
 use Rattle.check_rules.specs.Values as values

@@ -2,14 +2,14 @@
 ghost use Rattle.std.specs.Prelude.{◌≡◌, option_map};
 ghost use Rattle.std.specs.Option.{option_copied};
 ghost use Rattle.check_rules.specs.Operators as spec;
-ghost use Rattle.interface_records.specs.PlainTypes.{plain};
+ghost use Rattle.check_rules.specs.interface_records.specs.PlainTypes.{plain};
 ghost use Rattle.check_rules.specs.Ranges.{in_common};
 ghost use Rattle.check_values.specs.Views as view;
 
+use check_rules::mesa_base::Relation;
+use check_rules::mesa_types::{Base, Operator, Range, TypeTree};
+use check_rules::syntax_trees::syntax;
 use check_state::{base_of, same};
-use mesa_base::Relation;
-use mesa_types::{Base, Operator, Range, TypeTree};
-use syntax_trees::syntax;
 
 /// What operators see of a type.
 #[derive(Clone, Copy)]

@@ -1,20 +1,20 @@
 //! The check of a value that is given to a target.
 ghost use Rattle.std.specs.Prelude.{◌≡◌, option_map, IfOk};
 ghost use Rattle.std.specs.Option.{option_copied};
-ghost use Rattle.mesa_types.specs.Plain.{expr};
-ghost use Rattle.interface_records.specs.PlainTypes.{plain};
+ghost use Rattle.check_rules.specs.mesa_types.specs.Plain.{expr};
+ghost use Rattle.check_rules.specs.interface_records.specs.PlainTypes.{plain};
 ghost use Rattle.check_rules.specs.Ranges as spec;
 ghost use Rattle.check_state.specs.Gives.{GivesOnly};
 ghost use Rattle.check_state.specs.Views as view;
 
 use crate::operators::in_common;
+use check_rules::held_trees::{LetGo, both, boxed};
+use check_rules::mesa_base::{OutOfMemory, Place};
+use check_rules::mesa_types::{Base, Range, TypeTree, TypedExpr};
 use check_rules::{Cause, CheckFault};
 use check_state::{
     Aim, Typed, base_of, bounds, conforms, is_cardinal, is_integer, of_kind, sign_of,
 };
-use held_trees::{LetGo, both, boxed};
-use mesa_base::{OutOfMemory, Place};
-use mesa_types::{Base, Range, TypeTree, TypedExpr};
 use std::alloc::Global;
 
 /// The value with its check, if there is one.

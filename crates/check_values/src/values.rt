@@ -1,9 +1,9 @@
 //! Values of operators whose operands are checked.
 ghost use Rattle.std.specs.Prelude.{◌≡◌, true, None, IfOk};
-ghost use Rattle.mesa_types.specs.Plain.{expr, interval};
-ghost use Rattle.mesa_types.specs.Typed as t;
-ghost use Rattle.interface_records.specs.PlainTypes as v;
-ghost use Rattle.interface_records.specs.PlainTypes.{plain};
+ghost use Rattle.check_rules.specs.mesa_types.specs.Plain.{expr, interval};
+ghost use Rattle.check_rules.specs.mesa_types.specs.Typed as t;
+ghost use Rattle.check_rules.specs.interface_records.specs.PlainTypes as v;
+ghost use Rattle.check_rules.specs.interface_records.specs.PlainTypes.{plain};
 ghost use Rattle.check_rules.specs.Ranges as ranges;
 ghost use Rattle.check_rules.specs.Statements as rule;
 ghost use Rattle.check_rules.specs.Values as spec;
@@ -13,13 +13,13 @@ ghost use Rattle.check_values.specs.Views as view;
 
 use crate::operators::{Applied, Meeting, Sort, number_type, operation, related, sort_of, turned};
 use crate::targets::checked;
+use check_rules::held_trees::{LetGo, both, boxed, boxed_pair};
+use check_rules::mesa_base::{Boxed, OutOfMemory, Place, Relation};
+use check_rules::mesa_types::{Base, Bases, Interval, Operator, Range, TypeTree, TypedExpr};
+use check_rules::syntax_trees::syntax;
 use check_rules::{Cause, CheckFault};
 use check_state::{Gave, Strings, Typed, of_kind, sign_of};
-use held_trees::{LetGo, both, boxed, boxed_pair};
-use mesa_base::{Boxed, OutOfMemory, Place, Relation};
-use mesa_types::{Base, Bases, Interval, Operator, Range, TypeTree, TypedExpr};
 use std::alloc::Global;
-use syntax_trees::syntax;
 
 /// The expression of a word.
 fn word(n: u16) -> TypedExpr

@@ -12,8 +12,8 @@ use Rattle.check_rules.specs.Checking as spec
 use Rattle.check_rules.specs.Parts.{distinct, each_of, names_of}
 use Rattle.interface_records.specs.PlainTypes.{PlainField, PlainType, plain_field}
 use Rattle.check_rules.specs.Steps.{State, Check, Checked, and_then}
-use Rattle.check_jumps.proofs.Tests.{at_drop}
-use Rattle.check_jumps.proofs.Gathering.{behind}
+use Rattle.check_declared.specs.check_jumps.proofs.Tests.{at_drop}
+use Rattle.check_declared.specs.check_jumps.proofs.Gathering.{behind}
 
 append_none : {A : Type 0} (xs : List A) → xs ++ [] ≡ xs
 append_none [] = refl

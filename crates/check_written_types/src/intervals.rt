@@ -9,8 +9,8 @@ ghost use Rattle.check_state.specs.Gives.{Gives};
 ghost use Rattle.check_state.specs.Views as words;
 ghost use Rattle.check_written_types.specs.Forms as form;
 
+use check_expressions::check_operands::{aim_for, first, first_of_interval};
 use check_expressions::{Checker, Phrases};
-use check_operands::{aim_for, first, first_of_interval};
 use check_rules::{Cause, CheckFault};
 use check_state::{Around, State, word_base};
 use check_types::{bound, interval_base, subrange};

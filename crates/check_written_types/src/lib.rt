@@ -6,6 +6,9 @@ mod intervals;
 mod made_types;
 mod written_types;
 
+pub use check_declared;
+pub use check_expressions;
+pub use check_expressions::check_operands;
 pub use fields::and_fields;
 pub use intervals::{first_of_type, of_interval};
 pub use made_types::origin;

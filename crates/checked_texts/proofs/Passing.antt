@@ -16,7 +16,7 @@ use Rattle.check_rules.specs.declared.fault.Cause.TheVariants.{UnknownName}
 use Rattle.check_rules.specs.declared.fault.CheckFault.{CheckFault}
 use Rattle.check_rules.specs.declared.fault.CheckFault.TheVariants as check
 use Rattle.check_rules.specs.Steps.{and_then, only}
-use Rattle.check_state.specs.Gives.{fault}
+use Rattle.module_checker.specs.check_state.specs.Gives.{fault}
 use Rattle.written_trees.specs.Laws.{IsTreeOf}
 use Rattle.checked_texts.specs.Asked.{Purpose, names_file, name_files, before_files}
 use Rattle.checked_texts.specs.TextFaults as f

@@ -1,3 +1,4 @@
+pub use Rattle.written_trees
 pub mod Asked
 pub mod Laws
 pub mod TextFaults

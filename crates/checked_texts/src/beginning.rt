@@ -1,6 +1,6 @@
 //! From a text to the tree that is checked, before any interface is read.
 ghost use Rattle.std.specs.Prelude.{◌≡◌, ◌≢◌, IfErr, IfOk};
-ghost use Rattle.check_state.specs.Gives.{GivesOnly};
+ghost use Rattle.module_checker.specs.check_state.specs.Gives.{GivesOnly};
 ghost use Rattle.syntax_trees.specs.PlainSyntax as plain;
 ghost use Rattle.checked_texts.specs.Asked as spec;
 ghost use Rattle.checked_texts.specs.Texts.{Begins, HasEarlyFault, HasNoTree};

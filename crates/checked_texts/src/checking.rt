@@ -1,7 +1,7 @@
 //! From the tree of a text, with the interfaces that it asks for, to its module or its interface.
 ghost use Rattle.std.specs.Prelude.{◌≡◌, ◌≢◌, ℕ, List as Items, IfErr, IfOk};
 ghost use Rattle.check_rules.specs.CheckedModule as rule;
-ghost use Rattle.check_state.specs.Gives.{GivesOnly};
+ghost use Rattle.module_checker.specs.check_state.specs.Gives.{GivesOnly};
 ghost use Rattle.mesa_types.specs.Plain.{plain};
 ghost use Rattle.syntax_trees.specs.PlainSyntax.{syntax};
 ghost use Rattle.checked_texts.specs.Texts.{Begins, Defines, HasCheckFault, OneForEach, Reads};

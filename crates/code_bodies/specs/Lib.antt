@@ -1,1 +1,2 @@
+pub use Rattle.code_trees
 pub mod Reads

@@ -10,4 +10,5 @@ mod statements;
 mod targets;
 mod turns;
 
+pub use code_trees;
 pub use statements::block as body_block;

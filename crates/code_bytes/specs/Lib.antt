@@ -1,1 +1,2 @@
+pub use Rattle.built_files
 pub mod Laws

@@ -1,3 +1,4 @@
+pub use Rattle.mesa_base
 pub mod Around
 pub mod Built
 pub mod Depths

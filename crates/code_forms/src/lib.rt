@@ -23,6 +23,7 @@ mod validation;
 pub use bad_code::{BadCode, CodeFault};
 pub use instruction::Instruction;
 pub use law::{no_fault_of_valid, one_depth, one_first_fault, runs_in_range};
+pub use mesa_base;
 pub use module_code::{
     Arm, Arms, CatchTable, CodeEntries, CodeEntry, CodeKind, CodeLink, CodeLinks, CodeProcedure,
     CodeSignal, CodeSignals, Label, Labels, ModuleCode, Phrase,

@@ -7,7 +7,7 @@ use Rattle.cmesa_grammar.specs.Syntax.{Config}
 use Rattle.config_rules.specs.Components.{components}
 use Rattle.config_rules.specs.Tree.{IsTree, IsSingle}
 use Rattle.config_rules.specs.declared.tree.Component.{Component}
-use Rattle.bound_images.specs.Programs.{shape_of}
+use Rattle.command_rules.specs.bound_images.specs.Programs.{shape_of}
 use Rattle.command_rules.specs.Case.{Case}
 use Rattle.command_rules.specs.Configurations.{Configured, bases_of, component_in, config_in, configuration_of, modules_of, single_of, source_in, tree_in}
 use Rattle.command_rules.specs.Forms.{OfModule, OfConfig, config_file, module_file}

@@ -11,7 +11,7 @@ use Rattle.machine_rules.specs.State.{Store, Runs, Ending, Stepped, Goes}
 use Rattle.machine_rules.specs.Steps.{step, Ends, goes, begins}
 use Rattle.machine_rules.proofs.OneResult.{has_one_result}
 use Rattle.machine_activations.specs.Reaching.{Reaches, already, steps_on}
-use Rattle.frame_machine.specs.Running.{HasRest, BreaksAtOutput, CutsOff}
+use Rattle.command_rules.specs.frame_machine.specs.Running.{HasRest, BreaksAtOutput, CutsOff}
 use Rattle.command_laws.proofs.Growing.{store_in, Grows, ends_grow}
 
 -- ---- where the run comes to

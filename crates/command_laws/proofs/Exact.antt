@@ -8,14 +8,14 @@ use Rattle.config_rules.specs.Components.{components}
 use Rattle.config_rules.specs.Through as through
 use Rattle.config_rules.specs.Tree.{IsTree, IsSingle}
 use Rattle.config_rules.specs.declared.tree.Tree.{Tree}
-use Rattle.bound_images.specs.Programs.{shape_of}
-use Rattle.checked_texts.specs.Asked.{asks}
-use Rattle.checked_texts.specs.declared.purpose.Purpose.{Purpose}
-use Rattle.checked_texts.specs.declared.purpose.Purpose.TheVariants.{Program, Interface}
-use Rattle.checked_texts.specs.Laws.{TextsBeginOnce, TextsHaveOneTree, ProgramsComeToOne, DefinitionsComeToOne}
+use Rattle.command_rules.specs.bound_images.specs.Programs.{shape_of}
+use Rattle.command_rules.specs.checked_texts.specs.Asked.{asks}
+use Rattle.command_rules.specs.checked_texts.specs.declared.purpose.Purpose.{Purpose}
+use Rattle.command_rules.specs.checked_texts.specs.declared.purpose.Purpose.TheVariants.{Program, Interface}
+use Rattle.command_rules.specs.checked_texts.specs.Laws.{TextsBeginOnce, TextsHaveOneTree, ProgramsComeToOne, DefinitionsComeToOne}
 use Rattle.depth_laws.specs.Laws.{DepthsDoNotMatter, SurveysAreOne}
 use Rattle.include_rules.specs.Laws.{PlansComeOnce}
-use Rattle.linked_programs.specs.Laws.{TreesAreOne, SinglesAreOne}
+use Rattle.command_rules.specs.linked_programs.specs.Laws.{TreesAreOne, SinglesAreOne}
 use Rattle.command_rules.specs.Binding.{object_of, objects_of, binding_of, bound_in}
 use Rattle.command_rules.specs.Case.{Absent}
 use Rattle.command_rules.specs.Configurations.{config_in, source_in, tree_in, single_of, bases_of, component_in, modules_of, configuration_of, Grows, Binds, Configures}

@@ -11,9 +11,9 @@ use Rattle.machine_ready.specs.Hosts.{IsFirstUnresolved}
 use Rattle.config_rules.specs.declared.tree.Tree.{Tree}
 use Rattle.object_files.specs.declared.object.Object.{Object}
 use Rattle.link_tables.specs.Linked.{image_of}
-use Rattle.linked_programs.specs.Objects.{AreObjectsOf}
-use Rattle.frame_machine.specs.Running.{AreBytes}
-use Rattle.frame_machine.specs.declared.outcome.Outcome.{Outcome}
+use Rattle.command_rules.specs.linked_programs.specs.Objects.{AreObjectsOf}
+use Rattle.command_rules.specs.frame_machine.specs.Running.{AreBytes}
+use Rattle.command_rules.specs.frame_machine.specs.declared.outcome.Outcome.{Outcome}
 use Rattle.line_pieces.specs.Outputs.{Stream, HasFaulted, PrintsAll}
 use Rattle.command_rules.specs.Case.{Case, Memory, Refused}
 use Rattle.command_rules.specs.declared.trouble.Trouble.TheVariants.{TooLarge, Unresolved}

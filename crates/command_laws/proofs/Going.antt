@@ -7,7 +7,7 @@ use Rattle.machine_ready.specs.Hosts.{IsFirstUnresolved}
 use Rattle.machine_ready.proofs.Offered.{one_unresolved, none_unresolved}
 use Rattle.object_files.specs.declared.object.Object.{Object}
 use Rattle.link_tables.specs.Linked.{image_of}
-use Rattle.linked_programs.specs.Objects.{AreObjectsOf}
+use Rattle.command_rules.specs.linked_programs.specs.Objects.{AreObjectsOf}
 use Rattle.line_pieces.specs.Outputs.{PrintsAll}
 use Rattle.command_rules.specs.Case.{Case, Refused, Memory}
 use Rattle.command_rules.specs.declared.trouble.Trouble.TheVariants.{TooLarge, Unresolved}

@@ -7,7 +7,7 @@ use Rattle.mesa_types.specs.declared.faces.Shape.{Shape}
 use Rattle.code_forms.specs.Same.{bare}
 use Rattle.code_blocks.specs.Modules.{Parts}
 use Rattle.file_forms.specs.Files.{versioned}
-use Rattle.frame_code.specs.Code.{parts_of as code_parts}
+use Rattle.command_rules.specs.frame_code.specs.Code.{parts_of as code_parts}
 use Rattle.object_files.specs.declared.object.Object.{Object}
 use Rattle.object_rules.specs.ImageFiles.{IsLinkedFile}
 use Rattle.object_rules.specs.ImageForms.{ImagePart, parts_of_image, image_form}
@@ -17,7 +17,7 @@ use Rattle.object_rules.specs.Parts.{ModulePart, parts_of, procedure_part, proce
 use Rattle.config_rules.specs.declared.tree.Tree.{Tree}
 use Rattle.config_rules.specs.declared.tree.TreeInstance.{TreeInstance}
 use Rattle.link_tables.specs.Linked.{has_instance, kept, image_of}
-use Rattle.linked_programs.specs.Objects.{IsObjectOf, AreObjectsOf}
+use Rattle.command_rules.specs.linked_programs.specs.Objects.{IsObjectOf, AreObjectsOf}
 use Rattle.command_rules.specs.Comes.{each_holding}
 use Rattle.command_rules.specs.Forms.{object_file}
 use Rattle.command_rules.specs.Writing.{OfObject, OfImage, IsFileOf, size_of, Target, holding, Stores, StoresAll}

@@ -15,8 +15,8 @@ use Rattle.object_rules.specs.Exact.{IsSameImage}
 use Rattle.object_rules.specs.ImageForms.{ImagePart}
 use Rattle.object_rules.proofs.WholeLaws.{same_objects}
 use Rattle.depth_laws.specs.Laws.{RunAlike, DepthsDoNotMatter}
-use Rattle.frame_machine.specs.declared.outcome.Outcome.{Outcome}
-use Rattle.frame_machine.specs.declared.outcome.RunFault.{RunFault}
+use Rattle.command_rules.specs.frame_machine.specs.declared.outcome.Outcome.{Outcome}
+use Rattle.command_rules.specs.frame_machine.specs.declared.outcome.RunFault.{RunFault}
 use Rattle.line_pieces.specs.Outputs.{PrintsAll}
 use Rattle.line_pieces.specs.Texts.{dotted}
 use Rattle.command_rules.specs.Case.{Case, Refused, Memory}

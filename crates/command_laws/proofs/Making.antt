@@ -6,7 +6,7 @@ use Rattle.interface_records.specs.declared.interface.Interface.{Interface}
 use Rattle.object_files.specs.declared.image.Image.{Image}
 use Rattle.object_files.specs.declared.object.Object.{Object}
 use Rattle.link_tables.specs.Linked.{image_of}
-use Rattle.linked_programs.specs.Objects.{IsObjectOf}
+use Rattle.command_rules.specs.linked_programs.specs.Objects.{IsObjectOf}
 use Rattle.command_rules.specs.Binding.{Bound, IsImageOf, bound_in}
 use Rattle.command_rules.specs.Case.{Case, Done, Refused, Memory}
 use Rattle.command_rules.specs.declared.trouble.Trouble.TheVariants.{TooLarge}

@@ -7,10 +7,10 @@ use Rattle.source_meaning.specs.State.{End, Answer, Normal, Gives, Go, Resumed, 
 use Rattle.machine_rules.specs.declared.end.End as machine
 use Rattle.machine_rules.specs.declared.end.End.TheVariants as end
 use Rattle.object_files.specs.declared.image.Image.{Image}
-use Rattle.frame_machine.specs.declared.outcome.Outcome.{Outcome}
-use Rattle.frame_machine.specs.declared.outcome.RunFault.{RunFault}
-use Rattle.frame_machine.specs.declared.outcome.RunFault.TheVariants as fault
-use Rattle.frame_machine.specs.Running.{AreBytes, IsInput}
+use Rattle.command_rules.specs.frame_machine.specs.declared.outcome.Outcome.{Outcome}
+use Rattle.command_rules.specs.frame_machine.specs.declared.outcome.RunFault.{RunFault}
+use Rattle.command_rules.specs.frame_machine.specs.declared.outcome.RunFault.TheVariants as fault
+use Rattle.command_rules.specs.frame_machine.specs.Running.{AreBytes, IsInput}
 use Rattle.line_pieces.specs.Outputs.{PrintsAll}
 use Rattle.command_rules.specs.Case.{Case, status_of}
 use Rattle.command_rules.specs.Complete.{Does}

@@ -20,7 +20,7 @@ use Rattle.config_rules.specs.Through as through
 use Rattle.config_rules.specs.declared.fault.TreeCause.TheVariants.{UnknownComponent}
 use Rattle.config_rules.specs.declared.fault.TreeFault.TheVariants as tree_fault
 use Rattle.config_rules.specs.declared.tree.Tree.{Tree}
-use Rattle.import_binder.specs.Bindings.{fault_of}
+use Rattle.command_rules.specs.import_binder.specs.Bindings.{fault_of}
 use Rattle.face_rules.specs.InterfaceForms.{interface}
 use Rattle.face_rules.proofs.InterfaceLaws.{interface_law}
 use Rattle.file_forms.proofs.FileLaws.{one_file, one_first_fault, file_or_fault}
@@ -32,9 +32,9 @@ use Rattle.object_rules.proofs.ImageFileLaws.{one_image_fault, image_or_fault}
 use Rattle.object_rules.proofs.ImageLaws.{image_law}
 use Rattle.object_rules.proofs.ModuleLaws.{module_law}
 use Rattle.object_rules.proofs.ObjectLaws.{one_object_fault, object_or_fault}
-use Rattle.checked_texts.specs.declared.purpose.Purpose.{Purpose}
-use Rattle.checked_texts.specs.Laws.{TextsBeginOnce, ProgramsComeToOne, DefinitionsComeToOne}
-use Rattle.checked_texts.specs.declared.text_fault.TextFault.TheVariants.{Lexical, Syntactic}
+use Rattle.command_rules.specs.checked_texts.specs.declared.purpose.Purpose.{Purpose}
+use Rattle.command_rules.specs.checked_texts.specs.Laws.{TextsBeginOnce, ProgramsComeToOne, DefinitionsComeToOne}
+use Rattle.command_rules.specs.checked_texts.specs.declared.text_fault.TextFault.TheVariants.{Lexical, Syntactic}
 use Rattle.command_rules.specs.Case.{Case, Refused, Usage}
 use Rattle.command_rules.specs.declared.trouble.Trouble.TheVariants.{Text, Tree as OfTree, File, Item}
 use Rattle.command_rules.specs.Configurations.{Configures, configured, lexical, syntactic, no_base, Grows, grown, fault, Binds, bound, bad}

@@ -6,7 +6,7 @@ use Rattle.include_rules.specs.Naming.{naming}
 use Rattle.include_rules.specs.Stale as faced
 use Rattle.include_rules.specs.Stale.{Faced, faces_of, stale}
 use Rattle.include_rules.specs.declared.entries.TextEntry.{TextEntry}
-use Rattle.checked_texts.specs.Laws.{TextsHaveOneTree}
+use Rattle.command_rules.specs.checked_texts.specs.Laws.{TextsHaveOneTree}
 use Rattle.command_rules.specs.Case.{Case, Refused, Absent, Usage}
 use Rattle.command_rules.specs.declared.trouble.Trouble.TheVariants.{Text, Cycle}
 use Rattle.command_rules.specs.Forms.{FileKind, module_file}

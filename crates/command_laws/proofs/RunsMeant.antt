@@ -17,12 +17,12 @@ use Rattle.machine_rules.specs.declared.end.End.{End}
 use Rattle.machine_rules.specs.declared.end.End.TheVariants as end
 use Rattle.agreement_rules.specs.Agreement.{EndsAs, id_of}
 use Rattle.agreement_rules.specs.Stands.{Stands, InstanceStands}
-use Rattle.bound_images.specs.Programs.{program_of}
-use Rattle.frame_machine.specs.declared.outcome.Outcome.{Outcome}
-use Rattle.frame_machine.specs.declared.outcome.RunFault.{RunFault}
-use Rattle.linked_run.specs.Meant.{IsImageOf}
-use Rattle.linked_run.proofs.Meant.{ran, broken_off, cut_off}
-use Rattle.built_runs.proofs.Linked.{meant}
+use Rattle.command_rules.specs.bound_images.specs.Programs.{program_of}
+use Rattle.command_rules.specs.frame_machine.specs.declared.outcome.Outcome.{Outcome}
+use Rattle.command_rules.specs.frame_machine.specs.declared.outcome.RunFault.{RunFault}
+use Rattle.command_rules.specs.linked_run.specs.Meant.{IsImageOf}
+use Rattle.command_rules.specs.linked_run.proofs.Meant.{ran, broken_off, cut_off}
+use Rattle.command_rules.specs.built_runs.proofs.Linked.{meant}
 use Rattle.line_pieces.specs.Texts.{dotted}
 use Rattle.command_rules.specs.Case.{Case, Uncaught as UncaughtCase}
 use Rattle.command_rules.specs.Ends.{Ends, AsMeant, Runs, RunsTo, ended, read_fault, write_fault}

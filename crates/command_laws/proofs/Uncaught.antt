@@ -24,8 +24,8 @@ use Rattle.survey_rules.specs.Laws.{UncaughtSignalsEscape}
 use Rattle.survey_rules.specs.Survey.{IsSurvey}
 use Rattle.depth_laws.specs.Laws.{DepthsDoNotMatter}
 use Rattle.depth_laws.proofs.Escaping.{same_escapes}
-use Rattle.frame_machine.specs.declared.outcome.Outcome.{Outcome}
-use Rattle.frame_machine.specs.declared.outcome.RunFault.{RunFault}
+use Rattle.command_rules.specs.frame_machine.specs.declared.outcome.Outcome.{Outcome}
+use Rattle.command_rules.specs.frame_machine.specs.declared.outcome.RunFault.{RunFault}
 use Rattle.command_rules.specs.Case.{Case, Uncaught, Absent}
 use Rattle.command_rules.specs.Comes.{Loads, not_read}
 use Rattle.command_rules.specs.Ends.{Runs, RunsTo, ended, read_fault, write_fault}

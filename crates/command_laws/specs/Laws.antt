@@ -7,8 +7,8 @@ use Rattle.mesa_types.specs.Typed.{Module}
 use Rattle.source_meaning.specs.Program.{Program}
 use Rattle.config_rules.specs.declared.tree.Tree.{Tree}
 use Rattle.agreement_rules.specs.Stands.{WantsTheHost}
-use Rattle.bound_images.specs.Programs.{program_of}
-use Rattle.built_runs.specs.Linked.{IsLinkedFrom}
+use Rattle.command_rules.specs.bound_images.specs.Programs.{program_of}
+use Rattle.command_rules.specs.built_runs.specs.Linked.{IsLinkedFrom}
 use Rattle.object_files.specs.declared.image.Image.{Image}
 use Rattle.command_rules.specs.Binding.{bound_in}
 use Rattle.command_rules.specs.Case.{Case, Uncaught}

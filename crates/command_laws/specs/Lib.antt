@@ -1,1 +1,2 @@
+pub use Rattle.read_files
 pub mod Laws

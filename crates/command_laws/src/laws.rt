@@ -3,12 +3,12 @@ ghost use Rattle.command_laws.specs.Laws.{BasesFit, CasesAreAnswers, PassesAreEx
 ghost use Rattle.command_rules.specs.Complete.{OneCaseComes};
 ghost use Rattle.command_rules.specs.Order.{FormsKeep, NeverAnswered, OrderIsKept};
 
-use checked_texts::{
+use command_rules::checked_texts::{
     definitions_come_to_one, programs_come_to_one, texts_begin_once, texts_have_one_tree,
 };
+use command_rules::linked_programs::{singles_are_one, trees_are_one};
 use depth_laws::{depths_do_not_matter, surveys_are_one};
 use include_rules::plans_come_once;
-use linked_programs::{singles_are_one, trees_are_one};
 use machine_ready::ordered_can_run;
 use read_files::images_of_files_are_in_order;
 use survey_rules::uncaught_signals_escape;

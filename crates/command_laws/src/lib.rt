@@ -8,3 +8,4 @@ pub use laws::{
     passes_are_exact, runs_are_meant, runs_end_once, uncaught_is_surveyed, values_keep_their_size,
     words_have_one_form,
 };
+pub use read_files;

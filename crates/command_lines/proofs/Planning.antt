@@ -1,7 +1,7 @@
 -- Which words are those of a plan.
 use Rattle.std.proofs.Common.{◌≡◌, ◌≢◌, ℕ, zero, suc, ◌+◌, ◌<◌, ◌≤◌, Bool, true, false, nat_eq, List, [], ◌∷◌, length, get_or, Some, codes, slice_get, refl, sym, ◌∙◌, ap, subst, arith}
 use Rattle.config_rules.specs.Components.{is_file_base}
-use Rattle.command_rules.specs.Forms.{Form, Plan, HasForm, HasNoForm, compile, define, bind, run, go, list, upgrade, exercise, plan, survey}
+use Rattle.command_passes.specs.command_rules.specs.Forms.{Form, Plan, HasForm, HasNoForm, compile, define, bind, run, go, list, upgrade, exercise, plan, survey}
 use Rattle.command_lines.specs.Words.{IsFit, behind_first}
 
 got : {A : Type 0} (xs : List A) (k : ℕ) (d : A) → k < length xs → slice_get xs k ≡ Some (get_or xs k d)

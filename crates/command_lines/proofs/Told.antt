@@ -7,7 +7,7 @@ use Rattle.interface_records.specs.declared.wanted.WantedItem.{WantedItem}
 use Rattle.import_binder.specs.declared.fault.BindFault.TheVariants.{NoExporter, Twice, OtherInterface, OtherStamp}
 use Rattle.line_pieces.specs.Outputs.{Stream, Receives}
 use Rattle.line_pieces.specs.Texts.{path_text, stamp_text, dotted, with_dot}
-use Rattle.command_rules.specs.Lines.{field_name, code_cause, file_cause, bind_cause, item_text, placed_item, of_file}
+use Rattle.command_passes.specs.command_rules.specs.Lines.{field_name, code_cause, file_cause, bind_cause, item_text, placed_item, of_file}
 
 item_then : (i : WantedItem) (z : List ℕ) → item_text i ++ z ≡ i.face ++ (codes "." ++ (i.item ++ z))
 item_then i z = append_assoc i.face (codes "." ++ i.item) z

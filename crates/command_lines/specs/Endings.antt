@@ -1,7 +1,7 @@
 -- The case that an ending of the code is.
 use Rattle.std.specs.Prelude.{ℕ, List}
 use Rattle.line_pieces.specs.Texts.{dotted}
-use Rattle.command_rules.specs.Case as c
+use Rattle.command_passes.specs.command_rules.specs.Case as c
 use Rattle.command_lines.specs.declared.ending.UncaughtSignal.{UncaughtSignal}
 use Rattle.command_lines.specs.declared.ending.UncaughtSignal.TheVariants.{Own, Predeclared}
 use Rattle.command_lines.specs.declared.ending.Ending.{Ending}

@@ -1,2 +1,3 @@
+pub use Rattle.command_passes
 pub mod Endings
 pub mod Words

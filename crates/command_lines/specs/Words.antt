@@ -1,7 +1,7 @@
 -- The form that one of the code is.
 use Rattle.std.specs.Prelude.{◌≡◌, ◌≢◌, ℕ, ◌<◌, ◌≤◌, true, List, [], ◌∷◌, Some, slice_get}
 use Rattle.config_rules.specs.Components.{is_file_base}
-use Rattle.command_rules.specs.Forms as rules
+use Rattle.command_passes.specs.command_rules.specs.Forms as rules
 use Rattle.command_passes.specs.Kinds.{kind_in}
 use Rattle.command_lines.specs.declared.kinds.Source.{Source}
 use Rattle.command_lines.specs.declared.kinds.Source.TheVariants.{OfModule, OfConfig}

@@ -2,8 +2,8 @@
 
 ghost use Rattle.std.specs.Prelude.{◌≡◌, ◌++◌, Some, decimal};
 ghost use Rattle.line_pieces.specs.Outputs.{stream, Receives};
-ghost use Rattle.command_rules.specs.Lines as lines;
-ghost use Rattle.command_rules.specs.Lines.{of_cause, of_file};
+ghost use Rattle.command_passes.specs.command_rules.specs.Lines as lines;
+ghost use Rattle.command_passes.specs.command_rules.specs.Lines.{of_cause, of_file};
 
 use code_forms::CodeFault;
 use config_rules::TreeCause;

@@ -3,9 +3,9 @@
 ghost use Rattle.std.specs.Prelude.{◌≡◌, ◌++◌, codes};
 ghost use Rattle.line_pieces.specs.Outputs.{stream, Receives};
 ghost use Rattle.line_pieces.specs.Texts.{dotted};
-ghost use Rattle.command_rules.specs.Case.{status_of, Usage};
-ghost use Rattle.command_rules.specs.Complete.{Tells};
-ghost use Rattle.command_rules.specs.Lines.{line_of};
+ghost use Rattle.command_passes.specs.command_rules.specs.Case.{status_of, Usage};
+ghost use Rattle.command_passes.specs.command_rules.specs.Complete.{Tells};
+ghost use Rattle.command_passes.specs.command_rules.specs.Lines.{line_of};
 ghost use Rattle.command_lines.specs.Endings.{called, ending_case};
 
 use crate::causes::tell_text;

@@ -2,13 +2,13 @@
 //! `go NAME.config TURNS`, `list FILE`, `upgrade FILE`, `exercise N TURNS`, `plan NAME ..` and `survey NAME` (rule of this project).
 
 ghost use Rattle.std.specs.Prelude.{◌≡◌, ◌≢◌, ◌≤◌, ℕ, ◌∷◌, [], IfSome, IfNone, MatchOption, codes, decimal};
-ghost use Rattle.command_rules.specs.Forms.{HasForm, HasNoForm, most_links};
+ghost use Rattle.command_passes.specs.command_rules.specs.Forms.{HasForm, HasNoForm, most_links};
 ghost use Rattle.command_lines.specs.Words.{form_in};
 
 use crate::kinds::{Source, named_kind, named_source};
 use crate::plan_words::{begins_plan, plan_of};
 use crate::words::{is_word, three_words, two_words};
-use checked_texts::is_file_base;
+use command_passes::checked_texts::is_file_base;
 use listed_files::FileKind;
 use mesa_base::{Stamp, Words, decimal_value};
 

@@ -4,7 +4,7 @@ ghost use Rattle.std.specs.Prelude.{◌≡◌, ◌++◌, codes};
 ghost use Rattle.import_binder.specs.declared.fault.BindFault.TheVariants.{NoExporter, Twice, OtherInterface, OtherStamp};
 ghost use Rattle.line_pieces.specs.Outputs.{stream, Receives};
 ghost use Rattle.line_pieces.specs.Texts.{stamp_text};
-ghost use Rattle.command_rules.specs.Lines.{bind_cause, item_text, of_file};
+ghost use Rattle.command_passes.specs.command_rules.specs.Lines.{bind_cause, item_text, of_file};
 
 use crate::causes::tell_cause;
 use import_binder::BindFault;

@@ -2,12 +2,12 @@
 
 ghost use Rattle.std.specs.Prelude.{◌≡◌, ◌≢◌, ℕ, List, ◌++◌, MatchOption, true};
 ghost use Rattle.config_rules.specs.Components.{is_file_base as is_base};
-ghost use Rattle.command_rules.specs.Forms as rules;
-ghost use Rattle.command_rules.specs.Forms.{source_file, kind_file};
+ghost use Rattle.command_passes.specs.command_rules.specs.Forms as rules;
+ghost use Rattle.command_passes.specs.command_rules.specs.Forms.{source_file, kind_file};
 ghost use Rattle.command_passes.specs.Kinds.{kind_in};
 ghost use Rattle.command_lines.specs.Words.{source_in};
 
-use checked_texts::is_file_base;
+use command_passes::checked_texts::is_file_base;
 use listed_files::FileKind;
 
 /// What is run: one module alone, or a configuration.

@@ -11,6 +11,7 @@ mod refusals;
 mod stops;
 mod words;
 
+pub use command_passes;
 pub use ending::{Ending, UncaughtSignal, ending_status, tell_ending, told_ending, told_usage};
 pub use form::{Form, form_of};
 pub use kinds::Source;

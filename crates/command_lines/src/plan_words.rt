@@ -1,12 +1,12 @@
 //! The words of a plan: `plan` and 1 to 64 bases of files, no two of which are the same (rule of this project).
 
 ghost use Rattle.std.specs.Prelude.{◌≡◌, ◌≢◌, ◌≤◌, ◌<◌, ◌∷◌, ℕ, IfSome, IfNone, IsTrue, ◌↔◌, Some, codes, slice_get};
-ghost use Rattle.command_rules.specs.Forms.{HasForm, HasNoForm};
+ghost use Rattle.command_passes.specs.command_rules.specs.Forms.{HasForm, HasNoForm};
 ghost use Rattle.command_lines.specs.Words.{IsFit, behind_first, form_in};
 
 use crate::form::Form;
 use crate::words::is_word;
-use checked_texts::is_file_base;
+use command_passes::checked_texts::is_file_base;
 use mesa_base::Words;
 
 /// At most so many words: the verb, and the bases of the texts that may be planned at once.

@@ -2,16 +2,16 @@
 
 ghost use Rattle.std.specs.Prelude.{◌≡◌, ◌++◌, codes, flat_map};
 ghost use Rattle.object_rules.specs.declared.object_fault.ObjectFault.TheVariants.{BadField, Code};
-ghost use Rattle.checked_texts.specs.TextFaults.{fault_name, fault_place};
+ghost use Rattle.command_passes.specs.checked_texts.specs.TextFaults.{fault_name, fault_place};
 ghost use Rattle.line_pieces.specs.Outputs.{stream, Receives};
 ghost use Rattle.line_pieces.specs.Texts.{with_blank};
-ghost use Rattle.command_rules.specs.Lines.{file_cause, of_cause, of_file, refusal};
+ghost use Rattle.command_passes.specs.command_rules.specs.Lines.{file_cause, of_cause, of_file, refusal};
 
 use crate::causes::{code_cause, field_name, tell_cause, tell_number, tell_place, tree_cause};
 use crate::items::{tell_item, tell_unresolved};
-use checked_texts::TextFault;
 use code_forms::CodeFault;
-use command_rules::Trouble;
+use command_passes::checked_texts::TextFault;
+use command_passes::command_rules::Trouble;
 use line_pieces::{Piece, say_all};
 use mesa_base::{Bytes, Field, Sink};
 use object_rules::ObjectFault;

@@ -3,9 +3,9 @@
 ghost use Rattle.std.specs.Prelude.{◌≡◌};
 ghost use Rattle.line_pieces.specs.Outputs.{stream, Receives};
 ghost use Rattle.command_passes.specs.Stops.{stop_case};
-ghost use Rattle.command_rules.specs.Case.{status_of};
-ghost use Rattle.command_rules.specs.Complete.{Tells};
-ghost use Rattle.command_rules.specs.Lines.{line_of};
+ghost use Rattle.command_passes.specs.command_rules.specs.Case.{status_of};
+ghost use Rattle.command_passes.specs.command_rules.specs.Complete.{Tells};
+ghost use Rattle.command_passes.specs.command_rules.specs.Lines.{line_of};
 
 use crate::causes::{tell_cause, tell_text};
 use crate::refusals::tell_refusal;

@@ -7,13 +7,13 @@ use Rattle.listed_files.specs.declared.file_kind.FileKind.TheVariants.{Interface
 use Rattle.object_rules.specs.ImageFiles.{IsImageFile}
 use Rattle.object_rules.specs.ObjectFiles.{IsObjectFile}
 use Rattle.object_rules.specs.declared.object_fault.ObjectFault.{ObjectFault}
-use Rattle.command_rules.specs.Case.{Case, Refused, Absent}
-use Rattle.command_rules.specs.declared.trouble.Trouble.TheVariants.{File}
-use Rattle.command_rules.specs.Forms as rules
-use Rattle.command_rules.specs.Forms.{InterfaceFile}
-use Rattle.command_rules.specs.Listing.{Holds, is_interface, is_object, is_image, no_interface, no_object, no_image}
-use Rattle.command_rules.specs.Passes.{Stops}
-use Rattle.command_rules.proofs.Passing.{Moves}
+use Rattle.command_passes.specs.command_rules.specs.Case.{Case, Refused, Absent}
+use Rattle.command_passes.specs.command_rules.specs.declared.trouble.Trouble.TheVariants.{File}
+use Rattle.command_passes.specs.command_rules.specs.Forms as rules
+use Rattle.command_passes.specs.command_rules.specs.Forms.{InterfaceFile}
+use Rattle.command_passes.specs.command_rules.specs.Listing.{Holds, is_interface, is_object, is_image, no_interface, no_object, no_image}
+use Rattle.command_passes.specs.command_rules.specs.Passes.{Stops}
+use Rattle.command_passes.specs.command_rules.proofs.Passing.{Moves}
 use Rattle.command_passes.specs.Kinds.{kind_in}
 use Rattle.command_passes.proofs.FileBytes.{all_read, fault_whole}
 use Rattle.command_passes.proofs.Files.{NeverAbsent}

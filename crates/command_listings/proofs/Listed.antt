@@ -4,15 +4,15 @@ use Rattle.listed_files.specs.Listings.{IsListing, HasFault}
 use Rattle.listed_files.specs.declared.file_kind.FileKind.{FileKind}
 use Rattle.listed_files.specs.declared.file_kind.FileKind.TheVariants.{Interface, Object, Image}
 use Rattle.object_rules.specs.declared.object_fault.ObjectFault.{ObjectFault}
-use Rattle.command_rules.specs.Case.{Case, Refused, Absent}
-use Rattle.command_rules.specs.declared.trouble.Trouble.TheVariants.{File}
-use Rattle.command_rules.specs.Forms as rules
-use Rattle.command_rules.specs.Forms.{InterfaceFile, ObjectFile, ImageFile}
-use Rattle.command_rules.specs.Listing.{Holds, Lists, listed, is_none, is_interface, is_object, is_image}
-use Rattle.command_rules.specs.Passes.{Outcome, Has, Stops}
-use Rattle.command_rules.specs.Printing.{Report, text_alone}
-use Rattle.command_rules.specs.Writing.{OfInterface, OfObject, OfImage}
-use Rattle.command_rules.proofs.Passing.{Moves}
+use Rattle.command_passes.specs.command_rules.specs.Case.{Case, Refused, Absent}
+use Rattle.command_passes.specs.command_rules.specs.declared.trouble.Trouble.TheVariants.{File}
+use Rattle.command_passes.specs.command_rules.specs.Forms as rules
+use Rattle.command_passes.specs.command_rules.specs.Forms.{InterfaceFile, ObjectFile, ImageFile}
+use Rattle.command_passes.specs.command_rules.specs.Listing.{Holds, Lists, listed, is_none, is_interface, is_object, is_image}
+use Rattle.command_passes.specs.command_rules.specs.Passes.{Outcome, Has, Stops}
+use Rattle.command_passes.specs.command_rules.specs.Printing.{Report, text_alone}
+use Rattle.command_passes.specs.command_rules.specs.Writing.{OfInterface, OfObject, OfImage}
+use Rattle.command_passes.specs.command_rules.proofs.Passing.{Moves}
 use Rattle.command_passes.specs.Kinds.{kind_in}
 use Rattle.command_passes.proofs.Files.{NeverAbsent}
 use Rattle.command_listings.proofs.Holding.{holds_moves, holds_absent, refused}

@@ -1,11 +1,11 @@
 -- The bytes of a file in version 2.
 use Rattle.std.proofs.Common.{ℕ, ◌<◌, List, length}
 use Rattle.upgraded_files.specs.Upgraded.{FilesAreUpgraded, FilesHaveVersions, upgraded}
-use Rattle.command_rules.specs.Case.{Case}
-use Rattle.command_rules.specs.Forms.{FileKind}
-use Rattle.command_rules.specs.Listing.{Holds, is_interface, is_object, is_image, no_interface, no_object, no_image}
-use Rattle.command_rules.specs.Passes.{Outcome, Has, Stops}
-use Rattle.command_rules.specs.Writing.{Value, IsFileOf}
+use Rattle.command_passes.specs.command_rules.specs.Case.{Case}
+use Rattle.command_passes.specs.command_rules.specs.Forms.{FileKind}
+use Rattle.command_passes.specs.command_rules.specs.Listing.{Holds, is_interface, is_object, is_image, no_interface, no_object, no_image}
+use Rattle.command_passes.specs.command_rules.specs.Passes.{Outcome, Has, Stops}
+use Rattle.command_passes.specs.command_rules.specs.Writing.{Value, IsFileOf}
 
 abbrev Spells : Outcome Case Value → (bytes : List ℕ) → Type 0
 Spells (Has v) bytes = IsFileOf v bytes

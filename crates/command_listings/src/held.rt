@@ -1,7 +1,7 @@
 //! Whether bytes are a file.
 
 ghost use Rattle.std.specs.Prelude.{◌≢◌, IfErr, OnOk};
-ghost use Rattle.command_rules.specs.Forms.{InterfaceFile, ObjectFile, ImageFile};
+ghost use Rattle.command_passes.specs.command_rules.specs.Forms.{InterfaceFile, ObjectFile, ImageFile};
 ghost use Rattle.command_passes.specs.Kinds.{kind_in};
 ghost use Rattle.listed_files.specs.Listings.{HasFault, LacksInterface};
 ghost use Rattle.object_rules.specs.ImageFiles.{IsNoImageFile};
@@ -10,11 +10,11 @@ ghost use Rattle.command_listings.specs.Upgrading.{IsHeld};
 
 use held_objects::{let_objects_go, let_wanted_go};
 use held_trees::LetGo;
-use image_readers::read_image;
 use interface_readers::read_interface;
 use listed_files::FileKind;
+use mesa_lister::image_readers::read_image;
+use mesa_lister::object_readers::{file_fault, read_object};
 use object_files::{Image, Object};
-use object_readers::{file_fault, read_object};
 use object_rules::ObjectFault;
 use std::alloc::Global;
 use std::mem::drop;

@@ -1,9 +1,9 @@
 //! The listing of a file.
 
-ghost use Rattle.command_rules.specs.Listing.{Lists, listing_in};
-ghost use Rattle.command_rules.specs.Printing.{text_alone};
-ghost use Rattle.command_rules.specs.Reading.{Onward};
-ghost use Rattle.command_rules.specs.Worlds.{shelf};
+ghost use Rattle.command_passes.specs.command_rules.specs.Listing.{Lists, listing_in};
+ghost use Rattle.command_passes.specs.command_rules.specs.Printing.{text_alone};
+ghost use Rattle.command_passes.specs.command_rules.specs.Reading.{Onward};
+ghost use Rattle.command_passes.specs.command_rules.specs.Worlds.{shelf};
 ghost use Rattle.command_passes.specs.Kinds.{kind_in};
 ghost use Rattle.command_passes.specs.Shelves.{Decides, Passes};
 

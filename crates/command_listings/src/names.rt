@@ -2,7 +2,7 @@
 
 ghost use Rattle.std.specs.Prelude.{◌≡◌, IfOk};
 ghost use Rattle.std.specs.Str.{IsAscii};
-ghost use Rattle.command_rules.specs.Forms.{kind_file};
+ghost use Rattle.command_passes.specs.command_rules.specs.Forms.{kind_file};
 ghost use Rattle.command_passes.specs.Kinds.{kind_in};
 
 use command_passes::{FileName, file_named};

@@ -1,8 +1,8 @@
 //! The bytes of a file in version 2.
 
 ghost use Rattle.std.specs.Prelude.{◌≡◌, ◌<◌, length};
-ghost use Rattle.command_rules.specs.Reading.{Onward};
-ghost use Rattle.command_rules.specs.Worlds.{shelf};
+ghost use Rattle.command_passes.specs.command_rules.specs.Reading.{Onward};
+ghost use Rattle.command_passes.specs.command_rules.specs.Worlds.{shelf};
 ghost use Rattle.command_passes.specs.Kinds.{kind_in};
 ghost use Rattle.upgraded_files.specs.Upgraded.{upgraded};
 ghost use Rattle.command_listings.specs.Upgrading.{IsUpgradedOf, UpgradePasses};

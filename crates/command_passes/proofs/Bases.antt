@@ -11,9 +11,9 @@ use Rattle.mesa_base.specs.declared.place.Place.{Place}
 use Rattle.check_rules.specs.Steps.{Checked, and_then, only}
 use Rattle.check_rules.specs.declared.fault.Cause.{Cause}
 use Rattle.check_rules.specs.declared.fault.Cause.TheVariants.{UnknownName}
-use Rattle.config_rules.specs.Components.{is_file_byte, is_file_base}
-use Rattle.checked_texts.specs.declared.purpose.Purpose.{Purpose}
-use Rattle.checked_texts.specs.Asked.{asks, asked, is_built_in, names_file, name_files, fits, before_files}
+use Rattle.command_rules.specs.config_rules.specs.Components.{is_file_byte, is_file_base}
+use Rattle.command_rules.specs.checked_texts.specs.declared.purpose.Purpose.{Purpose}
+use Rattle.command_rules.specs.checked_texts.specs.Asked.{asks, asked, is_built_in, names_file, name_files, fits, before_files}
 use Rattle.command_passes.specs.Asking.{AsksPlainly, IsPlain}
 
 file_byte_small : (b : ℕ) → is_file_byte b ≡ true → b < 128

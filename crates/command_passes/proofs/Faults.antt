@@ -5,8 +5,8 @@ use Rattle.mesa_base.specs.declared.file_fault.FileFault.TheVariants as forms
 use Rattle.object_rules.specs.ObjectFiles.{file_fault}
 use Rattle.object_rules.specs.declared.object_fault.ObjectFault.{ObjectFault}
 use Rattle.object_rules.specs.declared.object_fault.ObjectFault.TheVariants as files
-use Rattle.checked_texts.specs.declared.text_fault.TextFault.{TextFault}
-use Rattle.checked_texts.specs.declared.text_fault.TextFault.TheVariants as texts
+use Rattle.command_rules.specs.checked_texts.specs.declared.text_fault.TextFault.{TextFault}
+use Rattle.command_rules.specs.checked_texts.specs.declared.text_fault.TextFault.TheVariants as texts
 use Rattle.command_rules.specs.Case.{Case, Refused, Memory}
 use Rattle.command_rules.specs.declared.trouble.Trouble.TheVariants.{Text, File}
 use Rattle.command_rules.specs.Passes.{Outcome, Stops}

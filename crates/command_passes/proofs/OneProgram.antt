@@ -5,10 +5,10 @@ use Rattle.mesa_types.specs.Plain.{plain}
 use Rattle.mesa_types.specs.declared.typed_tree.TypedModule.{TypedModule}
 use Rattle.syntax_trees.specs.declared.syntax.Module as syntax
 use Rattle.interface_records.specs.declared.interface.Interface as records
-use Rattle.checked_texts.specs.declared.purpose.Purpose.TheVariants.{Program}
-use Rattle.checked_texts.specs.declared.text_fault.TextFault.{TextFault}
-use Rattle.checked_texts.specs.declared.text_fault.TextFault.TheVariants as texts
-use Rattle.checked_texts.specs.Texts as text
+use Rattle.command_rules.specs.checked_texts.specs.declared.purpose.Purpose.TheVariants.{Program}
+use Rattle.command_rules.specs.checked_texts.specs.declared.text_fault.TextFault.{TextFault}
+use Rattle.command_rules.specs.checked_texts.specs.declared.text_fault.TextFault.TheVariants as texts
+use Rattle.command_rules.specs.checked_texts.specs.Texts as text
 use Rattle.command_rules.specs.Case.{Case, Absent}
 use Rattle.command_rules.specs.Modules.{Begins, begun, refused, Checks, interfaces_for, program_of, module_in}
 use Rattle.command_rules.specs.Passes.{decided, and_then}

@@ -6,10 +6,10 @@ use Rattle.mesa_lexer.specs.Tokens.{HasLexFault, text_too_long, no_token, not_in
 use Rattle.mesa_lexer.specs.declared.fault.LexFault.{LexFault}
 use Rattle.mesa_lexer.specs.declared.fault.LexFault.TheVariants as lex
 use Rattle.syntax_trees.specs.declared.syntax.Module.{Module}
-use Rattle.checked_texts.specs.declared.purpose.Purpose.{Purpose}
-use Rattle.checked_texts.specs.declared.text_fault.TextFault.{TextFault}
-use Rattle.checked_texts.specs.Texts as text
-use Rattle.written_trees.specs.Laws.{IsTreeOf}
+use Rattle.command_rules.specs.checked_texts.specs.declared.purpose.Purpose.{Purpose}
+use Rattle.command_rules.specs.checked_texts.specs.declared.text_fault.TextFault.{TextFault}
+use Rattle.command_rules.specs.checked_texts.specs.Texts as text
+use Rattle.command_rules.specs.written_trees.specs.Laws.{IsTreeOf}
 use Rattle.command_rules.specs.Modules.{Begins, begun, refused}
 use Rattle.command_rules.specs.Passes.{Has}
 use Rattle.command_rules.proofs.Passing.{Moves}

@@ -3,7 +3,7 @@ use Rattle.std.specs.Prelude.{ℕ, List, Option, Some, None}
 use Rattle.std.specs.List.{All}
 use Rattle.std.specs.Str.{IsAscii}
 use Rattle.syntax_trees.specs.Syntax as s
-use Rattle.checked_texts.specs.Asked.{asks}
+use Rattle.command_rules.specs.checked_texts.specs.Asked.{asks}
 
 abbrev pub IsPlain : Option (List ℕ) → Type 0
 IsPlain None = Unit {0}

@@ -4,8 +4,8 @@ use Rattle.mesa_base.specs.declared.outside_errors.FolderError.{FolderError}
 use Rattle.mesa_base.specs.declared.outside_errors.FolderError.TheVariants as folder
 use Rattle.object_rules.specs.declared.object_fault.ObjectFault.{ObjectFault}
 use Rattle.object_rules.specs.declared.object_fault.ObjectFault.TheVariants as files
-use Rattle.checked_texts.specs.declared.text_fault.TextFault.TheVariants as texts
-use Rattle.checked_texts.specs.declared.text_fault.TextFault.{TextFault}
+use Rattle.command_rules.specs.checked_texts.specs.declared.text_fault.TextFault.TheVariants as texts
+use Rattle.command_rules.specs.checked_texts.specs.declared.text_fault.TextFault.{TextFault}
 use Rattle.command_rules.specs.Case.{Case, Refused, Absent, FolderFault, Memory}
 use Rattle.command_rules.specs.declared.trouble.Trouble.TheVariants.{Text, File}
 use Rattle.command_passes.specs.declared.stop.Stop.{Stop}

@@ -3,7 +3,7 @@
 ghost use Rattle.std.specs.Prelude.{◌≡◌, ◌<◌, ℕ, List as Items, Option, length, take, Some, None, slice_get, MatchOption, IfSome};
 ghost use Rattle.std.specs.Str.{IsAscii};
 ghost use Rattle.syntax_trees.specs.PlainSyntax.{syntax};
-ghost use Rattle.checked_texts.specs.Asked.{asks};
+ghost use Rattle.command_rules.specs.checked_texts.specs.Asked.{asks};
 ghost use Rattle.command_rules.specs.Modules as rules;
 ghost use Rattle.command_rules.specs.Modules.{Decodes};
 ghost use Rattle.command_rules.specs.Passes.{each};
@@ -14,12 +14,12 @@ ghost use Rattle.command_passes.specs.Shelves.{Decides, Passes};
 
 use crate::file_name::{FileName, file_named};
 use crate::stop::{Stop, unfit, unread};
-use checked_texts::{asked_count, asked_file};
-use interface_readers::read_interface;
+use command_rules::checked_texts::{asked_count, asked_file};
+use image_readers::interface_readers::read_interface;
+use image_readers::object_readers::file_fault;
 use interface_records::{Interface, iodefs};
 use mesa_base::Folder;
 use mesa_base::limits::FILE_BYTES;
-use object_readers::file_fault;
 use std::alloc::Global;
 use syntax_trees::Module;
 

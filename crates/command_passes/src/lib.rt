@@ -7,7 +7,10 @@ mod modules;
 mod objects;
 mod stop;
 
+pub use command_rules;
+pub use command_rules::checked_texts;
 pub use file_name::{FileName, file_named};
+pub use image_readers;
 pub use interfaces::{interface_of_file, interfaces_of};
 pub use modules::{faulty, module_of_file};
 pub use objects::{image_of_file, object_of_file};

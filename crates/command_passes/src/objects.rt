@@ -11,11 +11,11 @@ ghost use Rattle.command_passes.specs.Shelves.{Decides, Passes};
 
 use crate::file_name::FileName;
 use crate::stop::{Stop, unfit, unread};
+use image_readers::object_readers::read_object;
 use image_readers::read_image;
 use mesa_base::Folder;
 use mesa_base::limits::FILE_BYTES;
 use object_files::{Image, Object};
-use object_readers::read_object;
 use std::alloc::Global;
 
 /// The object of a file's bytes, or their first fault.

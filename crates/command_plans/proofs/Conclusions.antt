@@ -7,14 +7,14 @@ use Rattle.include_rules.specs.Stale.{Faced, stale}
 use Rattle.include_rules.specs.declared.entries.TextEntry.{TextEntry}
 use Rattle.include_rules.specs.declared.plan.Plan.{Plan}
 use Rattle.include_rules.specs.declared.plan.PlanFault.TheVariants.{Cycle}
-use Rattle.command_rules.specs.Case.{Case}
-use Rattle.command_rules.specs.Passes.{Has, Stops, decided}
-use Rattle.command_rules.specs.Passing.{Fails}
-use Rattle.command_rules.specs.Planning.{Concludes, base_at, files_there, gathered_in, missing_files, plan_in, plan_text}
-use Rattle.command_rules.specs.Planning as rules
-use Rattle.command_rules.specs.Printing.{Report}
-use Rattle.command_rules.specs.Worlds.{Shelf}
-use Rattle.command_rules.proofs.Passing.{fails_first}
+use Rattle.command_passes.specs.command_rules.specs.Case.{Case}
+use Rattle.command_passes.specs.command_rules.specs.Passes.{Has, Stops, decided}
+use Rattle.command_passes.specs.command_rules.specs.Passing.{Fails}
+use Rattle.command_passes.specs.command_rules.specs.Planning.{Concludes, base_at, files_there, gathered_in, missing_files, plan_in, plan_text}
+use Rattle.command_passes.specs.command_rules.specs.Planning as rules
+use Rattle.command_passes.specs.command_rules.specs.Printing.{Report}
+use Rattle.command_passes.specs.command_rules.specs.Worlds.{Shelf}
+use Rattle.command_passes.specs.command_rules.proofs.Passing.{fails_first}
 use Rattle.command_passes.specs.Shelves.{Passes}
 use Rattle.command_passes.specs.Stops.{stop_case}
 use Rattle.command_passes.specs.declared.stop.Stop.{Stop}

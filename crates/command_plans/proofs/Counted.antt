@@ -3,10 +3,10 @@ use Rattle.std.proofs.Common.{◌≡◌, ℕ, ◌≤◌, List, ◌++◌, inl, in
 use Rattle.std.proofs.lemmas.List.Elements.{All-append}
 use Rattle.std.proofs.Math.Nat.{eq-or-lt_of_le}
 use Rattle.mesa_base.specs.Outside.{Rose}
-use Rattle.command_rules.specs.Printing.{AreMissed}
-use Rattle.command_rules.specs.Reading.{Onward}
-use Rattle.command_rules.specs.Worlds.{Shelf}
-use Rattle.command_rules.proofs.Passing.{rose_from}
+use Rattle.command_passes.specs.command_rules.specs.Printing.{AreMissed}
+use Rattle.command_passes.specs.command_rules.specs.Reading.{Onward}
+use Rattle.command_passes.specs.command_rules.specs.Worlds.{Shelf}
+use Rattle.command_passes.specs.command_rules.proofs.Passing.{rose_from}
 
 -- a count that rose, and stood or rose since
 rose_on : (a b c : ℕ) → a ≤ b → b ≤ c → Rose a b → Rose a c

@@ -3,12 +3,12 @@ use Rattle.std.proofs.Common.{◌≡◌, ◌≤◌, ℕ, List, length, All, Opti
 use Rattle.include_rules.specs.Plans.{most_texts}
 use Rattle.include_rules.specs.Stale.{Faced}
 use Rattle.include_rules.specs.declared.entries.TextEntry.{TextEntry}
-use Rattle.command_rules.specs.Case.{Case}
-use Rattle.command_rules.specs.Passes.{each, given, and_then}
-use Rattle.command_rules.specs.Passing.{Fails, Gives}
-use Rattle.command_rules.specs.Planning.{faces_in, gathered_in, numbered, text_in}
-use Rattle.command_rules.specs.Worlds.{Shelf}
-use Rattle.command_rules.proofs.Passing.{fails_first, fails_second, gives_both}
+use Rattle.command_passes.specs.command_rules.specs.Case.{Case}
+use Rattle.command_passes.specs.command_rules.specs.Passes.{each, given, and_then}
+use Rattle.command_passes.specs.command_rules.specs.Passing.{Fails, Gives}
+use Rattle.command_passes.specs.command_rules.specs.Planning.{faces_in, gathered_in, numbered, text_in}
+use Rattle.command_passes.specs.command_rules.specs.Worlds.{Shelf}
+use Rattle.command_passes.specs.command_rules.proofs.Passing.{fails_first, fails_second, gives_both}
 use Rattle.command_passes.specs.Stops.{stop_case}
 use Rattle.command_passes.specs.declared.stop.Stop.{Stop}
 use Rattle.command_passes.proofs.Passed.{given_passes}

@@ -6,19 +6,19 @@ use Rattle.object_files.specs.declared.object.Object.{Object}
 use Rattle.object_rules.specs.Parts.{ModulePart, parts_of}
 use Rattle.include_rules.specs.Stale.{Faced, OfInterface, OfObject, faces_of}
 use Rattle.include_rules.specs.declared.entries.TextEntry.{TextEntry}
-use Rattle.command_rules.specs.Case.{Case, Absent}
-use Rattle.command_rules.specs.Forms.{FileKind, InterfaceFile, ObjectFile, interface_file, kind_file}
-use Rattle.command_rules.specs.Listing as listing
-use Rattle.command_rules.specs.Modules.{Decodes, interface_for}
-use Rattle.command_rules.specs.Modules as modules
-use Rattle.command_rules.specs.Objects.{HoldsObject, object_in, shape_in}
-use Rattle.command_rules.specs.Objects as objects
-use Rattle.command_rules.specs.Passes.{Outcome, Has, Stops, from_file, if_there}
-use Rattle.command_rules.specs.Passing.{Fails, Gives}
-use Rattle.command_rules.specs.Planning.{Faces, faces_in, kind_made}
-use Rattle.command_rules.specs.Planning as rules
-use Rattle.command_rules.specs.Reading.{Onward}
-use Rattle.command_rules.specs.Worlds.{Shelf}
+use Rattle.command_passes.specs.command_rules.specs.Case.{Case, Absent}
+use Rattle.command_passes.specs.command_rules.specs.Forms.{FileKind, InterfaceFile, ObjectFile, interface_file, kind_file}
+use Rattle.command_passes.specs.command_rules.specs.Listing as listing
+use Rattle.command_passes.specs.command_rules.specs.Modules.{Decodes, interface_for}
+use Rattle.command_passes.specs.command_rules.specs.Modules as modules
+use Rattle.command_passes.specs.command_rules.specs.Objects.{HoldsObject, object_in, shape_in}
+use Rattle.command_passes.specs.command_rules.specs.Objects as objects
+use Rattle.command_passes.specs.command_rules.specs.Passes.{Outcome, Has, Stops, from_file, if_there}
+use Rattle.command_passes.specs.command_rules.specs.Passing.{Fails, Gives}
+use Rattle.command_passes.specs.command_rules.specs.Planning.{Faces, faces_in, kind_made}
+use Rattle.command_passes.specs.command_rules.specs.Planning as rules
+use Rattle.command_passes.specs.command_rules.specs.Reading.{Onward}
+use Rattle.command_passes.specs.command_rules.specs.Worlds.{Shelf}
 use Rattle.command_passes.specs.Shelves.{Passes}
 use Rattle.command_passes.specs.Stops.{stop_case}
 use Rattle.command_passes.specs.declared.stop.Stop.{Stop}

@@ -6,13 +6,13 @@ use Rattle.std.proofs.lemmas.Option.{slice_get_read}
 use Rattle.mesa_base.specs.declared.outside_errors.FolderError.{FolderError}
 use Rattle.syntax_trees.specs.declared.syntax.Module.{Module}
 use Rattle.include_rules.specs.declared.entries.TextEntry.{TextEntry}
-use Rattle.command_rules.specs.Case.{Case, Absent}
-use Rattle.command_rules.specs.Forms.{module_file}
-use Rattle.command_rules.specs.Passes.{from_file, given, each}
-use Rattle.command_rules.specs.Passing.{Fails, Gives}
-use Rattle.command_rules.specs.Planning.{Parses, parsed, refused, text_in}
-use Rattle.command_rules.specs.Worlds.{Shelf}
-use Rattle.command_rules.proofs.Passing.{HasRead, Moves, fails_first, gives_both}
+use Rattle.command_passes.specs.command_rules.specs.Case.{Case, Absent}
+use Rattle.command_passes.specs.command_rules.specs.Forms.{module_file}
+use Rattle.command_passes.specs.command_rules.specs.Passes.{from_file, given, each}
+use Rattle.command_passes.specs.command_rules.specs.Passing.{Fails, Gives}
+use Rattle.command_passes.specs.command_rules.specs.Planning.{Parses, parsed, refused, text_in}
+use Rattle.command_passes.specs.command_rules.specs.Worlds.{Shelf}
+use Rattle.command_passes.specs.command_rules.proofs.Passing.{HasRead, Moves, fails_first, gives_both}
 use Rattle.command_passes.specs.Shelves.{Decides, Passes}
 use Rattle.command_passes.specs.Stops.{stop_case, unread_case}
 use Rattle.command_passes.specs.declared.stop.Stop.{Stop}

@@ -4,7 +4,7 @@ use Rattle.std.specs.Str.{IsAscii}
 use Rattle.mesa_base.specs.Outside.{Rose}
 use Rattle.include_rules.specs.Stale.{Faced, faced}
 use Rattle.include_rules.specs.declared.entries.TextEntry.{TextEntry}
-use Rattle.command_rules.specs.Case.{Absent}
+use Rattle.command_passes.specs.command_rules.specs.Case.{Absent}
 use Rattle.command_passes.specs.Stops.{stop_case}
 use Rattle.command_passes.specs.declared.stop.Stop.{Stop}
 use Rattle.command_plans.specs.declared.made.MadeFile.{MadeFile}

@@ -2,11 +2,11 @@
 use Rattle.std.specs.Prelude.{◌≡◌, ℕ, List, ◌∷◌, map, Option, Result}
 use Rattle.include_rules.specs.Stale.{Faced}
 use Rattle.include_rules.specs.declared.entries.TextEntry.{TextEntry}
-use Rattle.command_rules.specs.Case.{Refused}
-use Rattle.command_rules.specs.declared.trouble.Trouble.TheVariants.{Cycle}
-use Rattle.command_rules.specs.Forms.{module_file}
-use Rattle.command_rules.specs.Planning.{Concludes, base_at}
-use Rattle.command_rules.specs.Printing.{Report}
+use Rattle.command_passes.specs.command_rules.specs.Case.{Refused}
+use Rattle.command_passes.specs.command_rules.specs.declared.trouble.Trouble.TheVariants.{Cycle}
+use Rattle.command_passes.specs.command_rules.specs.Forms.{module_file}
+use Rattle.command_passes.specs.command_rules.specs.Planning.{Concludes, base_at}
+use Rattle.command_passes.specs.command_rules.specs.Printing.{Report}
 use Rattle.command_passes.specs.Shelves.{Decides}
 use Rattle.command_passes.specs.Stops.{stop_case}
 use Rattle.command_passes.specs.declared.stop.Stop.{Stop}

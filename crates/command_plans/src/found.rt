@@ -2,8 +2,8 @@
 
 ghost use Rattle.std.specs.Prelude.{◌≤◌, All, length, OnOk};
 ghost use Rattle.include_rules.specs.Plans.{most_texts};
-ghost use Rattle.command_rules.specs.Reading.{Onward};
-ghost use Rattle.command_rules.specs.Worlds.{shelf};
+ghost use Rattle.command_passes.specs.command_rules.specs.Reading.{Onward};
+ghost use Rattle.command_passes.specs.command_rules.specs.Worlds.{shelf};
 ghost use Rattle.command_plans.specs.Finding.{AddsFile, FillsWith, FindsAll, FindsOne, IsEmpty};
 ghost use Rattle.command_plans.specs.Made.{IsPlainText};
 

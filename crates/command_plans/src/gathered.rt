@@ -3,8 +3,8 @@
 ghost use Rattle.std.specs.Prelude.{◌≤◌, All, length};
 ghost use Rattle.std.specs.Str.{IsAscii};
 ghost use Rattle.include_rules.specs.Plans.{most_texts};
-ghost use Rattle.command_rules.specs.Reading.{Onward};
-ghost use Rattle.command_rules.specs.Worlds.{shelf};
+ghost use Rattle.command_passes.specs.command_rules.specs.Reading.{Onward};
+ghost use Rattle.command_passes.specs.command_rules.specs.Worlds.{shelf};
 ghost use Rattle.command_plans.specs.Gathering.{Gathers};
 
 use crate::found::{FoundFiles, found_of};

@@ -2,12 +2,12 @@
 
 ghost use Rattle.std.specs.Prelude.{ℕ, IfOk};
 ghost use Rattle.std.specs.Str.{IsAscii};
-ghost use Rattle.command_rules.specs.Forms.{InterfaceFile, ObjectFile, interface_file};
-ghost use Rattle.command_rules.specs.Passes.{if_there};
-ghost use Rattle.command_rules.specs.Planning as rules;
-ghost use Rattle.command_rules.specs.Planning.{Faces, faces_in};
-ghost use Rattle.command_rules.specs.Reading.{Onward};
-ghost use Rattle.command_rules.specs.Worlds.{shelf};
+ghost use Rattle.command_passes.specs.command_rules.specs.Forms.{InterfaceFile, ObjectFile, interface_file};
+ghost use Rattle.command_passes.specs.command_rules.specs.Passes.{if_there};
+ghost use Rattle.command_passes.specs.command_rules.specs.Planning as rules;
+ghost use Rattle.command_passes.specs.command_rules.specs.Planning.{Faces, faces_in};
+ghost use Rattle.command_passes.specs.command_rules.specs.Reading.{Onward};
+ghost use Rattle.command_passes.specs.command_rules.specs.Worlds.{shelf};
 ghost use Rattle.command_passes.specs.Shelves.{Passes};
 ghost use Rattle.command_plans.specs.Made.{IsPlainText, TellsAbsent, TellsMissing, faced_of};
 

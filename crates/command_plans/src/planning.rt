@@ -3,10 +3,10 @@
 ghost use Rattle.std.specs.Prelude.{◌≤◌, ◌≡◌, All, length, IfOk};
 ghost use Rattle.std.specs.Str.{IsAscii};
 ghost use Rattle.include_rules.specs.Plans.{most_texts};
-ghost use Rattle.command_rules.specs.Planning.{plan_in};
-ghost use Rattle.command_rules.specs.Printing.{AreMissed};
-ghost use Rattle.command_rules.specs.Reading.{Onward};
-ghost use Rattle.command_rules.specs.Worlds.{shelf};
+ghost use Rattle.command_passes.specs.command_rules.specs.Planning.{plan_in};
+ghost use Rattle.command_passes.specs.command_rules.specs.Printing.{AreMissed};
+ghost use Rattle.command_passes.specs.command_rules.specs.Reading.{Onward};
+ghost use Rattle.command_passes.specs.command_rules.specs.Worlds.{shelf};
 ghost use Rattle.command_passes.specs.Shelves.{Passes};
 ghost use Rattle.command_plans.specs.Gathering.{CanBePlanned};
 ghost use Rattle.command_plans.specs.Reports.{Reports, report_of};

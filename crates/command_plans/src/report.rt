@@ -1,15 +1,15 @@
 //! The text of a plan, or the texts that name each other in a circle.
 
 ghost use Rattle.std.specs.Prelude.{◌≡◌, ◌≢◌, ◌<◌, ◌++◌, [], length, map, flat_map, codes, All, IfOk, OnOk};
-ghost use Rattle.command_rules.specs.Planning.{base_at, line};
-ghost use Rattle.command_rules.specs.Planning as rules;
+ghost use Rattle.command_passes.specs.command_rules.specs.Planning.{base_at, line};
+ghost use Rattle.command_passes.specs.command_rules.specs.Planning as rules;
 ghost use Rattle.command_plans.specs.Gathering.{CanBePlanned};
 ghost use Rattle.command_plans.specs.Made.{IsPlainText};
 ghost use Rattle.command_plans.specs.Reports.{Tells, TellsCycle};
 
 use crate::gathered::Gathered;
+use command_passes::command_rules::Trouble;
 use command_passes::{Stop, file_named};
-use command_rules::Trouble;
 use include_checker::plan;
 use include_rules::{Plan, PlanFault, TextEntries};
 use mesa_base::{Bytes, List, Numbers, OutOfMemory, Texts};

@@ -3,15 +3,15 @@
 ghost use Rattle.std.specs.Prelude.{◌≡◌, All, IfOk};
 ghost use Rattle.std.specs.Str.{IsAscii};
 ghost use Rattle.include_rules.specs.declared.entries.TextEntry.{TextEntry as Entry};
-ghost use Rattle.command_rules.specs.Case.{Absent};
-ghost use Rattle.command_rules.specs.Passes.{each, from_file};
-ghost use Rattle.command_rules.specs.Planning.{Parses, text_in};
-ghost use Rattle.command_rules.specs.Reading.{Onward};
-ghost use Rattle.command_rules.specs.Worlds.{shelf};
+ghost use Rattle.command_passes.specs.command_rules.specs.Case.{Absent};
+ghost use Rattle.command_passes.specs.command_rules.specs.Passes.{each, from_file};
+ghost use Rattle.command_passes.specs.command_rules.specs.Planning.{Parses, text_in};
+ghost use Rattle.command_passes.specs.command_rules.specs.Reading.{Onward};
+ghost use Rattle.command_passes.specs.command_rules.specs.Worlds.{shelf};
 ghost use Rattle.command_passes.specs.Shelves.{Decides, Passes};
 ghost use Rattle.command_plans.specs.Made.{IsPlainText};
 
-use checked_texts::tree_of;
+use command_passes::checked_texts::tree_of;
 use command_passes::{FileName, Stop, faulty, file_named, unread};
 use held_trees::{LetGo, pushed};
 use include_rules::{TextEntries, TextEntry};

@@ -5,8 +5,8 @@ use Rattle.mesa_base.specs.declared.status.Status.TheVariants as status
 use Rattle.machine_rules.specs.declared.end.End as machine
 use Rattle.machine_rules.specs.declared.end.End.TheVariants as end
 use Rattle.object_files.specs.declared.image.Image.{Image}
-use Rattle.frame_machine.specs.declared.outcome.Outcome.{Outcome}
-use Rattle.frame_machine.specs.declared.outcome.RunFault.{RunFault}
+use Rattle.linked_programs.specs.frame_machine.specs.declared.outcome.Outcome.{Outcome}
+use Rattle.linked_programs.specs.frame_machine.specs.declared.outcome.RunFault.{RunFault}
 use Rattle.command_rules.specs.Case.{Case, Refused, Absent, FolderFault, status_of, IsBeforeRun}
 use Rattle.command_rules.specs.declared.trouble.Trouble.TheVariants.{TooLarge}
 use Rattle.command_rules.specs.Comes.{Goes, not_configured, Upgrades, not_held, Exercised, Exercises, no_end, ended, not_summed}

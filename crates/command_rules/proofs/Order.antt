@@ -6,9 +6,9 @@ use Rattle.interface_records.specs.declared.wanted.WantedItem.{WantedItem}
 use Rattle.machine_rules.specs.declared.end.End as machine
 use Rattle.machine_rules.specs.declared.end.End.TheVariants as end
 use Rattle.object_files.specs.declared.image.Image.{Image}
-use Rattle.frame_machine.specs.declared.outcome.Outcome.{Outcome}
-use Rattle.frame_machine.specs.declared.outcome.RunFault.{RunFault}
-use Rattle.frame_machine.specs.declared.outcome.RunFault.TheVariants as fault
+use Rattle.linked_programs.specs.frame_machine.specs.declared.outcome.Outcome.{Outcome}
+use Rattle.linked_programs.specs.frame_machine.specs.declared.outcome.RunFault.{RunFault}
+use Rattle.linked_programs.specs.frame_machine.specs.declared.outcome.RunFault.TheVariants as fault
 use Rattle.command_rules.specs.Case.{Case, Done, Uncaught, Spent, FrameLimit, Refused, Absent, ReadFault, WriteFault, FolderFault, Memory, Usage, status_of, IsBeforeWrite, IsBeforeRun}
 use Rattle.command_rules.specs.declared.trouble.Trouble.TheVariants.{Unresolved}
 use Rattle.command_rules.specs.Comes.{Compiles, not_compiled, compiled, Defines, not_defined, defined, Binds, not_bound, bound, Loads, not_read, Goes, not_configured, Upgrades, not_held, Exercises, no_end, ended, not_summed, Comes}

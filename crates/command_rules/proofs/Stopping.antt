@@ -11,7 +11,7 @@ use Rattle.config_rules.specs.Through as through
 use Rattle.config_rules.specs.Tree.{IsTree, IsSingle}
 use Rattle.config_rules.specs.declared.tree.Tree.{Tree}
 use Rattle.include_rules.specs.declared.entries.TextEntry.{TextEntry}
-use Rattle.bound_images.specs.Programs.{shape_of}
+use Rattle.linked_programs.specs.bound_images.specs.Programs.{shape_of}
 use Rattle.checked_texts.specs.Asked.{asks}
 use Rattle.checked_texts.specs.declared.purpose.Purpose.{Purpose}
 use Rattle.checked_texts.specs.declared.purpose.Purpose.TheVariants.{Program, Interface}

@@ -9,7 +9,7 @@ use Rattle.config_rules.specs.Components.{components}
 use Rattle.config_rules.specs.Tree.{IsTree}
 use Rattle.config_rules.specs.declared.tree.Component.{Component}
 use Rattle.config_rules.specs.declared.tree.Tree.{Tree}
-use Rattle.link_tables.specs.Linked.{image_of}
+use Rattle.linked_programs.specs.link_tables.specs.Linked.{image_of}
 use Rattle.command_rules.specs.Case.{Case}
 use Rattle.command_rules.specs.Configurations.{config_in, tree_in}
 use Rattle.command_rules.specs.Forms.{config_file, object_file}

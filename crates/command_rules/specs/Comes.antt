@@ -5,12 +5,12 @@ use Rattle.mesa_types.specs.Typed.{Module}
 use Rattle.interface_records.specs.declared.interface.Interface.{Interface}
 use Rattle.interface_records.specs.Hosts.{IsHostItem}
 use Rattle.interface_records.specs.declared.wanted.WantedItem.{WantedItem}
-use Rattle.machine_ready.specs.Hosts.{IsFirstUnresolved}
+use Rattle.linked_programs.specs.machine_ready.specs.Hosts.{IsFirstUnresolved}
 use Rattle.object_files.specs.declared.image.Image.{Image}
 use Rattle.object_files.specs.declared.object.Object.{Object}
 use Rattle.object_rules.specs.ImageForms.{ImagePart}
-use Rattle.link_tables.specs.Linked.{image_of}
-use Rattle.frame_machine.specs.declared.outcome.Outcome.{Outcome}
+use Rattle.linked_programs.specs.link_tables.specs.Linked.{image_of}
+use Rattle.linked_programs.specs.frame_machine.specs.declared.outcome.Outcome.{Outcome}
 use Rattle.line_pieces.specs.Outputs.{HasFaulted, PrintsAll, PrintsPrefix}
 use Rattle.linked_programs.specs.Objects.{IsObjectOf, AreObjectsOf}
 use Rattle.command_rules.specs.Binding.{Bound, IsImageOf, bound_in}

@@ -10,7 +10,7 @@ use Rattle.mesa_types.specs.Typed.{Module}
 use Rattle.interface_records.specs.declared.interface.Interface.{Interface}
 use Rattle.interface_records.specs.declared.wanted.WantedItem.{WantedItem}
 use Rattle.interface_records.specs.Hosts.{IsHostItem}
-use Rattle.machine_ready.specs.Hosts.{IsFirstUnresolved}
+use Rattle.linked_programs.specs.machine_ready.specs.Hosts.{IsFirstUnresolved}
 use Rattle.machine_rules.specs.State.{Ended}
 use Rattle.machine_rules.specs.Steps.{Steps}
 use Rattle.machine_rules.specs.declared.end.End as machine

@@ -21,10 +21,10 @@ use Rattle.config_rules.specs.declared.fault.TreeCause.TheVariants.{UnknownCompo
 use Rattle.config_rules.specs.declared.fault.TreeFault.TheVariants.{At}
 use Rattle.config_rules.specs.declared.tree.Component.{Component}
 use Rattle.config_rules.specs.declared.tree.Tree.{Tree}
-use Rattle.import_binder.specs.Bindings.{fault_of}
-use Rattle.link_tables.specs.Linked.{wanted_of}
+use Rattle.linked_programs.specs.import_binder.specs.Bindings.{fault_of}
+use Rattle.linked_programs.specs.link_tables.specs.Linked.{wanted_of}
 use Rattle.source_meaning.specs.Program.{Program}
-use Rattle.bound_images.specs.Programs.{shape_of, program_of}
+use Rattle.linked_programs.specs.bound_images.specs.Programs.{shape_of, program_of}
 use Rattle.checked_texts.specs.declared.text_fault.TextFault.TheVariants.{Lexical, Syntactic}
 use Rattle.command_rules.specs.Case.{Case, Refused, Absent, Text, Tree as OfTree, Item}
 use Rattle.command_rules.specs.Forms.{Source, OfModule, OfConfig, module_file, config_file}

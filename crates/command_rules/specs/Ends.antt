@@ -4,11 +4,11 @@ use Rattle.std.specs.Prelude.{◌≡◌, ℕ, ◌+◌, List, Some, IfSome, Resul
 use Rattle.mesa_base.specs.Outside.{Rose}
 use Rattle.source_meaning.specs.Program.{Program}
 use Rattle.object_files.specs.declared.image.Image.{Image}
-use Rattle.frame_machine.specs.declared.outcome.Outcome.{Outcome}
-use Rattle.frame_machine.specs.declared.outcome.RunFault.{RunFault}
-use Rattle.frame_machine.specs.declared.outcome.RunFault.TheVariants as fault
-use Rattle.frame_machine.specs.Running.{AreBytes, Completes, BreaksAtInput, BreaksAtOutput}
-use Rattle.linked_run.specs.Meant.{Ran, BrokenOff, CutOff}
+use Rattle.linked_programs.specs.frame_machine.specs.declared.outcome.Outcome.{Outcome}
+use Rattle.linked_programs.specs.frame_machine.specs.declared.outcome.RunFault.{RunFault}
+use Rattle.linked_programs.specs.frame_machine.specs.declared.outcome.RunFault.TheVariants as fault
+use Rattle.linked_programs.specs.frame_machine.specs.Running.{AreBytes, Completes, BreaksAtInput, BreaksAtOutput}
+use Rattle.linked_programs.specs.linked_run.specs.Meant.{Ran, BrokenOff, CutOff}
 use Rattle.line_pieces.specs.Outputs.{HasFaulted}
 use Rattle.command_rules.specs.Case.{Case}
 use Rattle.command_rules.specs.Shown.{Names, IsShownAs, case_of_run, program_names}

@@ -1,3 +1,13 @@
+pub use Rattle.checked_texts.specs.written_trees
+pub use Rattle.linked_programs.specs.linked_run
+pub use Rattle.linked_programs
+pub use Rattle.linked_programs.specs.import_binder
+pub use Rattle.linked_programs.specs.frame_machine
+pub use Rattle.linked_programs.specs.frame_code
+pub use Rattle.config_rules
+pub use Rattle.checked_texts
+pub use Rattle.linked_programs.specs.built_runs
+pub use Rattle.linked_programs.specs.bound_images
 pub mod Binding
 pub mod Case
 pub mod Comes

@@ -10,8 +10,8 @@ use Rattle.object_rules.specs.declared.object_fault.ObjectFault.TheVariants as f
 use Rattle.interface_records.specs.declared.wanted.WantedItem.{WantedItem}
 use Rattle.config_rules.specs.declared.fault.TreeCause.{TreeCause}
 use Rattle.config_rules.specs.declared.fault.TreeCause.TheVariants as tree
-use Rattle.import_binder.specs.declared.fault.BindFault.{BindFault}
-use Rattle.import_binder.specs.declared.fault.BindFault.TheVariants as bind
+use Rattle.linked_programs.specs.import_binder.specs.declared.fault.BindFault.{BindFault}
+use Rattle.linked_programs.specs.import_binder.specs.declared.fault.BindFault.TheVariants as bind
 use Rattle.checked_texts.specs.TextFaults.{fault_name, fault_place}
 use Rattle.line_pieces.specs.Texts.{path_text, stamp_text, with_blank}
 use Rattle.command_rules.specs.Case.{Case, Done, Uncaught, Spent, FrameLimit, Refused, Absent, ReadFault, WriteFault, FolderFault, Memory, Usage, Trouble, Text, Tree, File, Item, Unresolved, TooLarge, Cycle}

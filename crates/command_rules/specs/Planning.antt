@@ -7,7 +7,7 @@ use Rattle.interface_records.specs.declared.interface.Interface as interfaces
 use Rattle.object_files.specs.declared.object.Object as objects
 use Rattle.checked_texts.specs.Texts.{HasNoTree}
 use Rattle.checked_texts.specs.declared.text_fault.TextFault.{TextFault}
-use Rattle.written_trees.specs.Laws.{IsTreeOf}
+use Rattle.checked_texts.specs.written_trees.specs.Laws.{IsTreeOf}
 use Rattle.include_rules.specs.Naming.{naming}
 use Rattle.include_rules.specs.Order.{IsOrder, IsCycle}
 use Rattle.include_rules.specs.Stale.{Faced, faces_of, stale}

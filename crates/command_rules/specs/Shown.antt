@@ -9,9 +9,9 @@ use Rattle.source_meaning.specs.State as s
 use Rattle.source_meaning.specs.State.{Answer}
 use Rattle.signaller.specs.declared.signal_id.SignalId.{SignalId}
 use Rattle.signaller.specs.declared.signal_id.SignalId.TheVariants as id
-use Rattle.frame_machine.specs.declared.outcome.Outcome.{Outcome}
-use Rattle.frame_machine.specs.declared.outcome.RunFault.{RunFault}
-use Rattle.frame_machine.specs.declared.outcome.RunFault.TheVariants as fault
+use Rattle.linked_programs.specs.frame_machine.specs.declared.outcome.Outcome.{Outcome}
+use Rattle.linked_programs.specs.frame_machine.specs.declared.outcome.RunFault.{RunFault}
+use Rattle.linked_programs.specs.frame_machine.specs.declared.outcome.RunFault.TheVariants as fault
 use Rattle.machine_rules.specs.LookUps as machine_signal
 use Rattle.machine_rules.specs.declared.end.End as machine
 use Rattle.machine_rules.specs.declared.end.End.TheVariants as end

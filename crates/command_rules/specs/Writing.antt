@@ -9,7 +9,7 @@ use Rattle.object_files.specs.declared.object.Object.{Object}
 use Rattle.face_rules.specs.InterfaceForms.{IsInterfaceFile}
 use Rattle.object_rules.specs.ImageFiles.{IsImageFile}
 use Rattle.object_rules.specs.ObjectFiles.{IsObjectFile}
-use Rattle.interface_writers.specs.Whole.{interface_file as interface_bytes}
+use Rattle.object_writers.specs.interface_writers.specs.Whole.{interface_file as interface_bytes}
 use Rattle.object_writers.specs.ObjectBytes.{object_file as object_bytes, image_file as image_bytes}
 use Rattle.command_rules.specs.Case.{Case, Done, Refused, FolderFault, Memory, TooLarge}
 use Rattle.command_rules.specs.Passes.{Trail}

@@ -4,4 +4,6 @@
 
 mod trouble;
 
+pub use checked_texts;
+pub use linked_programs;
 pub use trouble::Trouble;

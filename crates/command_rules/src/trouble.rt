@@ -2,8 +2,8 @@
 
 use checked_texts::TextFault;
 use config_rules::TreeCause;
-use import_binder::BindFault;
 use interface_records::WantedItem;
+use linked_programs::import_binder::BindFault;
 use mesa_base::{Place, Texts};
 use object_rules::ObjectFault;
 

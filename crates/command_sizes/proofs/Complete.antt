@@ -6,7 +6,7 @@ use Rattle.mesa_base.specs.declared.status.Status.TheVariants as status
 use Rattle.mesa_types.specs.Typed.{Module}
 use Rattle.interface_records.specs.Hosts.{IsHostItem}
 use Rattle.object_files.specs.declared.object.Object.{Object}
-use Rattle.linked_programs.specs.Objects.{IsObjectOf, AreObjectsOf}
+use Rattle.command_rules.specs.linked_programs.specs.Objects.{IsObjectOf, AreObjectsOf}
 use Rattle.line_pieces.specs.Outputs.{PrintsAll}
 use Rattle.command_rules.specs.Case.{Case, Done, Memory, status_of}
 use Rattle.command_rules.specs.Comes.{Made, targets_of}

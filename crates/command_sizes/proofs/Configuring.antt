@@ -20,8 +20,8 @@ use Rattle.config_rules.specs.declared.tree.Tree.{Tree}
 use Rattle.config_rules.specs.declared.tree.TreeInstance.{TreeInstance}
 use Rattle.config_rules.proofs.Answers.{err_ok, ok_same}
 use Rattle.bound_images.specs.Programs.{shape_of}
-use Rattle.linked_programs.specs.Laws.{IsOfShapes}
-use Rattle.linked_programs.specs.Modules.{shapes_of}
+use Rattle.command_rules.specs.linked_programs.specs.Laws.{IsOfShapes}
+use Rattle.command_rules.specs.linked_programs.specs.Modules.{shapes_of}
 use Rattle.spelled_trees.specs.Names.{HasNames}
 use Rattle.spelled_trees.specs.Paths.{PathCanBeSpelled, PathsAndRecords}
 use Rattle.image_sizes.specs.Trees.{TreeIsShort}

@@ -10,9 +10,9 @@ use Rattle.interface_records.specs.PlainTypes.{plain_interface}
 use Rattle.interface_records.specs.Spelled.{InterfaceCanBeSpelled, InterfacesCanBeSpelled}
 use Rattle.interface_records.specs.declared.interface.Interface.{Interface}
 use Rattle.spelled_laws.specs.Laws.{BuiltInFits, InterfacesFit}
-use Rattle.checked_texts.specs.Asked.{asked, is_built_in}
-use Rattle.checked_texts.specs.Texts.{Begins, Reads}
-use Rattle.checked_texts.specs.declared.purpose.Purpose.TheVariants.{Program}
+use Rattle.command_rules.specs.checked_texts.specs.Asked.{asked, is_built_in}
+use Rattle.command_rules.specs.checked_texts.specs.Texts.{Begins, Reads}
+use Rattle.command_rules.specs.checked_texts.specs.declared.purpose.Purpose.TheVariants.{Program}
 use Rattle.file_sizes.specs.Sizes.{total, interface_size}
 use Rattle.object_sizes.specs.TextSizes.{AreGiven, files_size}
 use Rattle.command_rules.specs.Case.{Case, Absent}

@@ -12,11 +12,11 @@ use Rattle.object_rules.specs.ModuleForms.{module_form}
 use Rattle.object_rules.specs.Parts.{parts_of}
 use Rattle.object_writers.specs.ObjectBytes.{object_file, image_file}
 use Rattle.bound_images.specs.Programs.{shape_of}
-use Rattle.linked_programs.specs.Objects.{IsObjectOf}
-use Rattle.checked_texts.specs.Laws.{CanBeKept}
+use Rattle.command_rules.specs.linked_programs.specs.Objects.{IsObjectOf}
+use Rattle.command_rules.specs.checked_texts.specs.Laws.{CanBeKept}
 use Rattle.check_rules.specs.CheckedModule.{checked}
-use Rattle.checked_texts.specs.Texts.{Begins}
-use Rattle.checked_texts.specs.declared.purpose.Purpose.TheVariants.{Program}
+use Rattle.command_rules.specs.checked_texts.specs.Texts.{Begins}
+use Rattle.command_rules.specs.checked_texts.specs.declared.purpose.Purpose.TheVariants.{Program}
 use Rattle.file_sizes.specs.Sizes.{object_size, image_size}
 use Rattle.object_sizes.specs.Laws.{IsChecked, CanBeHeld, IsShortObjectOf}
 use Rattle.object_sizes.specs.TextSizes.{text_size, shape_cost}

@@ -15,7 +15,7 @@ use Rattle.config_rules.specs.declared.tree.TreeInstance.{TreeInstance}
 use Rattle.link_tables.specs.Linked.{image_of}
 use Rattle.bound_images.specs.Programs.{shape_of}
 use Rattle.bound_images.proofs.Elements.{all_by}
-use Rattle.linked_programs.specs.Objects.{AreObjectsOf}
+use Rattle.command_rules.specs.linked_programs.specs.Objects.{AreObjectsOf}
 use Rattle.file_sizes.specs.Sizes.{object_size}
 use Rattle.object_sizes.specs.TextSizes.{shape_cost}
 use Rattle.image_sizes.specs.Laws.{ComponentsAreShort, ShapesCanBeSpelled}

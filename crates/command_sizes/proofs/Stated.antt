@@ -2,9 +2,9 @@
 use Rattle.std.proofs.Common.{◌≡◌, ℕ, ◌<◌, List, [], ◌∷◌, All, Some, refl, sym, ◌∙◌, subst, nat_lt, Bool, true, false, ltb-true, ltb-false}
 use Rattle.std.specs.Prelude.{Result, Ok, Err}
 use Rattle.mesa_base.specs.Outside.{Files}
-use Rattle.frame_machine.specs.declared.outcome.Outcome.{Outcome}
-use Rattle.frame_machine.specs.declared.outcome.RunFault.{RunFault}
-use Rattle.frame_machine.specs.declared.outcome.RunFault.TheVariants as fault
+use Rattle.command_rules.specs.frame_machine.specs.declared.outcome.Outcome.{Outcome}
+use Rattle.command_rules.specs.frame_machine.specs.declared.outcome.RunFault.{RunFault}
+use Rattle.command_rules.specs.frame_machine.specs.declared.outcome.RunFault.TheVariants as fault
 use Rattle.machine_rules.specs.declared.end.End as machine
 use Rattle.machine_rules.specs.declared.end.End.TheVariants as end
 use Rattle.object_files.specs.declared.image.Image.{Image}

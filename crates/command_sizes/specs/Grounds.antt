@@ -1,8 +1,8 @@
 -- The laws of the crates below that these laws stand on.
-use Rattle.checked_texts.specs.Laws.{ReadModulesCanBeKept, TextsBeginOnce}
+use Rattle.command_rules.specs.checked_texts.specs.Laws.{ReadModulesCanBeKept, TextsBeginOnce}
 use Rattle.spelled_laws.specs.Laws.{BuiltInFits, InterfacesFit}
 use Rattle.spelled_trees.specs.Laws.{ParsedNamesAreNames, SinglesCanBeSpelled, TreesCanBeSpelled}
-use Rattle.linked_programs.specs.Laws.{SinglesAreOfTheirShape, TreesAreOfTheirShapes}
+use Rattle.command_rules.specs.linked_programs.specs.Laws.{SinglesAreOfTheirShape, TreesAreOfTheirShapes}
 use Rattle.file_sizes.specs.Laws.{ImagesAreSized, ObjectsAreSized}
 use Rattle.object_sizes.specs.Laws.{InstancesAreShort, ObjectsAreShort}
 use Rattle.image_sizes.specs.Laws.{LinkedImagesAreShort}

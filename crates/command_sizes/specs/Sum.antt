@@ -4,9 +4,9 @@ use Rattle.std.specs.List.{AllZip}
 use Rattle.mesa_base.specs.Outside.{Files}
 use Rattle.syntax_trees.specs.PlainSyntax.{syntax}
 use Rattle.syntax_trees.specs.declared.syntax.Module.{Module}
-use Rattle.checked_texts.specs.Asked.{asks}
-use Rattle.checked_texts.specs.Texts.{Begins}
-use Rattle.checked_texts.specs.declared.purpose.Purpose.TheVariants.{Program}
+use Rattle.command_rules.specs.checked_texts.specs.Asked.{asks}
+use Rattle.command_rules.specs.checked_texts.specs.Texts.{Begins}
+use Rattle.command_rules.specs.checked_texts.specs.declared.purpose.Purpose.TheVariants.{Program}
 use Rattle.file_sizes.specs.Sizes.{total}
 use Rattle.image_sizes.specs.Trees.{size_sum}
 use Rattle.command_rules.specs.Configurations.{Configured, source_in}

@@ -2,11 +2,11 @@
 ghost use Rattle.command_sizes.specs.Grounds.{Grounds};
 ghost use Rattle.command_sizes.specs.Laws.{FilesAreSmall, ObjectsAreSmall, SmallCallsAreComplete, SumsAreTold, TooLargeComesOnlySo};
 
-use checked_texts::{read_modules_can_be_kept, texts_begin_once};
 use command_laws::{never_answered, passes_are_exact};
+use command_rules::checked_texts::{read_modules_can_be_kept, texts_begin_once};
+use command_rules::linked_programs::{singles_are_of_their_shape, trees_are_of_their_shapes};
 use file_sizes::{images_are_sized, objects_are_sized};
 use image_sizes::linked_images_are_short;
-use linked_programs::{singles_are_of_their_shape, trees_are_of_their_shapes};
 use object_sizes::{instances_are_short, objects_are_short};
 use spelled_laws::{built_in_fits, interfaces_fit};
 use spelled_trees::{parsed_names_are_names, singles_can_be_spelled, trees_can_be_spelled};

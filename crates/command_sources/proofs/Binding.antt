@@ -11,15 +11,15 @@ use Rattle.config_rules.specs.declared.fault.TreeFault.TheVariants as tree
 use Rattle.config_rules.specs.declared.tree.Tree.{Tree}
 use Rattle.import_binder.specs.declared.fault.BindFault.{BindFault}
 use Rattle.import_binder.specs.declared.fault.BindFault.TheVariants as bind
-use Rattle.linked_programs.specs.Programs.{IsOfFirstBad}
-use Rattle.command_rules.specs.Case.{Case, Refused, Memory}
-use Rattle.command_rules.specs.declared.trouble.Trouble.TheVariants.{Item}
-use Rattle.command_rules.specs.Configurations.{Configured, Grows, grown, bound, bad, tree_in}
-use Rattle.command_rules.specs.Configurations as rules
-use Rattle.command_rules.specs.Passes.{Has, Stops, Pass, decided, given, and_then}
-use Rattle.command_rules.specs.Passing.{Fails, memory, Gives}
-use Rattle.command_rules.specs.Worlds.{Shelf}
-use Rattle.command_rules.proofs.Passing.{gives_decided, gives_both, fails_decided, fails_first, fails_second}
+use Rattle.linked_objects.specs.linked_programs.specs.Programs.{IsOfFirstBad}
+use Rattle.command_passes.specs.command_rules.specs.Case.{Case, Refused, Memory}
+use Rattle.command_passes.specs.command_rules.specs.declared.trouble.Trouble.TheVariants.{Item}
+use Rattle.command_passes.specs.command_rules.specs.Configurations.{Configured, Grows, grown, bound, bad, tree_in}
+use Rattle.command_passes.specs.command_rules.specs.Configurations as rules
+use Rattle.command_passes.specs.command_rules.specs.Passes.{Has, Stops, Pass, decided, given, and_then}
+use Rattle.command_passes.specs.command_rules.specs.Passing.{Fails, memory, Gives}
+use Rattle.command_passes.specs.command_rules.specs.Worlds.{Shelf}
+use Rattle.command_passes.specs.command_rules.proofs.Passing.{gives_decided, gives_both, fails_decided, fails_first, fails_second}
 use Rattle.command_passes.specs.Shelves.{Passes}
 use Rattle.command_passes.specs.Stops.{stop_case}
 use Rattle.command_passes.specs.declared.stop.Stop.{Stop}

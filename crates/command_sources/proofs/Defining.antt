@@ -3,17 +3,17 @@ use Rattle.std.proofs.Common.{◌≡◌, ◌≢◌, ℕ, List, Result, Err}
 use Rattle.mesa_base.specs.declared.outside_errors.FolderError.{FolderError}
 use Rattle.syntax_trees.specs.declared.syntax.Module as syntax
 use Rattle.interface_records.specs.declared.interface.Interface as records
-use Rattle.checked_texts.specs.declared.purpose.Purpose.TheVariants as purpose
-use Rattle.checked_texts.specs.declared.text_fault.TextFault.{TextFault}
-use Rattle.checked_texts.specs.declared.text_fault.TextFault.TheVariants as texts
-use Rattle.checked_texts.specs.Texts as text
-use Rattle.command_rules.specs.Case.{Case, Absent}
-use Rattle.command_rules.specs.Modules.{Begins, begun, refused, Defines, interfaces_for, definitions_of, interface_in}
-use Rattle.command_rules.specs.Passes.{decided, and_then}
-use Rattle.command_rules.specs.Passing.{Fails, Gives}
-use Rattle.command_rules.specs.Reading.{Onward}
-use Rattle.command_rules.specs.Worlds.{Shelf}
-use Rattle.command_rules.proofs.Passing.{HasRead, fails_first}
+use Rattle.command_passes.specs.checked_texts.specs.declared.purpose.Purpose.TheVariants as purpose
+use Rattle.command_passes.specs.checked_texts.specs.declared.text_fault.TextFault.{TextFault}
+use Rattle.command_passes.specs.checked_texts.specs.declared.text_fault.TextFault.TheVariants as texts
+use Rattle.command_passes.specs.checked_texts.specs.Texts as text
+use Rattle.command_passes.specs.command_rules.specs.Case.{Case, Absent}
+use Rattle.command_passes.specs.command_rules.specs.Modules.{Begins, begun, refused, Defines, interfaces_for, definitions_of, interface_in}
+use Rattle.command_passes.specs.command_rules.specs.Passes.{decided, and_then}
+use Rattle.command_passes.specs.command_rules.specs.Passing.{Fails, Gives}
+use Rattle.command_passes.specs.command_rules.specs.Reading.{Onward}
+use Rattle.command_passes.specs.command_rules.specs.Worlds.{Shelf}
+use Rattle.command_passes.specs.command_rules.proofs.Passing.{HasRead, fails_first}
 use Rattle.command_passes.specs.Shelves.{Decides, Passes}
 use Rattle.command_passes.specs.Stops.{stop_case, text_case, unread_case}
 use Rattle.command_passes.specs.declared.stop.Stop.{Stop}

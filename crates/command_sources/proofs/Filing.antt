@@ -23,17 +23,17 @@ use Rattle.object_rules.specs.ObjectFiles.{IsObjectFile}
 use Rattle.object_rules.specs.Parts.{parts_of}
 use Rattle.object_writers.specs.ObjectBytes.{object_file as object_bytes, image_file as image_bytes}
 use Rattle.link_tables.specs.Linked.{image_of}
-use Rattle.linked_programs.specs.Objects.{AreObjectsOf}
-use Rattle.linked_programs.specs.Programs.{IsMachineOf}
+use Rattle.linked_objects.specs.linked_programs.specs.Objects.{AreObjectsOf}
+use Rattle.linked_objects.specs.linked_programs.specs.Programs.{IsMachineOf}
 use Rattle.program_files.specs.Files.{AreFilesFor, IsFirstTooLarge, ObjectsFit}
-use Rattle.filed_images.specs.Files as files
+use Rattle.linked_objects.specs.filed_images.specs.Files as files
 use Rattle.program_files.specs.declared.filing.FiledProgram.{FiledProgram}
-use Rattle.command_rules.specs.Case.{Case, Refused}
-use Rattle.command_rules.specs.declared.trouble.Trouble.TheVariants.{TooLarge}
-use Rattle.command_rules.specs.Comes.{each_holding}
-use Rattle.command_rules.specs.Configurations.{Configured, left_to_loader}
-use Rattle.command_rules.specs.Forms.{image_file, object_file}
-use Rattle.command_rules.specs.Writing.{Value, OfInterface, OfObject, OfImage, IsFileOf, size_of, Target, holding, IsSmall}
+use Rattle.command_passes.specs.command_rules.specs.Case.{Case, Refused}
+use Rattle.command_passes.specs.command_rules.specs.declared.trouble.Trouble.TheVariants.{TooLarge}
+use Rattle.command_passes.specs.command_rules.specs.Comes.{each_holding}
+use Rattle.command_passes.specs.command_rules.specs.Configurations.{Configured, left_to_loader}
+use Rattle.command_passes.specs.command_rules.specs.Forms.{image_file, object_file}
+use Rattle.command_passes.specs.command_rules.specs.Writing.{Value, OfInterface, OfObject, OfImage, IsFileOf, size_of, Target, holding, IsSmall}
 use Rattle.command_sources.specs.Bound.{IsBound}
 use Rattle.command_sources.specs.Made.{IsMadeOf, Unmade, too_large, unresolved, no_memory, targets_for, linked_from}
 use Rattle.command_sources.specs.Stops.{IsOrMemory, ready_case}

@@ -9,11 +9,11 @@ use Rattle.interface_records.specs.Spelled.{InSixBytes, InterfaceCanBeSpelled, I
 use Rattle.interface_records.specs.declared.interface.Interface.{Interface}
 use Rattle.face_rules.specs.InterfaceForms as form
 use Rattle.spelled_laws.specs.Laws.{BuiltInFits, InterfacesFit}
-use Rattle.checked_texts.specs.Laws.{CanBeKept, DefinedInterfacesCanBeSpelled, ReadModulesCanBeKept}
-use Rattle.command_rules.specs.Configurations.{component_in}
-use Rattle.command_rules.specs.Forms.{interface_file, module_file}
-use Rattle.command_rules.specs.Modules.{Begun, Decodes, is_file, Checks, checked, Defines, defined, interface_for, module_in, program_of, interface_in, definitions_of}
-use Rattle.command_rules.specs.Passes.{Outcome, Has, Trail, Pass, held, Follows, went, given, each}
+use Rattle.command_passes.specs.checked_texts.specs.Laws.{CanBeKept, DefinedInterfacesCanBeSpelled, ReadModulesCanBeKept}
+use Rattle.command_passes.specs.command_rules.specs.Configurations.{component_in}
+use Rattle.command_passes.specs.command_rules.specs.Forms.{interface_file, module_file}
+use Rattle.command_passes.specs.command_rules.specs.Modules.{Begun, Decodes, is_file, Checks, checked, Defines, defined, interface_for, module_in, program_of, interface_in, definitions_of}
+use Rattle.command_passes.specs.command_rules.specs.Passes.{Outcome, Has, Trail, Pass, held, Follows, went, given, each}
 use Rattle.command_sources.specs.Laws.{DefinitionsCanBeWritten, ModulesOfFilesCanBeKept}
 
 has_is : {C A : Type 0} (a b : A) → ◌≡◌ {A = Outcome C A} (Has a) (Has b) → a ≡ b

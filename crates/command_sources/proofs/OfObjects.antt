@@ -17,15 +17,15 @@ use Rattle.config_rules.specs.declared.tree.Component.{Component}
 use Rattle.config_rules.specs.declared.tree.Tree.{Tree}
 use Rattle.link_tables.specs.Parts.{shapes_of}
 use Rattle.linked_objects.specs.Filed.{IsFiled}
-use Rattle.command_rules.specs.Binding.{Bound, binding_of, bound_in, object_of, objects_of}
-use Rattle.command_rules.specs.Case.{Case}
-use Rattle.command_rules.specs.Configurations.{config_in}
-use Rattle.command_rules.specs.Forms.{config_file}
-use Rattle.command_rules.specs.Objects.{shape_in}
-use Rattle.command_rules.specs.Passes.{each}
-use Rattle.command_rules.specs.Passing.{Fails, Gives}
-use Rattle.command_rules.specs.Worlds.{Shelf}
-use Rattle.command_rules.proofs.Passing.{fails_first}
+use Rattle.command_passes.specs.command_rules.specs.Binding.{Bound, binding_of, bound_in, object_of, objects_of}
+use Rattle.command_passes.specs.command_rules.specs.Case.{Case}
+use Rattle.command_passes.specs.command_rules.specs.Configurations.{config_in}
+use Rattle.command_passes.specs.command_rules.specs.Forms.{config_file}
+use Rattle.command_passes.specs.command_rules.specs.Objects.{shape_in}
+use Rattle.command_passes.specs.command_rules.specs.Passes.{each}
+use Rattle.command_passes.specs.command_rules.specs.Passing.{Fails, Gives}
+use Rattle.command_passes.specs.command_rules.specs.Worlds.{Shelf}
+use Rattle.command_passes.specs.command_rules.proofs.Passing.{fails_first}
 use Rattle.command_passes.specs.Filed as passes
 use Rattle.command_passes.specs.Shelves.{Passes}
 use Rattle.command_passes.specs.Stops.{stop_case}

@@ -24,17 +24,17 @@ use Rattle.config_rules.specs.declared.tree.Component.{Component}
 use Rattle.config_rules.proofs.Answers.{err_ok, ok_same}
 use Rattle.config_templates.specs.Answers.{IsAnswer}
 use Rattle.config_templates.specs.Mentioned.{exact_components}
-use Rattle.checked_texts.specs.TextFaults.{of_lexical, of_syntactic}
-use Rattle.checked_texts.specs.declared.text_fault.TextFault.{TextFault}
-use Rattle.checked_texts.specs.declared.text_fault.TextFault.TheVariants as f
+use Rattle.command_passes.specs.checked_texts.specs.TextFaults.{of_lexical, of_syntactic}
+use Rattle.command_passes.specs.checked_texts.specs.declared.text_fault.TextFault.{TextFault}
+use Rattle.command_passes.specs.checked_texts.specs.declared.text_fault.TextFault.TheVariants as f
 use Rattle.spelled_trees.specs.Laws.{ParsedNamesAreNames}
-use Rattle.command_rules.specs.Case.{Case, Absent, Memory}
-use Rattle.command_rules.specs.Configurations.{Configures, configured, config_in}
-use Rattle.command_rules.specs.Configurations as rules
-use Rattle.command_rules.specs.Forms.{config_file}
-use Rattle.command_rules.specs.Passes.{Has, Stops}
-use Rattle.command_rules.specs.Worlds.{Shelf}
-use Rattle.command_rules.proofs.Passing.{HasRead, Moves}
+use Rattle.command_passes.specs.command_rules.specs.Case.{Case, Absent, Memory}
+use Rattle.command_passes.specs.command_rules.specs.Configurations.{Configures, configured, config_in}
+use Rattle.command_passes.specs.command_rules.specs.Configurations as rules
+use Rattle.command_passes.specs.command_rules.specs.Forms.{config_file}
+use Rattle.command_passes.specs.command_rules.specs.Passes.{Has, Stops}
+use Rattle.command_passes.specs.command_rules.specs.Worlds.{Shelf}
+use Rattle.command_passes.specs.command_rules.proofs.Passing.{HasRead, Moves}
 use Rattle.command_passes.specs.Shelves.{Decides, Passes}
 use Rattle.command_passes.specs.Stops.{stop_case, text_case, unread_case}
 use Rattle.command_passes.specs.declared.stop.Stop.{Stop}

@@ -22,18 +22,18 @@ use Rattle.config_rules.specs.declared.tree.Tree.{Tree}
 use Rattle.config_rules.proofs.Members.{mapped_length}
 use Rattle.spelled_trees.specs.Laws.{SinglesCanBeSpelled}
 use Rattle.spelled_trees.specs.Paths.{PathsAndRecords}
-use Rattle.checked_texts.specs.Laws.{CanBeKept}
-use Rattle.bound_images.specs.Programs.{shape_of}
-use Rattle.linked_programs.specs.Laws.{IsOfShapes}
-use Rattle.linked_programs.specs.Modules.{CanBeLinked, shapes_of}
-use Rattle.command_rules.specs.Case.{Case}
-use Rattle.command_rules.specs.Configurations.{bases_of, component_in, config_in, configuration_of, modules_of, single_of, source_in}
-use Rattle.command_rules.specs.Forms.{OfModule, OfConfig, module_file, config_file}
-use Rattle.command_rules.specs.Modules.{module_in, interface_in}
-use Rattle.command_rules.specs.Passes.{each}
-use Rattle.command_rules.specs.Passing.{Fails, Gives}
-use Rattle.command_rules.specs.Worlds.{Shelf}
-use Rattle.command_rules.proofs.Passing.{fails_first}
+use Rattle.command_passes.specs.checked_texts.specs.Laws.{CanBeKept}
+use Rattle.linked_objects.specs.bound_images.specs.Programs.{shape_of}
+use Rattle.linked_objects.specs.linked_programs.specs.Laws.{IsOfShapes}
+use Rattle.linked_objects.specs.linked_programs.specs.Modules.{CanBeLinked, shapes_of}
+use Rattle.command_passes.specs.command_rules.specs.Case.{Case}
+use Rattle.command_passes.specs.command_rules.specs.Configurations.{bases_of, component_in, config_in, configuration_of, modules_of, single_of, source_in}
+use Rattle.command_passes.specs.command_rules.specs.Forms.{OfModule, OfConfig, module_file, config_file}
+use Rattle.command_passes.specs.command_rules.specs.Modules.{module_in, interface_in}
+use Rattle.command_passes.specs.command_rules.specs.Passes.{each}
+use Rattle.command_passes.specs.command_rules.specs.Passing.{Fails, Gives}
+use Rattle.command_passes.specs.command_rules.specs.Worlds.{Shelf}
+use Rattle.command_passes.specs.command_rules.proofs.Passing.{fails_first}
 use Rattle.command_passes.specs.Shelves.{Passes}
 use Rattle.command_passes.specs.Stops.{stop_case}
 use Rattle.command_passes.specs.declared.stop.Stop.{Stop}

@@ -7,13 +7,13 @@ use Rattle.config_rules.specs.Through.{Answer}
 use Rattle.config_rules.specs.declared.tree.Tree.{Tree}
 use Rattle.import_binder.specs.Bindings.{AreBindings}
 use Rattle.spelled_trees.specs.Paths.{PathsAndRecords}
-use Rattle.checked_texts.specs.Laws.{CanBeKept}
-use Rattle.linked_programs.specs.Laws.{IsOfShapes}
-use Rattle.linked_programs.specs.Modules.{shapes_of}
-use Rattle.command_rules.specs.Case.{Case, Memory}
-use Rattle.command_rules.specs.Configurations as rules
-use Rattle.command_rules.specs.Configurations.{Configured, tree_in}
-use Rattle.command_rules.specs.Passes.{Stops, Pass, given, and_then}
+use Rattle.command_passes.specs.checked_texts.specs.Laws.{CanBeKept}
+use Rattle.linked_objects.specs.linked_programs.specs.Laws.{IsOfShapes}
+use Rattle.linked_objects.specs.linked_programs.specs.Modules.{shapes_of}
+use Rattle.command_passes.specs.command_rules.specs.Case.{Case, Memory}
+use Rattle.command_passes.specs.command_rules.specs.Configurations as rules
+use Rattle.command_passes.specs.command_rules.specs.Configurations.{Configured, tree_in}
+use Rattle.command_passes.specs.command_rules.specs.Passes.{Stops, Pass, given, and_then}
 use Rattle.command_passes.specs.Stops.{stop_case}
 use Rattle.command_passes.specs.declared.stop.Stop.{Stop}
 use Rattle.command_sources.specs.declared.sources.BoundSource.{BoundSource}

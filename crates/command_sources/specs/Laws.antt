@@ -6,10 +6,10 @@ use Rattle.interface_records.specs.Spelled.{InSixBytes}
 use Rattle.interface_records.specs.declared.interface.Interface.{Interface}
 use Rattle.face_rules.specs.InterfaceForms as form
 use Rattle.config_rules.specs.declared.tree.Component.{Component}
-use Rattle.checked_texts.specs.Laws.{CanBeKept}
-use Rattle.command_rules.specs.Configurations.{component_in}
-use Rattle.command_rules.specs.Modules.{interface_in, module_in}
-use Rattle.command_rules.specs.Passes.{Has, Trail, each}
+use Rattle.command_passes.specs.checked_texts.specs.Laws.{CanBeKept}
+use Rattle.command_passes.specs.command_rules.specs.Configurations.{component_in}
+use Rattle.command_passes.specs.command_rules.specs.Modules.{interface_in, module_in}
+use Rattle.command_passes.specs.command_rules.specs.Passes.{Has, Trail, each}
 
 -- there is one for each component, and each can be kept
 pub record CanBeKeptAll (components : List Component) (modules : List Module) : Type 0 where

@@ -1,3 +1,4 @@
+pub use Rattle.linked_objects
 pub mod Bound
 pub mod Laws
 pub mod Made

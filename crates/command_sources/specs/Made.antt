@@ -8,14 +8,14 @@ use Rattle.object_files.specs.declared.object.Object.{Object}
 use Rattle.object_rules.specs.ImageFiles.{IsImageFile}
 use Rattle.object_rules.specs.ObjectFiles.{IsObjectFile}
 use Rattle.link_tables.specs.Linked.{image_of}
-use Rattle.linked_programs.specs.Objects.{AreObjectsOf}
-use Rattle.linked_programs.specs.Programs.{IsMachineOf}
-use Rattle.command_rules.specs.Case.{Case, Refused, Memory}
-use Rattle.command_rules.specs.declared.trouble.Trouble.TheVariants.{Unresolved, TooLarge}
-use Rattle.command_rules.specs.Comes.{each_holding}
-use Rattle.command_rules.specs.Configurations.{Configured, left_to_loader}
-use Rattle.command_rules.specs.Forms.{image_file}
-use Rattle.command_rules.specs.Writing.{Target, holding, OfImage, IsSmall, IsFirstTooLarge}
+use Rattle.linked_objects.specs.linked_programs.specs.Objects.{AreObjectsOf}
+use Rattle.linked_objects.specs.linked_programs.specs.Programs.{IsMachineOf}
+use Rattle.command_passes.specs.command_rules.specs.Case.{Case, Refused, Memory}
+use Rattle.command_passes.specs.command_rules.specs.declared.trouble.Trouble.TheVariants.{Unresolved, TooLarge}
+use Rattle.command_passes.specs.command_rules.specs.Comes.{each_holding}
+use Rattle.command_passes.specs.command_rules.specs.Configurations.{Configured, left_to_loader}
+use Rattle.command_passes.specs.command_rules.specs.Forms.{image_file}
+use Rattle.command_passes.specs.command_rules.specs.Writing.{Target, holding, OfImage, IsSmall, IsFirstTooLarge}
 use Rattle.command_sources.specs.declared.making.MadeProgram.{MadeProgram}
 
 -- the image that is linked from these objects

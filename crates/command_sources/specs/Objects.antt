@@ -7,12 +7,12 @@ use Rattle.config_rules.specs.declared.tree.Tree.{Tree}
 use Rattle.import_binder.specs.Bindings.{AreBindings}
 use Rattle.link_tables.specs.Parts.{shapes_of}
 use Rattle.spelled_trees.specs.Paths.{PathsAndRecords}
-use Rattle.linked_programs.specs.Laws.{IsOfShapes}
+use Rattle.linked_objects.specs.linked_programs.specs.Laws.{IsOfShapes}
 use Rattle.linked_objects.specs.Filed.{IsFiled}
-use Rattle.command_rules.specs.Binding.{Bound}
-use Rattle.command_rules.specs.Case.{Case}
-use Rattle.command_rules.specs.Configurations.{tree_in}
-use Rattle.command_rules.specs.Passes.{Pass, given, and_then}
+use Rattle.command_passes.specs.command_rules.specs.Binding.{Bound}
+use Rattle.command_passes.specs.command_rules.specs.Case.{Case}
+use Rattle.command_passes.specs.command_rules.specs.Configurations.{tree_in}
+use Rattle.command_passes.specs.command_rules.specs.Passes.{Pass, given, and_then}
 use Rattle.command_passes.specs.declared.stop.Stop.{Stop}
 use Rattle.command_sources.specs.Bound.{IsBad}
 use Rattle.command_sources.specs.declared.objects.BoundObjects.{BoundObjects}

@@ -13,11 +13,11 @@ use Rattle.config_rules.specs.Components.{components, no_file_base}
 use Rattle.config_rules.specs.declared.fault.TreeCause.TheVariants.{UnknownComponent}
 use Rattle.config_rules.specs.declared.tree.Component.{Component}
 use Rattle.spelled_trees.specs.Names.{HasNames}
-use Rattle.checked_texts.specs.declared.text_fault.TextFault.{TextFault}
-use Rattle.checked_texts.specs.declared.text_fault.TextFault.TheVariants.{Lexical, Syntactic}
-use Rattle.command_rules.specs.Case.{Case, Refused}
-use Rattle.command_rules.specs.declared.trouble.Trouble.TheVariants.{Tree}
-use Rattle.command_rules.specs.Passes.{Outcome, Has, Stops}
+use Rattle.command_passes.specs.checked_texts.specs.declared.text_fault.TextFault.{TextFault}
+use Rattle.command_passes.specs.checked_texts.specs.declared.text_fault.TextFault.TheVariants.{Lexical, Syntactic}
+use Rattle.command_passes.specs.command_rules.specs.Case.{Case, Refused}
+use Rattle.command_passes.specs.command_rules.specs.declared.trouble.Trouble.TheVariants.{Tree}
+use Rattle.command_passes.specs.command_rules.specs.Passes.{Outcome, Has, Stops}
 use Rattle.command_sources.specs.declared.configurations.Planned.{Planned}
 
 -- the text has this tree

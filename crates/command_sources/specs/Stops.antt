@@ -8,8 +8,8 @@ use Rattle.import_binder.specs.declared.fault.BindFault.{BindFault}
 use Rattle.import_binder.specs.declared.fault.BindFault.TheVariants as bind
 use Rattle.machine_ready.specs.declared.fault.ReadyFault.{ReadyFault}
 use Rattle.machine_ready.specs.declared.fault.ReadyFault.TheVariants as ready
-use Rattle.command_rules.specs.Case.{Case, Done, Refused, Memory}
-use Rattle.command_rules.specs.declared.trouble.Trouble.TheVariants.{Tree, Item, Unresolved, TooLarge}
+use Rattle.command_passes.specs.command_rules.specs.Case.{Case, Done, Refused, Memory}
+use Rattle.command_passes.specs.command_rules.specs.declared.trouble.Trouble.TheVariants.{Tree, Item, Unresolved, TooLarge}
 use Rattle.command_passes.specs.Stops.{stop_case}
 use Rattle.command_passes.specs.declared.stop.Stop.{Stop}
 

@@ -3,16 +3,16 @@
 ghost use Rattle.std.specs.Prelude.{◌≡◌, ◌≢◌, IfOk, IfErr};
 ghost use Rattle.std.specs.Str.{IsAscii};
 ghost use Rattle.cmesa_grammar.specs.Plain.{plain as plain_config};
-ghost use Rattle.command_rules.specs.Configurations as rules;
-ghost use Rattle.command_rules.specs.Forms.{config_file};
-ghost use Rattle.command_rules.specs.Reading.{Onward};
-ghost use Rattle.command_rules.specs.Worlds.{shelf};
+ghost use Rattle.command_passes.specs.command_rules.specs.Configurations as rules;
+ghost use Rattle.command_passes.specs.command_rules.specs.Forms.{config_file};
+ghost use Rattle.command_passes.specs.command_rules.specs.Reading.{Onward};
+ghost use Rattle.command_passes.specs.command_rules.specs.Worlds.{shelf};
 ghost use Rattle.command_passes.specs.Shelves.{Decides, Passes};
 ghost use Rattle.command_sources.specs.Parsed.{HasNoConfig, IsConfigOf, IsPlanned, Plans};
 
 use crate::faults::ungrown;
-use checked_texts::TextFault;
 use cmesa_grammar::{Config, configuration};
+use command_passes::checked_texts::TextFault;
 use command_passes::{FileName, Stop, faulty, file_named, unread};
 use config_rules::Components;
 use config_templates::components;

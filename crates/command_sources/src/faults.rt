@@ -3,13 +3,13 @@
 
 ghost use Rattle.std.specs.Prelude.{◌≡◌, ◌++◌};
 ghost use Rattle.std.specs.Str.{IsAscii};
-ghost use Rattle.command_rules.specs.Case.{Refused};
-ghost use Rattle.command_rules.specs.Forms.{image_file};
+ghost use Rattle.command_passes.specs.command_rules.specs.Case.{Refused};
+ghost use Rattle.command_passes.specs.command_rules.specs.Forms.{image_file};
 ghost use Rattle.command_passes.specs.Stops.{stop_case};
 ghost use Rattle.command_sources.specs.Stops.{IsOrMemory, bind_case, ready_case, tree_case, unmade_case};
 
+use command_passes::command_rules::Trouble;
 use command_passes::{FileName, Stop, file_named};
-use command_rules::Trouble;
 use config_rules::TreeFault;
 use import_binder::BindFault;
 use machine_ready::ReadyFault;

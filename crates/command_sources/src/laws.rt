@@ -2,7 +2,7 @@
 
 ghost use Rattle.command_sources.specs.Laws.{DefinitionsCanBeWritten, ModulesOfFilesCanBeKept};
 
-use checked_texts::{defined_interfaces_can_be_spelled, read_modules_can_be_kept};
+use command_passes::checked_texts::{defined_interfaces_can_be_spelled, read_modules_can_be_kept};
 use spelled_laws::{built_in_fits, interfaces_fit};
 
 /// A law: the modules of components, as they come of their files, can be kept, and are as many.

@@ -16,6 +16,8 @@ mod sources;
 pub use definitions::interface_defined_in;
 pub use faults::{unmade, unready};
 pub use laws::{definitions_can_be_written, modules_of_files_can_be_kept};
+pub use linked_objects;
 pub use making::{MadeProgram, made};
 pub use objects::{BoundObjects, bound_of_config, let_objects_go};
+pub use program_files;
 pub use sources::{BoundSource, source_of_config, source_of_module};

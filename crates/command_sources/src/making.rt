@@ -3,7 +3,7 @@
 ghost use Rattle.std.specs.Prelude.{map, IfOk, IfErr};
 ghost use Rattle.std.specs.Str.{IsAscii};
 ghost use Rattle.mesa_types.specs.Plain.{plain};
-ghost use Rattle.built_runs.specs.Linked.{IsLinkedFrom};
+ghost use Rattle.linked_objects.specs.built_runs.specs.Linked.{IsLinkedFrom};
 ghost use Rattle.program_files.specs.Files.{AreFilesFor, IsSizeFault};
 ghost use Rattle.command_passes.specs.Stops.{stop_case};
 ghost use Rattle.command_sources.specs.Bound.{IsBound, configured};
@@ -13,7 +13,7 @@ use crate::faults::{too_large, unready};
 use crate::sources::BoundSource;
 use command_passes::Stop;
 use held_trees::LetGo;
-use linked_programs::readied;
+use linked_objects::linked_programs::readied;
 use machine_ready::Machine;
 use mesa_base::{Bytes, Texts};
 use program_files::{FiledProgram, SizeFault, program_files};

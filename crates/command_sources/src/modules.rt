@@ -3,15 +3,15 @@
 ghost use Rattle.std.specs.Prelude.{map, All};
 ghost use Rattle.std.specs.Str.{IsAscii};
 ghost use Rattle.mesa_types.specs.Plain.{plain};
-ghost use Rattle.command_rules.specs.Configurations as rules;
-ghost use Rattle.command_rules.specs.Passes.{each};
-ghost use Rattle.command_rules.specs.Reading.{Onward};
-ghost use Rattle.command_rules.specs.Worlds.{shelf};
+ghost use Rattle.command_passes.specs.command_rules.specs.Configurations as rules;
+ghost use Rattle.command_passes.specs.command_rules.specs.Passes.{each};
+ghost use Rattle.command_passes.specs.command_rules.specs.Reading.{Onward};
+ghost use Rattle.command_passes.specs.command_rules.specs.Worlds.{shelf};
 ghost use Rattle.command_passes.specs.Shelves.{Passes};
 
-use built_runs::TypedModules;
 use command_passes::{Stop, file_named, module_of_file};
 use config_rules::Component;
+use linked_objects::built_runs::TypedModules;
 use mesa_base::{Folder, List};
 use mesa_types::TypedModule;
 use module_lists::{let_modules_go, with_module};

@@ -6,7 +6,7 @@ use Rattle.object_files.specs.declared.image.Image.{Image}
 use Rattle.object_files.specs.declared.image.Instance.{Instance}
 use Rattle.object_files.specs.declared.object.Object.{Object}
 use Rattle.machine_rules.specs.LookUps.{module_number, code_in, code_of, signal_of}
-use Rattle.command_rules.specs.Shown.{signal_name}
+use Rattle.command_passes.specs.command_rules.specs.Shown.{signal_name}
 
 -- the code of an instance is that of its module
 pub code_at : (image : Image) (j : ℕ) (i : Instance) → slice_get image.instances j ≡ Some i

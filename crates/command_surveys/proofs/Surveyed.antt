@@ -3,15 +3,15 @@ use Rattle.std.proofs.Common.{◌≡◌, ℕ, List, refl, subst, sym}
 use Rattle.object_files.specs.declared.image.Image.{Image}
 use Rattle.object_rules.specs.ImageFiles.{IsImageFile, IsNoImageFile}
 use Rattle.object_rules.specs.declared.object_fault.ObjectFault.{ObjectFault}
-use Rattle.command_rules.specs.Case.{Case, Refused, Absent}
-use Rattle.command_rules.specs.declared.trouble.Trouble.TheVariants.{File}
-use Rattle.command_rules.specs.Forms.{ImageFile}
-use Rattle.command_rules.specs.Listing.{Holds, is_image, no_image}
-use Rattle.command_rules.specs.Passes.{Outcome, Has, Stops}
-use Rattle.command_rules.specs.Printing.{Report, text_alone}
-use Rattle.command_rules.specs.Surveying.{Surveys, surveyed, is_none}
-use Rattle.command_rules.specs.Writing.{Value}
-use Rattle.command_rules.proofs.Passing.{Moves}
+use Rattle.command_passes.specs.command_rules.specs.Case.{Case, Refused, Absent}
+use Rattle.command_passes.specs.command_rules.specs.declared.trouble.Trouble.TheVariants.{File}
+use Rattle.command_passes.specs.command_rules.specs.Forms.{ImageFile}
+use Rattle.command_passes.specs.command_rules.specs.Listing.{Holds, is_image, no_image}
+use Rattle.command_passes.specs.command_rules.specs.Passes.{Outcome, Has, Stops}
+use Rattle.command_passes.specs.command_rules.specs.Printing.{Report, text_alone}
+use Rattle.command_passes.specs.command_rules.specs.Surveying.{Surveys, surveyed, is_none}
+use Rattle.command_passes.specs.command_rules.specs.Writing.{Value}
+use Rattle.command_passes.specs.command_rules.proofs.Passing.{Moves}
 use Rattle.command_passes.proofs.FileBytes.{all_read}
 use Rattle.command_passes.proofs.Files.{NeverAbsent}
 use Rattle.command_passes.proofs.ImageBytes.{none_whole}

@@ -3,8 +3,8 @@ use Rattle.std.proofs.Common.{◌≡◌, ℕ, List, [], ◌∷◌, flat_map, IfO
 use Rattle.object_files.specs.declared.image.Image.{Image}
 use Rattle.signaller.specs.declared.signal_id.SignalId.{SignalId}
 use Rattle.survey_rules.specs.Survey.{IsSurvey}
-use Rattle.command_rules.specs.Shown.{Names, image_names}
-use Rattle.command_rules.specs.Surveying.{escape_line, survey_text}
+use Rattle.command_passes.specs.command_rules.specs.Shown.{Names, image_names}
+use Rattle.command_passes.specs.command_rules.specs.Surveying.{escape_line, survey_text}
 use Rattle.command_surveys.specs.Texts.{IsTextOf}
 
 pub some_lines : (names : Names) (signals : List SignalId) → (signals ≡ [] → ⊥) → flat_map (escape_line names) signals ≡ survey_text names signals

@@ -2,8 +2,8 @@
 
 ghost use Rattle.std.specs.Prelude.{◌≡◌, ◌++◌, flat_map, IfOk, OnOk};
 ghost use Rattle.line_pieces.specs.Texts.{with_dot};
-ghost use Rattle.command_rules.specs.Shown.{image_names, shown, signal_of};
-ghost use Rattle.command_rules.specs.Surveying.{escape_line, survey_text};
+ghost use Rattle.command_passes.specs.command_rules.specs.Shown.{image_names, shown, signal_of};
+ghost use Rattle.command_passes.specs.command_rules.specs.Surveying.{escape_line, survey_text};
 
 use crate::names::{name_of, path_of};
 use mesa_base::{Bytes, List, Name, OutOfMemory};

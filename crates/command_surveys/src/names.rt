@@ -4,7 +4,7 @@ ghost use Rattle.std.specs.Prelude.{◌≡◌, option_map, slice_get};
 ghost use Rattle.std.specs.Option.{option_copied};
 ghost use Rattle.object_files.specs.declared.object.Object.{Object as ModuleObject};
 ghost use Rattle.machine_rules.specs.LookUps as look;
-ghost use Rattle.command_rules.specs.Shown as shown;
+ghost use Rattle.command_passes.specs.command_rules.specs.Shown as shown;
 
 use code_forms::ModuleCode;
 use mesa_base::Name;

@@ -2,18 +2,18 @@
 
 ghost use Rattle.std.specs.Prelude.{IfOk};
 ghost use Rattle.std.specs.Str.{IsAscii};
-ghost use Rattle.machine_ready.specs.Order.{ImageInOrder};
-ghost use Rattle.command_rules.specs.Printing.{text_alone};
-ghost use Rattle.command_rules.specs.Reading.{Onward};
-ghost use Rattle.command_rules.specs.Surveying.{Surveys, survey_in};
-ghost use Rattle.command_rules.specs.Worlds.{shelf};
+ghost use Rattle.signal_survey.specs.machine_ready.specs.Order.{ImageInOrder};
+ghost use Rattle.command_passes.specs.command_rules.specs.Printing.{text_alone};
+ghost use Rattle.command_passes.specs.command_rules.specs.Reading.{Onward};
+ghost use Rattle.command_passes.specs.command_rules.specs.Surveying.{Surveys, survey_in};
+ghost use Rattle.command_passes.specs.command_rules.specs.Worlds.{shelf};
 ghost use Rattle.command_passes.specs.Shelves.{Decides, Passes};
 ghost use Rattle.command_surveys.specs.Texts.{IsTextOf};
 
 use crate::lines::survey_lines;
+use command_passes::image_readers::read_image;
 use command_passes::{FileName, Stop, file_named, unfit, unread};
 use held_objects::{let_objects_go, let_wanted_go};
-use image_readers::read_image;
 use mesa_base::limits::FILE_BYTES;
 use mesa_base::{Bytes, Folder, OutOfMemory};
 use object_files::Image;

@@ -4,12 +4,12 @@ use Rattle.std.proofs.lemmas.List.{take_all}
 use Rattle.std.specs.List.{AllZip}
 use Rattle.object_files.specs.declared.object.Object.{Object}
 use Rattle.object_rules.specs.ObjectFiles.{IsObjectFile}
-use Rattle.command_rules.specs.Case.{Case}
-use Rattle.command_rules.specs.Comes.{each_holding}
-use Rattle.command_rules.specs.Forms.{object_file}
-use Rattle.command_rules.specs.Worlds.{Shelf}
-use Rattle.command_rules.specs.Writing.{Value, OfObject, IsFileOf, holding, StoresAll, Stored, NotStored}
-use Rattle.command_rules.proofs.Passing.{called_none}
+use Rattle.command_passes.specs.command_rules.specs.Case.{Case}
+use Rattle.command_passes.specs.command_rules.specs.Comes.{each_holding}
+use Rattle.command_passes.specs.command_rules.specs.Forms.{object_file}
+use Rattle.command_passes.specs.command_rules.specs.Worlds.{Shelf}
+use Rattle.command_passes.specs.command_rules.specs.Writing.{Value, OfObject, IsFileOf, holding, StoresAll, Stored, NotStored}
+use Rattle.command_passes.specs.command_rules.proofs.Passing.{called_none}
 use Rattle.command_passes.proofs.Steps.{turn_splits, turn_taken}
 use Rattle.command_writes.proofs.Behind.{FaultsStay, not_stored_before, not_stored_behind, stored_both}
 

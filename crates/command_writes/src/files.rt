@@ -2,10 +2,10 @@
 
 ghost use Rattle.std.specs.Prelude.{◌++◌, ◌∷◌, [], ◌≤◌, ℕ, List};
 ghost use Rattle.std.specs.Str.{IsAscii};
-ghost use Rattle.command_rules.specs.Passes.{Trail};
-ghost use Rattle.command_rules.specs.Reading.{Asked};
-ghost use Rattle.command_rules.specs.Worlds.{Shelf, shelf};
-ghost use Rattle.command_rules.specs.Writing.{Value, IsFileOf, holding};
+ghost use Rattle.command_passes.specs.command_rules.specs.Passes.{Trail};
+ghost use Rattle.command_passes.specs.command_rules.specs.Reading.{Asked};
+ghost use Rattle.command_passes.specs.command_rules.specs.Worlds.{Shelf, shelf};
+ghost use Rattle.command_passes.specs.command_rules.specs.Writing.{Value, IsFileOf, holding};
 ghost use Rattle.command_writes.specs.Storing.{StoreEnds};
 
 use command_passes::{FileName, Stop, file_named, unread};

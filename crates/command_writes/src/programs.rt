@@ -7,12 +7,12 @@ ghost use Rattle.object_files.specs.declared.image.Image.{Image};
 ghost use Rattle.object_files.specs.declared.object.Object.{Object};
 ghost use Rattle.object_rules.specs.ImageFiles.{IsImageFile};
 ghost use Rattle.object_rules.specs.ObjectFiles.{IsObjectFile};
-ghost use Rattle.command_rules.specs.Comes.{each_holding};
-ghost use Rattle.command_rules.specs.Forms.{image_file};
-ghost use Rattle.command_rules.specs.Passes.{Trail};
-ghost use Rattle.command_rules.specs.Reading.{Asked};
-ghost use Rattle.command_rules.specs.Worlds.{Shelf, shelf};
-ghost use Rattle.command_rules.specs.Writing.{OfImage, holding};
+ghost use Rattle.command_passes.specs.command_rules.specs.Comes.{each_holding};
+ghost use Rattle.command_passes.specs.command_rules.specs.Forms.{image_file};
+ghost use Rattle.command_passes.specs.command_rules.specs.Passes.{Trail};
+ghost use Rattle.command_passes.specs.command_rules.specs.Reading.{Asked};
+ghost use Rattle.command_passes.specs.command_rules.specs.Worlds.{Shelf, shelf};
+ghost use Rattle.command_passes.specs.command_rules.specs.Writing.{OfImage, holding};
 ghost use Rattle.command_writes.specs.Storing.{StoreEnds};
 
 use crate::files::named_written;

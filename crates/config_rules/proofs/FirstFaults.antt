@@ -13,7 +13,7 @@ use Rattle.config_rules.specs.declared.fault.TreeFault.TheVariants.{At}
 use Rattle.config_rules.specs.declared.tree.Component.{Component}
 use Rattle.config_rules.specs.declared.tree.Tree.{Tree}
 use Rattle.config_rules.proofs.Written.{at, named, names, alone, linked, called, all_of, one_of, configuration, procedure, interface_of, uses, pair, offers, module_of, Shown, tree_of, shown, good, quiet}
-use Rattle.check_scopes.specs.Scopes.{has}
+use Rattle.interface_records.specs.check_scopes.specs.Scopes.{has}
 
 abbrev fault : TreeCause → ℕ → Answer Shown
 fault cause n = Err (At cause (at n))

@@ -4,7 +4,7 @@ use Rattle.std.specs.Option.{option_or}
 use Rattle.std.proofs.lemmas.Option.{none-some, same_Some}
 use Rattle.mesa_types.specs.declared.faces.Export.{Export}
 use Rattle.mesa_types.specs.declared.faces.Import.{Import}
-use Rattle.check_scopes.specs.Scopes.{Scope, nothing, find, innermost, outer}
+use Rattle.interface_records.specs.check_scopes.specs.Scopes.{Scope, nothing, find, innermost, outer}
 use Rattle.cmesa_grammar.specs.Syntax.{Identifier, Configuration, Configured, Statements, NoStatements, AndDeclare, AndInstance}
 use Rattle.cmesa_grammar.specs.declared.syntax.Heading.{Heading}
 use Rattle.cmesa_grammar.specs.declared.syntax.Instantiation.{Instantiation}

@@ -3,7 +3,7 @@
 use Rattle.std.specs.Prelude.{ℕ, Bool, ◌&&◌, ◌||◌, List, [], ◌∷◌, ◌++◌, map, length, nat_le, nat_eq, bytes_eq, Option, Some, None, if◌then◌else◌}
 use Rattle.std.specs.List.{list_all}
 use Rattle.mesa_base.specs.Name.{begins_with_letter, is_letter_or_digit}
-use Rattle.check_scopes.specs.Scopes.{has}
+use Rattle.interface_records.specs.check_scopes.specs.Scopes.{has}
 use Rattle.cmesa_grammar.specs.Syntax.{Place, Identifier, Config, Configuration, Configured, Statements, NoStatements, AndDeclare, AndInstance}
 use Rattle.cmesa_grammar.specs.declared.syntax.Heading.{Heading}
 use Rattle.cmesa_grammar.specs.declared.syntax.ComponentFile.{ComponentFile}

@@ -1,3 +1,4 @@
+pub use Rattle.cmesa_grammar
 pub mod Bindings
 pub mod Components
 pub mod Exporters

@@ -5,7 +5,7 @@ use Rattle.mesa_base.specs.declared.limits.TheConstants.{CONFIGURATION_DEPTH}
 use Rattle.mesa_types.specs.declared.faces.Shape.{Shape}
 use Rattle.mesa_types.specs.declared.faces.Import.{Import}
 use Rattle.mesa_types.specs.declared.faces.Export.{Export}
-use Rattle.check_scopes.specs.Scopes.{Scope, nothing, with_name, find, innermost, outer, has}
+use Rattle.interface_records.specs.check_scopes.specs.Scopes.{Scope, nothing, with_name, find, innermost, outer, has}
 use Rattle.cmesa_grammar.specs.Syntax.{Place, Identifier, Configuration, Configured, Statements, NoStatements, AndDeclare, AndInstance}
 use Rattle.cmesa_grammar.specs.declared.syntax.Heading.{Heading}
 use Rattle.cmesa_grammar.specs.declared.syntax.Instantiation.{Instantiation}

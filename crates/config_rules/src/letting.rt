@@ -1,8 +1,8 @@
 //! Instances and trees as what may be held and let go.
 
 use crate::tree::{Tree, TreeInstance};
-use held_trees::{InList, LetGo};
 use mesa_base::List;
+use mesa_types::held_trees::{InList, LetGo};
 use std::mem::drop;
 
 impl LetGo for TreeInstance {

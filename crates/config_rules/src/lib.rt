@@ -7,6 +7,7 @@ mod laws;
 mod letting;
 mod tree;
 
+pub use cmesa_grammar;
 pub use fault::{TreeCause, TreeFault};
 pub use laws::{entries_are_exporters, items_bind, trees_are_in_order};
 pub use tree::{

@@ -3,7 +3,7 @@ use Rattle.std.proofs.Common.{◌≡◌, ◌≢◌, ℕ, zero, suc, ◌+◌, ◌
 use Rattle.std.proofs.lemmas.Option.{none-some}
 use Rattle.mesa_base.specs.declared.place.Place.{Place}
 use Rattle.mesa_types.specs.declared.faces.Shape.{Shape}
-use Rattle.cmesa_grammar.specs.Syntax.{Config, Configuration}
+use Rattle.config_rules.specs.cmesa_grammar.specs.Syntax.{Config, Configuration}
 use Rattle.config_rules.specs.Components.{components}
 use Rattle.config_rules.specs.Template.{Template, Gone, Parts, NoParts, AndModule, AndNested, heading_in, parts_in, scopes_of}
 use Rattle.config_rules.specs.Through.{Answer, ◌>>=◌, Module, through}

@@ -4,7 +4,7 @@ use Rattle.std.specs.Option.{option_or}
 use Rattle.std.proofs.lemmas.List.{nil_from_length}
 use Rattle.mesa_types.specs.declared.faces.Shape.{Shape}
 use Rattle.check_scopes.specs.Scopes.{Scope, nothing, over, with_name}
-use Rattle.cmesa_grammar.specs.Syntax.{Identifier}
+use Rattle.config_rules.specs.cmesa_grammar.specs.Syntax.{Identifier}
 use Rattle.config_rules.specs.Template.{Template, Gone, Parts, NoParts, heading_in, parts_in, modules_of, scopes_of}
 use Rattle.config_rules.specs.Through.{Module}
 use Rattle.config_rules.specs.Grown.{Starts, inner_scopes, inner_instances, instances_in, scopes_in, scope_for, shape_in, shape_of, starts, started_by, control_of, once}

@@ -2,7 +2,7 @@
 use Rattle.std.proofs.Common.{◌≡◌, ℕ, ◌+◌, ◌*◌, ◌<◌, ◌≤◌, length, flat_map, List, [], ◌∷◌, unwrap_or, sym, subst, ◌∙◌, arith}
 use Rattle.mesa_types.specs.declared.faces.Shape.{Shape}
 use Rattle.check_scopes.specs.Scopes.{Scope, nothing, over, with_name}
-use Rattle.cmesa_grammar.specs.Syntax.{Identifier}
+use Rattle.config_rules.specs.cmesa_grammar.specs.Syntax.{Identifier}
 use Rattle.config_rules.specs.Template.{Template, Parts, NoParts, heading_in, parts_in}
 use Rattle.config_rules.specs.Grown.{starts, once}
 use Rattle.config_templates.specs.Shown.{before, chained}

@@ -1,12 +1,12 @@
 //! The tree of a configuration.
 ghost use Rattle.std.specs.Prelude.{◌≡◌, ◌≢◌, All, length, IfOk};
-ghost use Rattle.cmesa_grammar.specs.Plain.{plain};
+ghost use Rattle.config_rules.specs.cmesa_grammar.specs.Plain.{plain};
 ghost use Rattle.config_rules.specs.Components.{components};
 ghost use Rattle.config_rules.specs.InOrder.{ShapeInOrder, TreeIn};
 ghost use Rattle.config_rules.specs.Tree.{IsTree};
 
 use crate::finishing::finished;
-use cmesa_grammar::Config;
+use config_rules::cmesa_grammar::Config;
 use config_rules::{Shapes, Tree, TreeFault};
 use config_templates::{components_as_written, gone_through};
 use held_trees::LetGo;

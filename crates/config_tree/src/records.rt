@@ -4,7 +4,7 @@ ghost use Rattle.config_rules.specs.Components.{names_of};
 ghost use Rattle.config_rules.specs.Grown as spec;
 ghost use Rattle.config_templates.specs.Shown.{part_of};
 
-use cmesa_grammar::Heading;
+use config_rules::cmesa_grammar::Heading;
 use config_rules::{RecordPair, RecordPairs, TreeScope};
 use config_templates::Part;
 use mesa_base::{Identifier, List, Name, OutOfMemory, Path};

@@ -1,7 +1,7 @@
 -- The counts of an image of which its form asks that four bytes hold them.
 use Rattle.std.proofs.Common.{◌<◌, ◌≤◌, length, arith}
 use Rattle.object_files.specs.declared.image.Image.{Image}
-use Rattle.object_writers.specs.ObjectBytes.{image_file}
+use Rattle.large_images.specs.object_writers.specs.ObjectBytes.{image_file}
 use Rattle.large_images.proofs.Lengths.{large_counts_are_large_files}
 use Rattle.filed_images.specs.Files.{IsTooLarge}
 use Rattle.filed_images.specs.Images.{CountsFit}

@@ -2,13 +2,13 @@
 ghost use Rattle.std.specs.Prelude.{◌≡◌, ◌≢◌, ◌↔◌, true, false, Err, IfOk};
 ghost use Rattle.mesa_base.specs.declared.file_fault.WriteFault.TheVariants as fault;
 ghost use Rattle.object_rules.specs.ImageFiles.{IsImageFile};
-ghost use Rattle.object_writers.specs.ObjectBytes.{image_file};
+ghost use Rattle.large_images.specs.object_writers.specs.ObjectBytes.{image_file};
 ghost use Rattle.filed_images.specs.Files.{IsTooLarge};
 ghost use Rattle.filed_images.specs.Images.{CanBeFiled, CountsFit};
 
+use large_images::object_writers::write_image;
 use mesa_base::{Bytes, WriteFault};
 use object_files::Image;
-use object_writers::write_image;
 use std::alloc::Global;
 
 // the most that four bytes count

@@ -16,8 +16,8 @@ use Rattle.code_rules.specs.Reading.{Coded, scratch}
 use Rattle.code_blocks.specs.Modules.{body_block, procedure_code, uncoded}
 use Rattle.code_blocks.specs.Translation.{without_code}
 use Rattle.code_blocks.proofs.RangeRules.{ranges_are_kept}
-use Rattle.code_trees.specs.Excess.{excess}
-use Rattle.code_trees.proofs.VariableStarts.{words_of_three}
+use Rattle.code_bodies.specs.code_trees.specs.Excess.{excess}
+use Rattle.code_bodies.specs.code_trees.proofs.VariableStarts.{words_of_three}
 use Rattle.code_ranges.specs.Ranges.{BodiesAreInRange}
 use Rattle.code_writer.specs.Bounds.{BodiesCanBeWritten}
 use Rattle.frame_code.specs.Rooms.{HasRoom}

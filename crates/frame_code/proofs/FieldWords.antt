@@ -13,7 +13,7 @@ use Rattle.mesa_types.specs.Types as types
 use Rattle.mesa_types.specs.Types.{IsWithinLimits, types_in}
 use Rattle.mesa_types.proofs.KindWords.{shapes_take_their_words}
 use Rattle.code_rules.specs.Modules.{words_of_fields}
-use Rattle.code_trees.proofs.VariableStarts.{from_field, words_with}
+use Rattle.code_bodies.specs.code_trees.proofs.VariableStarts.{from_field, words_with}
 
 -- those that the shapes take are those that the types take
 pub fields_have : (fields : List FieldType) → words_of_fields fields ≡ types.words_of_fields fields

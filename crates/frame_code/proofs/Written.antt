@@ -11,7 +11,7 @@ use Rattle.code_rules.specs.Reading.{Coded, scratch}
 use Rattle.code_blocks.specs.Blocks.{Block}
 use Rattle.code_blocks.specs.Modules.{body_block, procedure_code, uncoded}
 use Rattle.code_blocks.specs.Translation.{block}
-use Rattle.code_trees.specs.Excess.{excess}
+use Rattle.code_bodies.specs.code_trees.specs.Excess.{excess}
 use Rattle.code_writer.specs.Bounds.{CanBeWritten}
 use Rattle.code_writer.specs.declared.procedure.FrameWords.{FrameWords}
 use Rattle.code_writer.specs.Procedures.{words_of}

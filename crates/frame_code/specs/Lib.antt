@@ -1,3 +1,4 @@
+pub use Rattle.code_rules
 pub mod Code
 pub mod Heads
 pub mod Rooms

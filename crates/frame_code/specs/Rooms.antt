@@ -5,9 +5,9 @@ use Rattle.mesa_types.specs.Typed.{Module, Procedure}
 use Rattle.code_rules.specs.Modules.{words_of_fields}
 use Rattle.code_rules.specs.Reading.{Coded, scratch}
 use Rattle.code_blocks.specs.Translation.{block}
-use Rattle.code_trees.specs.Excess.{excess}
-use Rattle.code_trees.specs.Routines.{kinds_laid}
-use Rattle.code_trees.specs.declared.routine.Routine.{Routine}
+use Rattle.code_bodies.specs.code_trees.specs.Excess.{excess}
+use Rattle.code_bodies.specs.code_trees.specs.Routines.{kinds_laid}
+use Rattle.code_bodies.specs.code_trees.specs.declared.routine.Routine.{Routine}
 use Rattle.code_writer.specs.Bounds.{CanBeWritten}
 
 -- the words of a procedure's parameters, results and frame have 16 bits, each number of its block has the bits of its type, and what is

@@ -7,16 +7,16 @@ ghost use Rattle.mesa_types.specs.Sound.{Sound};
 ghost use Rattle.mesa_types.specs.Typed.{Module};
 ghost use Rattle.code_rules.specs.Modules.{procedures_of};
 ghost use Rattle.code_blocks.specs.Modules.{procedure_code, uncoded};
-ghost use Rattle.code_trees.specs.Routines.{coded};
+ghost use Rattle.code_bodies.specs.code_trees.specs.Routines.{coded};
 ghost use Rattle.frame_code.specs.Heads.{procedure_in};
 ghost use Rattle.frame_code.specs.Rooms.{HasRoom, IsOf};
 
 use crate::heads::{Placed, procedure_at};
 use crate::words::few_words;
 use code_bodies::body_block;
+use code_bodies::code_trees::{Layout, Links, Routine};
 use code_forms::{CodeProcedure, CodeProcedures};
 use code_ranges::bodies_are_in_range;
-use code_trees::{Layout, Links, Routine};
 use code_writer::{FrameWords, bodies_can_be_written, write_procedure};
 use held_trees::LetGo;
 use mesa_base::OutOfMemory;

@@ -17,4 +17,5 @@ mod topmost;
 mod touching;
 
 pub use machine::run;
+pub use machine_ready;
 pub use outcome::{Outcome, RunFault};

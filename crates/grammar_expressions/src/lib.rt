@@ -8,4 +8,5 @@ mod operators;
 mod targets;
 mod types;
 
+pub use grammar_tokens;
 pub use nesting::{Level, NestedParsers, ParserFunctions};

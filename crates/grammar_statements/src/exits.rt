@@ -9,8 +9,8 @@ ghost use Rattle.grammar_rules.specs.ReadStatements as spec;
 
 use crate::nesting::StatementParser;
 use grammar_expressions::NestedParsers;
-use grammar_tokens::begins::begins_repeat;
-use grammar_tokens::naming::repeat_labels;
+use grammar_expressions::grammar_tokens::begins::begins_repeat;
+use grammar_expressions::grammar_tokens::naming::repeat_labels;
 use held_trees::{both, pushed};
 use mesa_base::{List, Place, Placed};
 use mesa_lexer::{Mark, Word};

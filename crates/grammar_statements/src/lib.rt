@@ -11,5 +11,7 @@ mod statements;
 mod turns;
 
 pub use blocks::BlockEnd;
+pub use grammar_expressions;
+pub use grammar_expressions::grammar_tokens;
 pub use nesting::StatementParser;
 pub use turns::Turn;

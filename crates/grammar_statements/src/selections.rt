@@ -9,9 +9,9 @@ ghost use Rattle.grammar_rules.specs.ReadStatements as spec;
 
 use crate::nesting::StatementParser;
 use grammar_expressions::NestedParsers;
+use grammar_expressions::grammar_tokens::begins::begins_test;
+use grammar_expressions::grammar_tokens::words_and_marks::{takes_negating, takes_relating};
 use grammar_rules::Begun;
-use grammar_tokens::begins::begins_test;
-use grammar_tokens::words_and_marks::{takes_negating, takes_relating};
 use held_trees::{both, boxed, pushed};
 use mesa_base::{Boxed, List, Place};
 use mesa_lexer::{Mark, Word};

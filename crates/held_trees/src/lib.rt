@@ -8,3 +8,4 @@ mod names;
 
 pub use held::{both, boxed, boxed_pair, pushed, put, share, shared};
 pub use letting::{InBox, InList, InShared, InSharedList, LetGo};
+pub use mesa_base;

@@ -17,8 +17,8 @@ use file_forms::{FileCursor, Seen, Stopped};
 use held_objects::ManyRows;
 use mesa_base::limits::INSTANCES;
 use mesa_base::{Field, List, OutOfMemory, Path};
-use module_readers::count_up_to;
 use object_files::{Instance, Instances};
+use object_readers::module_readers::count_up_to;
 use std::alloc::Global;
 
 // Whether an instance before has the path, by the index of their paths.

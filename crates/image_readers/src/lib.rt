@@ -15,4 +15,6 @@ mod reading;
 mod tables;
 mod wanted_rows;
 
+pub use object_readers;
+pub use object_readers::interface_readers;
 pub use reading::read_image;

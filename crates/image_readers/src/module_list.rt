@@ -9,7 +9,7 @@ ghost use Rattle.object_rules.specs.declared.limits.TheConstants.{IMAGE_MODULES}
 use file_forms::{FileCursor, Stopped};
 use held_objects::{ManyRows, Pile, with_rows};
 use held_trees::LetGo;
-use module_readers::count_up_to;
+use object_readers::module_readers::count_up_to;
 use object_readers::module_rows;
 use object_rules::limits::IMAGE_MODULES;
 use std::alloc::Global;

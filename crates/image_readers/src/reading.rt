@@ -16,10 +16,10 @@ use crate::building::image;
 use crate::image_rows::{ImageRows, image_rows};
 use file_forms::{FileCursor, Stopped, fault_at, opened};
 use held_trees::LetGo;
-use interface_readers::version;
 use mesa_base::FileFault;
 use object_files::Image;
 use object_readers::file_fault;
+use object_readers::interface_readers::version;
 use object_rules::ObjectFault;
 use std::alloc::Global;
 

@@ -5,9 +5,9 @@ ghost use Rattle.object_rules.specs.ImageForms as form;
 
 use file_forms::{FileCursor, Stopped};
 use held_objects::{let_wanted_go, with_wanted};
-use interface_readers::item;
 use interface_records::{Wanted, Wanteds};
 use mesa_base::List;
+use object_readers::interface_readers::item;
 use std::alloc::Global;
 
 #[tactic(auto, unfolding(object_rules::specs::ImageForms::entry))]

@@ -1,3 +1,5 @@
+pub use Rattle.config_tree
+pub use Rattle.config_rules
 pub mod Bindings
 pub mod Choosing
 pub mod Exporting

@@ -17,6 +17,8 @@ mod numbers;
 
 pub use binder::bind;
 pub use bindings::Bindings;
+pub use config_rules;
+pub use config_tree;
 pub use fault::BindFault;
 pub use index::{ExporterIndex, Exporters};
 pub use key::ExporterKey;

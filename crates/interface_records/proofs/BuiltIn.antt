@@ -3,14 +3,14 @@ use Rattle.std.specs.Prelude.{◌≡◌, ℕ, List, [], ◌∷◌, codes, map, O
 use Rattle.std.specs.List.{All}
 use Rattle.std.proofs.Common.{refl, sym, subst, inl, inr, arith}
 use Rattle.std.proofs.lemmas.List.Elements.{All-nil, All-cons}
-use Rattle.mesa_base.specs.Name.{IsName}
-use Rattle.mesa_types.specs.declared.faces.Item.{Item}
-use Rattle.mesa_types.specs.declared.faces.ItemKind.TheVariants as item
-use Rattle.mesa_types.specs.declared.types.FieldType.{FieldType, roll-FieldType}
-use Rattle.mesa_types.specs.declared.types.TypeTree.{TypeTree}
-use Rattle.mesa_types.specs.declared.types.TypeTree.TheOpen.{TypeTree-F}
-use Rattle.mesa_types.specs.declared.types.TypeTree.TheFolds.{fold-roll-TypeTree, fold-roll-FieldType}
-use Rattle.mesa_types.specs.declared.types.TypeTree.TheVariants as tree
+use Rattle.check_scopes.specs.mesa_base.specs.Name.{IsName}
+use Rattle.typed_answers.specs.mesa_types.specs.declared.faces.Item.{Item}
+use Rattle.typed_answers.specs.mesa_types.specs.declared.faces.ItemKind.TheVariants as item
+use Rattle.typed_answers.specs.mesa_types.specs.declared.types.FieldType.{FieldType, roll-FieldType}
+use Rattle.typed_answers.specs.mesa_types.specs.declared.types.TypeTree.{TypeTree}
+use Rattle.typed_answers.specs.mesa_types.specs.declared.types.TypeTree.TheOpen.{TypeTree-F}
+use Rattle.typed_answers.specs.mesa_types.specs.declared.types.TypeTree.TheFolds.{fold-roll-TypeTree, fold-roll-FieldType}
+use Rattle.typed_answers.specs.mesa_types.specs.declared.types.TypeTree.TheVariants as tree
 use Rattle.check_scopes.specs.Scopes.{has}
 use Rattle.interface_records.specs.Faces.{iodefs, parameter, unnamed, procedure, error}
 use Rattle.interface_records.specs.Laws.{BuiltInCanBeSpelled}

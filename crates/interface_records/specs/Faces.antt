@@ -1,12 +1,12 @@
 -- Faces of interfaces, and the built-in interface (rules of this project).
 use Rattle.std.specs.Prelude.{◌≡◌, ℕ, List, [], ◌∷◌, Some, None, codes}
-use Rattle.mesa_types.specs.Types.{types_in}
-use Rattle.mesa_types.specs.declared.types.TypeTree.{TypeTree}
-use Rattle.mesa_types.specs.declared.types.TypeTree.TheVariants.{Integer, Boolean, Character, String}
-use Rattle.mesa_types.specs.declared.types.FieldType.{FieldType, roll-FieldType}
-use Rattle.mesa_types.specs.declared.faces.ItemKind.TheVariants.{Procedure, Error}
-use Rattle.mesa_types.specs.declared.faces.Item.{Item}
-use Rattle.mesa_types.specs.declared.faces.Face.{Face}
+use Rattle.typed_answers.specs.mesa_types.specs.Types.{types_in}
+use Rattle.typed_answers.specs.mesa_types.specs.declared.types.TypeTree.{TypeTree}
+use Rattle.typed_answers.specs.mesa_types.specs.declared.types.TypeTree.TheVariants.{Integer, Boolean, Character, String}
+use Rattle.typed_answers.specs.mesa_types.specs.declared.types.FieldType.{FieldType, roll-FieldType}
+use Rattle.typed_answers.specs.mesa_types.specs.declared.faces.ItemKind.TheVariants.{Procedure, Error}
+use Rattle.typed_answers.specs.mesa_types.specs.declared.faces.Item.{Item}
+use Rattle.typed_answers.specs.mesa_types.specs.declared.faces.Face.{Face}
 use Rattle.interface_records.specs.declared.interface.Interface.{Interface}
 
 -- two faces are the same where their names, stamps and items are equal: of each item the kind and the name, and the

@@ -1,6 +1,6 @@
 -- When two items are the same to one who uses them, and which items the host has: those of the built-in interface (rules of this project).
 use Rattle.std.specs.Prelude.{◌≡◌, Any}
-use Rattle.mesa_types.specs.declared.faces.Item.{Item}
+use Rattle.typed_answers.specs.mesa_types.specs.declared.faces.Item.{Item}
 use Rattle.interface_records.specs.declared.wanted.Wanted.{Wanted}
 use Rattle.interface_records.specs.Faces.{SameSignature, iodefs}
 

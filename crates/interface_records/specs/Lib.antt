@@ -1,3 +1,5 @@
+pub use Rattle.typed_answers.specs.mesa_types
+pub use Rattle.check_scopes
 pub mod Faces
 pub mod Hosts
 pub mod Laws

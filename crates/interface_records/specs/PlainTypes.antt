@@ -1,21 +1,21 @@
 -- Types as a person reads them, and each question on them with its answer (Language Manual, chapter 3). They are the types
 -- of the code, one for one; all rules of checking speak of them.
 use Rattle.std.specs.Prelude.{ℕ, ◌+◌, ◌-◌, ◌*◌, ◌%◌, Bool, true, false, ◌&&◌, ◌||◌, List, [], ◌∷◌, length, map, max, Option, Some, None, if◌then◌else◌, bytes_eq, nat_eq}
-use Rattle.mesa_types.specs.declared.types.TypeTree.{TypeTree}
-use Rattle.mesa_types.specs.declared.types.TypeTree.TheVariants as tree
-use Rattle.mesa_types.specs.declared.types.TypeTree.TheOpen.{TypeTree-F, FieldType-F}
-use Rattle.mesa_types.specs.declared.types.TypeTree.TheFolds.{fold-TypeTree, fold-FieldType}
-use Rattle.mesa_types.specs.declared.types.FieldType.{FieldType, roll-FieldType}
-use Rattle.mesa_types.specs.declared.types.Origin.{Origin}
-use Rattle.mesa_types.specs.declared.faces.Item.{Item}
-use Rattle.mesa_types.specs.declared.faces.Face.{Face}
-use Rattle.mesa_types.specs.declared.faces.ItemKind.{ItemKind}
+use Rattle.typed_answers.specs.mesa_types.specs.declared.types.TypeTree.{TypeTree}
+use Rattle.typed_answers.specs.mesa_types.specs.declared.types.TypeTree.TheVariants as tree
+use Rattle.typed_answers.specs.mesa_types.specs.declared.types.TypeTree.TheOpen.{TypeTree-F, FieldType-F}
+use Rattle.typed_answers.specs.mesa_types.specs.declared.types.TypeTree.TheFolds.{fold-TypeTree, fold-FieldType}
+use Rattle.typed_answers.specs.mesa_types.specs.declared.types.FieldType.{FieldType, roll-FieldType}
+use Rattle.typed_answers.specs.mesa_types.specs.declared.types.Origin.{Origin}
+use Rattle.typed_answers.specs.mesa_types.specs.declared.faces.Item.{Item}
+use Rattle.typed_answers.specs.mesa_types.specs.declared.faces.Face.{Face}
+use Rattle.typed_answers.specs.mesa_types.specs.declared.faces.ItemKind.{ItemKind}
 use Rattle.interface_records.specs.declared.interface.Interface.{Interface}
 use Rattle.interface_records.specs.declared.interface.Constant.{Constant}
 use Rattle.interface_records.specs.declared.interface.NamedType.{NamedType}
-use Rattle.mesa_types.specs.declared.typed_parts.Base.{Base}
-use Rattle.mesa_types.specs.declared.typed_parts.Base.TheVariants.{Signed, Unsigned}
-use Rattle.mesa_types.specs.Typed as t
+use Rattle.typed_answers.specs.mesa_types.specs.declared.typed_parts.Base.{Base}
+use Rattle.typed_answers.specs.mesa_types.specs.declared.typed_parts.Base.TheVariants.{Signed, Unsigned}
+use Rattle.typed_answers.specs.mesa_types.specs.Typed as t
 
 mutual
   pub data PlainType : Type 0 where

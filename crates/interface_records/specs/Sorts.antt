@@ -1,7 +1,7 @@
 -- What operators see of a type, and which types index arrays (Language Manual, chapters 2 and 3).
 use Rattle.std.specs.Prelude.{Bool, true, ◌&&◌, Option, Some, is_some}
-use Rattle.mesa_types.specs.declared.typed_parts.Base.{Base}
-use Rattle.mesa_types.specs.declared.typed_parts.Base.TheVariants.{Signed, Unsigned}
+use Rattle.typed_answers.specs.mesa_types.specs.declared.typed_parts.Base.{Base}
+use Rattle.typed_answers.specs.mesa_types.specs.declared.typed_parts.Base.TheVariants.{Signed, Unsigned}
 use Rattle.interface_records.specs.PlainTypes.{PlainType, Integer, Cardinal, Boolean, Character, base_of, bounds}
 
 pub data Sort : Type 0 where

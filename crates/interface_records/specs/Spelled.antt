@@ -2,15 +2,15 @@
 -- and types within their limits, in which a bound is a value of its type.
 use Rattle.std.specs.Prelude.{◌≡◌, ℕ, ◌≤◌, ◌<◌, ◌⊎◌, true, false, is_some, Option, Some, None, List, [], ◌∷◌, ◌++◌, length, map}
 use Rattle.std.specs.List.{All}
-use Rattle.mesa_base.specs.Name.{IsName}
-use Rattle.mesa_base.specs.declared.limits.TheConstants.{TYPE_WORDS, TYPE_DEPTH, ENUMERATION_ELEMENTS}
-use Rattle.mesa_types.specs.Operators.{shifted}
-use Rattle.mesa_types.specs.declared.types.Origin.{Origin}
-use Rattle.mesa_types.specs.declared.faces.ItemKind.TheVariants as item
-use Rattle.mesa_types.specs.declared.faces.Pair.{Pair}
-use Rattle.mesa_types.specs.declared.faces.Import.{Import}
-use Rattle.mesa_types.specs.declared.faces.Export.{Export}
-use Rattle.mesa_types.specs.declared.faces.Shape.{Shape}
+use Rattle.check_scopes.specs.mesa_base.specs.Name.{IsName}
+use Rattle.check_scopes.specs.mesa_base.specs.declared.limits.TheConstants.{TYPE_WORDS, TYPE_DEPTH, ENUMERATION_ELEMENTS}
+use Rattle.typed_answers.specs.mesa_types.specs.Operators.{shifted}
+use Rattle.typed_answers.specs.mesa_types.specs.declared.types.Origin.{Origin}
+use Rattle.typed_answers.specs.mesa_types.specs.declared.faces.ItemKind.TheVariants as item
+use Rattle.typed_answers.specs.mesa_types.specs.declared.faces.Pair.{Pair}
+use Rattle.typed_answers.specs.mesa_types.specs.declared.faces.Import.{Import}
+use Rattle.typed_answers.specs.mesa_types.specs.declared.faces.Export.{Export}
+use Rattle.typed_answers.specs.mesa_types.specs.declared.faces.Shape.{Shape}
 use Rattle.interface_records.specs.Lists.{Ascend, NoneTwice}
 use Rattle.interface_records.specs.PlainTypes.{HasPart, PlainType, Integer, Cardinal, Boolean, Character, String, Enumeration, Subrange, Array, Record, Parts, NoPart, AndPart, PlainField, PlainItem, PlainConstant, PlainName, PlainInterface, base_of, depth_of, fields_of_parts, plain_item, sign_of, words_of}
 use Rattle.interface_records.specs.Sorts.{is_index}

@@ -1,12 +1,12 @@
 ghost use Rattle.std.specs.Prelude.{◌≡◌, [], IfOk};
-ghost use Rattle.mesa_base.specs.Name.{IsName};
+ghost use Rattle.check_scopes.specs.mesa_base.specs.Name.{IsName};
 ghost use Rattle.interface_records.specs.Faces.{parameter, unnamed, procedure, error, io_items, iodefs as built_in};
 
 use crate::interface::Interface;
-use held_trees::{both, pushed};
-use mesa_base::{List, Name, OutOfMemory, Stamp};
-use mesa_types::{Face, FieldType, Fields, Item, ItemKind, Items, TypeTree};
+use check_scopes::mesa_base::{List, Name, OutOfMemory, Stamp};
 use std::alloc::Global;
+use typed_answers::held_trees::{both, pushed};
+use typed_answers::mesa_types::{Face, FieldType, Fields, Item, ItemKind, Items, TypeTree};
 
 fn name(alloc: Global, text: &[u8]) -> Result<Name, OutOfMemory>
     requires { IsName text.now }

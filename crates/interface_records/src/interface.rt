@@ -1,7 +1,7 @@
-use held_trees::LetGo;
-use mesa_base::{List, Name};
-use mesa_types::{Face, TypeTree};
+use check_scopes::mesa_base::{List, Name};
 use std::mem::drop;
+use typed_answers::held_trees::LetGo;
+use typed_answers::mesa_types::{Face, TypeTree};
 
 pub type Constants = List<Constant>;
 

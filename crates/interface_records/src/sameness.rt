@@ -1,7 +1,7 @@
 ghost use Rattle.std.specs.Prelude.{◌≡◌, ◌↔◌, IsTrue};
 ghost use Rattle.interface_records.specs.Faces.{SameFace, SameSignature};
 
-use mesa_types::{Face, Item};
+use typed_answers::mesa_types::{Face, Item};
 use typed_answers::{same_fields, same_name, same_types};
 
 fn same_item(a: &Item, b: &Item) -> bool

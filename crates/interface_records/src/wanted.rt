@@ -1,5 +1,5 @@
-use mesa_base::{List, Name, Path, Stamp};
-use mesa_types::Item;
+use check_scopes::mesa_base::{List, Name, Path, Stamp};
+use typed_answers::mesa_types::Item;
 
 pub type Wanteds = List<Wanted>;
 

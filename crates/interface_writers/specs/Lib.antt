@@ -1,2 +1,3 @@
+pub use Rattle.face_rules
 pub mod Elements
 pub mod Whole

@@ -1,1 +1,2 @@
+pub use Rattle.object_writers
 pub mod Laws

@@ -4,3 +4,4 @@
 mod laws;
 
 pub use laws::large_counts_are_large_files;
+pub use object_writers;

@@ -9,7 +9,7 @@ use Rattle.interface_records.specs.declared.wanted.Wanted.{Wanted as Entry}
 use Rattle.object_files.specs.declared.image.Image.{Image}
 use Rattle.object_files.specs.declared.image.Link.TheVariants.{Wanted, To}
 use Rattle.object_files.specs.declared.object.Object.{Object}
-use Rattle.cmesa_grammar.specs.Syntax.{Configuration, AndDeclare, AndInstance}
+use Rattle.config_rules.specs.cmesa_grammar.specs.Syntax.{Configuration, AndDeclare, AndInstance}
 use Rattle.config_rules.specs.Bindings.{binding_of}
 use Rattle.config_rules.specs.Exporters.{outside_of, stepped, step_in, goes_on, reach, outlets_of, outlets_from, is_named, is_given, exporters}
 use Rattle.config_rules.specs.Resolves.{from_outside, source, given_for, chosen, resolved_at, resolved, want, wants_of}

@@ -8,4 +8,5 @@ mod modules;
 mod offers;
 mod wanting;
 
+pub use config_tree;
 pub use linking::link;

@@ -3,10 +3,10 @@
 ghost use Rattle.std.specs.Prelude.{◌≡◌, ◌<◌, ◌++◌, length, map, All, IfOk, OnOk, slice_index};
 ghost use Rattle.link_tables.specs.Modules.{AreMarks, AreNumbers, numbered, kept_one, marked};
 
-use code_forms::ValidCode;
 use config_rules::TreeInstance;
 use held_trees::LetGo;
 use mesa_base::{List, OutOfMemory, Path};
+use object_files::code_forms::ValidCode;
 use object_files::{Instance, Instances, Object, Objects};
 use std::alloc::{AllocFailed, Global};
 use std::mem::drop;

@@ -11,7 +11,7 @@ use Rattle.interface_records.specs.declared.wanted.Wanted.{Wanted as Entry}
 use Rattle.interface_records.specs.Faces.{SameSignature}
 use Rattle.config_rules.specs.Resolves.{Left, Want, wants, is_bad}
 use Rattle.config_rules.proofs.Members.{Mem, mem_get}
-use Rattle.link_tables.specs.Linked.{entry_number, entry_of, wanted_of}
+use Rattle.spelled_trees.specs.link_tables.specs.Linked.{entry_number, entry_of, wanted_of}
 use Rattle.bound_images.proofs.Chosen.{same_names}
 use Rattle.bound_images.proofs.Elements.{mem_contains}
 use Rattle.bound_images.proofs.Entries.{EntryOf, left_entry, entries_are}

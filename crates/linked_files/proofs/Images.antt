@@ -5,7 +5,7 @@ use Rattle.std.proofs.lemmas.List.{length-map}
 use Rattle.mesa_base.specs.declared.limits.TheConstants.{INSTANCES}
 use Rattle.config_rules.proofs.Members.{Mem, mem_get}
 use Rattle.object_files.specs.declared.object.Object.{Object}
-use Rattle.link_tables.specs.Linked.{kept, instance_of, offers, image_of}
+use Rattle.spelled_trees.specs.link_tables.specs.Linked.{kept, instance_of, offers, image_of}
 use Rattle.bound_images.proofs.Elements.{all_by, all_mem}
 use Rattle.bound_images.proofs.Kept.{kept_mem}
 use Rattle.object_rules.specs.declared.limits.TheConstants.{IMAGE_MODULES}

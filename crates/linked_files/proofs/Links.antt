@@ -13,7 +13,7 @@ use Rattle.config_rules.specs.Bindings.{binding_of}
 use Rattle.config_rules.specs.declared.tree.TreeInstance.{TreeInstance}
 use Rattle.config_rules.specs.Resolves.{Resolution, Left, Bound, NoExporter, Twice, OtherInterface, OtherStamp, Want, wants_in, wants, is_bad}
 use Rattle.config_rules.proofs.Members.{Mem, mem_get, map_get}
-use Rattle.link_tables.specs.Linked.{has_instance, kept, many_kept, instance_of, entry_of, wanted_of, link_by, link_of, links_of}
+use Rattle.spelled_trees.specs.link_tables.specs.Linked.{has_instance, kept, many_kept, instance_of, entry_of, wanted_of, link_by, link_of, links_of}
 use Rattle.bound_images.proofs.Chosen.{is_bound, outlet_from, given_there}
 use Rattle.bound_images.proofs.Elements.{all_mem, get_map}
 use Rattle.bound_images.proofs.Kept.{mem_has, kept_there}

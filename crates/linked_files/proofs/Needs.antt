@@ -8,7 +8,7 @@ use Rattle.mesa_types.specs.declared.faces.Item.{Item}
 use Rattle.config_rules.specs.declared.tree.Tree.{Tree}
 use Rattle.config_rules.specs.declared.tree.TreeInstance.{TreeInstance}
 use Rattle.config_rules.specs.Resolves.{Want, want, wants_of}
-use Rattle.link_tables.specs.Linked.{entry_of}
+use Rattle.spelled_trees.specs.link_tables.specs.Linked.{entry_of}
 use Rattle.object_rules.specs.ImageForms.{needed_of, needed_by_import}
 
 module _ (t : Tree) (x : TreeInstance) where

@@ -17,7 +17,7 @@ use Rattle.config_rules.specs.declared.tree.RecordPair.{RecordPair}
 use Rattle.config_rules.specs.declared.tree.TreeInstance.{TreeInstance}
 use Rattle.config_rules.specs.Exporters.{Outlet, outlets_of, outlets_from, outlets, goes_to}
 use Rattle.config_rules.proofs.Members.{Mem, mem_split, flat_mem}
-use Rattle.link_tables.specs.Linked.{kept, many_kept, instance_of, outermost_exports, in_outermost, offer_of, offered_as, offers}
+use Rattle.spelled_trees.specs.link_tables.specs.Linked.{kept, many_kept, instance_of, outermost_exports, in_outermost, offer_of, offered_as, offers}
 use Rattle.bound_images.proofs.Elements.{all_mem, map_mem, mem_filter, get_map}
 use Rattle.bound_images.proofs.Kept.{few_kept}
 use Rattle.object_rules.proofs.AllFit.{there}

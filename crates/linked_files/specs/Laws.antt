@@ -6,7 +6,7 @@ use Rattle.config_rules.specs.declared.tree.Tree.{Tree}
 use Rattle.config_rules.specs.InOrder.{TreeIn}
 use Rattle.config_rules.specs.Resolves.{wants, first_bad}
 use Rattle.config_rules.specs.Tree.{Agree, all_faces}
-use Rattle.link_tables.specs.Linked.{wanted_of, offers, image_of}
+use Rattle.spelled_trees.specs.link_tables.specs.Linked.{wanted_of, offers, image_of}
 use Rattle.interface_records.specs.Spelled.{InFourBytes}
 use Rattle.object_rules.specs.ImageForms.{parts_of_image, image_form}
 use Rattle.object_rules.specs.ModuleForms.{module_form}

@@ -7,7 +7,7 @@ use Rattle.object_rules.specs.ModuleForms.{module_form}
 use Rattle.object_rules.specs.Parts.{parts_of}
 use Rattle.config_rules.specs.InOrder.{ShapeInOrder}
 use Rattle.link_tables.specs.Parts.{shapes_of}
-use Rattle.read_files.proofs.Files.{objects_of_files_are_in_order}
+use Rattle.linked_files.specs.read_files.proofs.Files.{objects_of_files_are_in_order}
 use Rattle.linked_objects.specs.Filed.{IsFiled}
 use Rattle.linked_objects.specs.Laws.{FiledTreesAreInOrder}
 use Rattle.linked_objects.proofs.Versions.{versions_fit_alike}

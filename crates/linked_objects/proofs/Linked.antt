@@ -4,8 +4,8 @@ use Rattle.std.proofs.lemmas.List.Elements.{All-weaker}
 use Rattle.config_rules.specs.Resolves.{wants, first_bad}
 use Rattle.config_rules.specs.declared.tree.Tree.{Tree}
 use Rattle.config_rules.proofs.Members.{mem_get}
-use Rattle.bound_images.proofs.Elements.{all_by, all_mem}
-use Rattle.bound_images.proofs.Kept.{kept_mem}
+use Rattle.linked_files.specs.bound_images.proofs.Elements.{all_by, all_mem}
+use Rattle.linked_files.specs.bound_images.proofs.Kept.{kept_mem}
 use Rattle.object_files.specs.declared.image.Image.{Image}
 use Rattle.object_files.specs.declared.object.Object.{Object}
 use Rattle.object_rules.specs.ModuleForms.{module_form}
@@ -14,7 +14,7 @@ use Rattle.link_tables.specs.Linked.{kept, image_of}
 use Rattle.link_tables.specs.Parts.{shapes_of}
 use Rattle.linked_files.proofs.Images.{linked_images_fit}
 use Rattle.linked_programs.specs.Laws.{IsOfShapes}
-use Rattle.spelled_trees.specs.Paths.{PathsAndRecords}
+use Rattle.linked_files.specs.spelled_trees.specs.Paths.{PathsAndRecords}
 use Rattle.filed_images.specs.Images.{CanBeFiled}
 use Rattle.linked_objects.specs.Filed.{IsFiled}
 use Rattle.linked_objects.proofs.Filed.{fits}

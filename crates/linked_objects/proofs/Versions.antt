@@ -8,7 +8,7 @@ use Rattle.spelled_laws.proofs.FacesFit.{faces_fit}
 use Rattle.object_rules.specs.ModuleForms.{import_form, export_form, module_form}
 use Rattle.object_rules.specs.Parts.{ProcedurePart}
 use Rattle.object_rules.proofs.AllFit.{all_fit}
-use Rattle.read_files.proofs.Shapes.{imports_fit}
+use Rattle.linked_files.specs.read_files.proofs.Shapes.{imports_fit}
 use Rattle.linked_files.proofs.Links.{each_of}
 use Rattle.linked_objects.specs.Laws.{VersionsFitAlike}
 

@@ -4,7 +4,7 @@ use Rattle.object_files.specs.declared.object.Object.{Object}
 use Rattle.object_rules.specs.ModuleForms.{module_form}
 use Rattle.object_rules.specs.Parts.{ModulePart}
 use Rattle.config_rules.specs.declared.tree.Tree.{Tree}
-use Rattle.import_binder.specs.InOrder.{IsInOrder}
+use Rattle.linked_programs.specs.import_binder.specs.InOrder.{IsInOrder}
 use Rattle.link_tables.specs.Parts.{shapes_of}
 use Rattle.linked_programs.specs.Laws.{IsOfShapes}
 use Rattle.linked_objects.specs.Filed.{IsFiled}

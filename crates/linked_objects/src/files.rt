@@ -7,7 +7,7 @@ ghost use Rattle.link_tables.specs.Linked.{image_of};
 ghost use Rattle.link_tables.specs.Parts.{shapes_of};
 ghost use Rattle.object_rules.specs.ImageFiles.{IsImageFile};
 ghost use Rattle.object_writers.specs.ObjectBytes.{image_file};
-ghost use Rattle.spelled_trees.specs.Paths.{PathsAndRecords};
+ghost use Rattle.linked_files.specs.spelled_trees.specs.Paths.{PathsAndRecords};
 ghost use Rattle.filed_images.specs.Files.{IsTooLarge};
 ghost use Rattle.filed_images.specs.Images.{CanBeFiled};
 ghost use Rattle.linked_programs.specs.Laws.{IsOfShapes};

@@ -9,4 +9,6 @@ mod trees;
 
 pub use files::linked_file;
 pub use laws::{filed_trees_are_in_order, versions_fit_alike};
+pub use linked_programs;
+pub use linked_programs::built_runs;
 pub use trees::object_tree_of;

@@ -10,7 +10,7 @@ ghost use Rattle.linked_objects.specs.Filed.{IsFiled};
 use crate::shapes::shapes_of;
 use cmesa_grammar::Config;
 use config_rules::{Tree, TreeFault};
-use config_tree::expand;
+use link_tables::config_tree::expand;
 use linked_programs::let_shapes_go;
 use object_files::Object;
 use std::alloc::Global;

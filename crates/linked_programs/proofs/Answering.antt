@@ -9,8 +9,8 @@ use Rattle.config_rules.specs.Through.{Answer}
 use Rattle.config_rules.specs.Tree.{IsSingle, IsTree}
 use Rattle.config_rules.specs.declared.fault.TreeFault.TheVariants.{Memory}
 use Rattle.config_rules.specs.declared.tree.Tree.{Tree}
-use Rattle.config_tree.proofs.Ending.{not_memory}
-use Rattle.bound_images.specs.Programs.{shape_of}
+use Rattle.built_runs.specs.config_tree.proofs.Ending.{not_memory}
+use Rattle.built_runs.specs.bound_images.specs.Programs.{shape_of}
 use Rattle.linked_programs.specs.Laws.{IsOfShapes}
 use Rattle.linked_programs.specs.Modules.{AllCanBeLinked, CanBeLinked, shapes_of}
 use Rattle.linked_programs.proofs.Making.{shapes_in_order}

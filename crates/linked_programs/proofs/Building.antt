@@ -9,10 +9,10 @@ use Rattle.object_files.specs.declared.object.Object.{Object}
 use Rattle.config_rules.specs.InOrder.{TreeIn}
 use Rattle.config_rules.specs.Resolves.{wants, first_bad}
 use Rattle.config_rules.specs.declared.tree.Tree.{Tree}
-use Rattle.link_tables.specs.Linked.{image_of}
-use Rattle.link_tables.specs.Parts as parts
+use Rattle.built_runs.specs.link_tables.specs.Linked.{image_of}
+use Rattle.built_runs.specs.link_tables.specs.Parts as parts
 use Rattle.frame_code.specs.Code.{IsCodeOf}
-use Rattle.bound_images.specs.Programs.{shape_of}
+use Rattle.built_runs.specs.bound_images.specs.Programs.{shape_of}
 use Rattle.built_runs.specs.Linked.{IsLinkedFrom}
 use Rattle.linked_programs.specs.Laws.{IsOfShapes, LinkedImagesAreBuilt}
 use Rattle.linked_programs.specs.Modules.{AllCanBeLinked, CanBeLinked, shapes_of}

@@ -17,7 +17,7 @@ use Rattle.interface_records.specs.Spelled.{ExportCanBeSpelled, ImportCanBeSpell
 use Rattle.config_rules.specs.InOrder.{NamesDiffer}
 use Rattle.config_rules.specs.Tree.{faces_of}
 use Rattle.config_rules.proofs.Members.{map_get}
-use Rattle.bound_images.specs.Programs.{shape_of}
+use Rattle.built_runs.specs.bound_images.specs.Programs.{shape_of}
 use Rattle.linked_programs.specs.Laws.{LinkableShapesAreInOrder}
 use Rattle.linked_programs.specs.Modules.{CanBeLinked}
 

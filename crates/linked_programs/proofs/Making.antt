@@ -7,18 +7,18 @@ use Rattle.object_files.specs.declared.image.Image.{Image}
 use Rattle.config_rules.specs.InOrder.{ShapeInOrder, TreeIn}
 use Rattle.config_rules.specs.Resolves.{wants}
 use Rattle.config_rules.specs.declared.tree.Tree.{Tree}
-use Rattle.link_tables.specs.Linked.{image_of, wanted_of}
-use Rattle.import_binder.specs.Bindings.{IsRefused}
-use Rattle.import_binder.specs.InOrder.{IsInOrder}
-use Rattle.import_binder.specs.declared.fault.BindFault.{BindFault}
-use Rattle.import_binder.specs.declared.fault.BindFault.TheVariants as bind
+use Rattle.built_runs.specs.link_tables.specs.Linked.{image_of, wanted_of}
+use Rattle.built_runs.specs.import_binder.specs.Bindings.{IsRefused}
+use Rattle.built_runs.specs.import_binder.specs.InOrder.{IsInOrder}
+use Rattle.built_runs.specs.import_binder.specs.declared.fault.BindFault.{BindFault}
+use Rattle.built_runs.specs.import_binder.specs.declared.fault.BindFault.TheVariants as bind
 use Rattle.interface_records.specs.Hosts.{IsHostItem}
-use Rattle.machine_ready.specs.Hosts.{IsFault}
-use Rattle.machine_ready.specs.Order.{ImageInOrder}
-use Rattle.machine_ready.specs.declared.fault.ReadyFault.{ReadyFault}
-use Rattle.agreement_rules.specs.Stands.{WantsTheHost}
-use Rattle.bound_images.specs.Programs.{shape_of}
-use Rattle.bound_images.proofs.Running.{images_are_in_order}
+use Rattle.built_runs.specs.machine_ready.specs.Hosts.{IsFault}
+use Rattle.built_runs.specs.machine_ready.specs.Order.{ImageInOrder}
+use Rattle.built_runs.specs.machine_ready.specs.declared.fault.ReadyFault.{ReadyFault}
+use Rattle.built_runs.specs.agreement_rules.specs.Stands.{WantsTheHost}
+use Rattle.built_runs.specs.bound_images.specs.Programs.{shape_of}
+use Rattle.built_runs.specs.bound_images.proofs.Running.{images_are_in_order}
 use Rattle.built_runs.specs.Linked.{IsLinkedFrom}
 use Rattle.linked_programs.specs.Modules.{AllCanBeLinked, CanBeLinked, shapes_of}
 use Rattle.linked_programs.specs.Programs.{IsMachineOf, IsOfFirstBad}

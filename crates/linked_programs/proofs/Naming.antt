@@ -5,16 +5,16 @@ use Rattle.std.proofs.lemmas.Bool.{false≢true}
 use Rattle.std.proofs.lemmas.Option.{none-some, same_Some, slice_get_within, slice_get-map}
 use Rattle.code_forms.specs.declared.module_code.CodeSignal.{CodeSignal}
 use Rattle.code_forms.specs.declared.module_code.ModuleCode.{ModuleCode}
-use Rattle.code_rules.specs.Modules.{signal_code}
+use Rattle.frame_code.specs.code_rules.specs.Modules.{signal_code}
 use Rattle.object_files.specs.declared.image.Image.{Image}
 use Rattle.object_files.specs.declared.image.Instance.{Instance}
 use Rattle.object_files.specs.declared.object.Object.{Object}
-use Rattle.machine_rules.specs.LookUps.{code_in, code_of, module_number, signal_of}
+use Rattle.built_runs.specs.machine_rules.specs.LookUps.{code_in, code_of, module_number, signal_of}
 use Rattle.source_meaning.specs.Program.{Program, instance_of, module_of, no_instance, or_else}
 use Rattle.source_meaning.specs.Program as source
-use Rattle.agreement_rules.specs.Stands.{Stands}
-use Rattle.bound_images.specs.Programs.{program_of}
-use Rattle.bound_images.proofs.Running.{images_stand}
+use Rattle.built_runs.specs.agreement_rules.specs.Stands.{Stands}
+use Rattle.built_runs.specs.bound_images.specs.Programs.{program_of}
+use Rattle.built_runs.specs.bound_images.proofs.Running.{images_stand}
 use Rattle.linked_programs.specs.Names.{LinkedNamesAgree, NamesAgree}
 
 something : {A : Type 0} (o : Option A) → IsSome o → (x : A) × (o ≡ Some x)

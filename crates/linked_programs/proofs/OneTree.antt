@@ -18,8 +18,8 @@ use Rattle.config_rules.specs.declared.fault.TreeFault.TheVariants.{At}
 use Rattle.config_rules.specs.declared.tree.Component.{Component}
 use Rattle.config_rules.specs.declared.tree.Tree.{Tree}
 use Rattle.config_rules.proofs.Answers.{err_ok, ok_same}
-use Rattle.config_tree.proofs.Ending.{tree_in}
-use Rattle.config_tree.proofs.SingleTrees.{single_in}
+use Rattle.built_runs.specs.config_tree.proofs.Ending.{tree_in}
+use Rattle.built_runs.specs.config_tree.proofs.SingleTrees.{single_in}
 use Rattle.linked_programs.specs.Laws.{IsOfShapes, SinglesAreOfTheirShape, SinglesAreOne, TreesAreOfTheirShapes, TreesAreOne}
 
 -- ---- one module alone

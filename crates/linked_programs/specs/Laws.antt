@@ -11,9 +11,9 @@ use Rattle.config_rules.specs.Resolves.{wants, first_bad}
 use Rattle.config_rules.specs.Through.{Answer}
 use Rattle.config_rules.specs.Tree.{Agree, IsSingle, IsTree, all_faces}
 use Rattle.config_rules.specs.declared.tree.Tree.{Tree}
-use Rattle.link_tables.specs.Linked.{image_of}
-use Rattle.bound_images.specs.Built.{Built}
-use Rattle.bound_images.specs.Programs.{shape_of}
+use Rattle.built_runs.specs.link_tables.specs.Linked.{image_of}
+use Rattle.built_runs.specs.bound_images.specs.Built.{Built}
+use Rattle.built_runs.specs.bound_images.specs.Programs.{shape_of}
 use Rattle.linked_programs.specs.Modules.{AllCanBeLinked, CanBeLinked, shapes_of}
 use Rattle.linked_programs.specs.Objects.{AreObjectsOf}
 

@@ -1,3 +1,11 @@
+pub use Rattle.built_runs.specs.machine_ready
+pub use Rattle.built_runs.specs.linked_run
+pub use Rattle.built_runs.specs.link_tables
+pub use Rattle.built_runs.specs.import_binder
+pub use Rattle.built_runs.specs.frame_machine
+pub use Rattle.frame_code
+pub use Rattle.built_runs
+pub use Rattle.built_runs.specs.bound_images
 pub mod Laws
 pub mod Modules
 pub mod Names

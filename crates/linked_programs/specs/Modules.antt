@@ -8,7 +8,7 @@ use Rattle.mesa_types.specs.Typed.{Module}
 use Rattle.mesa_types.specs.declared.faces.Shape.{Shape}
 use Rattle.mesa_types.specs.declared.typed_tree.TypedModule.{TypedModule}
 use Rattle.interface_records.specs.Spelled.{ShapeCanBeSpelled}
-use Rattle.bound_images.specs.Programs.{shape_of}
+use Rattle.built_runs.specs.bound_images.specs.Programs.{shape_of}
 
 -- sound ones, with few enough nodes to be translated, whose imports and exports a file can hold
 pub record CanBeLinked (m : Module) : Type 0 where

@@ -6,11 +6,11 @@ use Rattle.code_forms.specs.declared.module_code.CodeSignal.{CodeSignal}
 use Rattle.object_files.specs.declared.image.Image.{Image}
 use Rattle.object_files.specs.declared.image.Instance.{Instance}
 use Rattle.signaller.specs.declared.signal_id.SignalId.TheVariants.{Own}
-use Rattle.machine_rules.specs.LookUps.{signal_of}
+use Rattle.built_runs.specs.machine_rules.specs.LookUps.{signal_of}
 use Rattle.source_meaning.specs.Program.{Program, instance_of, module_of}
-use Rattle.frame_machine.specs.Running.{SignalIsInRange}
+use Rattle.built_runs.specs.frame_machine.specs.Running.{SignalIsInRange}
 use Rattle.config_rules.specs.declared.tree.Tree.{Tree}
-use Rattle.bound_images.specs.Programs.{program_of}
+use Rattle.built_runs.specs.bound_images.specs.Programs.{program_of}
 use Rattle.built_runs.specs.Linked.{IsLinkedFrom}
 
 -- signal k of instance j: the image has the path of the program's instance, and the name of the signal in that instance's module

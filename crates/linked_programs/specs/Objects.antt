@@ -2,7 +2,7 @@
 use Rattle.std.specs.Prelude.{◌≡◌, ℕ, List, length, Some, slice_get}
 use Rattle.mesa_types.specs.Typed.{Module}
 use Rattle.object_files.specs.declared.object.Object.{Object}
-use Rattle.bound_images.specs.Built.{ObjectOf}
+use Rattle.built_runs.specs.bound_images.specs.Built.{ObjectOf}
 use Rattle.frame_code.specs.Code.{IsCodeOf}
 
 -- the module's shape, and the code that is chosen for it

@@ -2,13 +2,13 @@
 use Rattle.std.specs.Prelude.{◌≡◌, List, All, Some}
 use Rattle.mesa_types.specs.Typed.{Module}
 use Rattle.object_files.specs.declared.image.Image.{Image}
-use Rattle.agreement_rules.specs.Stands.{WantsTheHost}
+use Rattle.built_runs.specs.agreement_rules.specs.Stands.{WantsTheHost}
 use Rattle.config_rules.specs.Resolves.{Want, wants, first_bad}
 use Rattle.config_rules.specs.declared.tree.Tree.{Tree}
-use Rattle.import_binder.specs.Bindings.{fault_of}
-use Rattle.import_binder.specs.declared.fault.BindFault.{BindFault}
+use Rattle.built_runs.specs.import_binder.specs.Bindings.{fault_of}
+use Rattle.built_runs.specs.import_binder.specs.declared.fault.BindFault.{BindFault}
 use Rattle.interface_records.specs.Hosts.{IsHostItem}
-use Rattle.link_tables.specs.Linked.{wanted_of}
+use Rattle.built_runs.specs.link_tables.specs.Linked.{wanted_of}
 use Rattle.built_runs.specs.Linked.{IsLinkedFrom}
 
 -- the machine is ready for the image that is linked from the tree, and what is left to the loader is the host's

@@ -2,14 +2,14 @@
 
 ghost use Rattle.std.specs.Prelude.{◌≢◌, map, IfOk, IfErr};
 ghost use Rattle.mesa_types.specs.Plain.{plain};
-ghost use Rattle.import_binder.specs.Bindings.{AreBindings};
+ghost use Rattle.built_runs.specs.import_binder.specs.Bindings.{AreBindings};
 ghost use Rattle.linked_programs.specs.Laws.{IsOfShapes};
 ghost use Rattle.linked_programs.specs.Modules.{AllCanBeLinked, shapes_of};
 ghost use Rattle.linked_programs.specs.Programs.{IsOfFirstBad};
 
 use built_runs::TypedModules;
+use built_runs::import_binder::{BindFault, Bindings, bind};
 use config_rules::Tree;
-use import_binder::{BindFault, Bindings, bind};
 use std::alloc::Global;
 use std::mem::drop;
 

@@ -11,6 +11,8 @@ mod shapes;
 mod trees;
 
 pub use binding::{bound, let_bindings_go};
+pub use built_runs;
+pub use built_runs::import_binder;
 pub use laws::{
     linkable_shapes_are_in_order, linked_images_are_built, linked_names_agree,
     singles_are_of_their_shape, singles_are_one, trees_are_of_their_shapes, trees_are_one,

@@ -4,15 +4,15 @@ ghost use Rattle.std.specs.Prelude.{◌≡◌, map, None, IfOk};
 ghost use Rattle.mesa_types.specs.Plain.{plain};
 ghost use Rattle.config_rules.specs.Bindings.{bindings_of};
 ghost use Rattle.config_rules.specs.Resolves.{wants, first_bad};
-ghost use Rattle.link_tables.specs.Linked.{image_of};
+ghost use Rattle.built_runs.specs.link_tables.specs.Linked.{image_of};
 ghost use Rattle.built_runs.specs.Linked.{IsLinkedFrom};
 ghost use Rattle.linked_programs.specs.Laws.{IsOfShapes};
 ghost use Rattle.linked_programs.specs.Modules.{AllCanBeLinked, shapes_of};
 ghost use Rattle.linked_programs.specs.Objects.{AreObjectsOf};
 
 use built_runs::TypedModules;
+use built_runs::link_tables::link;
 use config_rules::{BindingLists, Tree};
-use link_tables::link;
 use mesa_base::OutOfMemory;
 use object_files::{Image, Object};
 use std::alloc::Global;

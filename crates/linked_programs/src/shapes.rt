@@ -2,7 +2,7 @@
 
 ghost use Rattle.std.specs.Prelude.{◌≡◌, [], ◌∷◌, ◌++◌, map, IfOk, OnOk};
 ghost use Rattle.mesa_types.specs.Plain.{plain};
-ghost use Rattle.bound_images.specs.Programs.{shape_of};
+ghost use Rattle.built_runs.specs.bound_images.specs.Programs.{shape_of};
 ghost use Rattle.linked_programs.specs.Modules.{shape_in, shapes_of};
 
 use built_runs::TypedModules;

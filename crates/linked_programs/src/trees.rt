@@ -5,15 +5,15 @@ ghost use Rattle.mesa_types.specs.Plain.{plain};
 ghost use Rattle.cmesa_grammar.specs.Plain as grammar;
 ghost use Rattle.config_rules.specs.Components.{components};
 ghost use Rattle.config_rules.specs.Tree.{IsSingle, IsTree};
-ghost use Rattle.bound_images.specs.Programs.{shape_of};
+ghost use Rattle.built_runs.specs.bound_images.specs.Programs.{shape_of};
 ghost use Rattle.linked_programs.specs.Laws.{IsOfShapes};
 ghost use Rattle.linked_programs.specs.Modules.{AllCanBeLinked, CanBeLinked, shapes_of};
 
 use crate::shapes::{let_shapes_go, shape_of, shapes_of};
 use built_runs::TypedModules;
+use built_runs::config_tree::{expand, single};
 use cmesa_grammar::Config;
 use config_rules::{Tree, TreeFault};
-use config_tree::{expand, single};
 use mesa_types::TypedModule;
 use std::alloc::Global;
 

@@ -5,9 +5,9 @@ use Rattle.source_meaning.specs.Program.{Program}
 use Rattle.source_meaning.specs.Means.{Means}
 use Rattle.source_meaning.specs.State.{Answer, End, Fault, Normal, Gives, Go, Resumed, Rejected, Retried, Continued, Uncaught, Spent, FrameLimit, Broken}
 use Rattle.object_files.specs.declared.image.Image.{Image}
-use Rattle.machine_rules.specs.State as machine
-use Rattle.machine_rules.specs.State.{Ended, Stuck}
-use Rattle.agreement_rules.specs.Agreement.{EndsAs, is_faulty}
+use Rattle.agreement_laws.specs.machine_rules.specs.State as machine
+use Rattle.agreement_laws.specs.machine_rules.specs.State.{Ended, Stuck}
+use Rattle.agreement_laws.specs.agreement_rules.specs.Agreement.{EndsAs, is_faulty}
 use Rattle.agreement_laws.specs.Laws.{MeansAlike}
 use Rattle.agreement_laws.proofs.Agreement.{sources_mean}
 use Rattle.frame_machine.specs.declared.outcome.Outcome.{Outcome}

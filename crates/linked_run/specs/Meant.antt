@@ -6,9 +6,9 @@ use Rattle.source_meaning.specs.State.{Answer, End, Fault, Broken}
 use Rattle.source_meaning.specs.Lawful.{Lawful}
 use Rattle.source_meaning.specs.Means.{Means}
 use Rattle.object_files.specs.declared.image.Image.{Image}
-use Rattle.machine_rules.specs.State.{Ended}
-use Rattle.agreement_rules.specs.Agreement.{EndsAs}
-use Rattle.agreement_rules.specs.Stands.{Stands, WantsTheHost}
+use Rattle.agreement_laws.specs.machine_rules.specs.State.{Ended}
+use Rattle.agreement_laws.specs.agreement_rules.specs.Agreement.{EndsAs}
+use Rattle.agreement_laws.specs.agreement_rules.specs.Stands.{Stands, WantsTheHost}
 use Rattle.frame_machine.specs.declared.outcome.Outcome.{Outcome}
 use Rattle.frame_machine.specs.Running.{IsInput, HasRest}
 

@@ -3,4 +3,5 @@
 
 mod running;
 
+pub use frame_machine;
 pub use running::run_image;

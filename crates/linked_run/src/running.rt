@@ -5,8 +5,8 @@ ghost use Rattle.source_meaning.specs.Program.{Program};
 ghost use Rattle.frame_machine.specs.Running.{AreBytes, BreaksAtInput, BreaksAtOutput, Completes, EndIsInRange};
 ghost use Rattle.linked_run.specs.Meant.{IsImageOf, Ran, BrokenOff, CutOff};
 
+use frame_machine::machine_ready::Machine;
 use frame_machine::{Outcome, RunFault, run};
-use machine_ready::Machine;
 use mesa_base::{Sink, Source, Steps};
 use std::sync::ledger::Ledger;
 

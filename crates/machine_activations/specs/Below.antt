@@ -5,7 +5,7 @@ use Rattle.code_forms.specs.declared.module_code.CodeEntry.{CodeEntry}
 use Rattle.code_forms.specs.declared.module_code.CodeProcedure.{CodeProcedure}
 use Rattle.code_forms.specs.Routine.{Begins, spots}
 use Rattle.object_files.specs.declared.image.Image.{Image}
-use Rattle.signaller.specs.declared.signal_id.SignalId.{SignalId}
+use Rattle.machine_rules.specs.signaller.specs.declared.signal_id.SignalId.{SignalId}
 use Rattle.machine_rules.specs.State.{ForRaise, ForJump, Role, Frame, InArm, Active, Activations}
 use Rattle.machine_rules.specs.LookUps.{procedure_of}
 use Rattle.machine_rules.specs.Signals.{takes_back}

@@ -1,3 +1,4 @@
+pub use Rattle.machine_topmost
 pub mod Links
 pub mod Placed
 pub mod Rows

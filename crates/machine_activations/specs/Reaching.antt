@@ -4,7 +4,7 @@ use Rattle.code_forms.specs.declared.instruction.Instruction.{Instruction}
 use Rattle.code_forms.specs.declared.module_code.CodeEntry.{CodeEntry}
 use Rattle.code_forms.specs.declared.module_code.CodeProcedure.{CodeProcedure}
 use Rattle.object_files.specs.declared.image.Image.{Image}
-use Rattle.signaller.specs.declared.signal_id.SignalId.TheVariants.{BoundsFault as BoundsSignal, ZeroDivisor as ZeroSignal}
+use Rattle.machine_rules.specs.signaller.specs.declared.signal_id.SignalId.TheVariants.{BoundsFault as BoundsSignal, ZeroDivisor as ZeroSignal}
 use Rattle.machine_rules.specs.declared.end.End.TheVariants.{Spent as TurnsSpent}
 use Rattle.machine_rules.specs.State.{Active, Activations, Store, State, Runs, Ending, Ended, Stuck, Stepped, Goes, Stops}
 use Rattle.machine_rules.specs.Signals.{raise}

@@ -1,4 +1,4 @@
-use signaller::{Search, SignalId};
+use machine_rules::signaller::{Search, SignalId};
 
 /// Where a jump out of arms goes: the place of its activation, the place of the frame to which that belongs, and the
 /// offset there; with none it returns from the frame.

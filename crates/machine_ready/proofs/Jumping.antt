@@ -14,7 +14,7 @@ use Rattle.code_forms.specs.Jumps.{JumpsRightly}
 use Rattle.code_forms.specs.Ranges.{InOrder}
 use Rattle.code_forms.specs.Routine.{Routine, Begins, IsStart, spots}
 use Rattle.code_forms.proofs.Ordered.{blank, some_bytes, at_less, at_of_begins, spot_within}
-use Rattle.machine_topmost.specs.Running.{HasTargets}
+use Rattle.machine_activations.specs.machine_topmost.specs.Running.{HasTargets}
 use Rattle.machine_ready.specs.Targets.{JumpsTo}
 
 pub jump_of : (i : Instruction) (offset : ℕ) → JumpsTo i offset → option_or (forward_target i) (backward_target i) ≡ Some offset

@@ -1,3 +1,5 @@
+pub use Rattle.machine_rules
+pub use Rattle.machine_activations
 pub mod Hosts
 pub mod Laws
 pub mod Openings

@@ -9,7 +9,7 @@ use Rattle.object_files.specs.declared.object.Object.{Object}
 use Rattle.signaller.specs.Tables.{IsCatchTable}
 use Rattle.machine_rules.specs.LookUps.{code_of, links_of}
 use Rattle.machine_rules.specs.Steps.{globals_in}
-use Rattle.machine_topmost.specs.Running.{HasTargets}
+use Rattle.machine_activations.specs.machine_topmost.specs.Running.{HasTargets}
 use Rattle.code_forms.specs.Ranges.{InOrder}
 use Rattle.machine_ready.specs.declared.plan.Plan.{Plan}
 use Rattle.machine_ready.specs.declared.prepared.Prepared.{Prepared}

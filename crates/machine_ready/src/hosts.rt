@@ -8,11 +8,11 @@ ghost use Rattle.machine_ready.specs.Hosts.{SameItem, IsHostItem, IsFault, named
 
 use crate::fault::ReadyFault;
 use held_trees::LetGo;
+use interface_records::typed_answers::same_name;
 use interface_records::{Wanted, WantedItem, io_face, same_signature};
 use mesa_base::{List, OutOfMemory};
 use mesa_types::{Face, Item};
 use std::alloc::Global;
-use typed_answers::same_name;
 
 fn is_same_item(a: &Item, b: &Item) -> bool
     ensures { IsTrue result ↔ SameItem a.now b.now }

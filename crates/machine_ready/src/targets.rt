@@ -5,7 +5,7 @@ ghost use Rattle.std.specs.Option.{option_or};
 ghost use Rattle.code_forms.specs.Depths.{forward_target, backward_target};
 ghost use Rattle.code_forms.specs.Ranges.{InOrder};
 ghost use Rattle.code_forms.specs.Routine.{Begins, IsStart, spots};
-ghost use Rattle.machine_topmost.specs.Running.{HasTargets};
+ghost use Rattle.machine_activations.specs.machine_topmost.specs.Running.{HasTargets};
 ghost use Rattle.machine_ready.specs.Targets.{JumpsTo, JumpsToStarts};
 
 use code_forms::{CodeEntry, Instruction};

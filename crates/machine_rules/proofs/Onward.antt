@@ -1,7 +1,7 @@
 -- An instruction that works on one activation alone goes on.
 use Rattle.std.specs.Prelude.{◌≡◌, ℕ, List, [], ◌∷◌, Bool, true, false, refl}
 use Rattle.std.proofs.lemmas.Bool.{true≢false}
-use Rattle.mesa_types.specs.Operators.{Tried, Fine, Faulty}
+use Rattle.object_files.specs.mesa_types.specs.Operators.{Tried, Fine, Faulty}
 use Rattle.machine_rules.specs.Words.{on_top, under}
 use Rattle.std.proofs.Common.{◌⊎◌, inl, inr}
 use Rattle.code_forms.specs.declared.instruction.Instruction.{Instruction}

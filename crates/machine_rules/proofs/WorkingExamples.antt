@@ -1,6 +1,6 @@
 -- Each instruction that works on one activation alone.
 use Rattle.std.specs.Prelude.{◌≡◌, refl, ℕ, List, [], ◌∷◌, codes, ◌&&◌, nat_eq, if◌then◌else◌}
-use Rattle.mesa_types.specs.Operators.{OutOfBounds, DividedByZero, wrap, shifted, opposite, is_negative, magnitude_if, magnitude, with_sign, differ, quotient, remainder, related, truth, fits, by_divisor, fine_or, byte_at}
+use Rattle.object_files.specs.mesa_types.specs.Operators.{OutOfBounds, DividedByZero, wrap, shifted, opposite, is_negative, magnitude_if, magnitude, with_sign, differ, quotient, remainder, related, truth, fits, by_divisor, fine_or, byte_at}
 use Rattle.code_forms.specs.declared.instruction.Instruction.{Instruction}
 use Rattle.code_forms.specs.declared.instruction.Instruction.TheVariants.{Lit, Str, LoadL, StoreL, LoadG, StoreG, LoadLX, StoreLX, LoadGX, StoreGX, Index, Add, Sub, Mul, Neg, DivI, ModI, DivC, ModC, Eq, LessI, LessC, Not, CheckI, CheckC, StrLen, StrAt, Pop, Roll, ZeroL, ZeroG, Return}
 use Rattle.machine_rules.specs.Working.{Worked, Works, Faults, Touches, leaves, stores_local, stores_global, in_bounds, leaves_tried, works}

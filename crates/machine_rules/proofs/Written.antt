@@ -2,10 +2,10 @@
 use Rattle.std.specs.Prelude.{◌≡◌, ℕ, zero, suc, ◌+◌, ◌-◌, List, [], ◌∷◌, length, map, codes, Bool, true, false}
 use Rattle.std.proofs.Common.{sym, subst}
 use Rattle.std.specs.Fmt.{digits}
-use Rattle.mesa_types.specs.declared.faces.Item.{Item}
-use Rattle.mesa_types.specs.Operators as o
-use Rattle.interface_records.specs.declared.wanted.Wanted.{Wanted as WantedEntry}
-use Rattle.interface_records.specs.Faces.{io_items}
+use Rattle.object_files.specs.mesa_types.specs.declared.faces.Item.{Item}
+use Rattle.object_files.specs.mesa_types.specs.Operators as o
+use Rattle.object_files.specs.interface_records.specs.declared.wanted.Wanted.{Wanted as WantedEntry}
+use Rattle.object_files.specs.interface_records.specs.Faces.{io_items}
 use Rattle.code_forms.specs.declared.instruction.Instruction.{Instruction}
 use Rattle.code_forms.specs.declared.module_code.Arm.{Arm}
 use Rattle.code_forms.specs.declared.module_code.CodeEntry.{CodeEntry}

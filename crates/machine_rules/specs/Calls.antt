@@ -1,8 +1,8 @@
 -- Calls, starts and returns (Mesa Language Manual, chapters 4 and 7; when an instance is started is a rule of this project), and the
 -- procedures of the host.
 use Rattle.std.specs.Prelude.{ℕ, zero, suc, ◌-◌, ◌%◌, List, [], ◌∷◌, ◌++◌, length, true, false, ◌||◌, nat_eq, if◌then◌else◌}
-use Rattle.mesa_base.specs.Decimal.{signed_word}
-use Rattle.mesa_types.specs.Operators.{truth}
+use Rattle.code_forms.specs.mesa_base.specs.Decimal.{signed_word}
+use Rattle.object_files.specs.mesa_types.specs.Operators.{truth}
 use Rattle.code_forms.specs.declared.instruction.Instruction.{Instruction}
 use Rattle.code_forms.specs.declared.instruction.Instruction.TheVariants.{CallLink}
 use Rattle.code_forms.specs.declared.module_code.CodeProcedure.{CodeProcedure}

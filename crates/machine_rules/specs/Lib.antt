@@ -1,3 +1,5 @@
+pub use Rattle.signaller
+pub use Rattle.object_files
 pub mod Activations
 pub mod Calls
 pub mod Laws

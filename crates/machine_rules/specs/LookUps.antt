@@ -15,7 +15,7 @@ use Rattle.object_files.specs.declared.image.Instance.{Instance}
 use Rattle.object_files.specs.declared.image.Link.{Link}
 use Rattle.object_files.specs.declared.image.Link.TheVariants.{Wanted, To}
 use Rattle.object_files.specs.declared.object.Object.{Object}
-use Rattle.interface_records.specs.declared.wanted.Wanted.{Wanted as WantedEntry}
+use Rattle.object_files.specs.interface_records.specs.declared.wanted.Wanted.{Wanted as WantedEntry}
 use Rattle.signaller.specs.declared.search.Links.{Links}
 use Rattle.signaller.specs.declared.signal_id.SignalId.{SignalId}
 use Rattle.signaller.specs.declared.signal_id.SignalId.TheVariants.{Own, NoInput}

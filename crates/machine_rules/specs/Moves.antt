@@ -1,7 +1,7 @@
 -- The few ways in which an activation goes on, and how turns and activations are counted (rules of this project). Nothing else spends a
 -- turn or makes an activation.
 use Rattle.std.specs.Prelude.{ℕ, zero, suc, ◌+◌, List, [], ◌∷◌, length, Option, Some, None, nat_lt, if◌then◌else◌}
-use Rattle.mesa_base.specs.declared.limits.TheConstants.{ACTIVATIONS}
+use Rattle.code_forms.specs.mesa_base.specs.declared.limits.TheConstants.{ACTIVATIONS}
 use Rattle.code_forms.specs.declared.instruction.Instruction.{Instruction}
 use Rattle.code_forms.specs.Instructions.{bytes_of}
 use Rattle.object_files.specs.declared.image.Image.{Image}

@@ -1,7 +1,7 @@
 -- The steps of the machine. Working has the instructions that work on one activation alone; here is one row for each of the others (rule
 -- of this project).
 use Rattle.std.specs.Prelude.{◌≡◌, ℕ, zero, suc, ◌+◌, ◌-◌, List, [], ◌∷◌, length, Bool, false, Option, Some, None, unwrap_or, nat_eq, if◌then◌else◌}
-use Rattle.mesa_types.specs.Operators.{WordFault, OutOfBounds, DividedByZero}
+use Rattle.object_files.specs.mesa_types.specs.Operators.{WordFault, OutOfBounds, DividedByZero}
 use Rattle.code_forms.specs.declared.instruction.Instruction.{Instruction}
 use Rattle.code_forms.specs.declared.instruction.Instruction.TheVariants.{Jump, JumpIf, JumpIfNot, JumpBack, Call, CallLink, Return, Raise, RaiseLink, RaiseHost, ArmEnd, Resume, Leave, LeaveReturn}
 use Rattle.code_forms.specs.declared.module_code.ModuleCode.{ModuleCode}

@@ -1,10 +1,10 @@
 -- The instructions that work on one activation alone, one row each: what it makes of the operands, of the variables of the frame and of
 -- the globals of the instance (rule of this project).
 use Rattle.std.specs.Prelude.{ℕ, suc, ◌+◌, ◌-◌, ◌*◌, List, ◌∷◌, length, nat_eq, nat_lt, nat_le, Bool, if◌then◌else◌}
-use Rattle.mesa_types.specs.declared.typed_parts.Base.TheVariants.{Signed, Unsigned}
-use Rattle.mesa_types.specs.declared.typed_parts.Range.TheVariants.{From}
-use Rattle.mesa_base.specs.declared.relation.Relation.TheVariants.{Less}
-use Rattle.mesa_types.specs.Operators.{WordFault, OutOfBounds, Tried, Fine, Faulty, wrap, opposite, quotient, remainder, related, truth, fits, by_divisor, byte_at}
+use Rattle.object_files.specs.mesa_types.specs.declared.typed_parts.Base.TheVariants.{Signed, Unsigned}
+use Rattle.object_files.specs.mesa_types.specs.declared.typed_parts.Range.TheVariants.{From}
+use Rattle.code_forms.specs.mesa_base.specs.declared.relation.Relation.TheVariants.{Less}
+use Rattle.object_files.specs.mesa_types.specs.Operators.{WordFault, OutOfBounds, Tried, Fine, Faulty, wrap, opposite, quotient, remainder, related, truth, fits, by_divisor, byte_at}
 use Rattle.code_forms.specs.declared.instruction.Instruction.{Instruction}
 use Rattle.code_forms.specs.declared.instruction.Instruction.TheVariants.{Lit, Str, LoadL, StoreL, LoadG, StoreG, LoadLX, StoreLX, LoadGX, StoreGX, Index, Add, Sub, Mul, Neg, DivI, ModI, DivC, ModC, Eq, LessI, LessC, Not, CheckI, CheckC, StrLen, StrAt, Pop, Roll, ZeroL, ZeroG}
 use Rattle.machine_rules.specs.Words.{zeros, words_at, put_words, push, popped, under, on_top, on_two}

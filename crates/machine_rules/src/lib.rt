@@ -6,3 +6,6 @@ mod laws;
 
 pub use end::End;
 pub use laws::{ends_at_most_once, jumps_of_runs_unwind, jumps_unwind, never_stuck, one_result};
+pub use object_files;
+pub use object_files::typed_answers;
+pub use signaller;

@@ -3,7 +3,7 @@ use Rattle.std.proofs.Common.{◌≡◌, ℕ, ◌+◌, ◌-◌, ◌≤◌, List,
 use Rattle.std.specs.Prelude.{slice_index, if◌then◌else◌}
 use Rattle.code_forms.specs.declared.instruction.Instruction.TheVariants.{JumpIf, JumpIfNot}
 use Rattle.code_forms.specs.Routine.{routine}
-use Rattle.object_files.specs.declared.image.Image.{Image}
+use Rattle.machine_rules.specs.object_files.specs.declared.image.Image.{Image}
 use Rattle.machine_rules.specs.Words.{on_top}
 use Rattle.machine_rules.specs.State.{Active, Activations, Store}
 use Rattle.machine_rules.specs.Moves.{onward, go_to}

@@ -12,10 +12,10 @@ ghost use Rattle.machine_topmost.specs.Fits.{Holds};
 use crate::region::{leave, operand};
 use crate::registers::{Registers, Why};
 use crate::texts::text;
+use machine_rules::object_files::Image;
+use machine_rules::typed_answers::{fits, opposite, quotient, related, remainder, truth};
 use mesa_base::Relation;
 use mesa_types::{Base, Range};
-use object_files::Image;
-use typed_answers::{fits, opposite, quotient, related, remainder, truth};
 
 /// The topmost operand, and the one under it.
 #[inline(always)]

@@ -16,8 +16,8 @@ use crate::variables::{
     literal, load, load_global, pop, roll, store, store_global, string, zero, zero_global,
 };
 use code_forms::Instruction;
+use machine_rules::object_files::Image;
 use mesa_types::Base;
-use object_files::Image;
 
 /// Does the instruction, in a module of this number, where it touches the topmost activation alone; or gives why it is not
 /// done, and then all is as it was. `targets` has the number of the entry to which each entry jumps.

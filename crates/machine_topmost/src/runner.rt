@@ -9,8 +9,8 @@ ghost use Rattle.machine_topmost.specs.Running.{FlatPauses, HasTargets, IsProced
 use crate::perform::perform;
 use crate::registers::{Pause, Registers};
 use code_forms::{CodeProcedure, ModuleCode};
+use machine_rules::object_files::Image;
 use mesa_base::Steps;
-use object_files::Image;
 use std::sync::ledger::Ledger;
 
 /// Runs the topmost activation, in a procedure of the module of this number, until an instruction that touches more than

@@ -3,7 +3,7 @@
 ghost use Rattle.std.specs.Prelude.{◌≡◌, ◌≤◌, length};
 ghost use Rattle.machine_rules.specs.LookUps.{text_of};
 
-use object_files::Image;
+use machine_rules::object_files::Image;
 
 /// The bytes for which two words stand: a module's number plus 1, and that of a literal, counted from 1; others are an
 /// empty string (rule of this project).

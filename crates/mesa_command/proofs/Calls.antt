@@ -15,8 +15,8 @@ use Rattle.object_files.specs.declared.image.Image.{Image}
 use Rattle.object_rules.specs.ImageForms.{parts_of_image}
 use Rattle.object_rules.specs.ObjectFiles.{IsObjectFile}
 use Rattle.object_rules.specs.Parts.{IsWhole}
-use Rattle.read_files.specs.Laws.{ImagesOfFilesAreInOrder}
-use Rattle.bound_images.specs.Programs.{program_of}
+use Rattle.command_laws.specs.read_files.specs.Laws.{ImagesOfFilesAreInOrder}
+use Rattle.command_rules.specs.bound_images.specs.Programs.{program_of}
 use Rattle.command_laws.specs.Laws.{RunsAreMeant}
 use Rattle.command_rules.specs.Case.{Case, Memory}
 use Rattle.command_rules.specs.Comes as rules
@@ -32,10 +32,10 @@ use Rattle.command_rules.specs.Reading.{Asked, Onward}
 use Rattle.command_rules.specs.Worlds.{Shelf, Scene}
 use Rattle.command_rules.specs.Writing.{Stored, NotStored}
 use Rattle.command_rules.proofs.Passing.{onward_same}
-use Rattle.command_passes.specs.Filed.{IsFiledImage}
-use Rattle.command_passes.specs.Stops.{stop_case}
-use Rattle.command_passes.specs.declared.stop.Stop.{Stop}
-use Rattle.command_passes.specs.declared.stop.Stop.TheVariants as stop
+use Rattle.command_lines.specs.command_passes.specs.Filed.{IsFiledImage}
+use Rattle.command_lines.specs.command_passes.specs.Stops.{stop_case}
+use Rattle.command_lines.specs.command_passes.specs.declared.stop.Stop.{Stop}
+use Rattle.command_lines.specs.command_passes.specs.declared.stop.Stop.TheVariants as stop
 use Rattle.command_sources.specs.Bound.{IsBound, configured}
 use Rattle.command_sources.specs.Made as sources
 use Rattle.command_sources.specs.Made.{IsMadeOf, Unmade, targets_for}

@@ -17,9 +17,9 @@ use Rattle.command_rules.specs.Passing as passing
 use Rattle.command_rules.specs.Shown.{Names, case_of_end, case_of_run, image_names}
 use Rattle.command_rules.specs.Worlds.{Shelf, Scene}
 use Rattle.command_rules.proofs.Passing.{onward_same, rose_from}
-use Rattle.command_passes.specs.Stops.{stop_case}
-use Rattle.command_passes.specs.declared.stop.Stop.{Stop}
-use Rattle.command_passes.specs.declared.stop.Stop.TheVariants as stop
+use Rattle.command_lines.specs.command_passes.specs.Stops.{stop_case}
+use Rattle.command_lines.specs.command_passes.specs.declared.stop.Stop.{Stop}
+use Rattle.command_lines.specs.command_passes.specs.declared.stop.Stop.TheVariants as stop
 use Rattle.mesa_command.specs.Exercises.{BuildsWithin, Sums, summed, not_summed, SumEnds, ExerciseEnds}
 use Rattle.mesa_command.specs.Machines.{IsBuilt}
 use Rattle.mesa_command.proofs.Ending.{end_in_run, has_run}

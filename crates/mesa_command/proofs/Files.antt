@@ -13,10 +13,10 @@ use Rattle.command_rules.specs.Reading.{Asked, Onward}
 use Rattle.command_rules.specs.Worlds.{Shelf, Feed, scene}
 use Rattle.command_rules.specs.Writing.{Value, IsFileOf, holding}
 use Rattle.command_rules.proofs.Passing.{onward_same}
-use Rattle.command_passes.specs.Shelves.{Passes}
-use Rattle.command_passes.specs.Stops.{stop_case}
-use Rattle.command_passes.specs.declared.stop.Stop.{Stop}
-use Rattle.command_passes.specs.declared.stop.Stop.TheVariants as stop
+use Rattle.command_lines.specs.command_passes.specs.Shelves.{Passes}
+use Rattle.command_lines.specs.command_passes.specs.Stops.{stop_case}
+use Rattle.command_lines.specs.command_passes.specs.declared.stop.Stop.{Stop}
+use Rattle.command_lines.specs.command_passes.specs.declared.stop.Stop.TheVariants as stop
 use Rattle.command_sources.specs.Stops.{stored_case}
 use Rattle.command_writes.specs.Storing.{StoreEnds}
 use Rattle.command_listings.specs.Upgrading.{IsUpgraded}

@@ -12,8 +12,8 @@ use Rattle.object_files.specs.declared.image.Image.{Image}
 use Rattle.object_files.specs.declared.object.Object.{Object}
 use Rattle.object_rules.specs.Parts.{IsWhole}
 use Rattle.link_tables.specs.Linked.{image_of}
-use Rattle.linked_objects.specs.Filed.{IsFiled}
-use Rattle.linked_programs.specs.Objects.{AreObjectsOf, IsObjectOf}
+use Rattle.command_sources.specs.linked_objects.specs.Filed.{IsFiled}
+use Rattle.command_rules.specs.linked_programs.specs.Objects.{AreObjectsOf, IsObjectOf}
 use Rattle.command_rules.specs.Binding.{IsImageOf, bound_in}
 use Rattle.command_rules.specs.Case.{Case, Memory}
 use Rattle.command_rules.specs.Comes.{Compiles, not_compiled, compiled, Defines, not_defined, defined, Binds, not_bound, bound}
@@ -26,9 +26,9 @@ use Rattle.command_rules.specs.Reading.{Asked, Onward}
 use Rattle.command_rules.specs.Worlds.{Shelf}
 use Rattle.command_rules.specs.Writing.{Value, OfInterface, OfObject, OfImage, IsFileOf, IsSmall, size_of, holding, Written, too_large, no_memory, stored, not_stored}
 use Rattle.command_rules.proofs.Passing.{onward_same}
-use Rattle.command_passes.specs.Stops.{stop_case}
-use Rattle.command_passes.specs.declared.stop.Stop.{Stop}
-use Rattle.command_passes.specs.declared.stop.Stop.TheVariants as stop
+use Rattle.command_lines.specs.command_passes.specs.Stops.{stop_case}
+use Rattle.command_lines.specs.command_passes.specs.declared.stop.Stop.{Stop}
+use Rattle.command_lines.specs.command_passes.specs.declared.stop.Stop.TheVariants as stop
 use Rattle.command_sources.specs.Objects as sources
 use Rattle.command_sources.specs.Objects.{CanBeLinked}
 use Rattle.command_sources.specs.Stops.{stored_case, unmade_case}

@@ -5,7 +5,7 @@ use Rattle.std.specs.Str.Parse.{digits_value}
 use Rattle.mesa_base.specs.Stamp.{all_hexadecimal, stamp_of}
 use Rattle.mesa_base.proofs.Hexadecimal.{whole_stamp_fits}
 use Rattle.interface_records.specs.Spelled.{InSixBytes}
-use Rattle.bound_images.proofs.Chosen.{both_true}
+use Rattle.command_rules.specs.bound_images.proofs.Chosen.{both_true}
 use Rattle.command_laws.specs.Laws.{WordsHaveOneForm}
 use Rattle.command_rules.specs.Case.{Case}
 use Rattle.command_rules.specs.Comes.{Comes, compiles, defines, binds, loads, goes, shows, upgrades, exercises, plans, surveys}

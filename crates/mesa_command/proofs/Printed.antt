@@ -7,10 +7,10 @@ use Rattle.command_rules.specs.Passing.{Fails, Gives, memory}
 use Rattle.command_rules.specs.Printing.{Report, text_alone, AreMissed, Prints, not_read, printed, not_printed}
 use Rattle.command_rules.specs.Reading.{Onward}
 use Rattle.command_rules.specs.Worlds.{Shelf, Feed, scene}
-use Rattle.command_passes.specs.Shelves.{Passes}
-use Rattle.command_passes.specs.Stops.{stop_case}
-use Rattle.command_passes.specs.declared.stop.Stop.{Stop}
-use Rattle.command_passes.specs.declared.stop.Stop.TheVariants as stop
+use Rattle.command_lines.specs.command_passes.specs.Shelves.{Passes}
+use Rattle.command_lines.specs.command_passes.specs.Stops.{stop_case}
+use Rattle.command_lines.specs.command_passes.specs.declared.stop.Stop.{Stop}
+use Rattle.command_lines.specs.command_passes.specs.declared.stop.Stop.TheVariants as stop
 use Rattle.mesa_command.specs.Printing as text
 use Rattle.mesa_command.specs.Printing.{PrintsTo, TextEnds, IsReported, ReportPasses}
 

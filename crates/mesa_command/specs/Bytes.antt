@@ -5,7 +5,7 @@ use Rattle.mesa_base.specs.declared.file_fault.WriteFault.TheVariants.{TooLarge,
 use Rattle.mesa_base.specs.declared.limits.TheConstants.{FILE_BYTES}
 use Rattle.mesa_types.specs.Typed.{Module}
 use Rattle.object_files.specs.declared.object.Object.{Object}
-use Rattle.linked_programs.specs.Objects.{IsObjectOf}
+use Rattle.command_rules.specs.linked_programs.specs.Objects.{IsObjectOf}
 use Rattle.command_rules.specs.Case.{Case, Memory as NoMemory}
 use Rattle.command_rules.specs.Passes.{Trail}
 use Rattle.command_rules.specs.Reading.{Asked}

@@ -10,8 +10,8 @@ use Rattle.command_rules.specs.Exercise.{chain, exercise_shelf, summary}
 use Rattle.command_rules.specs.Forms.{OfConfig}
 use Rattle.command_rules.specs.Shown.{case_of_end, case_of_run, image_names}
 use Rattle.command_rules.specs.Worlds.{Shelf, Scene}
-use Rattle.command_passes.specs.Stops.{stop_case}
-use Rattle.command_passes.specs.declared.stop.Stop.{Stop}
+use Rattle.command_lines.specs.command_passes.specs.Stops.{stop_case}
+use Rattle.command_lines.specs.command_passes.specs.declared.stop.Stop.{Stop}
 use Rattle.mesa_command.specs.Machines.{GoesTo}
 
 -- what `go` builds in the folder of the exercise, of which no call failed

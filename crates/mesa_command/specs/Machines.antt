@@ -7,8 +7,8 @@ use Rattle.machine_ready.specs.Hosts.{IsFirstUnresolved}
 use Rattle.object_files.specs.declared.image.Image.{Image}
 use Rattle.object_files.specs.declared.object.Object.{Object}
 use Rattle.object_rules.specs.ImageForms.{ImagePart}
-use Rattle.linked_programs.specs.Objects.{AreObjectsOf}
-use Rattle.linked_programs.specs.Programs.{IsMachineOf}
+use Rattle.command_rules.specs.linked_programs.specs.Objects.{AreObjectsOf}
+use Rattle.command_rules.specs.linked_programs.specs.Programs.{IsMachineOf}
 use Rattle.command_rules.specs.Case.{Case, Refused, Memory}
 use Rattle.command_rules.specs.declared.trouble.Trouble.TheVariants.{Unresolved}
 use Rattle.command_rules.specs.Comes.{Goes, Loads, Made, linked, targets_of}
@@ -22,8 +22,8 @@ use Rattle.command_rules.specs.Reading.{Asked}
 use Rattle.command_rules.specs.Shown.{image_names}
 use Rattle.command_rules.specs.Worlds.{Shelf, Scene}
 use Rattle.command_rules.specs.Writing.{IsSmall, Stored, NotStored}
-use Rattle.command_passes.specs.Stops.{stop_case}
-use Rattle.command_passes.specs.declared.stop.Stop.{Stop}
+use Rattle.command_lines.specs.command_passes.specs.Stops.{stop_case}
+use Rattle.command_lines.specs.command_passes.specs.declared.stop.Stop.{Stop}
 use Rattle.command_sources.specs.Made.{Unmade, linked_from, targets_for}
 
 -- ---- run NAME TURNS

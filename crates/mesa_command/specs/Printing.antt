@@ -6,8 +6,8 @@ use Rattle.command_rules.specs.Passes.{Pass}
 use Rattle.command_rules.specs.Passing.{Fails, Gives}
 use Rattle.command_rules.specs.Printing.{Report, AreMissed}
 use Rattle.command_rules.specs.Worlds.{Shelf}
-use Rattle.command_passes.specs.Stops.{stop_case}
-use Rattle.command_passes.specs.declared.stop.Stop.{Stop}
+use Rattle.command_lines.specs.command_passes.specs.Stops.{stop_case}
+use Rattle.command_lines.specs.command_passes.specs.declared.stop.Stop.{Stop}
 
 pub data PrintsTo (text : List ℕ) (old new : Stream) : Case → Type 0 where
   printed : PrintsAll text old new → PrintsTo text old new Done

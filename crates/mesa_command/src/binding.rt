@@ -10,11 +10,11 @@ ghost use Rattle.mesa_command.specs.Bytes.{AreBytesOf};
 ghost use Rattle.mesa_command.specs.Forms.{IsBase};
 
 use crate::storing::stored;
-use command_passes::{Stop, file_named};
+use command_lines::command_passes::{Stop, file_named};
+use command_rules::linked_programs::let_bindings_go;
+use command_sources::linked_objects::linked_file;
 use command_sources::{BoundObjects, bound_of_config};
 use held_trees::LetGo;
-use linked_objects::linked_file;
-use linked_programs::let_bindings_go;
 use mesa_base::{Bytes, Folder, WriteFault};
 use std::alloc::Global;
 

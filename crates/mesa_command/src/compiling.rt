@@ -4,8 +4,8 @@ ghost use Rattle.std.specs.Prelude.{[], ◌∷◌, IfOk};
 ghost use Rattle.mesa_types.specs.Plain.{plain};
 ghost use Rattle.interface_records.specs.Spelled.{InSixBytes};
 ghost use Rattle.face_rules.specs.InterfaceForms as form;
-ghost use Rattle.checked_texts.specs.Laws.{CanBeKept};
-ghost use Rattle.linked_programs.specs.Objects.{AreObjectsOf};
+ghost use Rattle.command_rules.specs.checked_texts.specs.Laws.{CanBeKept};
+ghost use Rattle.command_rules.specs.linked_programs.specs.Objects.{AreObjectsOf};
 ghost use Rattle.command_rules.specs.Comes.{Compiles, Defines};
 ghost use Rattle.command_rules.specs.Passes.{Trail};
 ghost use Rattle.command_rules.specs.Reading.{Asked};
@@ -16,17 +16,17 @@ ghost use Rattle.mesa_command.specs.Bytes.{AreBytesOf, ObjectWritten};
 ghost use Rattle.mesa_command.specs.Forms.{IsBase};
 
 use crate::storing::stored;
-use command_passes::{FileName, Stop, file_named, module_of_file};
+use command_lines::command_passes::{FileName, Stop, file_named, module_of_file};
+use command_rules::linked_programs::objects_of;
+use command_sources::program_files::object_file;
 use command_sources::{interface_defined_in, let_objects_go, modules_of_files_can_be_kept};
 use held_trees::LetGo;
 use interface_records::Interface;
 use interface_writers::write_interface;
-use linked_programs::objects_of;
 use mesa_base::{Bytes, Folder, List, OutOfMemory, Stamp, WriteFault};
 use mesa_types::TypedModule;
 use module_lists::{let_modules_go, with_module};
 use object_files::Object;
-use program_files::object_file;
 use std::alloc::Global;
 
 /// The object of the module, which is let go, in a list of its own.

@@ -13,8 +13,8 @@ ghost use Rattle.mesa_command.specs.Exercises.{BuildsWithin, ExerciseEnds, SumEn
 
 use crate::going::built;
 use crate::running::{end_of, ending_of};
+use command_lines::command_passes::Stop;
 use command_lines::{Ending, Source, told_ending, told_stop};
-use command_passes::Stop;
 use exercise_texts::{EmptyInput, exercise_folder};
 use frame_machine::{Outcome, RunFault, run};
 use held_trees::LetGo;

@@ -5,7 +5,7 @@ ghost use Rattle.command_rules.specs.Configurations.{source_in};
 ghost use Rattle.command_rules.specs.Passes.{Trail};
 ghost use Rattle.command_rules.specs.Reading.{Asked, Onward};
 ghost use Rattle.command_rules.specs.Worlds.{Shelf, shelf};
-ghost use Rattle.command_passes.specs.Shelves.{Passes};
+ghost use Rattle.command_lines.specs.command_passes.specs.Shelves.{Passes};
 ghost use Rattle.command_sources.specs.Bound.{IsBound, configured};
 ghost use Rattle.command_sources.specs.Made.{IsMadeOf};
 ghost use Rattle.command_lines.specs.Words.{source_in as form_source};
@@ -13,7 +13,7 @@ ghost use Rattle.mesa_command.specs.Forms.{IsBase};
 ghost use Rattle.mesa_command.specs.Machines.{GoesTo, WritesTo};
 
 use command_lines::Source;
-use command_passes::Stop;
+use command_lines::command_passes::Stop;
 use command_sources::{BoundSource, MadeProgram, made, source_of_config, source_of_module};
 use command_writes::program_written;
 use held_trees::LetGo;

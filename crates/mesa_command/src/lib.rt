@@ -16,6 +16,6 @@ mod top;
 mod upgrading;
 
 pub use command_laws::one_case;
+pub use command_lines::command_passes::Stop;
 pub use command_lines::tell_stop;
-pub use command_passes::Stop;
 pub use top::mesa;

@@ -4,12 +4,12 @@ ghost use Rattle.command_rules.specs.Forms.{kind_file};
 ghost use Rattle.command_rules.specs.Listing.{listing_in};
 ghost use Rattle.command_rules.specs.Reading.{Onward};
 ghost use Rattle.command_rules.specs.Worlds.{shelf};
-ghost use Rattle.command_passes.specs.Kinds.{kind_in};
+ghost use Rattle.command_lines.specs.command_passes.specs.Kinds.{kind_in};
 ghost use Rattle.mesa_command.specs.Forms.{IsBase};
 ghost use Rattle.mesa_command.specs.Printing.{ReportPasses};
 
+use command_lines::command_passes::Stop;
 use command_listings::{file_of_kind, listing_of_file};
-use command_passes::Stop;
 use listed_files::FileKind;
 use mesa_base::{Bytes, Folder};
 use std::alloc::Global;

@@ -5,16 +5,16 @@ ghost use Rattle.std.specs.Str.{IsAscii};
 ghost use Rattle.interface_records.specs.Hosts.{IsHostItem};
 ghost use Rattle.machine_ready.specs.Order.{ImageInOrder};
 ghost use Rattle.command_rules.specs.Worlds.{shelf};
-ghost use Rattle.command_passes.specs.Stops.{stop_case};
+ghost use Rattle.command_lines.specs.command_passes.specs.Stops.{stop_case};
 ghost use Rattle.mesa_command.specs.Forms.{IsBase};
 ghost use Rattle.mesa_command.specs.Machines.{IsNotReady, LoadsTo};
 
-use command_passes::{Stop, file_named, image_of_file};
+use command_laws::read_files::images_of_files_are_in_order;
+use command_lines::command_passes::{Stop, file_named, image_of_file};
 use command_sources::unready;
 use machine_ready::{Machine, ready};
 use mesa_base::Folder;
 use object_files::Image;
-use read_files::images_of_files_are_in_order;
 use std::alloc::Global;
 
 /// The machine of the image, or what ends the call at the first item that it wants and the host has not.

@@ -8,7 +8,7 @@ ghost use Rattle.command_rules.specs.Worlds.{shelf};
 ghost use Rattle.mesa_command.specs.Forms.{ArePlanned};
 ghost use Rattle.mesa_command.specs.Printing.{ReportPasses};
 
-use command_passes::Stop;
+use command_lines::command_passes::Stop;
 use command_plans::{PlanReport, plan_of_files};
 use mesa_base::{Bytes, Folder, List, OutOfMemory, Texts, Words};
 use std::alloc::Global;

@@ -7,8 +7,8 @@ ghost use Rattle.command_lines.specs.Endings.{ending_case};
 ghost use Rattle.line_pieces.specs.Outputs.{stream};
 ghost use Rattle.mesa_command.specs.Printing.{PrintsTo, TextEnds};
 
+use command_lines::command_passes::Stop;
 use command_lines::{Ending, told_ending, told_stop};
-use command_passes::Stop;
 use mesa_base::{Bytes, Sink, Status};
 
 /// Writes the text to `out`, and says how that ends.

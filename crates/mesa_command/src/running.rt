@@ -12,8 +12,8 @@ ghost use Rattle.command_lines.specs.Endings.{called, ending_case};
 ghost use Rattle.line_pieces.specs.Outputs.{stream};
 ghost use Rattle.mesa_command.specs.Machines.{RunEnds};
 
+use command_lines::command_passes::Stop;
 use command_lines::{Ending, UncaughtSignal, told_ending, told_stop};
-use command_passes::Stop;
 use frame_machine::{Outcome, RunFault, run};
 use held_trees::LetGo;
 use machine_ready::Machine;

@@ -10,8 +10,8 @@ ghost use Rattle.command_sources.specs.Stops.{stored_case};
 ghost use Rattle.line_pieces.specs.Outputs.{stream};
 ghost use Rattle.mesa_command.specs.Bytes.{AreBytesOf};
 
+use command_lines::command_passes::{FileName, Stop};
 use command_lines::{Ending, told_ending, told_stop};
-use command_passes::{FileName, Stop};
 use command_sources::unmade;
 use command_writes::file_written;
 use mesa_base::{Bytes, Folder, Sink, Status, WriteFault};

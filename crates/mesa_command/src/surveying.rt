@@ -6,7 +6,7 @@ ghost use Rattle.command_rules.specs.Worlds.{shelf};
 ghost use Rattle.mesa_command.specs.Forms.{IsBase};
 ghost use Rattle.mesa_command.specs.Printing.{ReportPasses};
 
-use command_passes::Stop;
+use command_lines::command_passes::Stop;
 use command_surveys::survey_of_file;
 use mesa_base::{Bytes, Folder};
 use std::alloc::Global;

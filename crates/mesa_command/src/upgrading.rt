@@ -2,12 +2,12 @@
 
 ghost use Rattle.command_rules.specs.Comes.{Upgrades};
 ghost use Rattle.command_rules.specs.Worlds.{shelf};
-ghost use Rattle.command_passes.specs.Kinds.{kind_in};
+ghost use Rattle.command_lines.specs.command_passes.specs.Kinds.{kind_in};
 ghost use Rattle.command_sources.specs.Stops.{stored_case};
 ghost use Rattle.mesa_command.specs.Forms.{IsBase};
 
+use command_lines::command_passes::Stop;
 use command_listings::{file_of_kind, upgraded_file};
-use command_passes::Stop;
 use command_writes::file_written;
 use listed_files::FileKind;
 use mesa_base::Folder;

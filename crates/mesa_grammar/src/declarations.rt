@@ -8,10 +8,10 @@ ghost use Rattle.grammar_rules.specs.ReadModules as spec;
 ghost use Rattle.grammar_statements.specs.ReadTurns.{ReadsTurn};
 
 use crate::nesting::Grammar;
-use grammar_expressions::NestedParsers;
 use grammar_statements::Turn;
-use grammar_tokens::begins::declares;
-use grammar_tokens::words_and_marks::takes_accessing;
+use grammar_statements::grammar_expressions::NestedParsers;
+use grammar_statements::grammar_tokens::begins::declares;
+use grammar_statements::grammar_tokens::words_and_marks::takes_accessing;
 use held_trees::{LetGo, both, pushed};
 use mesa_base::{Identifier, List};
 use mesa_lexer::Mark;

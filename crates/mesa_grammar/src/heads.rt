@@ -6,9 +6,9 @@ ghost use Rattle.grammar_rules.specs.ReadStatements.{nested};
 ghost use Rattle.grammar_rules.specs.ReadModules as spec;
 
 use crate::nesting::Grammar;
-use grammar_expressions::NestedParsers;
 use grammar_statements::BlockEnd;
-use grammar_tokens::words_and_marks::takes_procedure_word;
+use grammar_statements::grammar_expressions::NestedParsers;
+use grammar_statements::grammar_tokens::words_and_marks::takes_procedure_word;
 use held_trees::both;
 use mesa_lexer::{Mark, Word};
 use syntax_trees::syntax::{Block, Declared, FieldList, Head};

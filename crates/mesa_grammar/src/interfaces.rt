@@ -7,9 +7,9 @@ ghost use Rattle.grammar_rules.specs.ReadModules as spec;
 ghost use Rattle.mesa_grammar.specs.ReadItems as items;
 
 use crate::nesting::Grammar;
-use grammar_expressions::NestedParsers;
 use grammar_rules::Begun;
-use grammar_tokens::words_and_marks::takes_procedure_word;
+use grammar_statements::grammar_expressions::NestedParsers;
+use grammar_statements::grammar_tokens::words_and_marks::takes_procedure_word;
 use held_trees::{LetGo, both, pushed};
 use mesa_base::{Identifier, Identifiers, List};
 use mesa_lexer::{Mark, Word};

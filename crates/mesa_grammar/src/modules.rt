@@ -7,7 +7,7 @@ ghost use Rattle.grammar_rules.specs.ReadModules as spec;
 
 use crate::directory::{interfaces, listed, opened};
 use crate::nesting::Grammar;
-use grammar_expressions::NestedParsers;
+use grammar_statements::grammar_expressions::NestedParsers;
 use held_trees::both;
 use mesa_base::Place;
 use mesa_lexer::{Mark, Word};

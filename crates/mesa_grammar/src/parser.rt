@@ -8,10 +8,10 @@ ghost use Rattle.grammar_rules.specs.ReadStatements.{nested};
 ghost use Rattle.grammar_rules.specs.ReadModules as texts;
 
 use crate::nesting::Grammar;
-use grammar_expressions::{Level, ParserFunctions};
 use grammar_rules::Begun;
 use grammar_statements::StatementParser;
-use grammar_tokens::begins::{begins_expr, begins_stmt, begins_type};
+use grammar_statements::grammar_expressions::{Level, ParserFunctions};
+use grammar_statements::grammar_tokens::begins::{begins_expr, begins_stmt, begins_type};
 use held_trees::LetGo;
 use mesa_base::limits::NESTING;
 use mesa_base::{Identifier, Place};

@@ -5,4 +5,6 @@ mod listing;
 mod printing;
 mod reading;
 
+pub use image_readers;
+pub use image_readers::object_readers;
 pub use listing::list;

@@ -9,8 +9,8 @@ use Rattle.mesa_types.specs.declared.typed_parts.Range.{Range}
 use Rattle.mesa_types.specs.declared.typed_parts.Range.TheVariants.{Every, From}
 use Rattle.mesa_types.specs.declared.typed_parts.Operator.{Operator}
 use Rattle.mesa_types.specs.declared.typed_parts.Operator.TheVariants.{Add, Subtract, Multiply, Divide, Modulo, AddToCharacter, SubtractFromCharacter}
-use Rattle.mesa_base.specs.declared.relation.Relation.{Relation}
-use Rattle.mesa_base.specs.declared.relation.Relation.TheVariants.{Equal, NotEqual, Less, AtMost, Greater, AtLeast}
+use Rattle.held_trees.specs.mesa_base.specs.declared.relation.Relation.{Relation}
+use Rattle.held_trees.specs.mesa_base.specs.declared.relation.Relation.TheVariants.{Equal, NotEqual, Less, AtMost, Greater, AtLeast}
 
 -- a number as a word
 unfoldable pub wrap : ℕ → ℕ

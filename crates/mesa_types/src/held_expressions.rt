@@ -2,8 +2,8 @@
 ghost use Rattle.std.specs.Prelude.{◌≡◌, IfOk};
 
 use crate::typed_tree::{Arm, Interval, Operation, Phrase, Suffix, TypedExpr};
+use held_trees::mesa_base::{Boxed, List, OutOfMemory};
 use held_trees::{InBox, InList, LetGo};
-use mesa_base::{Boxed, List, OutOfMemory};
 use std::alloc::Global;
 use std::mem::drop;
 

@@ -3,8 +3,8 @@ ghost use Rattle.std.specs.Prelude.{◌≡◌, IfOk};
 
 use crate::faces::{Export, Face, Import, Shape};
 use crate::typed_tree::{TypedBody, TypedModule, TypedProcedure};
+use held_trees::mesa_base::{Boxed, List, OutOfMemory};
 use held_trees::{InBox, InList, LetGo};
-use mesa_base::{Boxed, List, OutOfMemory};
 use std::alloc::Global;
 use std::mem::drop;
 

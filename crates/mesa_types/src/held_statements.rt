@@ -2,8 +2,8 @@
 ghost use Rattle.std.specs.Prelude.{◌≡◌, IfOk};
 
 use crate::typed_tree::{Case, Condition, Exit, Loop, Target, Test, TypedStmt};
+use held_trees::mesa_base::{Boxed, List, OutOfMemory, Shared};
 use held_trees::{InBox, InList, InShared, LetGo};
-use mesa_base::{Boxed, List, OutOfMemory, Shared};
 use std::alloc::Global;
 use std::mem::drop;
 

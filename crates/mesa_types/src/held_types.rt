@@ -3,8 +3,8 @@ ghost use Rattle.std.specs.Prelude.{◌≡◌, IfOk};
 
 use crate::faces::Item;
 use crate::types::{FieldType, TypeTree};
+use held_trees::mesa_base::{List, OutOfMemory, Shared};
 use held_trees::{InList, InShared, InSharedList, LetGo};
-use mesa_base::{List, OutOfMemory, Shared};
 use std::alloc::Global;
 use std::mem::drop;
 

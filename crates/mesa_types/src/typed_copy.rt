@@ -5,7 +5,7 @@ ghost use Rattle.std.specs.Prelude.{◌≡◌, IfOk};
 use crate::faces::{copy_exports, copy_imports, copy_items};
 use crate::typed_tree::{TypedBody, TypedModule, TypedProcedure, TypedProcedures};
 use crate::types::copy_fields;
-use mesa_base::{List, OutOfMemory, Texts};
+use held_trees::mesa_base::{List, OutOfMemory, Texts};
 use std::alloc::Global;
 
 fn copy_strings(alloc: Global, strings: &Texts) -> Result<Texts, OutOfMemory>

@@ -1,2 +1,3 @@
+pub use Rattle.check_state
 pub mod Modules
 pub mod Starting

@@ -1,6 +1,6 @@
 //! Interfaces.
 ghost use Rattle.std.specs.Prelude.{◌≡◌, Ok, map, IfOk};
-ghost use Rattle.check_heads.specs.Views as view;
+ghost use Rattle.check_programs.specs.check_heads.specs.Views as view;
 ghost use Rattle.check_state.specs.Gives.{GivesOnly};
 ghost use Rattle.check_rules.specs.CheckedModule as spec;
 ghost use Rattle.interface_records.specs.PlainTypes.{interface_of, plain_interface};
@@ -8,10 +8,10 @@ ghost use Rattle.check_rules.specs.Steps.{and_then};
 ghost use Rattle.syntax_trees.specs.PlainSyntax as plain;
 
 use crate::starting::InterfaceStart;
-use check_directory::all_listed;
-use check_expressions::Checker;
-use check_heads::{AllDefined, all_defined};
+use check_known::check_directory::all_listed;
 use check_known::known_of;
+use check_programs::check_expressions::Checker;
+use check_programs::check_heads::{AllDefined, all_defined};
 use check_programs::{Catches, around_body};
 use check_rules::{Cause, CheckFault};
 use check_state::Around;

@@ -1,6 +1,6 @@
 //! Programs.
 ghost use Rattle.std.specs.Prelude.{◌≡◌, map, IfOk};
-ghost use Rattle.check_faces.specs.Offers.{offer};
+ghost use Rattle.check_programs.specs.check_faces.specs.Offers.{offer};
 ghost use Rattle.check_programs.specs.Views as parts;
 ghost use Rattle.check_state.specs.Gives.{GivesOnly};
 ghost use Rattle.check_rules.specs.CheckedModule as spec;
@@ -10,9 +10,9 @@ ghost use Rattle.syntax_trees.specs.PlainSyntax as plain;
 ghost use Rattle.module_checker.specs.Modules as step;
 
 use crate::starting::ProgramStart;
-use check_directory::{all_listed, those_of};
-use check_faces::{Offer, exported, imported};
+use check_known::check_directory::{all_listed, those_of};
 use check_known::known_of;
+use check_programs::check_faces::{Offer, exported, imported};
 use check_programs::{Whole, program_body};
 use check_rules::{Cause, CheckFault};
 use check_scopes::Marks;

@@ -6,9 +6,9 @@ ghost use Rattle.interface_records.specs.PlainTypes.{plain_interface};
 ghost use Rattle.syntax_trees.specs.PlainSyntax as plain;
 ghost use Rattle.module_checker.specs.Starting as step;
 
-use check_directory::{directory_scope, opened, predeclared, those_of};
-use check_faces::{ahead, ahead_in_interface, unused};
-use check_heads::Starts;
+use check_known::check_directory::{directory_scope, opened, predeclared, those_of};
+use check_programs::check_faces::{ahead, ahead_in_interface, unused};
+use check_programs::check_heads::Starts;
 use check_scopes::{Marks, Names, Scopes};
 use check_state::{Frame, Meaning, State};
 use interface_records::Interface;

@@ -1,0 +1,2 @@
+pub use Rattle.interface_records.specs.mesa_types
+pub use Rattle.interface_records

@@ -1,6 +1,6 @@
 use crate::object::Objects;
+use code_forms::mesa_base::{List, Name, Numbers, Path};
 use interface_records::Wanteds;
-use mesa_base::{List, Name, Numbers, Path};
 
 /// The instances of an image, by number.
 pub type Instances = List<Instance>;

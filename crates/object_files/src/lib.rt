@@ -4,5 +4,7 @@
 mod image;
 mod object;
 
+pub use code_forms;
 pub use image::{Image, Instance, Instances, Link, LinkTable, LinkTables, Offer, Offers};
+pub use interface_records::typed_answers;
 pub use object::{Object, Objects};

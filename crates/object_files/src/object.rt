@@ -1,6 +1,6 @@
 use code_forms::ValidCode;
-use mesa_base::List;
-use mesa_types::Shape;
+use code_forms::mesa_base::List;
+use interface_records::mesa_types::Shape;
 
 /// Modules, by number.
 pub type Objects = List<Object>;

@@ -11,4 +11,6 @@ mod reading;
 pub use bodies::module_rows;
 pub use building::object;
 pub use export_rows::gives;
+pub use interface_readers;
+pub use module_readers;
 pub use reading::{file_fault, read_object};

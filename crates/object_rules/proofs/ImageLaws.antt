@@ -4,7 +4,7 @@ use Rattle.std.specs.Prelude.{nat_le, ◌==◌, not, slice_get}
 use Rattle.std.proofs.lemmas.Bool.Decides.{nat_tests}
 use Rattle.mesa_base.specs.declared.file_fault.Field.TheVariants as field
 use Rattle.mesa_base.specs.declared.limits.TheConstants.{INSTANCES, CONFIGURATION_DEPTH}
-use Rattle.interface_records.specs.declared.wanted.Wanted.{Wanted as Entry}
+use Rattle.object_files.specs.interface_records.specs.declared.wanted.Wanted.{Wanted as Entry}
 use Rattle.file_forms.specs.Forms.{number, pair, ruled, several, list, choose, at_least, between}
 use Rattle.file_forms.specs.Lawful.{Lawful}
 use Rattle.file_forms.specs.Names.{name}

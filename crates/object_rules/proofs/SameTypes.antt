@@ -13,9 +13,9 @@ use Rattle.mesa_types.specs.declared.types.TypeTree.{TypeTree, roll-TypeTree}
 use Rattle.mesa_types.specs.declared.types.TypeTree.TheVariants as tree
 use Rattle.mesa_types.specs.declared.types.TypeTree.TheOpen.{TypeTree-F, FieldType-F}
 use Rattle.mesa_types.specs.declared.types.TypeTree.TheFolds.{fold-TypeTree, fold-FieldType, fold-roll-TypeTree, fold-roll-FieldType, ind-TypeTree, map-TypeTree, map-FieldType}
-use Rattle.interface_records.specs.Faces.{SameSignature}
-use Rattle.interface_records.specs.PlainTypes as v
-use Rattle.interface_records.specs.PlainTypes.{PlainType, Parts, PlainField, field_of, parts_of, plain, plain_field_step, plain_step, same, same_name, same_names, same_origin, same_parts, same_stamp, tree_of, trees_of}
+use Rattle.object_files.specs.interface_records.specs.Faces.{SameSignature}
+use Rattle.object_files.specs.interface_records.specs.PlainTypes as v
+use Rattle.object_files.specs.interface_records.specs.PlainTypes.{PlainType, Parts, PlainField, field_of, parts_of, plain, plain_field_step, plain_step, same, same_name, same_names, same_origin, same_parts, same_stamp, tree_of, trees_of}
 use Rattle.object_rules.specs.ImageForms.{same_kind, same_signature, same_types}
 
 no_truth : {P : Type 0} → false ≡ true → P

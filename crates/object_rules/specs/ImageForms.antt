@@ -10,8 +10,8 @@ use Rattle.mesa_types.specs.declared.faces.Item.{Item}
 use Rattle.mesa_types.specs.declared.faces.ItemKind.{ItemKind}
 use Rattle.mesa_types.specs.declared.faces.ItemKind.TheVariants as item
 use Rattle.mesa_types.specs.declared.types.FieldType.{FieldType}
-use Rattle.interface_records.specs.PlainTypes.{same, same_names, plain}
-use Rattle.interface_records.specs.declared.wanted.Wanted.{Wanted as Entry}
+use Rattle.object_files.specs.interface_records.specs.PlainTypes.{same, same_names, plain}
+use Rattle.object_files.specs.interface_records.specs.declared.wanted.Wanted.{Wanted as Entry}
 use Rattle.file_forms.specs.Forms.{Form, number, pair, led, ruled, built, variant, several, list, choose, at_least, between}
 use Rattle.file_forms.specs.Names.{name}
 use Rattle.face_rules.specs.FaceForms.{item as item_form}

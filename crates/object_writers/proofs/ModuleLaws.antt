@@ -12,7 +12,7 @@ use Rattle.code_forms.specs.declared.module_code.CodeProcedure.{CodeProcedure}
 use Rattle.code_forms.specs.declared.module_code.CodeSignal.{CodeSignal}
 use Rattle.file_forms.specs.Forms.{list, at_least}
 use Rattle.file_forms.specs.Names.{name}
-use Rattle.face_rules.specs.FaceForms.{face}
+use Rattle.interface_writers.specs.face_rules.specs.FaceForms.{face}
 use Rattle.object_files.specs.declared.object.Object.{Object}
 use Rattle.object_rules.specs.ModuleForms.{is_next, import_form, signal, text, procedure, given, export_form, module_form}
 use Rattle.object_rules.specs.Numbers.{number_where, last_of}

@@ -8,7 +8,7 @@ use Rattle.interface_records.specs.declared.wanted.Wanted.{Wanted as Entry}
 use Rattle.file_forms.specs.Files.{versioned}
 use Rattle.file_forms.specs.Forms.{number}
 use Rattle.file_forms.specs.Names.{name}
-use Rattle.face_rules.specs.FaceForms.{face, item}
+use Rattle.interface_writers.specs.face_rules.specs.FaceForms.{face, item}
 use Rattle.object_files.specs.declared.image.Image.{Image}
 use Rattle.object_files.specs.declared.image.Instance.{Instance}
 use Rattle.object_files.specs.declared.image.Link.{Link}

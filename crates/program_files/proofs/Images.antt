@@ -8,8 +8,8 @@ use Rattle.config_rules.specs.Resolves.{wants, first_bad}
 use Rattle.config_rules.specs.Tree.{Agree, all_faces}
 use Rattle.config_rules.specs.declared.tree.Tree.{Tree}
 use Rattle.config_rules.proofs.Members.{mem_get}
-use Rattle.bound_images.proofs.Elements.{all_by, all_mem}
-use Rattle.bound_images.proofs.Kept.{kept_mem}
+use Rattle.linked_files.specs.bound_images.proofs.Elements.{all_by, all_mem}
+use Rattle.linked_files.specs.bound_images.proofs.Kept.{kept_mem}
 use Rattle.object_files.specs.declared.image.Image.{Image}
 use Rattle.object_files.specs.declared.object.Object.{Object}
 use Rattle.object_rules.specs.ModuleForms.{module_form}
@@ -20,7 +20,7 @@ use Rattle.linked_programs.specs.Laws.{IsOfShapes}
 use Rattle.linked_programs.specs.Modules.{shapes_of}
 use Rattle.linked_programs.specs.Objects.{AreObjectsOf}
 use Rattle.linked_programs.proofs.Building.{link_tree, shapes_are}
-use Rattle.spelled_trees.specs.Paths.{PathsAndRecords}
+use Rattle.linked_files.specs.spelled_trees.specs.Paths.{PathsAndRecords}
 use Rattle.filed_images.specs.Images.{CanBeFiled}
 use Rattle.program_files.specs.Objects.{HasFile}
 use Rattle.program_files.proofs.Files.{all_first}

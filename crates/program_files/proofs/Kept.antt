@@ -20,9 +20,9 @@ use Rattle.code_bytes.proofs.Whole.{chosen_codes_are_in_bytes}
 use Rattle.object_files.specs.declared.object.Object.{Object}
 use Rattle.object_rules.specs.ModuleForms.{module_form}
 use Rattle.object_rules.specs.Parts.{parts_of, IsWhole}
-use Rattle.built_files.specs.Laws.{IsObjectOf as IsBuiltOf}
-use Rattle.built_files.proofs.Modules.{objects_are_whole, objects_of_modules_fit}
-use Rattle.bound_images.proofs.Elements.{all_by}
+use Rattle.code_bytes.specs.built_files.specs.Laws.{IsObjectOf as IsBuiltOf}
+use Rattle.code_bytes.specs.built_files.proofs.Modules.{objects_are_whole, objects_of_modules_fit}
+use Rattle.linked_files.specs.bound_images.proofs.Elements.{all_by}
 use Rattle.linked_programs.specs.Modules.{AllCanBeLinked, CanBeLinked}
 use Rattle.linked_programs.specs.Objects.{AreObjectsOf}
 use Rattle.program_files.specs.Objects.{CanBeFiled}

@@ -25,8 +25,8 @@ use Rattle.object_files.specs.declared.image.Instance.{Instance}
 use Rattle.object_files.specs.declared.image.Link.{Link}
 use Rattle.object_files.specs.declared.image.Link.TheVariants.{Wanted, To}
 use Rattle.object_files.specs.declared.object.Object.{Object}
-use Rattle.machine_rules.specs.LookUps.{module_number, code_in, code_of, procedure_of, called, signal_of, link_of, bound_to}
-use Rattle.machine_activations.specs.Links.{IsLike, IsOfInstance}
+use Rattle.machine_ready.specs.machine_rules.specs.LookUps.{module_number, code_in, code_of, procedure_of, called, signal_of, link_of, bound_to}
+use Rattle.machine_ready.specs.machine_activations.specs.Links.{IsLike, IsOfInstance}
 use Rattle.machine_ready.specs.Order.{code_kind, IsBoundAlike}
 use Rattle.object_rules.specs.declared.limits.TheConstants.{IMAGE_MODULES}
 use Rattle.object_rules.specs.ImageForms.{instance_form, needed_by_import, needed_by, module_at, same_signature, is_wanted, is_given, wanted_link, bound_link, link, link_table, link_tables, image_form}

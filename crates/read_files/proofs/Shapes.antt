@@ -17,7 +17,7 @@ use Rattle.interface_records.specs.PlainTypes.{plain_item}
 use Rattle.interface_records.specs.Spelled.{InFourBytes, ImportCanBeSpelled, ExportCanBeSpelled, FaceCanBeSpelled, item_numbers}
 use Rattle.config_rules.specs.InOrder.{NamesDiffer, NumbersIn}
 use Rattle.code_forms.specs.declared.module_code.CodeSignal.{CodeSignal}
-use Rattle.face_rules.specs.FaceForms.{item_names}
+use Rattle.spelled_laws.specs.face_rules.specs.FaceForms.{item_names}
 use Rattle.spelled_laws.proofs.FacesFit.{faces_fit, names_same}
 use Rattle.spelled_laws.proofs.Names.{name_is}
 use Rattle.object_rules.specs.ModuleForms.{import_form, last_item, given, export_form, module_form}

@@ -1,3 +1,4 @@
+pub use Rattle.machine_ready
 pub mod Adding
 pub mod Catching
 pub mod Follows

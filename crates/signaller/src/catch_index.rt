@@ -6,7 +6,7 @@ ghost use Rattle.signaller.specs.Tables.{IsCatchTable};
 
 use crate::sweep::segments_of;
 use code_forms::CatchTable;
-use mesa_base::{OutOfMemory, Steps};
+use code_forms::mesa_base::{OutOfMemory, Steps};
 use std::alloc::Global;
 use std::marker::Model;
 use std::sync::ledger::Ledger;

@@ -6,8 +6,8 @@ ghost use Rattle.signaller.specs.Tables.{IsCatchTable};
 use crate::outward::{Sought, beyond, place_for};
 use crate::place::Place;
 use crate::signal_id::SignalId;
+use code_forms::mesa_base::List;
 use code_forms::{CatchTable, Phrase};
-use mesa_base::List;
 
 /// The phrase that is asked next; None means that no phrase is left to ask.
 #[derive(Clone, Copy)]

@@ -7,7 +7,7 @@ ghost use Rattle.signaller.specs.Sweep.{AreEdges, BeginLater, GoesOn, Sweeps, Ar
 
 use crate::catch_index::Segment;
 use code_forms::Phrase;
-use mesa_base::OutOfMemory;
+use code_forms::mesa_base::OutOfMemory;
 use std::alloc::Global;
 
 /// The phrases that are open, the next one to be opened, the offset to which the sweep has come, and the segments up to it.

@@ -1,1 +1,2 @@
+pub use Rattle.face_rules
 pub mod Laws

@@ -1,7 +1,7 @@
 -- The nodes of a syntax tree of the code, by its fold: a means of proof. What a node is stands in specs/SyntaxNodes.
 use Rattle.std.specs.Prelude.{ℕ, ◌+◌, Bool, true, false, List, [], ◌∷◌, length, Option, Some, None}
-use Rattle.mesa_base.specs.declared.identifier.Identifier.{Identifier}
-use Rattle.mesa_base.specs.declared.placed.Placed.{Placed}
+use Rattle.held_trees.specs.mesa_base.specs.declared.identifier.Identifier.{Identifier}
+use Rattle.held_trees.specs.mesa_base.specs.declared.placed.Placed.{Placed}
 use Rattle.syntax_trees.specs.declared.syntax.Keyed.{Keyed}
 use Rattle.syntax_trees.specs.declared.syntax.Labeled.{Labeled}
 use Rattle.syntax_trees.specs.declared.syntax.Entries.{Entries}

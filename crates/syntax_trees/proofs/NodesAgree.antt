@@ -1,7 +1,7 @@
 -- The nodes of a tree of the code, counted layer by layer, are those of its plain tree.
 use Rattle.std.proofs.Common.{◌≡◌, ℕ, ◌+◌, Bool, List, [], ◌∷◌, map, length, Option, Some, None, refl, sym, ap, ◌∙◌, subst, arith}
-use Rattle.mesa_base.specs.declared.identifier.Identifier.{Identifier}
-use Rattle.mesa_base.specs.declared.placed.Placed.{Placed}
+use Rattle.held_trees.specs.mesa_base.specs.declared.identifier.Identifier.{Identifier}
+use Rattle.held_trees.specs.mesa_base.specs.declared.placed.Placed.{Placed}
 use Rattle.syntax_trees.specs.declared.syntax.Keyed.{Keyed}
 use Rattle.syntax_trees.specs.declared.syntax.Labeled.{Labeled}
 use Rattle.syntax_trees.specs.declared.syntax.Entries.{Entries}
@@ -39,7 +39,7 @@ use Rattle.syntax_trees.specs.declared.syntax.DirectoryItem.{DirectoryItem}
 use Rattle.syntax_trees.specs.declared.syntax.Declared.TheVariants.{Procedure, Signal, Error, Data}
 use Rattle.syntax_trees.specs.declared.syntax.Defined.TheVariants.{ProcedureItem, SignalItem, ErrorItem, TypeItem, ConstantItem}
 use Rattle.syntax_trees.specs.declared.syntax.ModuleKind.TheVariants.{Program, Interface}
-use Rattle.mesa_base.specs.Chain.{chain}
+use Rattle.held_trees.specs.mesa_base.specs.Chain.{chain}
 use Rattle.syntax_trees.specs.Syntax as s
 use Rattle.syntax_trees.specs.PlainSyntax as v
 use Rattle.syntax_trees.specs.SyntaxNodes as n

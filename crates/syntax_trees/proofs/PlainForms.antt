@@ -1,8 +1,8 @@
 -- What each form of a syntax tree of the code is in the plain one, by what its parts are.
 use Rattle.std.proofs.Common.{◌≡◌, ℕ, Bool, List, Option, Some, None, refl, sym, ap, ◌∙◌}
-use Rattle.mesa_base.specs.declared.place.Place.{Place}
-use Rattle.mesa_base.specs.declared.identifier.Identifier.{Identifier}
-use Rattle.mesa_base.specs.declared.placed.Placed.{Placed}
+use Rattle.held_trees.specs.mesa_base.specs.declared.place.Place.{Place}
+use Rattle.held_trees.specs.mesa_base.specs.declared.identifier.Identifier.{Identifier}
+use Rattle.held_trees.specs.mesa_base.specs.declared.placed.Placed.{Placed}
 use Rattle.syntax_trees.specs.declared.syntax.QualifiedName.{QualifiedName}
 use Rattle.syntax_trees.specs.declared.syntax.Labeled.{Labeled}
 use Rattle.syntax_trees.specs.declared.syntax.Entries.{Entries}
@@ -11,7 +11,7 @@ use Rattle.syntax_trees.specs.declared.syntax.RepeatLabels.{RepeatLabels}
 use Rattle.syntax_trees.specs.declared.syntax.TypeBase.{TypeBase}
 use Rattle.syntax_trees.specs.declared.syntax.Sign.{Sign}
 use Rattle.syntax_trees.specs.declared.syntax.Operator.{Operator}
-use Rattle.mesa_base.specs.declared.relation.Relation.{Relation}
+use Rattle.held_trees.specs.mesa_base.specs.declared.relation.Relation.{Relation}
 use Rattle.syntax_trees.specs.declared.syntax.Entries.TheVariants.{Nothing, InOrder, ByKey}
 use Rattle.syntax_trees.specs.declared.syntax.Condition.TheOpen.{Condition-F, Count-F, Expr-F, FieldList-F, PlainItem-F, Raise-F, Statement-F, Suffix-F, Test-F, TypeExp-F, Arm-F, Block-F, Brackets-F, Case-F, Control-F, Interval-F, Left-F, Operation-F}
 use Rattle.syntax_trees.specs.declared.syntax.Condition.TheFolds.{fold-roll-Condition, fold-roll-Count, fold-roll-Expr, fold-roll-FieldList, fold-roll-PlainItem, fold-roll-Raise, fold-roll-Statement, fold-roll-Suffix, fold-roll-Test, fold-roll-TypeExp, fold-roll-Arm, fold-roll-Block, fold-roll-Brackets, fold-roll-Case, fold-roll-Control, fold-roll-Interval, fold-roll-Left, fold-roll-Operation, map-Condition, map-Count, map-Expr, map-FieldList, map-PlainItem, map-Raise, map-Statement, map-Suffix, map-Test, map-TypeExp, map-Arm, map-Block, map-Brackets, map-Case, map-Control, map-Interval, map-Left, map-Operation}

@@ -1,16 +1,16 @@
 -- The nodes of each form of a syntax tree, by those of its parts.
 use Rattle.std.proofs.Common.{◌≡◌, ℕ, ◌+◌, Bool, List, [], ◌∷◌, map, length, Option, Some, None, refl, sym, ap, ◌∙◌, arith}
-use Rattle.mesa_base.specs.declared.place.Place.{Place}
-use Rattle.mesa_base.specs.declared.identifier.Identifier.{Identifier}
+use Rattle.held_trees.specs.mesa_base.specs.declared.place.Place.{Place}
+use Rattle.held_trees.specs.mesa_base.specs.declared.identifier.Identifier.{Identifier}
 use Rattle.syntax_trees.specs.declared.syntax.QualifiedName.{QualifiedName}
-use Rattle.mesa_base.specs.declared.placed.Placed.{Placed}
+use Rattle.held_trees.specs.mesa_base.specs.declared.placed.Placed.{Placed}
 use Rattle.syntax_trees.specs.declared.syntax.Keyed.{Keyed}
 use Rattle.syntax_trees.specs.declared.syntax.Labeled.{Labeled}
 use Rattle.syntax_trees.specs.declared.syntax.Entries.{Entries}
 use Rattle.syntax_trees.specs.declared.syntax.Labels.{Labels}
 use Rattle.syntax_trees.specs.declared.syntax.RepeatLabels.{RepeatLabels}
 use Rattle.syntax_trees.specs.declared.syntax.TypeBase.{TypeBase}
-use Rattle.mesa_base.specs.declared.relation.Relation.{Relation}
+use Rattle.held_trees.specs.mesa_base.specs.declared.relation.Relation.{Relation}
 use Rattle.syntax_trees.specs.declared.syntax.Sign.{Sign}
 use Rattle.syntax_trees.specs.declared.syntax.Operator.{Operator}
 use Rattle.syntax_trees.specs.declared.syntax.Entries.TheVariants.{Nothing, InOrder, ByKey}

@@ -1,9 +1,9 @@
 -- The syntax tree of the code as the plain one: each tree of the code is one of Syntax, and each list of the code one of its lists.
 use Rattle.std.specs.Prelude.{List, [], ◌∷◌, map, Option, Some, None}
-use Rattle.mesa_base.specs.Chain.{chain}
+use Rattle.held_trees.specs.mesa_base.specs.Chain.{chain}
 use Rattle.syntax_trees.specs.Syntax as s
-use Rattle.mesa_base.specs.declared.identifier.Identifier.{Identifier}
-use Rattle.mesa_base.specs.declared.placed.Placed.{Placed}
+use Rattle.held_trees.specs.mesa_base.specs.declared.identifier.Identifier.{Identifier}
+use Rattle.held_trees.specs.mesa_base.specs.declared.placed.Placed.{Placed}
 use Rattle.syntax_trees.specs.declared.syntax.Keyed.{Keyed}
 use Rattle.syntax_trees.specs.declared.syntax.Labeled.{Labeled}
 use Rattle.syntax_trees.specs.declared.syntax.Entries.{Entries}

@@ -2,9 +2,9 @@
 -- (Language Manual, appendix on syntax), and each list a form of its own. A Bool before a relation or IN says that NOT stands
 -- there; one beside a bound of an interval, that the end there is open.
 use Rattle.std.specs.Prelude.{ℕ, Bool, List, Option}
-pub use Rattle.mesa_base.specs.declared.place.Place.{Place}
+pub use Rattle.held_trees.specs.mesa_base.specs.declared.place.Place.{Place}
 -- names, labels, operators and the items of DIRECTORY are those of the code, plain data already
-pub use Rattle.mesa_base.specs.declared.identifier.Identifier.{Identifier}
+pub use Rattle.held_trees.specs.mesa_base.specs.declared.identifier.Identifier.{Identifier}
 pub use Rattle.syntax_trees.specs.declared.syntax.QualifiedName.{QualifiedName}
 pub use Rattle.syntax_trees.specs.declared.syntax.Labels.{Labels}
 pub use Rattle.syntax_trees.specs.declared.syntax.Labels.TheVariants.{Any, Unwind, Signals}
@@ -16,8 +16,8 @@ pub use Rattle.syntax_trees.specs.declared.syntax.Operator.{Operator}
 pub use Rattle.syntax_trees.specs.declared.syntax.Operator.TheVariants.{Or, And, Add, Subtract, Multiply, Divide, Modulo}
 pub use Rattle.syntax_trees.specs.declared.syntax.Sign.{Sign}
 pub use Rattle.syntax_trees.specs.declared.syntax.Sign.TheVariants.{Positive, Negative}
-pub use Rattle.mesa_base.specs.declared.relation.Relation.{Relation}
-pub use Rattle.mesa_base.specs.declared.relation.Relation.TheVariants.{Equal, NotEqual, Less, AtMost, Greater, AtLeast}
+pub use Rattle.held_trees.specs.mesa_base.specs.declared.relation.Relation.{Relation}
+pub use Rattle.held_trees.specs.mesa_base.specs.declared.relation.Relation.TheVariants.{Equal, NotEqual, Less, AtMost, Greater, AtLeast}
 pub use Rattle.syntax_trees.specs.declared.syntax.Access.{Access}
 pub use Rattle.syntax_trees.specs.declared.syntax.Access.TheVariants.{Public, Private}
 pub use Rattle.syntax_trees.specs.declared.syntax.DirectoryItem.{DirectoryItem}

@@ -4,7 +4,7 @@ ghost use Rattle.syntax_trees.specs.Syntax as s;
 ghost use Rattle.syntax_trees.specs.PlainSyntax as plain;
 
 use crate::syntax::{Block, Condition, Control, Count, Left, Raise, Statement};
-use mesa_base::Place;
+use held_trees::mesa_base::Place;
 
 #[tactic(auto, using(crate::proofs::PlainForms::parts))]
 fn left_place(left: &Left) -> Place

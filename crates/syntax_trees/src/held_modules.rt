@@ -3,8 +3,8 @@
 use crate::syntax::{
     Declaration, Declared, Defined, DirectoryItem, Head, Inner, Labeled, Module, ModuleKind,
 };
+use held_trees::mesa_base::{Identifiers, List};
 use held_trees::{InList, LetGo};
-use mesa_base::{Identifiers, List};
 use std::mem::drop;
 
 impl LetGo for Head {

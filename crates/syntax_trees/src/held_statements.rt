@@ -4,8 +4,8 @@ ghost use Rattle.std.specs.Prelude.{◌≡◌, IfOk};
 use crate::syntax::{
     Block, Case, Condition, Control, Count, Exit, Local, PlainItem, Repeat, Statement, Test,
 };
+use held_trees::mesa_base::{Boxed, List, OutOfMemory};
 use held_trees::{InBox, InList, LetGo};
-use mesa_base::{Boxed, List, OutOfMemory};
 use std::alloc::Global;
 use std::mem::drop;
 

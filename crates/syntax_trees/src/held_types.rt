@@ -2,8 +2,8 @@
 ghost use Rattle.std.specs.Prelude.{◌≡◌, IfOk};
 
 use crate::syntax::{FieldList, Labeled, Labels, QualifiedName, RepeatLabels, TypeBase, TypeExp};
+use held_trees::mesa_base::{Boxed, Identifiers, List, OutOfMemory};
 use held_trees::{InBox, InList, LetGo};
-use mesa_base::{Boxed, Identifiers, List, OutOfMemory};
 use std::alloc::Global;
 use std::mem::drop;
 

@@ -2,8 +2,8 @@
 //! docs/LANGUAGE.md, with runs of operators and of suffixes as lists, so that no tree is nested deeper than the grammar's
 //! limit. A place is kept where a refusal of the checker may need it.
 
-pub use mesa_base::Relation;
-use mesa_base::{Boxed, Bytes, Identifier, Identifiers, List, Place, Placed};
+pub use held_trees::mesa_base::Relation;
+use held_trees::mesa_base::{Boxed, Bytes, Identifier, Identifiers, List, Place, Placed};
 
 /// A name, or a name of an interface: `x`, `I.x`.
 #[derive(Drop)]

@@ -3,7 +3,7 @@ use Rattle.std.proofs.Common.{◌≡◌, ℕ, ◌+◌, ◌<◌, ◌≤◌, List,
 use Rattle.std.specs.Prelude.{get_or, ◌&&◌, ◌||◌}
 use Rattle.std.proofs.lemmas.List.{drop_more, drop_all}
 use Rattle.mesa_types.specs.Typed as t
-use Rattle.mesa_base.specs.Chain.{chain}
+use Rattle.mesa_types.specs.mesa_base.specs.Chain.{chain}
 use Rattle.mesa_types.specs.Plain.{Layer, expr, exprs, operation, operation_step}
 use Rattle.mesa_types.specs.Operators.{is_true, checked, tried}
 use Rattle.mesa_types.specs.Constants.{◌>>=◌, fine, constant, constant_run, all_true, some_true, and_true, or_true}

@@ -1,7 +1,7 @@
 //! The value of a constant expression.
 
 ghost use Rattle.std.specs.Prelude.{◌≡◌, map};
-ghost use Rattle.mesa_base.specs.Chain.{chain};
+ghost use Rattle.mesa_types.specs.mesa_base.specs.Chain.{chain};
 ghost use Rattle.mesa_types.specs.Constants as spec;
 ghost use Rattle.mesa_types.specs.Plain.{expr, exprs, operation};
 ghost use Rattle.mesa_types.specs.Typed.{NoOperation};

@@ -4,7 +4,7 @@ ghost use Rattle.std.specs.Prelude.{◌≡◌, ◌<◌};
 ghost use Rattle.mesa_types.specs.Constants.{fine};
 ghost use Rattle.mesa_types.specs.Operators as spec;
 
-use mesa_base::Relation;
+use mesa_types::mesa_base::Relation;
 use mesa_types::{Base, Bases, Operator, Range};
 
 /// A word as a plain number, plus 32,768.

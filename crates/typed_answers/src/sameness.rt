@@ -2,7 +2,7 @@ ghost use Rattle.std.specs.Prelude.{◌≡◌, ◌↔◌, IsTrue};
 ghost use Rattle.std.specs.Option.{option_copied};
 ghost use Rattle.mesa_types.specs.Types.{SameType, types_in, Conforms, IsOneBase, IsNumber, base_of};
 
-use mesa_base::{Name, Stamp};
+use mesa_types::mesa_base::{Name, Stamp};
 use mesa_types::{FieldType, Origin, TypeTree};
 
 /// Whether two names are spelled alike.

@@ -1,7 +1,7 @@
 ghost use Rattle.std.specs.Prelude.{◌≡◌, ◌*◌, ◌↔◌, min, IsTrue};
 ghost use Rattle.mesa_types.specs.Types.{words_of, words_of_fields, elements_of, depth_of, depth_of_fields, longest_of, longest_of_fields, IsWithinLimits};
 
-use mesa_base::limits::{ENUMERATION_ELEMENTS, TYPE_DEPTH, TYPE_WORDS};
+use mesa_types::mesa_base::limits::{ENUMERATION_ELEMENTS, TYPE_DEPTH, TYPE_WORDS};
 use mesa_types::{FieldType, TypeTree};
 
 /// How many elements an array has with this index type; 0 for a type that is not ordinal.

@@ -1,5 +1,5 @@
 use Rattle.std.proofs.Common.{rules, map, ◌∙◌, ap}
-use Rattle.check_faces.specs.Offers.{offer}
+use Rattle.check_heads.specs.check_faces.specs.Offers.{offer}
 use Rattle.interface_records.specs.PlainTypes.{plain_item}
 use Rattle.check_state.specs.Views as words
 use Rattle.check_programs.specs.Heads.{renamed}

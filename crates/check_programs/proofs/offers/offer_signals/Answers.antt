@@ -1,5 +1,5 @@
 use Rattle.std.proofs.Common.{rules, map, sym, ◌∙◌, arith}
-use Rattle.check_faces.specs.Offers.{offer}
+use Rattle.check_heads.specs.check_faces.specs.Offers.{offer}
 use Rattle.check_programs.proofs.SignalLoops.{offer_at, offer_out}
 use Rattle.check_programs.proofs.offers.offer_signals.Goals as goal
 

@@ -1,5 +1,5 @@
 use Rattle.std.proofs.Common.{◌≡◌, map}
-use Rattle.check_faces.specs.Offers.{offer}
+use Rattle.check_heads.specs.check_faces.specs.Offers.{offer}
 use Rattle.check_programs.proofs.SignalLoops.{to_offer}
 use Rattle.check_programs.proofs.offers.offer_signals.Given as goal
 

@@ -1,5 +1,5 @@
 use Rattle.std.proofs.Common.{rules, ◌∙◌, arith}
-use Rattle.check_declared.proofs.VariableLoops.{settled}
+use Rattle.check_statement_lists.specs.check_declared.proofs.VariableLoops.{settled}
 use Rattle.check_programs.proofs.SignalLoops.{mean_at, mean_out}
 use Rattle.check_programs.proofs.signals.settle_signals.Goals as goal
 

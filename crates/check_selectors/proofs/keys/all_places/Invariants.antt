@@ -1,5 +1,5 @@
 use Rattle.std.proofs.Common.{◌≡◌, [], None, drop, map}
-use Rattle.syntax_trees.specs.declared.syntax.Keyed.{Keyed}
+use Rattle.check_rules.specs.syntax_trees.specs.declared.syntax.Keyed.{Keyed}
 use Rattle.check_scopes.specs.Shows.{means}
 use Rattle.check_selectors.specs.Keys.{places_from}
 use Rattle.check_selectors.proofs.keys.all_places.Given as goal

@@ -1,6 +1,6 @@
 use Rattle.std.proofs.Common.{ℕ, drop, rules, arith, sym, ap, ◌∙◌}
-use Rattle.check_scopes.specs.Scopes.{Scope}
-use Rattle.check_scopes.specs.Shows.{means}
+use Rattle.interface_records.specs.check_scopes.specs.Scopes.{Scope}
+use Rattle.interface_records.specs.check_scopes.specs.Shows.{means}
 use Rattle.check_state.proofs.StringLaws.{numbers_at, numbers_out, numbers_past}
 use Rattle.check_state.proofs.strings.numbered.Goals as goal
 

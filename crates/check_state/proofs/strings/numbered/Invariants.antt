@@ -1,6 +1,6 @@
 use Rattle.std.proofs.Common.{◌≡◌, drop}
-use Rattle.check_scopes.specs.Scopes.{over}
-use Rattle.check_scopes.specs.Shows.{means}
+use Rattle.interface_records.specs.check_scopes.specs.Scopes.{over}
+use Rattle.interface_records.specs.check_scopes.specs.Shows.{means}
 use Rattle.check_state.proofs.StringLaws.{numbers}
 use Rattle.check_state.proofs.strings.numbered.Given as goal
 

@@ -1,7 +1,7 @@
 use Rattle.std.proofs.Common.{sym, ◌∙◌, subst}
 use Rattle.std.proofs.lemmas.Result.{err_from_is_err_and}
 use Rattle.syntax_trees.specs.PlainSyntax.{syntax}
-use Rattle.check_state.specs.Gives.{GivesOnly}
+use Rattle.module_checker.specs.check_state.specs.Gives.{GivesOnly}
 use Rattle.checked_texts.specs.Asked.{before_files}
 use Rattle.checked_texts.specs.Texts.{HasNoTree, no_tree}
 use Rattle.checked_texts.proofs.Passing.{wrong_is}

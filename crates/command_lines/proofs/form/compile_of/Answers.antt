@@ -1,6 +1,6 @@
 use Rattle.std.proofs.Common.{◌≡◌, true, sym, ◌∙◌}
 use Rattle.config_rules.specs.Components.{is_file_base}
-use Rattle.command_rules.specs.Forms.{compile}
+use Rattle.command_passes.specs.command_rules.specs.Forms.{compile}
 use Rattle.command_lines.proofs.form.compile_of.Goals as goal
 
 pub returns-then-is_file_base-clause-form : goal.returns-then-is_file_base-clause-form

@@ -1,7 +1,7 @@
 use Rattle.std.proofs.Common.{rules, ◌≡◌, true, Some, sym, ◌∙◌}
 use Rattle.mesa_base.specs.Stamp.{stamp_of}
 use Rattle.config_rules.specs.Components.{is_file_base}
-use Rattle.command_rules.specs.Forms.{define}
+use Rattle.command_passes.specs.command_rules.specs.Forms.{define}
 use Rattle.command_lines.proofs.form.definition_of.Goals as goal
 
 pub returns-clause-form : goal.returns-clause-form

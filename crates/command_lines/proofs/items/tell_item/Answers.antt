@@ -1,7 +1,7 @@
 use Rattle.std.proofs.Common.{ap, sym, ◌∙◌, subst}
 use Rattle.import_binder.specs.declared.fault.BindFault.TheVariants.{OtherStamp}
 use Rattle.line_pieces.specs.Outputs.{stream, Receives}
-use Rattle.command_rules.specs.Lines.{bind_cause, of_file}
+use Rattle.command_passes.specs.command_rules.specs.Lines.{bind_cause, of_file}
 use Rattle.command_lines.proofs.items.tell_item.Goals as goal
 
 pub returns-in-OtherStamp : goal.returns-in-OtherStamp

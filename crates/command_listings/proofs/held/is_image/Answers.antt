@@ -1,5 +1,5 @@
-use Rattle.command_rules.specs.Listing.{is_image}
-use Rattle.command_rules.specs.Writing.{OfImage}
+use Rattle.command_passes.specs.command_rules.specs.Listing.{is_image}
+use Rattle.command_passes.specs.command_rules.specs.Writing.{OfImage}
 use Rattle.command_listings.proofs.held.is_image.Goals as goal
 
 pub returns-in-Ok-clause-held : goal.returns-in-Ok-clause-held

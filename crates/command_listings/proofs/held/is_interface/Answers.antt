@@ -1,5 +1,5 @@
-use Rattle.command_rules.specs.Listing.{is_interface}
-use Rattle.command_rules.specs.Writing.{OfInterface}
+use Rattle.command_passes.specs.command_rules.specs.Listing.{is_interface}
+use Rattle.command_passes.specs.command_rules.specs.Writing.{OfInterface}
 use Rattle.command_listings.proofs.Faults.{lacks_interface}
 use Rattle.command_listings.proofs.held.is_interface.Goals as goal
 

@@ -1,5 +1,5 @@
-use Rattle.command_rules.specs.Listing.{is_object}
-use Rattle.command_rules.specs.Writing.{OfObject}
+use Rattle.command_passes.specs.command_rules.specs.Listing.{is_object}
+use Rattle.command_passes.specs.command_rules.specs.Writing.{OfObject}
 use Rattle.command_listings.proofs.held.is_object.Goals as goal
 
 pub returns-in-Ok-clause-held : goal.returns-in-Ok-clause-held

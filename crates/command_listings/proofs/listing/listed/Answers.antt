@@ -1,4 +1,4 @@
-use Rattle.command_rules.specs.Listing.{Lists}
+use Rattle.command_passes.specs.command_rules.specs.Listing.{Lists}
 use Rattle.listed_files.specs.Listings.{HasFault}
 use Rattle.command_passes.specs.Kinds.{kind_in}
 use Rattle.command_passes.specs.Stops.{stop_case}

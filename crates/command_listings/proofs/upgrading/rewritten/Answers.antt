@@ -1,5 +1,5 @@
-use Rattle.command_rules.specs.Listing.{Holds}
-use Rattle.command_rules.specs.Passes.{Has}
+use Rattle.command_passes.specs.command_rules.specs.Listing.{Holds}
+use Rattle.command_passes.specs.command_rules.specs.Passes.{Has}
 use Rattle.command_passes.specs.Kinds.{kind_in}
 use Rattle.command_passes.specs.Stops.{stop_case}
 use Rattle.command_passes.proofs.Faults.{file_fault_told}

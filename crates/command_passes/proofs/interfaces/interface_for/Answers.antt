@@ -1,7 +1,7 @@
 use Rattle.std.proofs.Common.{None, Ok}
 use Rattle.std.proofs.lemmas.Result.{err_from_is_err_and}
 use Rattle.syntax_trees.specs.PlainSyntax.{syntax}
-use Rattle.checked_texts.specs.Asked.{asks}
+use Rattle.command_rules.specs.checked_texts.specs.Asked.{asks}
 use Rattle.command_passes.proofs.Bases.{asked_plain}
 use Rattle.command_passes.proofs.OneInterface.{asked_once, interface_built_in}
 use Rattle.command_passes.proofs.Passed.{memory_ends}

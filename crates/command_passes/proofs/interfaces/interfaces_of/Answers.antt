@@ -2,7 +2,7 @@ use Rattle.std.proofs.Common.{◌≡◌, None, Some, get_or, slice_get, add-one,
 use Rattle.std.proofs.lemmas.Option.{slice_get-get_or}
 use Rattle.std.proofs.lemmas.Result.{err_from_is_err_and}
 use Rattle.syntax_trees.specs.PlainSyntax.{syntax}
-use Rattle.checked_texts.specs.Asked.{asks}
+use Rattle.command_rules.specs.checked_texts.specs.Asked.{asks}
 use Rattle.command_rules.specs.Modules.{interface_for}
 use Rattle.command_passes.proofs.Passed.{memory_ends}
 use Rattle.command_passes.proofs.Steps.{fails_turn, gives_turn, no_turns}

@@ -1,7 +1,7 @@
 -- The interfaces for the items so far, in order.
 use Rattle.std.proofs.Common.{take}
 use Rattle.syntax_trees.specs.PlainSyntax.{syntax}
-use Rattle.checked_texts.specs.Asked.{asks}
+use Rattle.command_rules.specs.checked_texts.specs.Asked.{asks}
 use Rattle.command_rules.specs.Modules.{interface_for}
 use Rattle.command_rules.specs.Passes.{each}
 use Rattle.command_rules.specs.Passing.{Gives}

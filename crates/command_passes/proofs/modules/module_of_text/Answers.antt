@@ -1,5 +1,5 @@
 use Rattle.syntax_trees.specs.PlainSyntax.{syntax}
-use Rattle.checked_texts.specs.declared.purpose.Purpose.TheVariants.{Program}
+use Rattle.command_rules.specs.checked_texts.specs.declared.purpose.Purpose.TheVariants.{Program}
 use Rattle.command_passes.proofs.Bases.{asks_plainly}
 use Rattle.command_passes.proofs.OneProgram.{not_begun, program_begun}
 use Rattle.command_passes.proofs.modules.module_of_text.Goals as goal

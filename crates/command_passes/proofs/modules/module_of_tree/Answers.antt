@@ -2,9 +2,9 @@ use Rattle.std.proofs.Common.{Err, Ok}
 use Rattle.std.proofs.lemmas.Result.{err_from_is_err_and}
 use Rattle.syntax_trees.specs.PlainSyntax.{syntax}
 use Rattle.mesa_types.specs.Plain.{plain}
-use Rattle.checked_texts.specs.Asked.{asks}
-use Rattle.checked_texts.specs.Texts.{HasCheckFault}
-use Rattle.checked_texts.specs.declared.purpose.Purpose.TheVariants.{Program}
+use Rattle.command_rules.specs.checked_texts.specs.Asked.{asks}
+use Rattle.command_rules.specs.checked_texts.specs.Texts.{HasCheckFault}
+use Rattle.command_rules.specs.checked_texts.specs.declared.purpose.Purpose.TheVariants.{Program}
 use Rattle.command_rules.specs.Modules.{Checks, checked, interface_for, wrong}
 use Rattle.command_passes.specs.Stops.{stop_case}
 use Rattle.command_passes.proofs.Faults.{fault_told}

@@ -1,6 +1,6 @@
 -- What was found of the texts so far.
 use Rattle.std.proofs.Common.{take}
-use Rattle.command_rules.specs.Worlds.{shelf}
+use Rattle.command_passes.specs.command_rules.specs.Worlds.{shelf}
 use Rattle.command_plans.specs.Finding.{AreFound}
 use Rattle.command_plans.proofs.found.find_all.Given as goal
 

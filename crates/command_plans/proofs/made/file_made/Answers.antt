@@ -1,7 +1,7 @@
 use Rattle.std.proofs.Common.{ap}
 use Rattle.std.proofs.lemmas.Result.{err_from_is_err_and}
-use Rattle.command_rules.specs.Forms.{InterfaceFile, ObjectFile}
-use Rattle.command_rules.specs.Planning.{kind_made}
+use Rattle.command_passes.specs.command_rules.specs.Forms.{InterfaceFile, ObjectFile}
+use Rattle.command_passes.specs.command_rules.specs.Planning.{kind_made}
 use Rattle.command_passes.proofs.Passed.{memory_ends}
 use Rattle.command_plans.proofs.MadeFiles.{sees, tells_missing}
 use Rattle.command_plans.proofs.made.file_made.Goals as goal

@@ -1,5 +1,5 @@
 use Rattle.std.proofs.Common.{◌≡◌, map, take}
-use Rattle.command_rules.specs.Planning.{base_at}
+use Rattle.command_passes.specs.command_rules.specs.Planning.{base_at}
 use Rattle.command_plans.proofs.report.bases_of.Given as goal
 
 abbrev pub invariant-numbers : goal.invariant-numbers

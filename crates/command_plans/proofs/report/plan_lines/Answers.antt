@@ -1,4 +1,4 @@
-use Rattle.command_rules.specs.Planning.{plan_text}
+use Rattle.command_passes.specs.command_rules.specs.Planning.{plan_text}
 use Rattle.command_plans.proofs.Lines.{three_put}
 use Rattle.command_plans.proofs.report.plan_lines.Goals as goal
 

@@ -1,5 +1,5 @@
 use Rattle.std.proofs.Common.{◌≡◌, ◌++◌, flat_map, take}
-use Rattle.command_rules.specs.Planning.{line}
+use Rattle.command_passes.specs.command_rules.specs.Planning.{line}
 use Rattle.command_plans.proofs.report.put_names.Given as goal
 
 abbrev pub invariant-names : goal.invariant-names

@@ -1,5 +1,5 @@
-use Rattle.checked_texts.specs.Texts.{HasNoTree}
-use Rattle.command_rules.specs.Planning.{Parses, parsed, refused}
+use Rattle.command_passes.specs.checked_texts.specs.Texts.{HasNoTree}
+use Rattle.command_passes.specs.command_rules.specs.Planning.{Parses, parsed, refused}
 use Rattle.command_passes.specs.Stops.{stop_case}
 use Rattle.command_passes.proofs.Faults.{fault_told}
 use Rattle.command_plans.proofs.texts.parsed.Goals as goal

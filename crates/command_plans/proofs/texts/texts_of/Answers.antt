@@ -1,6 +1,6 @@
 use Rattle.std.proofs.lemmas.List.Elements.{All-nil}
 use Rattle.std.proofs.lemmas.Result.{err_from_is_err_and}
-use Rattle.command_rules.specs.Planning.{text_in}
+use Rattle.command_passes.specs.command_rules.specs.Planning.{text_in}
 use Rattle.command_passes.proofs.Passed.{memory_ends}
 use Rattle.command_passes.proofs.Steps.{no_turns}
 use Rattle.command_plans.specs.Made.{IsPlainText}

@@ -1,9 +1,9 @@
 -- The texts of the bases so far, in order.
 use Rattle.std.proofs.Common.{All, take}
-use Rattle.command_rules.specs.Passes.{each}
-use Rattle.command_rules.specs.Passing.{Gives}
-use Rattle.command_rules.specs.Planning.{text_in}
-use Rattle.command_rules.specs.Worlds.{shelf}
+use Rattle.command_passes.specs.command_rules.specs.Passes.{each}
+use Rattle.command_passes.specs.command_rules.specs.Passing.{Gives}
+use Rattle.command_passes.specs.command_rules.specs.Planning.{text_in}
+use Rattle.command_passes.specs.command_rules.specs.Worlds.{shelf}
 use Rattle.command_plans.specs.Made.{IsPlainText}
 use Rattle.command_plans.proofs.texts.texts_of.Given as goal
 

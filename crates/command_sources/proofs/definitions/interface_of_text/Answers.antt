@@ -1,5 +1,5 @@
 use Rattle.syntax_trees.specs.PlainSyntax.{syntax}
-use Rattle.checked_texts.specs.declared.purpose.Purpose.TheVariants.{Interface}
+use Rattle.command_passes.specs.checked_texts.specs.declared.purpose.Purpose.TheVariants.{Interface}
 use Rattle.command_passes.proofs.Bases.{asks_plainly}
 use Rattle.command_sources.proofs.Defining.{definitions_begun, not_begun}
 use Rattle.command_sources.proofs.definitions.interface_of_text.Goals as goal

@@ -1,10 +1,10 @@
 use Rattle.std.proofs.Common.{Err, Ok}
 use Rattle.std.proofs.lemmas.Result.{err_from_is_err_and}
 use Rattle.syntax_trees.specs.PlainSyntax.{syntax}
-use Rattle.checked_texts.specs.Asked.{asks}
-use Rattle.checked_texts.specs.Texts.{HasCheckFault}
-use Rattle.checked_texts.specs.declared.purpose.Purpose.TheVariants.{Interface}
-use Rattle.command_rules.specs.Modules.{Defines, defined, interface_for, wrong}
+use Rattle.command_passes.specs.checked_texts.specs.Asked.{asks}
+use Rattle.command_passes.specs.checked_texts.specs.Texts.{HasCheckFault}
+use Rattle.command_passes.specs.checked_texts.specs.declared.purpose.Purpose.TheVariants.{Interface}
+use Rattle.command_passes.specs.command_rules.specs.Modules.{Defines, defined, interface_for, wrong}
 use Rattle.command_passes.specs.Stops.{stop_case}
 use Rattle.command_passes.proofs.Faults.{fault_told}
 use Rattle.command_passes.proofs.Steps.{one_for_each}

@@ -1,5 +1,5 @@
 use Rattle.mesa_types.specs.Plain.{plain}
-use Rattle.command_rules.specs.Configurations.{component_in}
+use Rattle.command_passes.specs.command_rules.specs.Configurations.{component_in}
 use Rattle.command_passes.proofs.Steps.{no_turns}
 use Rattle.command_sources.proofs.Binding.{no_room}
 use Rattle.command_sources.proofs.EachComponent.{all_had, none_more, one_more}

@@ -1,5 +1,5 @@
 use Rattle.std.proofs.Common.{refl}
-use Rattle.linked_programs.proofs.Making.{refused}
+use Rattle.linked_objects.specs.linked_programs.proofs.Making.{refused}
 use Rattle.command_sources.proofs.Binding.{bad_stops}
 use Rattle.command_sources.proofs.objects.bound_tree.Goals as goal
 

@@ -1,7 +1,7 @@
 use Rattle.std.proofs.lemmas.List.Elements.{All-nil}
 use Rattle.object_rules.specs.Parts.{parts_of}
 use Rattle.linked_objects.specs.Filed.{IsFiled}
-use Rattle.command_rules.specs.Binding.{object_of}
+use Rattle.command_passes.specs.command_rules.specs.Binding.{object_of}
 use Rattle.command_passes.proofs.Steps.{no_turns}
 use Rattle.command_sources.proofs.Binding.{no_room}
 use Rattle.command_sources.proofs.EachComponent.{all_had, none_more, one_more}

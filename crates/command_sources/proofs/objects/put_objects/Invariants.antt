@@ -1,10 +1,10 @@
 -- The objects of the components so far, in order.
 use Rattle.std.proofs.Common.{All, take}
 use Rattle.linked_objects.specs.Filed.{IsFiled}
-use Rattle.command_rules.specs.Binding.{object_of}
-use Rattle.command_rules.specs.Passes.{each}
-use Rattle.command_rules.specs.Passing.{Gives}
-use Rattle.command_rules.specs.Worlds.{shelf}
+use Rattle.command_passes.specs.command_rules.specs.Binding.{object_of}
+use Rattle.command_passes.specs.command_rules.specs.Passes.{each}
+use Rattle.command_passes.specs.command_rules.specs.Passing.{Gives}
+use Rattle.command_passes.specs.command_rules.specs.Worlds.{shelf}
 use Rattle.command_sources.specs.Objects.{parts_in}
 use Rattle.command_sources.proofs.objects.put_objects.Given as goal
 

@@ -3,7 +3,7 @@ use Rattle.mesa_types.specs.Plain.{plain}
 use Rattle.cmesa_grammar.specs.Plain as grammar
 use Rattle.config_rules.specs.Components.{components}
 use Rattle.config_rules.specs.Tree.{IsTree}
-use Rattle.linked_programs.specs.Modules.{shapes_of}
+use Rattle.linked_objects.specs.linked_programs.specs.Modules.{shapes_of}
 use Rattle.program_files.proofs.Kept.{all_linkable}
 use Rattle.command_sources.proofs.Binding.{all_bound, bound_passes, ungrown_passes}
 use Rattle.command_sources.proofs.Sourcing.{as_many_bases, as_many_modules, plain_bases}

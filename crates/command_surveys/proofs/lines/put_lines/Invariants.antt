@@ -1,6 +1,6 @@
 use Rattle.std.proofs.Common.{◌≡◌, ◌++◌, flat_map, take}
-use Rattle.command_rules.specs.Shown.{image_names}
-use Rattle.command_rules.specs.Surveying.{escape_line}
+use Rattle.command_passes.specs.command_rules.specs.Shown.{image_names}
+use Rattle.command_passes.specs.command_rules.specs.Surveying.{escape_line}
 use Rattle.command_surveys.proofs.lines.put_lines.Given as goal
 
 abbrev pub invariant-signals : goal.invariant-signals

@@ -1,7 +1,7 @@
 use Rattle.std.proofs.Common.{◌≡◌, [], ◌++◌, flat_map, IfOk, sym, ◌∙◌, ap, subst}
 use Rattle.std.proofs.lemmas.Bool.{false≢true}
-use Rattle.command_rules.specs.Shown.{image_names}
-use Rattle.command_rules.specs.Surveying.{escape_line, survey_text}
+use Rattle.command_passes.specs.command_rules.specs.Shown.{image_names}
+use Rattle.command_passes.specs.command_rules.specs.Surveying.{escape_line, survey_text}
 use Rattle.command_surveys.proofs.Texts.{some_lines}
 use Rattle.command_surveys.proofs.lines.survey_lines.Goals as goal
 

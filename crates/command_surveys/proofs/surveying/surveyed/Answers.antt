@@ -1,5 +1,5 @@
 use Rattle.object_rules.specs.ImageFiles.{IsNoImageFile}
-use Rattle.command_rules.specs.Surveying.{Surveys}
+use Rattle.command_passes.specs.command_rules.specs.Surveying.{Surveys}
 use Rattle.command_passes.specs.Stops.{stop_case}
 use Rattle.command_passes.proofs.Faults.{file_fault_told}
 use Rattle.command_surveys.proofs.Surveyed.{is_surveyed, not_surveyed}

@@ -1,6 +1,6 @@
 use Rattle.std.proofs.Common.{Err, Ok, [], ◌∷◌, ap}
 use Rattle.command_passes.specs.Stops.{stop_case}
-use Rattle.command_rules.specs.Writing.{holding}
+use Rattle.command_passes.specs.command_rules.specs.Writing.{holding}
 use Rattle.command_writes.proofs.Behind.{ends_asked}
 use Rattle.command_writes.proofs.OneFile.{file_not_stored, file_stored}
 use Rattle.command_writes.proofs.files.file_written.Goals as goal

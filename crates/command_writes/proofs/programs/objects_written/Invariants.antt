@@ -1,6 +1,6 @@
 -- The files of the objects so far hold them, and no count of faults fell.
 use Rattle.std.proofs.Common.{length}
-use Rattle.command_rules.specs.Worlds.{shelf}
+use Rattle.command_passes.specs.command_rules.specs.Worlds.{shelf}
 use Rattle.command_writes.proofs.Behind.{FaultsStay}
 use Rattle.command_writes.proofs.Turns.{HasStored}
 use Rattle.command_writes.proofs.programs.objects_written.Given as goal

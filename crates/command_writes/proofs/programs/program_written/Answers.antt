@@ -1,9 +1,9 @@
 use Rattle.std.proofs.Common.{Err, [], ◌∷◌, ◌++◌}
 use Rattle.std.proofs.lemmas.Result.{err_from_is_err_and}
 use Rattle.command_passes.specs.Stops.{stop_case}
-use Rattle.command_rules.specs.Comes.{each_holding}
-use Rattle.command_rules.specs.Forms.{image_file}
-use Rattle.command_rules.specs.Writing.{OfImage, holding}
+use Rattle.command_passes.specs.command_rules.specs.Comes.{each_holding}
+use Rattle.command_passes.specs.command_rules.specs.Forms.{image_file}
+use Rattle.command_passes.specs.command_rules.specs.Writing.{OfImage, holding}
 use Rattle.command_writes.proofs.Behind.{ends_asked, ends_behind, not_stored_before}
 use Rattle.command_writes.proofs.programs.program_written.Goals as goal
 

@@ -1,6 +1,6 @@
 use Rattle.std.proofs.Common.{◌≡◌, [], sym, ap, ◌∙◌, Err}
 use Rattle.std.proofs.lemmas.Result.{err_from_is_err_and}
-use Rattle.cmesa_grammar.specs.Plain.{plain}
+use Rattle.config_rules.specs.cmesa_grammar.specs.Plain.{plain}
 use Rattle.config_rules.specs.Through.{Answer, through}
 use Rattle.config_rules.specs.Tree.{modules_with}
 use Rattle.config_rules.specs.declared.fault.TreeFault.{TreeFault}

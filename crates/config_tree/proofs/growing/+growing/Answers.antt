@@ -1,6 +1,6 @@
 use Rattle.std.proofs.Common.{◌≡◌, ap, refl, sym, subst, ◌∙◌, flat_map, length, List, [], ℕ, arith}
 use Rattle.check_scopes.specs.Shows.{listed}
-use Rattle.cmesa_grammar.specs.Syntax.{Identifier}
+use Rattle.config_rules.specs.cmesa_grammar.specs.Syntax.{Identifier}
 use Rattle.config_rules.specs.Grown.{once, scope_for}
 use Rattle.config_rules.specs.Template.{NoParts, Template, heading_in}
 use Rattle.config_templates.specs.Shown.{before, chained, part_of}

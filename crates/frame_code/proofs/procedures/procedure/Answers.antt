@@ -3,7 +3,7 @@ use Rattle.std.proofs.Common.{List, ap}
 use Rattle.std.proofs.lemmas.Result.{IfOk-weaker}
 use Rattle.mesa_types.specs.declared.types.FieldType.{FieldType}
 use Rattle.mesa_types.specs.Plain.{kinds_of, plain}
-use Rattle.code_trees.specs.Routines.{kinds_laid}
+use Rattle.code_bodies.specs.code_trees.specs.Routines.{kinds_laid}
 use Rattle.frame_code.specs.Heads.{procedure_in}
 use Rattle.frame_code.proofs.BodyRooms.{has_room, variables_fit, laid_out, coded_at}
 use Rattle.frame_code.proofs.procedures.procedure.Goals as goal

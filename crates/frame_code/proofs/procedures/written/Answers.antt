@@ -2,8 +2,8 @@
 use Rattle.std.proofs.Common.{◌+◌, ap}
 use Rattle.std.proofs.lemmas.Result.{IfOk-weaker}
 use Rattle.mesa_types.specs.Plain.{stmt}
-use Rattle.code_trees.specs.Plain.{plain}
-use Rattle.code_trees.specs.Routines.{coded}
+use Rattle.code_bodies.specs.code_trees.specs.Plain.{plain}
+use Rattle.code_bodies.specs.code_trees.specs.Routines.{coded}
 use Rattle.frame_code.specs.Heads.{procedure_in}
 use Rattle.frame_code.proofs.Written.{slots_fit, numbers_fit, can_be_written, is_its_code}
 use Rattle.frame_code.proofs.procedures.written.Goals as goal

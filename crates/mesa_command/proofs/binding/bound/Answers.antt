@@ -1,7 +1,7 @@
 use Rattle.std.proofs.lemmas.Result.{err_from_is_err_and}
 use Rattle.link_tables.specs.Linked.{image_of}
-use Rattle.command_passes.proofs.Bases.{base_ascii}
-use Rattle.command_passes.specs.Stops.{stop_case}
+use Rattle.command_lines.specs.command_passes.proofs.Bases.{base_ascii}
+use Rattle.command_lines.specs.command_passes.specs.Stops.{stop_case}
 use Rattle.command_rules.specs.Comes.{not_bound}
 use Rattle.command_rules.specs.Writing.{OfImage}
 use Rattle.command_sources.specs.Stops.{stored_case}

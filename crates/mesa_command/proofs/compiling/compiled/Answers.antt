@@ -1,7 +1,7 @@
 use Rattle.std.proofs.lemmas.Result.{err_from_is_err_and}
 use Rattle.mesa_types.specs.Plain.{plain}
-use Rattle.command_passes.proofs.Bases.{base_ascii}
-use Rattle.command_passes.specs.Stops.{stop_case}
+use Rattle.command_lines.specs.command_passes.proofs.Bases.{base_ascii}
+use Rattle.command_lines.specs.command_passes.specs.Stops.{stop_case}
 use Rattle.command_sources.specs.Stops.{stored_case}
 use Rattle.mesa_command.proofs.Filing.{compiled_so, no_room_compiled, not_compiled_so}
 use Rattle.mesa_command.proofs.compiling.compiled.Goals as goal

@@ -1,6 +1,6 @@
 use Rattle.std.proofs.lemmas.Result.{err_from_is_err_and}
-use Rattle.command_passes.proofs.Bases.{base_ascii}
-use Rattle.command_passes.specs.Stops.{stop_case}
+use Rattle.command_lines.specs.command_passes.proofs.Bases.{base_ascii}
+use Rattle.command_lines.specs.command_passes.specs.Stops.{stop_case}
 use Rattle.command_rules.specs.Writing.{OfInterface}
 use Rattle.command_sources.specs.Stops.{stored_case}
 use Rattle.mesa_command.proofs.Filing.{defined_so, no_room_defined, not_defined_so}

@@ -1,5 +1,5 @@
-use Rattle.command_passes.proofs.Bases.{base_ascii}
-use Rattle.command_passes.specs.Stops.{stop_case}
+use Rattle.command_lines.specs.command_passes.proofs.Bases.{base_ascii}
+use Rattle.command_lines.specs.command_passes.specs.Stops.{stop_case}
 use Rattle.command_sources.specs.Bound.{configured}
 use Rattle.command_sources.specs.Made.{linked_from}
 use Rattle.mesa_command.proofs.Calls.{as_many_files, is_unwritten, is_written}

@@ -1,4 +1,4 @@
-use Rattle.command_passes.proofs.Bases.{base_ascii}
+use Rattle.command_lines.specs.command_passes.proofs.Bases.{base_ascii}
 use Rattle.mesa_command.proofs.going.source_of.Goals as goal
 
 pub source_of_module-requires : goal.source_of_module-requires

@@ -1,5 +1,5 @@
-use Rattle.command_passes.proofs.Bases.{base_ascii}
-use Rattle.command_passes.specs.Stops.{stop_case}
+use Rattle.command_lines.specs.command_passes.proofs.Bases.{base_ascii}
+use Rattle.command_lines.specs.command_passes.specs.Stops.{stop_case}
 use Rattle.mesa_command.specs.Machines.{unmade}
 use Rattle.mesa_command.proofs.going.source_written.Goals as goal
 

@@ -1,6 +1,6 @@
 use Rattle.std.proofs.lemmas.Result.{err_from_is_err_and}
-use Rattle.command_passes.specs.Kinds.{kind_in}
-use Rattle.command_passes.proofs.Bases.{base_ascii}
+use Rattle.command_lines.specs.command_passes.specs.Kinds.{kind_in}
+use Rattle.command_lines.specs.command_passes.proofs.Bases.{base_ascii}
 use Rattle.command_rules.specs.Forms.{kind_file}
 use Rattle.command_rules.specs.Listing.{listing_in}
 use Rattle.mesa_command.proofs.Files.{no_room_listed}

@@ -1,5 +1,5 @@
 use Rattle.std.proofs.lemmas.Result.{err_from_is_err_and}
-use Rattle.command_passes.proofs.Bases.{base_ascii}
+use Rattle.command_lines.specs.command_passes.proofs.Bases.{base_ascii}
 use Rattle.mesa_command.proofs.Calls.{filed_in_order, loads_to, no_room_loaded, not_loaded}
 use Rattle.mesa_command.proofs.loading.loaded.Goals as goal
 

@@ -1,4 +1,4 @@
-use Rattle.command_passes.specs.Stops.{stop_case}
+use Rattle.command_lines.specs.command_passes.specs.Stops.{stop_case}
 use Rattle.mesa_command.proofs.Calls.{not_ready}
 use Rattle.mesa_command.proofs.loading.readied.Goals as goal
 

@@ -1,4 +1,4 @@
-use Rattle.command_passes.specs.Stops.{stop_case}
+use Rattle.command_lines.specs.command_passes.specs.Stops.{stop_case}
 use Rattle.mesa_command.proofs.Filing.{not_made, was_stored}
 use Rattle.mesa_command.proofs.storing.stored.Goals as goal
 

@@ -1,4 +1,4 @@
-use Rattle.command_passes.proofs.Bases.{base_ascii}
+use Rattle.command_lines.specs.command_passes.proofs.Bases.{base_ascii}
 use Rattle.command_rules.specs.Surveying.{survey_in}
 use Rattle.mesa_command.proofs.Printed.{alone_passes}
 use Rattle.mesa_command.proofs.surveying.surveyed.Goals as goal

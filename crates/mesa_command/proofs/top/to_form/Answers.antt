@@ -1,6 +1,6 @@
 use Rattle.std.proofs.Common.{refl}
 use Rattle.command_lines.specs.Words.{source_in as form_source}
-use Rattle.command_passes.specs.Kinds.{kind_in}
+use Rattle.command_lines.specs.command_passes.specs.Kinds.{kind_in}
 use Rattle.mesa_command.proofs.Calls.{goes, loads}
 use Rattle.mesa_command.proofs.Exercised.{exercises}
 use Rattle.command_lines.specs.Words.{behind_first}

@@ -1,7 +1,7 @@
 use Rattle.std.proofs.lemmas.Result.{err_from_is_err_and}
-use Rattle.command_passes.specs.Kinds.{kind_in}
-use Rattle.command_passes.specs.Stops.{stop_case}
-use Rattle.command_passes.proofs.Bases.{base_ascii}
+use Rattle.command_lines.specs.command_passes.specs.Kinds.{kind_in}
+use Rattle.command_lines.specs.command_passes.specs.Stops.{stop_case}
+use Rattle.command_lines.specs.command_passes.proofs.Bases.{base_ascii}
 use Rattle.mesa_command.proofs.Files.{no_room_upgraded, not_upgraded, upgrades}
 use Rattle.mesa_command.proofs.upgrading.upgraded.Goals as goal
 

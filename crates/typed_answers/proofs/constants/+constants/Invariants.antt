@@ -1,6 +1,6 @@
 use Rattle.std.proofs.Common.{◌≡◌, map, drop, Some}
 use Rattle.std.specs.Prelude.{◌&&◌, ◌||◌}
-use Rattle.mesa_base.specs.Chain.{chain}
+use Rattle.mesa_types.specs.mesa_base.specs.Chain.{chain}
 use Rattle.mesa_types.specs.Constants.{constant_run, all_true, some_true, ◌>>=◌}
 use Rattle.mesa_types.specs.Plain.{expr, exprs, operation}
 use Rattle.mesa_types.specs.Typed.{NoOperation}

@@ -4,7 +4,7 @@ use Rattle.syntax_trees.specs.PlainSyntax as plain
 use Rattle.syntax_trees.specs.declared.syntax.Expr.{Expr}
 use Rattle.syntax_trees.specs.declared.syntax.Keyed.{Keyed}
 use Rattle.check_state.specs.Views as words
-use Rattle.check_selectors.specs.Views as reaching
+use Rattle.check_operands.specs.check_selectors.specs.Views as reaching
 use Rattle.check_operands.specs.Lists.{value_turn}
 use Rattle.check_operands.specs.Runs as runs
 use Rattle.check_operands.specs.Views as view

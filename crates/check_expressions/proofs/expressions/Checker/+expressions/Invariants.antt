@@ -5,7 +5,7 @@ use Rattle.syntax_trees.specs.declared.syntax.Expr.{Expr}
 use Rattle.syntax_trees.specs.declared.syntax.Keyed.{Keyed}
 use Rattle.check_rules.specs.Values.{is_truth}
 use Rattle.check_state.specs.Views as words
-use Rattle.check_selectors.specs.Views as reaching
+use Rattle.check_operands.specs.check_selectors.specs.Views as reaching
 use Rattle.check_operands.specs.Folds.{folded}
 use Rattle.check_operands.specs.Lists.{value_turn}
 use Rattle.check_operands.specs.Runs as runs

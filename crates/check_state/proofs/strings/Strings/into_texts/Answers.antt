@@ -1,5 +1,5 @@
 use Rattle.std.proofs.Common.{◌≡◌, ℕ, List, IfOk, take, ap, subst, ◌∙◌}
-use Rattle.mesa_base.specs.declared.limits.TheConstants.{DISTINCT_STRINGS}
+use Rattle.mesa_types.specs.mesa_base.specs.declared.limits.TheConstants.{DISTINCT_STRINGS}
 use Rattle.check_state.proofs.StringLaws.{all_taken, long_enough}
 use Rattle.check_state.proofs.strings.Strings.into_texts.Goals as goal
 
