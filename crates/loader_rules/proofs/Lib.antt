@@ -9,4 +9,5 @@ pub mod Faultless
 pub mod Wanting
 pub mod Naming
 pub mod InOrder
+pub mod Alike
 mod Examples

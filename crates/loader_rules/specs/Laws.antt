@@ -1,6 +1,8 @@
 -- The laws of loading (rule of this project).
-use Rattle.std.specs.Prelude.{◌≡◌, ℕ, ◌≤◌, ◌⊎◌, List, [], ◌∷◌, ◌++◌, length, All, Some}
+use Rattle.std.specs.Prelude.{◌≡◌, ℕ, ◌≤◌, ◌⊎◌, List, [], ◌∷◌, ◌++◌, length, filter, All, Contains, Some}
+use Rattle.interface_records.specs.declared.wanted.Wanted.{Wanted as Entry}
 use Rattle.object_files.specs.declared.image.Image.{Image}
+use Rattle.object_rules.specs.Exact.{IsSameImage}
 use Rattle.object_rules.specs.ImageFiles.{IsImageFile}
 use Rattle.object_rules.specs.ImageForms.{parts_of_image, image_form}
 use Rattle.object_rules.specs.Parts.{IsWhole}
@@ -9,6 +11,7 @@ use Rattle.loader_rules.specs.declared.limits.TheConstants.{MOST_IMAGES}
 use Rattle.loader_rules.specs.LoadFaults.{faults_in, load_faults, first_of, HasLoadFault}
 use Rattle.loader_rules.specs.Loaded.{Loaded}
 use Rattle.loader_rules.specs.Parts.{part}
+use Rattle.loader_rules.specs.Wanted.{is_built_in}
 
 -- one image or one fault, and never both
 pub record LoadsComeOnce : Type 0 where
@@ -43,3 +46,33 @@ pub record IsInOrder (version : ℕ) (i : Image) : Type 0 where
 abbrev pub LoadedImagesAreInOrder : Type 0
 LoadedImagesAreInOrder = (version : ℕ) (images : List Image) (image : Image) → length images ≤ MOST_IMAGES → All (HasFile version) images
     → Loaded images image → IsInOrder version image
+
+-- ---- images that differ in depths alone, which files do not hold
+
+unfoldable pub AreSameImages : List Image → List Image → Type 0
+AreSameImages [] [] = Unit {0}
+AreSameImages (a ∷ more) (b ∷ rest) = IsSameImage a b × AreSameImages more rest
+AreSameImages _ _ = ⊥
+
+-- they have the same faults, and are loaded as images that differ in depths alone
+pub record LoadAlike (xs ys : List Image) : Type 0 where
+  pub faults : load_faults xs ≡ load_faults ys
+  pub images : (a b : Image) → Loaded xs a → Loaded ys b → IsSameImage a b
+
+abbrev pub LoadsAreAlike : Type 0
+LoadsAreAlike = (xs ys : List Image) → AreSameImages xs ys → LoadAlike xs ys
+
+-- ---- what is still wanted is of the built-in interface, and one of the images wants it
+
+-- the items of the built-in interface that it wants
+abbrev pub wanted_of_host : Image → List Entry
+wanted_of_host i = filter (λ (e : Entry). is_built_in e.face) i.wanted
+
+-- one of the images wants it, and it is of the built-in interface
+pub record IsWantedByOne (images : List Image) (e : Entry) : Type 0 where
+  pub image : Image
+  pub is_one : Contains images image
+  pub wants : Contains (wanted_of_host image) e
+
+abbrev pub WantedByOne : Type 0
+WantedByOne = (images : List Image) (image : Image) → Loaded images image → All (IsWantedByOne images) image.wanted

@@ -1,6 +1,6 @@
 //! The laws of loading. No call of the program is here.
 
-ghost use Rattle.loader_rules.specs.Laws.{LoadsComeOnce, FirstImageHasTheFault, LoadedImagesAreInOrder};
+ghost use Rattle.loader_rules.specs.Laws.{LoadsComeOnce, FirstImageHasTheFault, LoadedImagesAreInOrder, LoadsAreAlike, WantedByOne};
 ghost use Rattle.loader_rules.specs.SameFaces.{SameFacesAreEqual};
 
 /// A law: images come to one loaded image, or to one fault, and never to both.
@@ -24,4 +24,16 @@ pub fn loaded_images_are_in_order()
 #[tactic(auto, using(crate::proofs::Faces::same_faces_are_equal))]
 pub fn same_faces_are_equal()
     ensures { SameFacesAreEqual }
+{}
+
+/// A law: images that differ in depths alone have the same faults, and are loaded as images that differ in depths alone.
+#[tactic(auto, using(crate::proofs::Alike::loads_are_alike))]
+pub fn loads_are_alike()
+    ensures { LoadsAreAlike }
+{}
+
+/// A law: what is still wanted is of the built-in interface, and one of the images wants it.
+#[tactic(auto, using(crate::proofs::Alike::wanted_by_one))]
+pub fn wanted_by_one()
+    ensures { WantedByOne }
 {}

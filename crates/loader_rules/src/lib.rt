@@ -10,5 +10,6 @@ pub mod limits;
 pub use fault::LoadFault;
 pub use images::Images;
 pub use laws::{
-    first_image_has_the_fault, loaded_images_are_in_order, loads_come_once, same_faces_are_equal,
+    first_image_has_the_fault, loaded_images_are_in_order, loads_are_alike, loads_come_once,
+    same_faces_are_equal, wanted_by_one,
 };
