@@ -1,0 +1,4 @@
+pub mod Fitting
+pub mod Names
+pub mod OneAnswer
+pub mod Putting

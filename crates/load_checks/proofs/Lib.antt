@@ -1,0 +1,13 @@
+pub mod Alike
+pub mod Answered
+pub mod Chosen
+pub mod Differing
+pub mod Faulted
+pub mod Firsts
+pub mod Linking
+pub mod Looping
+pub mod Noting
+pub mod Passing
+pub mod Putting
+pub mod Turning
+pub mod Wanteds
