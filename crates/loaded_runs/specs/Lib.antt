@@ -1,0 +1,4 @@
+pub mod Laws
+pub mod Outermost
+pub mod Sources
+pub mod Together
