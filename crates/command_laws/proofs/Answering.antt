@@ -4,6 +4,7 @@ use Rattle.mesa_base.specs.Outside.{Files}
 use Rattle.mesa_base.specs.declared.status.Status.{Status}
 use Rattle.mesa_base.specs.declared.status.Status.TheVariants as status
 use Rattle.depth_laws.specs.Laws.{DepthsDoNotMatter}
+use Rattle.loader_rules.specs.Laws.{LoadsAreAlike}
 use Rattle.line_pieces.specs.Outputs.{Stream, PrintsAll}
 use Rattle.command_rules.specs.Binding.{bound_in}
 use Rattle.command_rules.specs.Case.{Case, Absent, Done, Memory, Refused, Usage, status_of}
@@ -12,10 +13,10 @@ use Rattle.command_rules.specs.Comes.{Compiles, not_compiled, compiled, Defines,
 use Rattle.command_rules.specs.Complete.{NoFault, Tells, IsAnswer, IsCall, StopsOver, MakesOver, IsRefused, IsTooLarge, IsUnresolved, IsUnresolvedWithin, IsNotLoaded, IsStored, IsComplete, IsRun, IsListed, IsPlanned, IsSurveyed, IsUpgraded, IsExercised, Answered}
 use Rattle.command_rules.specs.Configurations.{program, source_in}
 use Rattle.command_rules.specs.Exercise.{chain, exercise_shelf, within}
-use Rattle.command_rules.specs.Forms.{Source, OfConfig, FileKind, Form, Compile, Define, Bind, Run, Go, Show, Upgrade, Exercise, Plan, Survey, HasNoForm, WritesAlone, kind_file, module_file, image_file}
+use Rattle.command_rules.specs.Forms.{Source, OfConfig, FileKind, Form, Compile, Define, Bind, Run, Go, Show, Upgrade, Exercise, Plan, Survey, HasNoForm, WritesAlone, kind_file, module_file}
 use Rattle.command_rules.specs.Listing.{listing_in, value_in}
 use Rattle.command_rules.specs.Modules.{interface_in, module_in}
-use Rattle.command_rules.specs.Objects.{image_in}
+use Rattle.command_rules.specs.Loading.{runnable_in}
 use Rattle.command_rules.specs.Passes.{Has, IsExact, Trail, Pass}
 use Rattle.command_rules.specs.Passing.{Fails, refused, failed, memory}
 use Rattle.command_rules.specs.Planning.{plan_in}
@@ -24,7 +25,7 @@ use Rattle.command_rules.specs.Shown.{image_names, program_names}
 use Rattle.command_rules.specs.Surveying.{survey_in}
 use Rattle.command_rules.specs.Worlds.{Shelf, Scene, World}
 use Rattle.command_rules.specs.Writing.{Target, IsSmall, IsFirstTooLarge, NotStored, StoresAll, Written}
-use Rattle.command_rules.proofs.Stopping.{IsOfFiles, PassStopsSo, source_so, module_so, interface_in_so, bound_so, image_so, listing_so, plan_so, survey_so, value_so}
+use Rattle.command_rules.proofs.Stopping.{IsOfFiles, PassStopsSo, source_so, module_so, interface_in_so, bound_so, listing_so, runnable_so, plan_so, survey_so, value_so}
 use Rattle.command_laws.specs.Laws.{PassesAreExact, CasesAreAnswers}
 use Rattle.command_laws.proofs.Came.{streams}
 use Rattle.command_laws.proofs.Exercising.{exercised_stopped, exercised_large, exercised_lacking, exercised_whole}
@@ -75,13 +76,13 @@ binds_used : (base : List ℕ) (folder folder' : Shelf) (case : Case) → Binds 
 binds_used base folder folder' case (not_bound _ why onward) e = fails_used (bound_in base) (bound_so base) folder folder' case why e
 binds_used base folder folder' case (bound b image trail _ comes is written) e = written_used _ trail folder folder' case written e
 
-loads_used : (base : List ℕ) (turns : ℕ) (folder folder' : Shelf) (old new : Scene) (case : Case) → Loads base turns folder folder' old new case
+loads_used : (bases : List (List ℕ)) (turns : ℕ) (folder folder' : Shelf) (old new : Scene) (case : Case) → Loads bases turns folder folder' old new case
     → status_of case ≢ status.Usage
-loads_used base turns folder folder' old new case (not_read _ why onward same) e =
-    fails_used (image_in (image_file base)) (image_so (image_file base)) folder folder' case why e
-loads_used base turns folder folder' old new case (Loads.unresolved parts i gives first same) e = cc
-loads_used base turns folder folder' old new case (Loads.no_memory parts gives same) e = cc
-loads_used base turns folder folder' old new case (Loads.ran parts image _ gives is all it) e = run_used (image_names image) image turns old new case it e
+loads_used bases turns folder folder' old new case (not_read _ why onward same) e =
+    fails_used (runnable_in bases) (runnable_so bases) folder folder' case why e
+loads_used bases turns folder folder' old new case (Loads.unresolved parts base i gives first same) e = cc
+loads_used bases turns folder folder' old new case (Loads.no_memory parts gives same) e = cc
+loads_used bases turns folder folder' old new case (Loads.ran parts image _ gives is all it) e = run_used (image_names image) image turns old new case it e
 
 goes_used : (source : Source) (base : List ℕ) (turns : ℕ) (folder folder' : Shelf) (old new : Scene) (case : Case) → Goes source base turns folder folder' old new case
     → status_of case ≢ status.Usage
@@ -121,7 +122,7 @@ form_used : (form : Form) (folder folder' : Shelf) (old new : Scene) (case : Cas
 form_used (Compile base) folder folder' old new case it e = compiles_used base folder folder' case it e
 form_used (Define base stamp) folder folder' old new case it e = defines_used base stamp folder folder' case it e
 form_used (Bind base) folder folder' old new case it e = binds_used base folder folder' case it e
-form_used (Run base turns) folder folder' old new case it e = loads_used base turns folder folder' old new case it e
+form_used (Run bases turns) folder folder' old new case it e = loads_used bases turns folder folder' old new case it e
 form_used (Go source base turns) folder folder' old new case it e = goes_used source base turns folder folder' old new case it e
 form_used (Show kind base) folder folder' old new case it e =
     prints_used (listing_in kind (kind_file kind base)) (listing_so kind (kind_file kind base)) folder folder' old new case it e
@@ -162,7 +163,7 @@ told_both : (case c : Case) (R Q : Type 0) (said said' : Stream) (s : Status) �
 told_both case c R Q said said' s tells (inl it) = inl (subst (λ x. Tells x said said' s) it.0 tells, it.1, it.2)
 told_both case c R Q said said' s tells (inr e) = inr (tells.status_is ∙ ap status_of e)
 
-module _ (exact : PassesAreExact) (law : DepthsDoNotMatter) where
+module _ (exact : PassesAreExact) (law : DepthsDoNotMatter) (alike : LoadsAreAlike) where
   -- what stops a form, over files that are told and without faults
   form_stopped : (form : Form) (folder folder' : Shelf) (old new : Scene) (files : Files) (case c : Case) → folder.files ≡ Some files
       → NoFault folder folder' old new → StopsOver form files c → FormComes form folder folder' old new case → (case ≡ Memory) ⊎ (case ≡ c)
@@ -175,9 +176,9 @@ module _ (exact : PassesAreExact) (law : DepthsDoNotMatter) where
   form_stopped (Bind base) folder folder' old new files case c e calm it x =
       made_stopped (bound_in base) (OfBind base) files (exact.bound base) (binds_likely base) folder folder' case c
       (record { trail = it.0; comes = it.1 }) (bind_made base files folder folder' case e calm.no_folder_fault x)
-  form_stopped (Run base turns) folder folder' old new files case c e calm it x =
-      loaded_stopped law base turns files (exact.images (image_file base)) old new case c
-      (record { trail = it.0; comes = it.1 }) (loads_so base turns files folder folder' old new case e calm.no_folder_fault x)
+  form_stopped (Run bases turns) folder folder' old new files case c e calm it x =
+      loaded_stopped law alike bases turns files (exact.runs bases) old new case c
+      (record { trail = it.0; comes = it.1 }) (loads_so bases turns files folder folder' old new case e calm.no_folder_fault x)
   form_stopped (Go source base turns) folder folder' old new files case c e calm it x =
       went_stopped source base turns files (exact.sources source base) folder folder' old new case c
       (record { trail = it.0; comes = it.1 }) (goes_so source base turns files folder folder' old new case e calm.no_folder_fault x)
@@ -210,7 +211,7 @@ module _ (exact : PassesAreExact) (law : DepthsDoNotMatter) where
   form_large (Bind base) folder folder' old new files case targets file e calm it first x =
       made_large (bound_in base) (OfBind base) files (exact.bound base) (binds_likely base) folder folder' case it.1 targets file
       (record { trail = it.0; comes = it.3 }) (it.2, it.4, it.5) first (bind_made base files folder folder' case e calm.no_folder_fault x)
-  form_large (Run base turns) folder folder' old new files case targets file e calm it first x = absurd it
+  form_large (Run bases turns) folder folder' old new files case targets file e calm it first x = absurd it
   form_large (Go source base turns) folder folder' old new files case targets file e calm it first x =
       went_large source base turns files (exact.sources source base) folder folder' old new it.1.configured it.1.objects
       (record { trail = it.0; comes = it.1.comes }) it.1.their case file (is_first _ file (subst (λ ts. IsFirstTooLarge ts file) it.2 first))
@@ -236,7 +237,7 @@ module _ (exact : PassesAreExact) (law : DepthsDoNotMatter) where
   form_stored (Bind base) folder folder' old new files case targets e calm is it small x =
       made_whole (bound_in base) (OfBind base) files (exact.bound base) (binds_likely base) folder folder' case it.1 targets
       (record { trail = it.0; comes = it.3 }) (it.2, it.4, it.5) small (bind_made base files folder folder' case e calm.no_folder_fault x)
-  form_stored (Run base turns) folder folder' old new files case targets e calm is it small x = absurd is
+  form_stored (Run bases turns) folder folder' old new files case targets e calm is it small x = absurd is
   form_stored (Go source base turns) folder folder' old new files case targets e calm is it small x = absurd is
   form_stored (Show kind base) folder folder' old new files case targets e calm is it small x = absurd is
   form_stored (Upgrade kind base) folder folder' old new files case targets e calm is it small x = absurd it
@@ -275,11 +276,11 @@ module _ (exact : PassesAreExact) (law : DepthsDoNotMatter) where
         (of_its_form words before.folder after.folder before.scene after.scene (Exercise links turns) case has comes))
 
     lacking_image : IsNotLoaded words before after s
-    lacking_image base turns files trail parts i call reads first =
+    lacking_image bases turns files trail parts base i call reads first =
         answered case _ before.err after.err s tells
-        (loaded_lacking law base turns files (exact.images (image_file base)) before.scene after.scene parts (record { trail = trail; comes = reads }) case i first
-        (loads_so base turns files before.folder after.folder before.scene after.scene case call.told call.no_fault.no_folder_fault
-        (comes_of (Run base turns) files call)))
+        (loaded_lacking law alike bases turns files (exact.runs bases) before.scene after.scene parts (record { trail = trail; comes = reads }) case base i first
+        (loads_so bases turns files before.folder after.folder before.scene after.scene case call.told call.no_fault.no_folder_fault
+        (comes_of (Run bases turns) files call)))
 
     stores : IsStored words before after s
     stores form files targets call is makes small =
@@ -296,12 +297,12 @@ module _ (exact : PassesAreExact) (law : DepthsDoNotMatter) where
         (comes_of (Go source base turns) files call)))
 
     runs_image : IsRun words before after s
-    runs_image base turns files trail parts image output c call reads of_image all d =
+    runs_image bases turns files trail parts image output c call reads of_image all d =
         told case c _ before.err after.err s tells
-        (loaded_run law base turns files (exact.images (image_file base)) before.scene after.scene parts (record { trail = trail; comes = reads }) case image output c
+        (loaded_run law alike bases turns files (exact.runs bases) before.scene after.scene parts (record { trail = trail; comes = reads }) case image output c
         (streams before.folder after.folder before.scene after.scene call.no_fault) of_image all d
-        (loads_so base turns files before.folder after.folder before.scene after.scene case call.told call.no_fault.no_folder_fault
-        (comes_of (Run base turns) files call)))
+        (loads_so bases turns files before.folder after.folder before.scene after.scene case call.told call.no_fault.no_folder_fault
+        (comes_of (Run bases turns) files call)))
 
     prints : (p : Pass Case Report) (form : Form) (files : Files) (trail : Trail) (r : Report) → IsExact p → IsCall words before after form files
         → p.comes (Some files) trail (Has r) → Prints p before.folder after.folder before.scene after.scene case

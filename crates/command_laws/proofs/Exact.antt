@@ -1,5 +1,5 @@
 -- Each pass is exact.
-use Rattle.std.proofs.Common.{◌≡◌, ℕ, List, [], ◌∷◌, map, Option, Some, None}
+use Rattle.std.proofs.Common.{ap, refl, ◌≡◌, ℕ, List, [], ◌∷◌, map, Option, Some, None}
 use Rattle.syntax_trees.specs.PlainSyntax.{syntax}
 use Rattle.mesa_types.specs.Typed.{Module}
 use Rattle.interface_records.specs.Faces.{iodefs}
@@ -17,16 +17,21 @@ use Rattle.depth_laws.specs.Laws.{DepthsDoNotMatter, SurveysAreOne}
 use Rattle.include_rules.specs.Laws.{PlansComeOnce}
 use Rattle.command_rules.specs.linked_programs.specs.Laws.{TreesAreOne, SinglesAreOne}
 use Rattle.command_rules.specs.Binding.{object_of, objects_of, binding_of, bound_in}
-use Rattle.command_rules.specs.Case.{Absent}
+use Rattle.object_rules.specs.ImageForms.{ImagePart}
+use Rattle.loader_rules.specs.Laws.{LoadsAreAlike, LoadsComeOnce}
+use Rattle.command_rules.specs.Case.{Absent, Refused}
+use Rattle.command_rules.specs.declared.trouble.Trouble.TheVariants.{Load}
 use Rattle.command_rules.specs.Configurations.{config_in, source_in, tree_in, single_of, bases_of, component_in, modules_of, configuration_of, Grows, Binds, Configures}
-use Rattle.command_rules.specs.Forms.{Source, OfModule, OfConfig, module_file, config_file, interface_file, object_file}
+use Rattle.command_rules.specs.Forms.{Source, OfModule, OfConfig, module_file, config_file, interface_file, object_file, image_file}
+use Rattle.command_rules.specs.Loading.{Joins, faulty_file, images_in, runnable_in}
 use Rattle.command_rules.specs.Modules as m
 use Rattle.command_rules.specs.Modules.{interface_for, interfaces_for, Begun, begun_for, module_in, interface_in, definitions_of, Checks, Defines, Decodes, Begins}
 use Rattle.command_rules.specs.Objects.{HoldsObject, HoldsImage, object_in, image_in, shape_in}
-use Rattle.command_rules.specs.Passes.{IsExact, decided}
-use Rattle.command_rules.proofs.PassLaws.{decided_exact, given_exact, from_file_exact, and_then_exact, each_exact}
+use Rattle.command_rules.specs.Passes.{IsExact, Stops, decided, each}
+use Rattle.command_rules.proofs.PassLaws.{One, decided_exact, given_exact, from_file_exact, and_then_exact, each_exact}
 use Rattle.command_laws.specs.Laws.{PassesAreExact}
 use Rattle.command_laws.proofs.Holding.{listing_exact, values_alike}
+use Rattle.command_laws.proofs.Alike.{same_fault}
 use Rattle.command_laws.proofs.Planning.{plan_exact}
 use Rattle.command_laws.proofs.Surveying.{survey_exact}
 use Rattle.command_laws.proofs.Parts.{decodes_one, object_one, image_one, begins_one, checks_one, defines_one, configures_one, grows_one, binds_one}
@@ -57,7 +62,7 @@ unfolding image_in
 image_exact file = from_file_exact file (Absent file) (HoldsImage file) (image_one file)
 
 module _ (begin : TextsBeginOnce) (programs : ProgramsComeToOne) (definitions : DefinitionsComeToOne) (trees : TreesAreOne) (singles : SinglesAreOne)
-    (parse : TextsHaveOneTree) (orders : PlansComeOnce) (depths : DepthsDoNotMatter) (surveys : SurveysAreOne) where
+    (parse : TextsHaveOneTree) (orders : PlansComeOnce) (depths : DepthsDoNotMatter) (surveys : SurveysAreOne) (loads : LoadsComeOnce) (alike : LoadsAreAlike) where
   begun_exact : (file : List ℕ) (purpose : Purpose) → IsExact (begun_for file purpose)
   begun_exact file purpose = from_file_exact file (Absent file) (Begins file purpose) (begins_one begin file purpose)
 
@@ -109,6 +114,24 @@ module _ (begin : TextsBeginOnce) (programs : ProgramsComeToOne) (definitions : 
       and_then_exact (tree_in file (IsTree k (map shape_in parts))) _ (tree_exact file (IsTree k (map shape_in parts)) (trees k (map shape_in parts))) (λ t.
       given_exact (record { tree = t; parts = parts })))
 
+  -- several images are loaded as one, or have one first fault, and never both
+  joins_one : (bases : List (List ℕ)) (parts : List ImagePart) → One (Joins bases parts)
+  joins_one bases _ o r (Joins.alone p) (Joins.alone _) = refl
+  joins_one bases _ o r (Joins.joined p q parts xs image a l) (Joins.joined _ _ _ ys other b m) = refl
+  joins_one bases _ o r (Joins.joined p q parts xs image a l) (Joins.not_joined _ _ _ ys why b f) =
+      absurd (loads.not_both xs image why l (same_fault alike (p ∷ q ∷ parts) ys xs b a why f))
+  joins_one bases _ o r (Joins.not_joined p q parts xs why a f) (Joins.joined _ _ _ ys image b m) =
+      absurd (loads.not_both ys image why m (same_fault alike (p ∷ q ∷ parts) xs ys a b why f))
+  joins_one bases _ o r (Joins.not_joined p q parts xs why a f) (Joins.not_joined _ _ _ ys other b g) =
+      ap (λ w. Stops (Refused (faulty_file bases w) (Load w))) (loads.one_fault ys why other (same_fault alike (p ∷ q ∷ parts) xs ys a b why f) g)
+
+  runnable_exact : (bases : List (List ℕ)) → IsExact (runnable_in bases)
+  unfolding runnable_in images_in
+  runnable_exact bases =
+      and_then_exact (each (λ base. image_in (image_file base)) bases) (λ parts. decided (Joins bases parts))
+      (each_exact (λ base. image_in (image_file base)) (λ base. image_exact (image_file base)) bases)
+      (λ parts. decided_exact (Joins bases parts) (joins_one bases parts))
+
   bound_exact : (base : List ℕ) → IsExact (bound_in base)
   unfolding bound_in
   bound_exact base =
@@ -127,5 +150,6 @@ module _ (begin : TextsBeginOnce) (programs : ProgramsComeToOne) (definitions : 
     listings = listing_exact;
     plans = plan_exact parse orders;
     surveys = survey_exact depths surveys;
+    runs = runnable_exact;
     values = values_alike;
   }

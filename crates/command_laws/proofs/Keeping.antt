@@ -72,9 +72,9 @@ keeps words folder folder' old new case (Comes.defines base stamp _ has it same)
 keeps words folder folder' old new case (Comes.binds base _ has it same) = of_form (Bind base) has (alone _ folder folder' old new (λ h. h) (λ h. h) same)
 keeps words folder folder' old new case (Comes.upgrades kind base _ has it same) =
     of_form (Upgrade kind base) has (alone _ folder folder' old new (λ h. h) (λ h. h) same)
-keeps words folder folder' old new case (Comes.loads base turns _ has it) =
-    of_form (Run base turns) has (record {
-      files = λ _. loads_keep base turns folder folder' old new case it;
+keeps words folder folder' old new case (Comes.loads bases turns _ has it) =
+    of_form (Run bases turns) has (record {
+      files = λ _. loads_keep bases turns folder folder' old new case it;
       input = λ h. absurd h;
       out = λ h. absurd h;
       steps = λ h. absurd h;

@@ -18,7 +18,8 @@ pub mod Exercising
 pub mod Loading
 pub mod Uncaught
 pub mod OneCase
-pub mod Answering
+pub mod Alike
+mod Answering
 pub mod Growing
 pub mod CutsOff
 pub mod RunsMeant

@@ -2,13 +2,14 @@
 use Rattle.std.proofs.Common.{◌≡◌, ◌≢◌, ℕ, List, Some, refl, subst}
 use Rattle.mesa_base.specs.Outside.{Files}
 use Rattle.depth_laws.specs.Laws.{DepthsDoNotMatter}
+use Rattle.loader_rules.specs.Laws.{LoadsAreAlike}
 use Rattle.command_rules.specs.Binding.{bound_in}
 use Rattle.command_rules.specs.Case.{Case, Memory, Usage}
 use Rattle.command_rules.specs.Comes.{Compiles, Defines, Binds, Loads, Goes, Shows, Plans, ShowsEscapes, Upgrades, Exercises, Comes}
 use Rattle.command_rules.specs.Complete.{NoFault, OneCaseComes}
 use Rattle.command_rules.specs.Ends.{TellsInput}
 use Rattle.command_rules.specs.Exercise.{chain}
-use Rattle.command_rules.specs.Forms.{OfConfig, Form, Compile, Define, Bind, Run, Go, Show, Upgrade, Exercise, Plan, Survey, HasForm, HasNoForm, kind_file, module_file, image_file}
+use Rattle.command_rules.specs.Forms.{OfConfig, Form, Compile, Define, Bind, Run, Go, Show, Upgrade, Exercise, Plan, Survey, HasForm, HasNoForm, kind_file, module_file}
 use Rattle.command_rules.specs.Listing.{listing_in}
 use Rattle.command_rules.specs.Modules.{interface_in, module_in}
 use Rattle.command_rules.specs.Planning.{plan_in}
@@ -28,7 +29,7 @@ abbrev pub FormComes : Form → (folder folder' : Shelf) → (old new : Scene) �
 FormComes (Compile base) folder folder' old new case = Compiles base folder folder' case
 FormComes (Define base stamp) folder folder' old new case = Defines base stamp folder folder' case
 FormComes (Bind base) folder folder' old new case = Binds base folder folder' case
-FormComes (Run base turns) folder folder' old new case = Loads base turns folder folder' old new case
+FormComes (Run bases turns) folder folder' old new case = Loads bases turns folder folder' old new case
 FormComes (Go source base turns) folder folder' old new case = Goes source base turns folder folder' old new case
 FormComes (Show kind base) folder folder' old new case = Shows kind base folder folder' old new case
 FormComes (Upgrade kind base) folder folder' old new case = Upgrades kind base folder folder' case
@@ -46,7 +47,7 @@ meets words folder folder' old new case (Comes.usage none here same) = no_form n
 meets words folder folder' old new case (Comes.compiles base _ form it same) = of_form (Compile base) case form it
 meets words folder folder' old new case (Comes.defines base stamp _ form it same) = of_form (Define base stamp) case form it
 meets words folder folder' old new case (Comes.binds base _ form it same) = of_form (Bind base) case form it
-meets words folder folder' old new case (Comes.loads base turns _ form it) = of_form (Run base turns) case form it
+meets words folder folder' old new case (Comes.loads bases turns _ form it) = of_form (Run bases turns) case form it
 meets words folder folder' old new case (Comes.goes source base turns _ form it) = of_form (Go source base turns) case form it
 meets words folder folder' old new case (Comes.shows kind base _ form it) = of_form (Show kind base) case form it
 meets words folder folder' old new case (Comes.upgrades kind base _ form it same) = of_form (Upgrade kind base) case form it
@@ -66,7 +67,7 @@ pub of_its_form : (words : List (List ℕ)) (folder folder' : Shelf) (old new : 
 of_its_form words folder folder' old new form case has comes =
     met_so words folder folder' old new form case has (meets words folder folder' old new case comes)
 
-module _ (exact : PassesAreExact) (law : DepthsDoNotMatter) where
+module _ (exact : PassesAreExact) (law : DepthsDoNotMatter) (alike : LoadsAreAlike) where
   one_of_form : (form : Form) (folder folder' last : Shelf) (old new new' : Scene) (files : Files) (input : List ℕ) (c d : Case) → folder.files ≡ Some files
       → TellsInput old input → NoFault folder folder' old new → NoFault folder last old new' → c ≢ Memory → d ≢ Memory
       → FormComes form folder folder' old new c → FormComes form folder last old new' d → c ≡ d
@@ -79,9 +80,9 @@ module _ (exact : PassesAreExact) (law : DepthsDoNotMatter) where
   one_of_form (Bind base) folder folder' last old new new' files input c d e i calm still m n x y =
       one_made (bound_in base) (OfBind base) files (exact.bound base) (binds_likely base) folder folder' last c d m n
       (bind_made base files folder folder' c e calm.no_folder_fault x) (bind_made base files folder last d e still.no_folder_fault y)
-  one_of_form (Run base turns) folder folder' last old new new' files input c d e i calm still m n x y =
-      one_loaded law base turns files (exact.images (image_file base)) old new new' input c d i (streams folder folder' old new calm) (streams folder last old new' still) m n
-      (loads_so base turns files folder folder' old new c e calm.no_folder_fault x) (loads_so base turns files folder last old new' d e still.no_folder_fault y)
+  one_of_form (Run bases turns) folder folder' last old new new' files input c d e i calm still m n x y =
+      one_loaded law alike bases turns files (exact.runs bases) old new new' input c d i (streams folder folder' old new calm) (streams folder last old new' still) m n
+      (loads_so bases turns files folder folder' old new c e calm.no_folder_fault x) (loads_so bases turns files folder last old new' d e still.no_folder_fault y)
   one_of_form (Go source base turns) folder folder' last old new new' files input c d e i calm still m n x y =
       one_went source base turns files (exact.sources source base) folder folder' last old new new' input c d i calm still m n
       (goes_so source base turns files folder folder' old new c e calm.no_folder_fault x) (goes_so source base turns files folder last old new' d e still.no_folder_fault y)

@@ -70,11 +70,37 @@ others : List (List ℕ) → List (List ℕ)
 others [] = []
 others (a ∷ rest) = rest
 
+-- the last word, and those before it
+front : List (List ℕ) → List (List ℕ)
+front [] = []
+front (a ∷ []) = []
+front (a ∷ b ∷ rest) = a ∷ front (b ∷ rest)
+
+last_word : List (List ℕ) → List ℕ
+last_word [] = []
+last_word (a ∷ []) = a
+last_word (a ∷ b ∷ rest) = last_word (b ∷ rest)
+
+front_of : (xs : List (List ℕ)) (x : List ℕ) → front (xs ++ x ∷ []) ≡ xs
+unfolding front
+front_of [] x = refl
+front_of (a ∷ []) x = refl
+front_of (a ∷ b ∷ rest) x = ap (λ l. a ∷ l) (front_of (b ∷ rest) x)
+
+last_of : (xs : List (List ℕ)) (x : List ℕ) → last_word (xs ++ x ∷ []) ≡ x
+unfolding last_word
+last_of [] x = refl
+last_of (a ∷ []) x = refl
+last_of (a ∷ b ∷ rest) x = last_of (b ∷ rest) x
+
+same_ends : (xs ys : List (List ℕ)) (x y : List ℕ) → xs ++ x ∷ [] ≡ ys ++ y ∷ [] → (xs ≡ ys) × (x ≡ y)
+same_ends xs ys x y e = (sym (front_of xs x) ∙ ap front e ∙ front_of ys y, sym (last_of xs x) ∙ ap last_word e ∙ last_of ys y)
+
 data Said (words : List (List ℕ)) : Form → Type 0 where
   is_compile : (base : List ℕ) → words ≡ codes "compile" ∷ base ∷ [] → Said words (Compile base)
   is_define : (base word : List ℕ) (stamp : ℕ) → words ≡ codes "compile" ∷ base ∷ word ∷ [] → stamp_of word ≡ Some stamp → Said words (Define base stamp)
   is_bind : (base : List ℕ) → words ≡ codes "bind" ∷ base ∷ [] → Said words (Bind base)
-  is_run : (base : List ℕ) (turns : ℕ) → words ≡ codes "run" ∷ base ∷ decimal turns ∷ [] → turns < 2 ^ 64 → Said words (Run base turns)
+  is_run : (bases : List (List ℕ)) (turns : ℕ) → words ≡ codes "run" ∷ bases ++ decimal turns ∷ [] → turns < 2 ^ 64 → Said words (Run bases turns)
   is_go : (source : Source) (base : List ℕ) (turns : ℕ) → words ≡ codes "go" ∷ source_file source base ∷ decimal turns ∷ [] → turns < 2 ^ 64
       → Said words (Go source base turns)
   is_list : (kind : FileKind) (base : List ℕ) → words ≡ codes "list" ∷ kind_file kind base ∷ [] → Said words (Show kind base)
@@ -91,7 +117,7 @@ said : (words : List (List ℕ)) (form : Form) → HasForm words form → Said w
 said words form (compile base is) = is_compile base refl
 said words form (define base word stamp is told) = is_define base word stamp refl told
 said words form (bind base is) = is_bind base refl
-said words form (run base turns is few) = is_run base turns refl few
+said words form (run bases turns some most are few) = is_run bases turns refl few
 said words form (go source base turns is few) = is_go source base turns refl few
 said words form (list kind base is) = is_list kind base refl
 said words form (upgrade kind base is) = is_upgrade kind base refl
@@ -117,7 +143,7 @@ kind_of : Form → Kind
 kind_of (Compile base) = Compiles
 kind_of (Define base stamp) = Defines
 kind_of (Bind base) = Binds
-kind_of (Run base turns) = Runs
+kind_of (Run bases turns) = Runs
 kind_of (Go source base turns) = Goes
 kind_of (Show kind base) = Shows
 kind_of (Upgrade kind base) = Upgrades
@@ -149,7 +175,7 @@ unfolding kind_of kind_by letter first first_letter
 its_kind words f (is_compile base e) = ap (λ w. kind_by (letter w) (length w)) e
 its_kind words f (is_define base word stamp e told) = ap (λ w. kind_by (letter w) (length w)) e
 its_kind words f (is_bind base e) = ap (λ w. kind_by (letter w) (length w)) e
-its_kind words f (is_run base turns e few) = ap (λ w. kind_by (letter w) (length w)) e
+its_kind words f (is_run bases turns e few) = ap (λ w. kind_by (letter w) (length w)) e
 its_kind words f (is_go source base turns e few) = ap (λ w. kind_by (letter w) (length w)) e
 its_kind words f (is_list kind base e) = ap (λ w. kind_by (letter w) (length w)) e
 its_kind words f (is_upgrade kind base e) = ap (λ w. kind_by (letter w) (length w)) e
@@ -169,8 +195,9 @@ one_said words f g (is_compile a e) (is_compile b d) same = ap Compile (ap secon
 one_said words f g (is_define a v n e told) (is_define b w m d also) same =
     ap (λ z. Define z n) (ap second (sym e ∙ d)) ∙ ap (Define b) (same_Some n m (sym told ∙ ap stamp_of (ap third (sym e ∙ d)) ∙ also))
 one_said words f g (is_bind a e) (is_bind b d) same = ap Bind (ap second (sym e ∙ d))
-one_said words f g (is_run a n e few) (is_run b m d less) same =
-    ap (λ z. Run z n) (ap second (sym e ∙ d)) ∙ ap (Run b) (decimal_injective n m few less (ap third (sym e ∙ d)))
+one_said words f g (is_run xs n e few) (is_run ys m d less) same =
+    let both = same_ends xs ys (decimal n) (decimal m) (ap others (sym e ∙ d)) in
+    ap (λ z. Run z n) both.0 ∙ ap (Run ys) (decimal_injective n m few less both.1)
 one_said words f g (is_go s a n e few) (is_go t b m d less) same =
     go_is s t a b n m (same_file s t a b (ap second (sym e ∙ d))) (decimal_injective n m few less (ap third (sym e ∙ d)))
 one_said words f g (is_list s a e) (is_list t b d) same =

@@ -1,6 +1,5 @@
 -- A plan is one: of texts that are told, and of files that were made of them.
-use Rattle.std.proofs.Common.{◌≡◌, ℕ, List, [], ◌∷◌, length, map, Option, Some, None, refl, ap}
-use Rattle.syntax_trees.specs.declared.syntax.Module.{Module}
+use Rattle.std.proofs.Common.{ℕ, List, [], ◌∷◌, length, map, Option, Some, None, refl, ap}
 use Rattle.include_rules.specs.Laws.{PlansComeOnce}
 use Rattle.include_rules.specs.Naming.{naming}
 use Rattle.include_rules.specs.Stale as faced

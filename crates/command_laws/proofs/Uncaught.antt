@@ -1,5 +1,5 @@
 -- A signal that nothing caught in a run of an image's file stands in each survey of that file.
-use Rattle.std.proofs.Common.{◌≡◌, ℕ, zero, suc, ◌<◌, List, [], ◌∷◌, ◌++◌, flat_map, length, All, Option, Some, Result, Ok, codes, refl, sym, ◌∙◌, ap, subst, append_assoc, arith}
+use Rattle.std.proofs.Common.{◌≡◌, ℕ, zero, suc, List, [], ◌∷◌, ◌++◌, flat_map, All, Option, Some, Result, codes, refl, sym, ◌∙◌, ap, subst, append_assoc, arith}
 use Rattle.std.specs.Prelude.{false, Contains}
 use Rattle.std.proofs.lemmas.Option.{same_Some}
 use Rattle.mesa_base.specs.Outside.{Files}
@@ -21,7 +21,6 @@ use Rattle.machine_ready.specs.Laws.{OrderedCanRun}
 use Rattle.read_files.specs.Laws.{ImagesOfFilesAreInOrder}
 use Rattle.survey_rules.specs.Escapes.{Escapes}
 use Rattle.survey_rules.specs.Laws.{UncaughtSignalsEscape}
-use Rattle.survey_rules.specs.Survey.{IsSurvey}
 use Rattle.depth_laws.specs.Laws.{DepthsDoNotMatter}
 use Rattle.depth_laws.proofs.Escaping.{same_escapes}
 use Rattle.command_rules.specs.frame_machine.specs.declared.outcome.Outcome.{Outcome}
@@ -29,18 +28,20 @@ use Rattle.command_rules.specs.frame_machine.specs.declared.outcome.RunFault.{Ru
 use Rattle.command_rules.specs.Case.{Case, Uncaught, Absent}
 use Rattle.command_rules.specs.Comes.{Loads, not_read}
 use Rattle.command_rules.specs.Ends.{Runs, RunsTo, ended, read_fault, write_fault}
-use Rattle.command_rules.specs.Forms.{ImageFile, image_file}
+use Rattle.command_rules.specs.Forms.{image_file}
 use Rattle.command_rules.specs.Listing as listing
-use Rattle.command_rules.specs.Objects.{HoldsImage, IsImageWith, is_image, is_none, image_in}
-use Rattle.command_rules.specs.Passes.{Outcome as Came, Has, Stops, Trail, FromFile, held, missing}
-use Rattle.command_rules.specs.Passing.{Fails, refused, failed, memory, Gives}
+use Rattle.command_rules.specs.Loading.{HostHas, IsRunOf, Joins, host_wants, images_in, runnable_in}
+use Rattle.command_rules.specs.Objects.{HoldsImage, IsImageWith, is_image, image_in}
+use Rattle.command_rules.specs.Passes.{Outcome as Came, Has, Trail, Pass, FromFile, held, Follows, went, given, decided, and_then, each}
+use Rattle.command_rules.specs.Passing.{Fails, refused}
 use Rattle.command_rules.specs.Printing.{Report}
 use Rattle.command_rules.specs.Shown.{Names, case_of_end, case_of_run, image_names, shown, signal_of}
 use Rattle.command_rules.specs.Surveying.{Surveys, surveyed, escape_line, survey_text, survey_in}
-use Rattle.command_rules.specs.Writing.{OfImage}
 use Rattle.command_rules.specs.Worlds.{Shelf, Scene}
 use Rattle.command_laws.specs.Laws.{HasLine, UncaughtIsSurveyed}
-use Rattle.command_laws.proofs.Loading.{same_image, names_same}
+use Rattle.command_rules.proofs.Stopping.{runnable_so}
+use Rattle.command_laws.proofs.Alike.{same_image}
+use Rattle.command_laws.proofs.Loading.{names_same}
 
 -- ---- the line of a signal in a survey
 
@@ -59,29 +60,55 @@ unfolding survey_text
 in_text names [] s (k, less, e) = absurd (omega (arith, less))
 in_text names (x ∷ signals) s h = in_lines (escape_line names) (x ∷ signals) s h
 
--- ---- a file that is no image's, or that is not read, ends no call with a signal
+-- ---- what is not read ends no call with a signal
 
-abbrev quiet : Case → Type 0
-quiet (Uncaught name) = ⊥
-quiet _ = Unit {0}
+fails_quiet : (bases : List (List ℕ)) (folder folder' : Shelf) (name : List ℕ) → Fails (runnable_in bases) folder folder' (Uncaught name) → ⊥
+fails_quiet bases folder folder' name (refused trail _ comes missed called) = runnable_so bases folder.files trail (Uncaught name) comes
 
-abbrev quiet_stop : {A : Type 0} → Came Case A → Type 0
-quiet_stop (Has a) = Unit {0}
-quiet_stop (Stops case) = quiet case
+-- ---- one image alone is that of its file
 
-image_quiet : (file bytes : List ℕ) (o : Came Case ImagePart) → HoldsImage file bytes o → quiet_stop o
-image_quiet file bytes _ (is_image version i h) = tt
-image_quiet file bytes _ (is_none why h) = tt
+record Alone (base : List ℕ) (files : Option Files) (parts : List ImagePart) : Type 0 where
+  part : ImagePart
+  is : parts ≡ part ∷ []
+  trail : Trail
+  comes : (image_in (image_file base)).comes files trail (Has part)
 
-file_quiet : (file : List ℕ) (files : Option Files) (t : Trail) (o : Came Case ImagePart) → FromFile file (Absent file) (HoldsImage file) files t o → quiet_stop o
-file_quiet file files _ o (held bytes _ is h) = image_quiet file bytes o h
-file_quiet file files _ _ (missing is) = tt
+has_is : {A : Type 0} (a b : A) → ◌≡◌ {A = Came Case A} (Has a) (Has b) → a ≡ b
+has_is a b e = cc
 
-fails_quiet : (file : List ℕ) (folder folder' : Shelf) (case : Case) → Fails (image_in file) folder folder' case → quiet case
-unfolding image_in
-fails_quiet file folder folder' case (refused trail _ comes missed called) = file_quiet file folder.files trail (Stops case) comes
-fails_quiet file folder folder' _ (failed trail other asks rose called) = tt
-fails_quiet file folder folder' _ memory = tt
+its_parts : (bases : List (List ℕ)) (a parts : List ImagePart) → Joins bases a (Has parts) → parts ≡ a
+its_parts bases _ _ (Joins.alone p) = refl
+its_parts bases _ _ (Joins.joined p q parts images image are l) = refl
+
+abbrev read_one : (base : List ℕ) → Pass Case ImagePart
+read_one base = image_in (image_file base)
+
+none_more : (p : ImagePart) (files : Option Files) (t : Trail) (a : List ImagePart) → Follows (given {C = Case} []) (λ bs. given (p ∷ bs)) files t (Has a)
+    → a ≡ p ∷ []
+none_more p files _ a (went front more bs _ at next) = has_is a (p ∷ bs) next.1 ∙ ap (λ l. p ∷ l) (has_is bs [] at.1)
+
+one_read : (base : List ℕ) (files : Option Files) (t : Trail) (a : List ImagePart)
+    → Follows (read_one base) (λ p. and_then (given []) (λ bs. given (p ∷ bs))) files t (Has a) → Alone base files a
+one_read base files _ a (went front more p _ at next) = record { part = p; is = none_more p files more a next; trail = front; comes = at }
+
+joined_alone : (base : List ℕ) (files : Option Files) (t : Trail) (parts : List ImagePart)
+    → Follows (each (λ b. image_in (image_file b)) (base ∷ [])) (λ all. decided (Joins (base ∷ []) all)) files t (Has parts) → Alone base files parts
+unfolding each
+joined_alone base files _ parts (went front more a _ at next) =
+    let h = one_read base files front a at in
+    record { part = h.part; is = its_parts (base ∷ []) a parts next.1 ∙ h.is; trail = h.trail; comes = h.comes }
+
+alone_of : (base : List ℕ) (files : Option Files) (t : Trail) (parts : List ImagePart) → (runnable_in (base ∷ [])).comes files t (Has parts)
+    → Alone base files parts
+unfolding runnable_in images_in
+alone_of base files t parts h = joined_alone base files t parts h
+
+its_image : (p : ImagePart) (image : Image) → IsRunOf (p ∷ []) image → IsImageWith p image
+its_image p image (IsRunOf.alone _ _ is) = is
+
+its_wants : (p : ImagePart) → HostHas (p ∷ []) → All IsHostItem p.wanted
+unfolding host_wants
+its_wants p all = all zero p.wanted (omega arith)
 
 -- ---- a run that ends with a signal
 
@@ -149,7 +176,8 @@ module _ (law : UncaughtSignalsEscape) (depths : DepthsDoNotMatter) (runs : Orde
   pub uncaught_is_surveyed : UncaughtIsSurveyed
   unfolding survey_in image_in
   uncaught_is_surveyed base turns files trail r folder folder' old new name e s (not_read _ why onward same) =
-      absurd (fails_quiet (image_file base) folder folder' (Uncaught name) why)
+      absurd (fails_quiet (base ∷ []) folder folder' name why)
   uncaught_is_surveyed base turns files trail r folder folder' old new name e s (Loads.ran parts image _ gives is all it) =
-      both (image_file base) files trail gives.trail r parts s (subst (λ f. (image_in (image_file base)).comes f gives.trail (Has parts)) e gives.comes)
-      image is all turns old new name it
+      let a = alone_of base folder.files gives.trail parts gives.comes in
+      both (image_file base) files trail a.trail r a.part s (subst (λ f. (image_in (image_file base)).comes f a.trail (Has a.part)) e a.comes)
+      image (its_image a.part image (subst (λ z. IsRunOf z image) a.is is)) (its_wants a.part (subst (λ z. HostHas z) a.is all)) turns old new name it

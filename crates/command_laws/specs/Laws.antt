@@ -1,5 +1,5 @@
 -- Each pass is exact, and what a call answers follows from its case (rule of this project).
-use Rattle.std.specs.Prelude.{◌≡◌, ◌↔◌, ℕ, ◌≤◌, List, ◌++◌, length, Option, Some, codes}
+use Rattle.std.specs.Prelude.{◌≡◌, ◌↔◌, ℕ, ◌≤◌, List, [], ◌∷◌, ◌++◌, length, Option, Some, codes}
 use Rattle.mesa_base.specs.Outside.{Files, Rose}
 use Rattle.mesa_base.specs.declared.limits.TheConstants.{FILE_BYTES}
 use Rattle.mesa_base.specs.declared.status.Status.{Status}
@@ -18,6 +18,7 @@ use Rattle.command_rules.specs.Configurations.{Configured, config_in, source_in}
 use Rattle.command_rules.specs.Ends.{Ends, RunsTo, TellsInput}
 use Rattle.command_rules.specs.Forms.{FileKind, Form, HasForm, Source}
 use Rattle.command_rules.specs.Listing.{Holds, listing_in, value_in}
+use Rattle.command_rules.specs.Loading.{runnable_in}
 use Rattle.command_rules.specs.Modules.{interface_for, interface_in, module_in}
 use Rattle.command_rules.specs.Objects.{image_in, object_in}
 use Rattle.command_rules.specs.Passes.{Outcome, Has, Stops, IsExact, Trail}
@@ -52,6 +53,7 @@ pub record PassesAreExact : Type 0 where
   pub listings : (kind : FileKind) (file : List ℕ) → IsExact (listing_in kind file)
   pub plans : (bases : List (List ℕ)) → IsExact (plan_in bases)
   pub surveys : (base : List ℕ) → IsExact (survey_in base)
+  pub runs : (bases : List (List ℕ)) → IsExact (runnable_in bases)
   pub values : (kind : FileKind) (file : List ℕ) → ValuesAreAlike kind file
 
 -- what is configured has as many bases as modules, so that each module's object has its file
@@ -100,5 +102,5 @@ pub record HasLine (text line : List ℕ) : Type 0 where
 -- run of that file says so
 abbrev pub UncaughtIsSurveyed : Type 0
 UncaughtIsSurveyed = (base : List ℕ) (turns : ℕ) (files : Files) (trail : Trail) (r : Report) (folder folder' : Shelf) (old new : Scene) (name : List ℕ)
-    → folder.files ≡ Some files → (survey_in base).comes (Some files) trail (Has r) → Loads base turns folder folder' old new (Uncaught name)
+    → folder.files ≡ Some files → (survey_in base).comes (Some files) trail (Has r) → Loads (base ∷ []) turns folder folder' old new (Uncaught name)
     → HasLine r.text (codes "escapes " ++ (name ++ codes "\n"))

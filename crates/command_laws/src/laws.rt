@@ -9,6 +9,7 @@ use command_rules::checked_texts::{
 use command_rules::linked_programs::{singles_are_one, trees_are_one};
 use depth_laws::{depths_do_not_matter, surveys_are_one};
 use include_rules::plans_come_once;
+use loader_rules::{loads_are_alike, loads_come_once};
 use machine_ready::ordered_can_run;
 use read_files::images_of_files_are_in_order;
 use survey_rules::uncaught_signals_escape;
@@ -26,6 +27,8 @@ pub fn passes_are_exact()
     plans_come_once();
     depths_do_not_matter();
     surveys_are_one();
+    loads_come_once();
+    loads_are_alike();
 }
 
 /// A law: what is configured has as many bases as modules.
@@ -86,6 +89,7 @@ pub fn one_case()
 {
     passes_are_exact();
     depths_do_not_matter();
+    loads_are_alike();
 }
 
 /// A law: a case that comes of the words, with its status and line, is an answer to them.
@@ -94,4 +98,5 @@ pub fn cases_are_answers()
 {
     passes_are_exact();
     depths_do_not_matter();
+    loads_are_alike();
 }

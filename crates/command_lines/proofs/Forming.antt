@@ -1,13 +1,7 @@
 -- Which words are those of a form.
 use Rattle.std.proofs.Common.{◌≡◌, ℕ, ◌<◌, ◌≤◌, ◌^◌, true, List, [], ◌∷◌, sym, subst, codes, decimal}
 use Rattle.config_rules.specs.Components.{is_file_base}
-use Rattle.command_passes.specs.command_rules.specs.Forms.{Source, source_file, FileKind, kind_file, most_links, Run, Go, Show, Upgrade, Exercise, HasForm, run, go, list, upgrade, exercise}
-
--- run NAME TURNS
-pub has_run : (base count : List ℕ) (turns : ℕ) → is_file_base base ≡ true → turns < 2 ^ 64 → count ≡ decimal turns
-    → HasForm (codes "run" ∷ base ∷ count ∷ []) (Run base turns)
-has_run base count turns named bounded e =
-    subst (λ n. HasForm (codes "run" ∷ base ∷ n ∷ []) (Run base turns)) (sym e) (run base turns named bounded)
+use Rattle.command_passes.specs.command_rules.specs.Forms.{Source, source_file, FileKind, kind_file, most_links, Go, Show, Upgrade, Exercise, HasForm, go, list, upgrade, exercise}
 
 -- go NAME.mesa TURNS, go NAME.config TURNS
 pub has_go : (name count : List ℕ) (source : Source) (base : List ℕ) (turns : ℕ) → is_file_base base ≡ true → turns < 2 ^ 64

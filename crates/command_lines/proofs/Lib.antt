@@ -1,5 +1,7 @@
 mod Counted
 mod Ended
 mod Forming
+mod Letters
 mod Planning
+mod Running
 mod Told

@@ -1,15 +1,16 @@
 -- Which words are those of a plan.
-use Rattle.std.proofs.Common.{◌≡◌, ◌≢◌, ℕ, zero, suc, ◌+◌, ◌<◌, ◌≤◌, Bool, true, false, nat_eq, List, [], ◌∷◌, length, get_or, Some, codes, slice_get, refl, sym, ◌∙◌, ap, subst, arith}
+use Rattle.std.proofs.Common.{◌≡◌, ◌≢◌, ℕ, zero, suc, ◌<◌, ◌≤◌, true, List, [], ◌∷◌, length, get_or, Some, codes, slice_get, refl, sym, ◌∙◌, ap, subst, arith}
 use Rattle.config_rules.specs.Components.{is_file_base}
 use Rattle.command_passes.specs.command_rules.specs.Forms.{Form, Plan, HasForm, HasNoForm, compile, define, bind, run, go, list, upgrade, exercise, plan, survey}
 use Rattle.command_lines.specs.Words.{IsFit, behind_first}
+use Rattle.command_lines.proofs.Letters.{first_letter, other}
 
-got : {A : Type 0} (xs : List A) (k : ℕ) (d : A) → k < length xs → slice_get xs k ≡ Some (get_or xs k d)
+pub got : {A : Type 0} (xs : List A) (k : ℕ) (d : A) → k < length xs → slice_get xs k ≡ Some (get_or xs k d)
 got [] k d h = absurd (omega (arith, h))
 got (x ∷ xs) zero d h = refl
 got (x ∷ xs) (suc k) d h = got xs k d (omega (arith, h))
 
-some_is : {A : Type 0} (a b : A) → Some a ≡ Some b → a ≡ b
+pub some_is : {A : Type 0} (a b : A) → Some a ≡ Some b → a ≡ b
 some_is a b e = cc
 
 -- each word behind the first is fit
@@ -62,28 +63,17 @@ fit_of bases named differ (suc k) some inside = record {
 
 -- the other forms begin with another letter
 
-first_letter : List (List ℕ) → ℕ
-first_letter [] = 0
-first_letter ([] ∷ words) = 0
-first_letter ((letter ∷ word) ∷ words) = letter
-
-differ : ◌≡◌ {A = Bool} true false → ⊥
-differ e = cc
-
-other : (letter : ℕ) → nat_eq letter 112 ≡ false → letter ≡ 112 → ⊥
-other letter is same = differ (subst (λ z. nat_eq z 112 ≡ false) same is)
-
 plans_so : (words : List (List ℕ)) (form : Form) → words ≡ codes "plan" ∷ behind_first words → HasForm words form → PlansSo words
 unfolding first_letter
-plans_so words form e (compile base is) = absurd (other 99 refl (ap first_letter e))
-plans_so words form e (define base word stamp is told) = absurd (other 99 refl (ap first_letter e))
-plans_so words form e (bind base is) = absurd (other 98 refl (ap first_letter e))
-plans_so words form e (run base turns is few) = absurd (other 114 refl (ap first_letter e))
-plans_so words form e (go source base turns is few) = absurd (other 103 refl (ap first_letter e))
-plans_so words form e (list kind base is) = absurd (other 108 refl (ap first_letter e))
-plans_so words form e (upgrade kind base is) = absurd (other 117 refl (ap first_letter e))
-plans_so words form e (exercise links turns some most few) = absurd (other 101 refl (ap first_letter e))
-plans_so words form e (survey base is) = absurd (other 115 refl (ap first_letter e))
+plans_so words form e (compile base is) = absurd (other 112 refl 99 refl (ap first_letter e))
+plans_so words form e (define base word stamp is told) = absurd (other 112 refl 99 refl (ap first_letter e))
+plans_so words form e (bind base is) = absurd (other 112 refl 98 refl (ap first_letter e))
+plans_so words form e (run bases turns some most are few) = absurd (other 112 refl 114 refl (ap first_letter e))
+plans_so words form e (go source base turns is few) = absurd (other 112 refl 103 refl (ap first_letter e))
+plans_so words form e (list kind base is) = absurd (other 112 refl 108 refl (ap first_letter e))
+plans_so words form e (upgrade kind base is) = absurd (other 112 refl 117 refl (ap first_letter e))
+plans_so words form e (exercise links turns some most few) = absurd (other 112 refl 101 refl (ap first_letter e))
+plans_so words form e (survey base is) = absurd (other 112 refl 115 refl (ap first_letter e))
 plans_so words form e (plan bases some few named differ) = record { some = omega (arith, some); few = omega (arith, few); all = fit_of bases named differ }
 
 pub no_plan : (words : List (List ℕ)) → words ≡ codes "plan" ∷ behind_first words → (PlansSo words → ⊥) → HasNoForm words

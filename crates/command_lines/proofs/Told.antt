@@ -5,9 +5,10 @@ use Rattle.code_forms.specs.declared.bad_code.CodeFault.{CodeFault}
 use Rattle.object_rules.specs.declared.object_fault.ObjectFault.TheVariants.{BadField, Code}
 use Rattle.interface_records.specs.declared.wanted.WantedItem.{WantedItem}
 use Rattle.import_binder.specs.declared.fault.BindFault.TheVariants.{NoExporter, Twice, OtherInterface, OtherStamp}
+use Rattle.loader_rules.specs.declared.fault.LoadFault.TheVariants as load
 use Rattle.line_pieces.specs.Outputs.{Stream, Receives}
 use Rattle.line_pieces.specs.Texts.{path_text, stamp_text, dotted, with_dot}
-use Rattle.command_passes.specs.command_rules.specs.Lines.{field_name, code_cause, file_cause, bind_cause, item_text, placed_item, of_file}
+use Rattle.command_passes.specs.command_rules.specs.Lines.{field_name, code_cause, file_cause, bind_cause, load_cause, item_text, placed_item, of_file}
 
 item_then : (i : WantedItem) (z : List ℕ) → item_text i ++ z ≡ i.face ++ (codes "." ++ (i.item ++ z))
 item_then i z = append_assoc i.face (codes "." ++ i.item) z
@@ -104,3 +105,41 @@ pub own_told : (path : List (List ℕ)) (name : List ℕ) (old new : Stream) →
     → Receives (codes "uncaught " ++ (dotted path name ++ codes "\n")) old new
 own_told path name old new told =
     subst (λ x. Receives (codes "uncaught " ++ x) old new) (sym (append_assoc (flat_map with_dot path) name (codes "\n"))) told
+
+-- ---- images that are not loaded
+
+-- an item by its interface and its name
+item_parts : (i : WantedItem) (face name z : List ℕ) → face ≡ i.face → name ≡ i.item → face ++ (codes "." ++ (name ++ z)) ≡ item_text i ++ z
+item_parts i face name z q r =
+    ap (λ x. x ++ (codes "." ++ (name ++ z))) q ∙ ap (λ x. i.face ++ (codes "." ++ (x ++ z))) r ∙ sym (item_then i z)
+
+pub wanted_told : (file cause : List ℕ) (i : WantedItem) (face name : List ℕ) (old new : Stream) → face ≡ i.face → name ≡ i.item
+    → Receives (file ++ (codes ": " ++ (cause ++ (face ++ (codes "." ++ (name ++ codes "\n")))))) old new
+    → Receives (of_file file (cause ++ item_text i)) old new
+wanted_told file cause i face name old new q r told =
+    subst (λ x. Receives (file ++ (codes ": " ++ x)) old new)
+    (ap (λ x. cause ++ x) (item_parts i face name (codes "\n") q r) ∙ sym (append_assoc cause (item_text i) (codes "\n"))) told
+
+pub offered_twice_told : (file : List ℕ) (i : WantedItem) (one other : List (List ℕ)) (face name : List ℕ) (first second : List (List ℕ)) (old new : Stream)
+    → face ≡ i.face → name ≡ i.item → first ≡ one → second ≡ other
+    → Receives (file ++ (codes ": Twice " ++ (face ++ (codes "." ++ (name ++ (codes ": " ++ (path_text first ++ (codes ", " ++ (path_text second ++ codes "\n"))))))))) old new
+    → Receives (of_file file (load_cause (load.Twice 0 i one other))) old new
+offered_twice_told file i one other face name first second old new q r s t told =
+    subst (λ x. Receives (file ++ (codes ": Twice " ++ x)) old new)
+    (item_parts i face name (codes ": " ++ (path_text first ++ (codes ", " ++ (path_text second ++ codes "\n")))) q r
+    ∙ ap (λ x. item_text i ++ (codes ": " ++ (path_text x ++ (codes ", " ++ (path_text second ++ codes "\n"))))) s
+    ∙ ap (λ x. item_text i ++ (codes ": " ++ (path_text one ++ (codes ", " ++ (path_text x ++ codes "\n"))))) t
+    ∙ ap (λ x. item_text i ++ (codes ": " ++ x)) (sym (append_assoc (path_text one) (codes ", " ++ path_text other) (codes "\n")))
+    ∙ sym (append_assoc (item_text i) (codes ": " ++ (path_text one ++ (codes ", " ++ path_text other))) (codes "\n"))) told
+
+pub offered_stamp_told : (file : List ℕ) (i : WantedItem) (wanted found : ℕ) (face name : List ℕ) (old new : Stream) → face ≡ i.face → name ≡ i.item
+    → Receives (file ++ (codes ": OtherStamp " ++ (face ++ (codes "." ++ (name ++ (codes ": wanted " ++ (stamp_text wanted ++ (codes ", found " ++ (stamp_text found ++ codes "\n"))))))))) old new
+    → Receives (of_file file (load_cause (load.OtherStamp 0 i wanted found))) old new
+offered_stamp_told file i wanted found face name old new q r told =
+    subst (λ x. Receives (file ++ (codes ": OtherStamp " ++ x)) old new)
+    (item_parts i face name (codes ": wanted " ++ (stamp_text wanted ++ (codes ", found " ++ (stamp_text found ++ codes "\n")))) q r
+    ∙ sym (append_assoc (item_text i) (codes ": wanted " ++ (stamp_text wanted ++ (codes ", found " ++ stamp_text found))) (codes "\n"))) told
+
+pub odd_told : (file name record_name : List ℕ) (old new : Stream) → name ≡ record_name → Receives (file ++ (codes ": OddRecord " ++ (name ++ codes "\n"))) old new
+    → Receives (of_file file (codes "OddRecord " ++ record_name)) old new
+odd_told file name record_name old new e told = subst (λ x. Receives (file ++ (codes ": OddRecord " ++ (x ++ codes "\n"))) old new) e told

@@ -1,4 +1,4 @@
-//! The forms of a command line: `compile NAME`, `compile NAME STAMP`, `bind NAME`, `run NAME TURNS`, `go NAME.mesa TURNS`,
+//! The forms of a command line: `compile NAME`, `compile NAME STAMP`, `bind NAME`, `run NAME .. TURNS`, `go NAME.mesa TURNS`,
 //! `go NAME.config TURNS`, `list FILE`, `upgrade FILE`, `exercise N TURNS`, `plan NAME ..` and `survey NAME` (rule of this project).
 
 ghost use Rattle.std.specs.Prelude.{◌≡◌, ◌≢◌, ◌≤◌, ℕ, ◌∷◌, [], IfSome, IfNone, MatchOption, codes, decimal};
@@ -6,8 +6,9 @@ ghost use Rattle.command_passes.specs.command_rules.specs.Forms.{HasForm, HasNoF
 ghost use Rattle.command_lines.specs.Words.{form_in};
 
 use crate::kinds::{Source, named_kind, named_source};
-use crate::plan_words::{begins_plan, plan_of};
-use crate::words::{is_word, three_words, two_words};
+use crate::plan_words::plan_of;
+use crate::run_words::run_of;
+use crate::words::{begins, is_word, three_words, two_words};
 use command_passes::checked_texts::is_file_base;
 use listed_files::FileKind;
 use mesa_base::{Stamp, Words, decimal_value};
@@ -15,8 +16,8 @@ use mesa_base::{Stamp, Words, decimal_value};
 /// An exercise has at most so many links.
 const MOST_LINKS: u64 = 1000;
 
-/// What the words ask for. A base is a letter, then letters, digits, `-` and `_`, 64 bytes at most; an exercise has 1 to 1000 links, a plan 1 to 64 bases, no
-/// two of which are the same.
+/// What the words ask for. A base is a letter, then letters, digits, `-` and `_`, 64 bytes at most; an exercise has 1 to 1000 links, a run 1 to 16 bases, a plan
+/// 1 to 64 bases, no two of which are the same.
 #[derive(Clone, Copy)]
 pub enum Form<'a> {
     Compile {
@@ -29,8 +30,9 @@ pub enum Form<'a> {
     Bind {
         base: &'a [u8],
     },
+    /// The bases are the words between the first and the last.
     Run {
-        base: &'a [u8],
+        words: &'a Words,
         turns: u64,
     },
     Go {
@@ -64,8 +66,11 @@ pub fn form_of(words: &Words) -> Option<Form<'_>>
     ensures form { IfSome result (λ f. HasForm words.now (form_in f)) }
     ensures formless { IfNone result (HasNoForm words.now) }
 {
-    if begins_plan(words) {
+    if begins(words, "plan") {
         return plan_of(words);
+    }
+    if begins(words, "run") {
+        return run_of(words);
     }
     if let Some(two) = two_words(words) {
         return form_of_two(two.first, two.second);
@@ -74,9 +79,10 @@ pub fn form_of(words: &Words) -> Option<Form<'_>>
     form_of_three(three.first, three.second, three.third)
 }
 
-/// The form of two words, which are no plan's.
+/// The form of two words, which are no plan's and no run's.
 fn form_of_two<'a>(verb: &[u8], name: &'a [u8]) -> Option<Form<'a>>
-    requires { verb.now ≢ codes "plan" }
+    requires plan { verb.now ≢ codes "plan" }
+    requires run { verb.now ≢ codes "run" }
     ensures form { IfSome result (λ f. HasForm (verb.now ∷ name.now ∷ []) (form_in f)) }
     ensures formless { IfNone result (HasNoForm (verb.now ∷ name.now ∷ [])) }
 {
@@ -95,16 +101,15 @@ fn form_of_two<'a>(verb: &[u8], name: &'a [u8]) -> Option<Form<'a>>
     }
 }
 
-/// The form of three words, which are no plan's.
+/// The form of three words, which are no plan's and no run's.
 fn form_of_three<'a>(verb: &[u8], name: &'a [u8], last: &[u8]) -> Option<Form<'a>>
-    requires { verb.now ≢ codes "plan" }
+    requires plan { verb.now ≢ codes "plan" }
+    requires run { verb.now ≢ codes "run" }
     ensures form { IfSome result (λ f. HasForm (verb.now ∷ name.now ∷ last.now ∷ []) (form_in f)) }
     ensures formless { IfNone result (HasNoForm (verb.now ∷ name.now ∷ last.now ∷ [])) }
 {
     if is_word(verb, "compile") {
         definition_of(name, last)
-    } else if is_word(verb, "run") {
-        run_of(name, last)
     } else if is_word(verb, "go") {
         go_of(name, last)
     } else if is_word(verb, "exercise") {
@@ -184,18 +189,6 @@ fn definition_of<'a>(base: &'a [u8], word: &[u8]) -> Option<Form<'a>>
     }
     let stamp = Stamp::parse(word)?;
     Some(Form::Define { base, stamp })
-}
-
-/// The form of `run` with these two words.
-fn run_of<'a>(base: &'a [u8], count: &[u8]) -> Option<Form<'a>>
-    ensures form { IfSome result (λ f. HasForm (codes "run" ∷ base.now ∷ count.now ∷ []) (form_in f)) }
-    ensures formless { IfNone result (HasNoForm (codes "run" ∷ base.now ∷ count.now ∷ [])) }
-{
-    if !is_file_base(base) {
-        return None;
-    }
-    let turns = decimal_value(count)?;
-    Some(Form::Run { base, turns })
 }
 
 /// The form of `go` with these two words.

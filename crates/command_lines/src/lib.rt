@@ -6,8 +6,10 @@ mod ending;
 mod form;
 mod items;
 mod kinds;
+mod loads;
 mod plan_words;
 mod refusals;
+mod run_words;
 mod stops;
 mod words;
 

@@ -5,22 +5,11 @@ ghost use Rattle.command_passes.specs.command_rules.specs.Forms.{HasForm, HasNoF
 ghost use Rattle.command_lines.specs.Words.{IsFit, behind_first, form_in};
 
 use crate::form::Form;
-use crate::words::is_word;
 use command_passes::checked_texts::is_file_base;
 use mesa_base::Words;
 
 /// At most so many words: the verb, and the bases of the texts that may be planned at once.
 const MOST_WORDS: usize = 65;
-
-/// Whether the first word is `plan`.
-pub(crate) fn begins_plan(words: &Words) -> bool
-    ensures { IsTrue result ↔ (words.now ≡ codes "plan" ∷ behind_first words.now) }
-{
-    match words.get(0) {
-        Some(verb) => is_word(verb.as_slice(), "plan"),
-        None => false,
-    }
-}
 
 /// Whether the word at this place is this base.
 fn stands_at(words: &Words, at: usize, base: &[u8]) -> bool

@@ -9,6 +9,7 @@ ghost use Rattle.command_passes.specs.command_rules.specs.Lines.{file_cause, of_
 
 use crate::causes::{code_cause, field_name, tell_cause, tell_number, tell_place, tree_cause};
 use crate::items::{tell_item, tell_unresolved};
+use crate::loads::tell_load;
 use code_forms::CodeFault;
 use command_passes::checked_texts::TextFault;
 use command_passes::command_rules::Trouble;
@@ -109,5 +110,6 @@ pub(crate) fn tell_refusal<E: Sink>(file: &str, why: &Trouble, err: &mut E)
         Trouble::Unresolved(item) => tell_unresolved(file, item, err),
         Trouble::TooLarge => tell_cause(file, "TooLarge", err),
         Trouble::Cycle(bases) => tell_cycle(file, bases.as_slice(), err),
+        Trouble::Load(fault) => tell_load(file, fault, err),
     }
 }

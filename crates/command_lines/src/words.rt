@@ -1,6 +1,7 @@
-//! Words of a command line, two or three.
+//! Words of a command line: two or three, or the first of them.
 
 ghost use Rattle.std.specs.Prelude.{◌≡◌, ◌≢◌, ◌∷◌, [], MatchOption, length, IsTrue, ◌↔◌};
+ghost use Rattle.command_lines.specs.Words.{behind_first};
 
 use mesa_base::Words;
 
@@ -42,6 +43,16 @@ pub(crate) fn three_words(words: &Words) -> Option<Three<'_>>
         second,
         third,
     })
+}
+
+/// Whether the first word is this one.
+pub(crate) fn begins(words: &Words, verb: &str) -> bool
+    ensures { IsTrue result ↔ (words.now ≡ verb.now ∷ behind_first words.now) }
+{
+    match words.get(0) {
+        Some(word) => is_word(word.as_slice(), verb),
+        None => false,
+    }
 }
 
 pub(crate) fn is_word(word: &[u8], text: &str) -> bool

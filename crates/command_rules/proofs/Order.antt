@@ -60,12 +60,12 @@ before_both status.WriteFault h = h
 
 -- ---- nothing is run before
 
-loads_before : (base : List ℕ) (turns : ℕ) (folder folder' : Shelf) (old new : Scene) (case : Case) → Loads base turns folder folder' old new case
+loads_before : (bases : List (List ℕ)) (turns : ℕ) (folder folder' : Shelf) (old new : Scene) (case : Case) → Loads bases turns folder folder' old new case
     → IsBeforeRun (status_of case) → new ≡ old
-loads_before base turns folder folder' old new case (not_read _ why onward same) h = same
-loads_before base turns folder folder' old new case (Loads.unresolved parts i gives first same) h = same
-loads_before base turns folder folder' old new case (Loads.no_memory parts gives same) h = same
-loads_before base turns folder folder' old new case (Loads.ran parts image _ gives is all it) h =
+loads_before bases turns folder folder' old new case (not_read _ why onward same) h = same
+loads_before bases turns folder folder' old new case (Loads.unresolved parts base i gives first same) h = same
+loads_before bases turns folder folder' old new case (Loads.no_memory parts gives same) h = same
+loads_before bases turns folder folder' old new case (Loads.ran parts image _ gives is all it) h =
     absurd (ran_so (image_names image) image turns old new case it h)
 
 goes_before : (source : Source) (base : List ℕ) (turns : ℕ) (folder folder' : Shelf) (old new : Scene) (case : Case)
@@ -103,7 +103,7 @@ run_before words folder folder' old new case (Comes.usage none here same) h = sa
 run_before words folder folder' old new case (Comes.compiles base _ has it same) h = same
 run_before words folder folder' old new case (Comes.defines base stamp _ has it same) h = same
 run_before words folder folder' old new case (Comes.binds base _ has it same) h = same
-run_before words folder folder' old new case (Comes.loads base turns _ has it) h = loads_before base turns folder folder' old new case it h
+run_before words folder folder' old new case (Comes.loads bases turns _ has it) h = loads_before bases turns folder folder' old new case it h
 run_before words folder folder' old new case (Comes.goes source base turns _ has it) h = goes_before source base turns folder folder' old new case it h
 run_before words folder folder' old new case (Comes.shows kind base _ has it) h = prints_before (listing_in kind (kind_file kind base)) folder folder' old new case it h
 run_before words folder folder' old new case (Comes.upgrades kind base _ has it same) h = same
@@ -140,12 +140,12 @@ binds_before : (base : List ℕ) (folder folder' : Shelf) (case : Case) → Bind
 binds_before base folder folder' case (not_bound _ why onward) h = onward.files
 binds_before base folder folder' case (bound b image trail _ comes is written) h = writes_before _ trail folder folder' case written h
 
-pub loads_keep : (base : List ℕ) (turns : ℕ) (folder folder' : Shelf) (old new : Scene) (case : Case) → Loads base turns folder folder' old new case
+pub loads_keep : (bases : List (List ℕ)) (turns : ℕ) (folder folder' : Shelf) (old new : Scene) (case : Case) → Loads bases turns folder folder' old new case
     → folder'.files ≡ folder.files
-loads_keep base turns folder folder' old new case (not_read _ why onward same) = onward.files
-loads_keep base turns folder folder' old new case (Loads.unresolved parts i gives first same) = gives.asked.onward.files
-loads_keep base turns folder folder' old new case (Loads.no_memory parts gives same) = gives.asked.onward.files
-loads_keep base turns folder folder' old new case (Loads.ran parts image _ gives is all it) = gives.asked.onward.files
+loads_keep bases turns folder folder' old new case (not_read _ why onward same) = onward.files
+loads_keep bases turns folder folder' old new case (Loads.unresolved parts base i gives first same) = gives.asked.onward.files
+loads_keep bases turns folder folder' old new case (Loads.no_memory parts gives same) = gives.asked.onward.files
+loads_keep bases turns folder folder' old new case (Loads.ran parts image _ gives is all it) = gives.asked.onward.files
 
 goes_unwritten : (source : Source) (base : List ℕ) (turns : ℕ) (folder folder' : Shelf) (old new : Scene) (case : Case)
     → Goes source base turns folder folder' old new case → IsBeforeWrite (status_of case) → folder'.files ≡ folder.files
@@ -178,7 +178,7 @@ written_before words folder folder' old new case (Comes.usage none here same) h 
 written_before words folder folder' old new case (Comes.compiles base _ has it same) h = compiles_before base folder folder' case it h
 written_before words folder folder' old new case (Comes.defines base stamp _ has it same) h = defines_before base stamp folder folder' case it h
 written_before words folder folder' old new case (Comes.binds base _ has it same) h = binds_before base folder folder' case it h
-written_before words folder folder' old new case (Comes.loads base turns _ has it) h = loads_keep base turns folder folder' old new case it
+written_before words folder folder' old new case (Comes.loads bases turns _ has it) h = loads_keep bases turns folder folder' old new case it
 written_before words folder folder' old new case (Comes.goes source base turns _ has it) h = goes_unwritten source base turns folder folder' old new case it h
 written_before words folder folder' old new case (Comes.shows kind base _ has it) h = prints_keep (listing_in kind (kind_file kind base)) folder folder' old new case it
 written_before words folder folder' old new case (Comes.upgrades kind base _ has it same) h = upgrades_before kind base folder folder' case it h

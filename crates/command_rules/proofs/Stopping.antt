@@ -12,15 +12,17 @@ use Rattle.config_rules.specs.Tree.{IsTree, IsSingle}
 use Rattle.config_rules.specs.declared.tree.Tree.{Tree}
 use Rattle.include_rules.specs.declared.entries.TextEntry.{TextEntry}
 use Rattle.linked_programs.specs.bound_images.specs.Programs.{shape_of}
+use Rattle.object_rules.specs.ImageForms.{ImagePart}
 use Rattle.checked_texts.specs.Asked.{asks}
 use Rattle.checked_texts.specs.declared.purpose.Purpose.{Purpose}
 use Rattle.checked_texts.specs.declared.purpose.Purpose.TheVariants.{Program, Interface}
 use Rattle.command_rules.specs.Binding.{object_of, objects_of, binding_of, bound_in}
 use Rattle.command_rules.specs.Case.{Case, Done, Uncaught, Spent, FrameLimit, Refused, Absent, ReadFault, WriteFault, FolderFault, Memory, Usage, Trouble}
-use Rattle.command_rules.specs.declared.trouble.Trouble.TheVariants.{Text, Tree as OfTree, File, Item, Unresolved, TooLarge, Cycle}
+use Rattle.command_rules.specs.declared.trouble.Trouble.TheVariants.{Text, Tree as OfTree, File, Item, Unresolved, TooLarge, Cycle, Load}
 use Rattle.command_rules.specs.Configurations.{config_in, source_in, tree_in, single_of, bases_of, component_in, modules_of, configuration_of, Grows, fault, Binds, bad, Configures, lexical, syntactic, no_base}
 use Rattle.command_rules.specs.Forms.{Source, OfModule, OfConfig, FileKind, ImageFile, module_file, config_file, interface_file, object_file, image_file}
 use Rattle.command_rules.specs.Listing.{Holds, no_interface, no_object, no_image, value_in, Lists, listing_in}
+use Rattle.command_rules.specs.Loading.{Joins, images_in, runnable_in}
 use Rattle.command_rules.specs.Modules as m
 use Rattle.command_rules.specs.Modules.{interface_for, interfaces_for, Begun, begun_for, module_in, interface_in, definitions_of, Checks, checked, Defines, defined, Decodes, Begins, begun, refused}
 use Rattle.command_rules.specs.Objects.{HoldsObject, HoldsImage, object_in, image_in, shape_in}
@@ -37,6 +39,7 @@ IsOfFile (Item why) = Unit {0}
 IsOfFile (Unresolved item) = ⊥
 IsOfFile TooLarge = ⊥
 IsOfFile (Cycle bases) = Unit {0}
+IsOfFile (Load why) = Unit {0}
 
 abbrev pub IsOfFiles : Case → Type 0
 IsOfFiles Done = ⊥
@@ -195,6 +198,15 @@ object_so file = from_file_so file (HoldsObject file) (holds_object_so file)
 pub image_so : (file : List ℕ) → PassStopsSo (image_in file)
 unfolding image_in
 image_so file = from_file_so file (HoldsImage file) (holds_image_so file)
+
+joins_so : (bases : List (List ℕ)) (parts : List ImagePart) → StopsSo (Joins bases parts)
+joins_so bases _ case (Joins.not_joined p q parts images why are is) = tt
+
+pub runnable_so : (bases : List (List ℕ)) → PassStopsSo (runnable_in bases)
+unfolding runnable_in images_in
+runnable_so bases =
+    and_then_so (each (λ base. image_in (image_file base)) bases) (λ parts. decided (Joins bases parts))
+    (each_so (λ base. image_in (image_file base)) (λ base. image_so (image_file base)) bases) (λ parts. decided_so (Joins bases parts) (joins_so bases parts))
 
 binding_so : (file : List ℕ) (k : Config) → PassStopsSo (binding_of file k)
 unfolding binding_of

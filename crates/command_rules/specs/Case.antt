@@ -3,7 +3,7 @@ use Rattle.std.specs.Prelude.{ℕ, List}
 use Rattle.mesa_base.specs.declared.status.Status.{Status}
 use Rattle.mesa_base.specs.declared.status.Status.TheVariants as status
 pub use Rattle.command_rules.specs.declared.trouble.Trouble.{Trouble}
-pub use Rattle.command_rules.specs.declared.trouble.Trouble.TheVariants.{Text, Tree, File, Item, Unresolved, TooLarge, Cycle}
+pub use Rattle.command_rules.specs.declared.trouble.Trouble.TheVariants.{Text, Tree, File, Item, Unresolved, TooLarge, Cycle, Load}
 
 pub data Case : Type 0 where
   Done : Case

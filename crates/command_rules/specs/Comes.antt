@@ -20,8 +20,8 @@ use Rattle.command_rules.specs.Ends.{Ends, RunsTo}
 use Rattle.command_rules.specs.Exercise.{IsNoEnd, chain, exercise_shelf, summary, within}
 use Rattle.command_rules.specs.Forms.{Source, OfConfig, FileKind, Compile, Define, Bind, Run, Go, Show, Upgrade, Exercise, Plan, Survey, HasForm, HasNoForm, kind_file, module_file, interface_file, object_file, image_file}
 use Rattle.command_rules.specs.Listing.{listing_in, value_in}
+use Rattle.command_rules.specs.Loading.{HostHas, IsFirstToLack, IsRunOf, host_wants, runnable_in}
 use Rattle.command_rules.specs.Modules.{interface_in, module_in}
-use Rattle.command_rules.specs.Objects.{IsImageWith, image_in}
 use Rattle.command_rules.specs.Passes.{Has, Trail}
 use Rattle.command_rules.specs.Passing.{Fails, Gives}
 use Rattle.command_rules.specs.Planning.{plan_in}
@@ -52,16 +52,17 @@ pub data Binds (base : List ℕ) (folder folder' : Shelf) : Case → Type 0 wher
   bound : (b : Bound) (image : Image) (trail : Trail) (case : Case) → (bound_in base).comes folder.files trail (Has b) → IsImageOf b image
       → Written (holding (image_file base) (OfImage image) ∷ []) trail folder folder' case → Binds base folder folder' case
 
--- ---- run NAME TURNS: the image is read; what it wants is the host's, or the first item is named that is not; then it is run
+-- ---- run NAME TURNS, run NAME NAME .. TURNS: the images are read, and several are loaded as one; what is wanted is the host's, or the first item
+-- is named that is not; then the image is run
 
-pub data Loads (base : List ℕ) (turns : ℕ) (folder folder' : Shelf) (old new : Scene) : Case → Type 0 where
-  not_read : (case : Case) → Fails (image_in (image_file base)) folder folder' case → Onward folder folder' → new ≡ old
-      → Loads base turns folder folder' old new case
-  unresolved : (parts : ImagePart) (i : WantedItem) → Gives (image_in (image_file base)) folder folder' parts → IsFirstUnresolved parts.wanted i → new ≡ old
-      → Loads base turns folder folder' old new (Refused (image_file base) (Unresolved i))
-  no_memory : (parts : ImagePart) → Gives (image_in (image_file base)) folder folder' parts → new ≡ old → Loads base turns folder folder' old new Memory
-  ran : (parts : ImagePart) (image : Image) (case : Case) → Gives (image_in (image_file base)) folder folder' parts → IsImageWith parts image
-      → All IsHostItem parts.wanted → RunsTo (image_names image) image turns old new case → Loads base turns folder folder' old new case
+pub data Loads (bases : List (List ℕ)) (turns : ℕ) (folder folder' : Shelf) (old new : Scene) : Case → Type 0 where
+  not_read : (case : Case) → Fails (runnable_in bases) folder folder' case → Onward folder folder' → new ≡ old
+      → Loads bases turns folder folder' old new case
+  unresolved : (parts : List ImagePart) (base : List ℕ) (i : WantedItem) → Gives (runnable_in bases) folder folder' parts
+      → IsFirstToLack bases (host_wants parts) base i → new ≡ old → Loads bases turns folder folder' old new (Refused (image_file base) (Unresolved i))
+  no_memory : (parts : List ImagePart) → Gives (runnable_in bases) folder folder' parts → new ≡ old → Loads bases turns folder folder' old new Memory
+  ran : (parts : List ImagePart) (image : Image) (case : Case) → Gives (runnable_in bases) folder folder' parts → IsRunOf parts image
+      → HostHas parts → RunsTo (image_names image) image turns old new case → Loads bases turns folder folder' old new case
 
 -- ---- go NAME.mesa TURNS, go NAME.config TURNS
 
@@ -174,7 +175,7 @@ pub data Comes (words : List (List ℕ)) (folder folder' : Shelf) (old new : Sce
       → Comes words folder folder' old new case
   binds : (base : List ℕ) (case : Case) → HasForm words (Bind base) → Binds base folder folder' case → new ≡ old
       → Comes words folder folder' old new case
-  loads : (base : List ℕ) (turns : ℕ) (case : Case) → HasForm words (Run base turns) → Loads base turns folder folder' old new case
+  loads : (bases : List (List ℕ)) (turns : ℕ) (case : Case) → HasForm words (Run bases turns) → Loads bases turns folder folder' old new case
       → Comes words folder folder' old new case
   goes : (source : Source) (base : List ℕ) (turns : ℕ) (case : Case) → HasForm words (Go source base turns)
       → Goes source base turns folder folder' old new case → Comes words folder folder' old new case

@@ -28,8 +28,8 @@ use Rattle.command_rules.specs.Exercise.{chain, exercise_shelf, within}
 use Rattle.command_rules.specs.Forms.{Source, OfConfig, FileKind, Form, Compile, Define, Bind, Run, Go, Show, Upgrade, Exercise, Plan, Survey, HasForm, HasNoForm, WritesAlone, kind_file, module_file, interface_file, object_file, image_file}
 use Rattle.command_rules.specs.Lines.{line_of}
 use Rattle.command_rules.specs.Listing.{listing_in, value_in}
+use Rattle.command_rules.specs.Loading.{HostHas, IsFirstToLack, IsRunOf, host_wants, runnable_in}
 use Rattle.command_rules.specs.Modules.{interface_in, module_in}
-use Rattle.command_rules.specs.Objects.{IsImageWith, image_in}
 use Rattle.command_rules.specs.Passes.{Has, Stops, Trail}
 use Rattle.command_rules.specs.Planning.{plan_in}
 use Rattle.command_rules.specs.Printing.{Report}
@@ -60,7 +60,7 @@ abbrev pub StopsOver : Form → Files → Case → Type 0
 StopsOver (Compile base) files case = (trail : Trail) × (module_in (module_file base)).comes (Some files) trail (Stops case)
 StopsOver (Define base stamp) files case = (trail : Trail) × (interface_in (module_file base) stamp).comes (Some files) trail (Stops case)
 StopsOver (Bind base) files case = (trail : Trail) × (bound_in base).comes (Some files) trail (Stops case)
-StopsOver (Run base turns) files case = (trail : Trail) × (image_in (image_file base)).comes (Some files) trail (Stops case)
+StopsOver (Run bases turns) files case = (trail : Trail) × (runnable_in bases).comes (Some files) trail (Stops case)
 StopsOver (Go source base turns) files case = (trail : Trail) × (source_in source base).comes (Some files) trail (Stops case)
 StopsOver (Show kind base) files case = (trail : Trail) × (listing_in kind (kind_file kind base)).comes (Some files) trail (Stops case)
 StopsOver (Upgrade kind base) files case = (trail : Trail) × (value_in kind (kind_file kind base)).comes (Some files) trail (Stops case)
@@ -76,7 +76,7 @@ MakesOver (Define base stamp) files targets = (trail : Trail) × (i : Interface)
     × (targets ≡ holding (interface_file base) (OfInterface i) ∷ [])
 MakesOver (Bind base) files targets = (trail : Trail) × (b : Bound) × (image : Image) × (bound_in base).comes (Some files) trail (Has b)
     × IsImageOf b image × (targets ≡ holding (image_file base) (OfImage image) ∷ [])
-MakesOver (Run base turns) files targets = ⊥
+MakesOver (Run bases turns) files targets = ⊥
 MakesOver (Go source base turns) files targets = (trail : Trail) × (m : Made source base (Some files) trail) × (targets ≡ targets_of base m)
 MakesOver (Show kind base) files targets = ⊥
 MakesOver (Upgrade kind base) files targets = ⊥
@@ -135,11 +135,11 @@ IsUnresolvedWithin words before after s = (links turns : ℕ) (trail : Trail) (i
     → NoFault before.folder after.folder before.scene after.scene → (m : MadeWithin links trail) → All IsSmall (targets_of chain m)
     → IsFirstUnresolved (left_to_loader m.configured) i → IsAnswer (Refused (image_file chain) (Unresolved i)) before.err after.err s
 
--- so is what an image wants
+-- so is what images want, by the first of them
 abbrev pub IsNotLoaded : List (List ℕ) → World → World → Status → Type 0
-IsNotLoaded words before after s = (base : List ℕ) (turns : ℕ) (files : Files) (trail : Trail) (parts : ImagePart) (i : WantedItem)
-    → IsCall words before after (Run base turns) files → (image_in (image_file base)).comes (Some files) trail (Has parts)
-    → IsFirstUnresolved parts.wanted i → IsAnswer (Refused (image_file base) (Unresolved i)) before.err after.err s
+IsNotLoaded words before after s = (bases : List (List ℕ)) (turns : ℕ) (files : Files) (trail : Trail) (parts : List ImagePart) (base : List ℕ) (i : WantedItem)
+    → IsCall words before after (Run bases turns) files → (runnable_in bases).comes (Some files) trail (Has parts)
+    → IsFirstToLack bases (host_wants parts) base i → IsAnswer (Refused (image_file base) (Unresolved i)) before.err after.err s
 
 -- what is told and right, and not too large, has its file
 abbrev pub IsStored : List (List ℕ) → World → World → Status → Type 0
@@ -155,11 +155,12 @@ IsComplete words before after s = (source : Source) (base : List ℕ) (turns : �
     → (Tells case before.err after.err s × PrintsAll output before.scene.out after.scene.out
     × StoresAll (targets_of base m) before.folder.files after.folder.files) ⊎ (s ≡ status.Memory)
 
--- an image that wants nothing but the host's items is run: the call ends as the machine does for the input, and prints what it writes
+-- an image, or what is loaded of several, that wants nothing but the host's items is run: the call ends as the machine does for the input, and prints what
+-- it writes
 abbrev pub IsRun : List (List ℕ) → World → World → Status → Type 0
-IsRun words before after s = (base : List ℕ) (turns : ℕ) (files : Files) (trail : Trail) (parts : ImagePart) (image : Image) (output : List ℕ) (case : Case)
-    → IsCall words before after (Run base turns) files → (image_in (image_file base)).comes (Some files) trail (Has parts) → IsImageWith parts image
-    → All IsHostItem parts.wanted → StepsTo image turns before.scene output case
+IsRun words before after s = (bases : List (List ℕ)) (turns : ℕ) (files : Files) (trail : Trail) (parts : List ImagePart) (image : Image) (output : List ℕ) (case : Case)
+    → IsCall words before after (Run bases turns) files → (runnable_in bases).comes (Some files) trail (Has parts) → IsRunOf parts image
+    → HostHas parts → StepsTo image turns before.scene output case
     → (Tells case before.err after.err s × PrintsAll output before.scene.out after.scene.out) ⊎ (s ≡ status.Memory)
 
 -- what a file holds is listed

@@ -3,6 +3,7 @@ use Rattle.std.specs.Prelude.{◌≡◌, ◌≢◌, ℕ, ◌<◌, ◌≤◌, ◌
 use Rattle.mesa_base.specs.Stamp.{stamp_of}
 use Rattle.config_rules.specs.Components.{is_file_base}
 use Rattle.include_rules.specs.Plans.{most_texts}
+use Rattle.loader_rules.specs.declared.limits.TheConstants.{MOST_IMAGES}
 
 -- the files of a base
 abbrev pub module_file : List ℕ → List ℕ
@@ -51,8 +52,8 @@ pub data Form : Type 0 where
   Define : (base : List ℕ) → (stamp : ℕ) → Form
   -- bind NAME
   Bind : (base : List ℕ) → Form
-  -- run NAME TURNS
-  Run : (base : List ℕ) → (turns : ℕ) → Form
+  -- run NAME TURNS, run NAME NAME .. TURNS
+  Run : (bases : List (List ℕ)) → (turns : ℕ) → Form
   -- go NAME.mesa TURNS, go NAME.config TURNS
   Go : Source → (base : List ℕ) → (turns : ℕ) → Form
   -- list NAME.mif, list NAME.mob, list NAME.mim
@@ -67,13 +68,14 @@ pub data Form : Type 0 where
   Survey : (base : List ℕ) → Form
 
 -- the turns stand in decimal digits without a leading zero, at most 2^64 - 1, and so do the links, from 1 to 1000; the stamp in 12 hexadecimal digits;
--- a plan has from 1 to 64 names, no two of which are the same
+-- a plan has from 1 to 64 names, no two of which are the same; from 1 to 16 images are run, and one may be named again
 pub data HasForm : List (List ℕ) → Form → Type 0 where
   compile : (base : List ℕ) → is_file_base base ≡ true → HasForm (codes "compile" ∷ base ∷ []) (Compile base)
   define : (base word : List ℕ) (stamp : ℕ) → is_file_base base ≡ true → stamp_of word ≡ Some stamp
       → HasForm (codes "compile" ∷ base ∷ word ∷ []) (Define base stamp)
   bind : (base : List ℕ) → is_file_base base ≡ true → HasForm (codes "bind" ∷ base ∷ []) (Bind base)
-  run : (base : List ℕ) (turns : ℕ) → is_file_base base ≡ true → turns < 2 ^ 64 → HasForm (codes "run" ∷ base ∷ decimal turns ∷ []) (Run base turns)
+  run : (bases : List (List ℕ)) (turns : ℕ) → 1 ≤ length bases → length bases ≤ MOST_IMAGES → All (λ base. is_file_base base ≡ true) bases → turns < 2 ^ 64
+      → HasForm (codes "run" ∷ bases ++ decimal turns ∷ []) (Run bases turns)
   go : (source : Source) (base : List ℕ) (turns : ℕ) → is_file_base base ≡ true → turns < 2 ^ 64
       → HasForm (codes "go" ∷ source_file source base ∷ decimal turns ∷ []) (Go source base turns)
   list : (kind : FileKind) (base : List ℕ) → is_file_base base ≡ true → HasForm (codes "list" ∷ kind_file kind base ∷ []) (Show kind base)
@@ -95,7 +97,7 @@ abbrev pub WritesAlone : Form → Type 0
 WritesAlone (Compile base) = Unit {0}
 WritesAlone (Define base stamp) = Unit {0}
 WritesAlone (Bind base) = Unit {0}
-WritesAlone (Run base turns) = ⊥
+WritesAlone (Run bases turns) = ⊥
 WritesAlone (Go source base turns) = ⊥
 WritesAlone (Show kind base) = ⊥
 WritesAlone (Upgrade kind base) = Unit {0}
@@ -108,7 +110,7 @@ abbrev pub KeepsFiles : Form → Type 0
 KeepsFiles (Compile base) = ⊥
 KeepsFiles (Define base stamp) = ⊥
 KeepsFiles (Bind base) = ⊥
-KeepsFiles (Run base turns) = Unit {0}
+KeepsFiles (Run bases turns) = Unit {0}
 KeepsFiles (Go source base turns) = ⊥
 KeepsFiles (Show kind base) = Unit {0}
 KeepsFiles (Upgrade kind base) = ⊥
@@ -121,7 +123,7 @@ abbrev pub KeepsInput : Form → Type 0
 KeepsInput (Compile base) = Unit {0}
 KeepsInput (Define base stamp) = Unit {0}
 KeepsInput (Bind base) = Unit {0}
-KeepsInput (Run base turns) = ⊥
+KeepsInput (Run bases turns) = ⊥
 KeepsInput (Go source base turns) = ⊥
 KeepsInput (Show kind base) = Unit {0}
 KeepsInput (Upgrade kind base) = Unit {0}
@@ -134,7 +136,7 @@ abbrev pub KeepsSteps : Form → Type 0
 KeepsSteps (Compile base) = Unit {0}
 KeepsSteps (Define base stamp) = Unit {0}
 KeepsSteps (Bind base) = Unit {0}
-KeepsSteps (Run base turns) = ⊥
+KeepsSteps (Run bases turns) = ⊥
 KeepsSteps (Go source base turns) = ⊥
 KeepsSteps (Show kind base) = Unit {0}
 KeepsSteps (Upgrade kind base) = Unit {0}
@@ -147,7 +149,7 @@ abbrev pub KeepsFolder : Form → Type 0
 KeepsFolder (Compile base) = ⊥
 KeepsFolder (Define base stamp) = ⊥
 KeepsFolder (Bind base) = ⊥
-KeepsFolder (Run base turns) = ⊥
+KeepsFolder (Run bases turns) = ⊥
 KeepsFolder (Go source base turns) = ⊥
 KeepsFolder (Show kind base) = ⊥
 KeepsFolder (Upgrade kind base) = ⊥

@@ -18,6 +18,7 @@ pub mod Exercise
 pub mod Forms
 pub mod Lines
 pub mod Listing
+pub mod Loading
 pub mod Modules
 pub mod Objects
 pub mod Order

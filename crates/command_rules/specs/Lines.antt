@@ -12,9 +12,11 @@ use Rattle.config_rules.specs.declared.fault.TreeCause.{TreeCause}
 use Rattle.config_rules.specs.declared.fault.TreeCause.TheVariants as tree
 use Rattle.linked_programs.specs.import_binder.specs.declared.fault.BindFault.{BindFault}
 use Rattle.linked_programs.specs.import_binder.specs.declared.fault.BindFault.TheVariants as bind
+use Rattle.loader_rules.specs.declared.fault.LoadFault.{LoadFault}
+use Rattle.loader_rules.specs.declared.fault.LoadFault.TheVariants as load
 use Rattle.checked_texts.specs.TextFaults.{fault_name, fault_place}
 use Rattle.line_pieces.specs.Texts.{path_text, stamp_text, with_blank}
-use Rattle.command_rules.specs.Case.{Case, Done, Uncaught, Spent, FrameLimit, Refused, Absent, ReadFault, WriteFault, FolderFault, Memory, Usage, Trouble, Text, Tree, File, Item, Unresolved, TooLarge, Cycle}
+use Rattle.command_rules.specs.Case.{Case, Done, Uncaught, Spent, FrameLimit, Refused, Absent, ReadFault, WriteFault, FolderFault, Memory, Usage, Trouble, Text, Tree, File, Item, Unresolved, TooLarge, Cycle, Load}
 
 -- ---- what lines are made of
 
@@ -74,6 +76,17 @@ bind_cause (bind.OtherStamp i wanted found) =
     codes "OtherStamp " ++ (placed_item i ++ (codes ": wanted " ++ (stamp_text wanted ++ (codes ", found " ++ stamp_text found))))
 bind_cause bind.Memory = codes "Memory"
 
+abbrev pub load_cause : LoadFault → List ℕ
+load_cause (load.NoExporter k i) = codes "NoExporter " ++ item_text i
+load_cause (load.Twice k i one other) = codes "Twice " ++ (item_text i ++ (codes ": " ++ (path_text one ++ (codes ", " ++ path_text other))))
+load_cause (load.OtherStamp k i wanted found) =
+    codes "OtherStamp " ++ (item_text i ++ (codes ": wanted " ++ (stamp_text wanted ++ (codes ", found " ++ stamp_text found))))
+load_cause (load.FaceDiffers k i) = codes "FaceDiffers " ++ item_text i
+load_cause (load.OddRecord k name) = codes "OddRecord " ++ name
+load_cause (load.TooManyInstances k) = codes "TooManyInstances"
+load_cause (load.TooNested k) = codes "TooNested"
+load_cause load.Memory = codes "Memory"
+
 -- what the line says of a file
 abbrev pub of_file : List ℕ → List ℕ → List ℕ
 of_file name text = name ++ (codes ": " ++ (text ++ codes "\n"))
@@ -92,6 +105,7 @@ refusal name (Item why) = of_file name (bind_cause why)
 refusal name (Unresolved i) = of_file name (codes "Unresolved " ++ (item_text i ++ (codes " " ++ stamp_text i.stamp)))
 refusal name TooLarge = of_file name (codes "TooLarge")
 refusal name (Cycle bases) = of_file name (codes "Cycle" ++ flat_map with_blank bases)
+refusal name (Load why) = of_file name (load_cause why)
 
 -- the line, ended by a line feed; there is none where the call is done
 abbrev pub line_of : Case → List ℕ

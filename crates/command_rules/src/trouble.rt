@@ -4,6 +4,7 @@ use checked_texts::TextFault;
 use config_rules::TreeCause;
 use interface_records::WantedItem;
 use linked_programs::import_binder::BindFault;
+use loader_rules::LoadFault;
 use mesa_base::{Place, Texts};
 use object_rules::ObjectFault;
 
@@ -24,4 +25,6 @@ pub enum Trouble {
     TooLarge,
     /// The bases of texts each of which names the next, and the last the first.
     Cycle(Texts),
+    /// The first load fault of several images.
+    Load(LoadFault),
 }

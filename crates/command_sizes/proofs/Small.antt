@@ -164,7 +164,7 @@ module _ (grounds : Grounds) where
   files_are_small (Compile base) files targets sum it h few = weaker sum few targets (objects_are_small base files targets sum it h)
   files_are_small (Define base stamp) files targets sum it h few = absurd h
   files_are_small (Bind base) files targets sum it h few = absurd h
-  files_are_small (Run base turns) files targets sum it h few = absurd h
+  files_are_small (Run bases turns) files targets sum it h few = absurd h
   files_are_small (Go source base turns) files targets sum it h few = go_small source base files targets sum it.0 it.1 it.2 h few
   files_are_small (Show kind base) files targets sum it h few = absurd h
   files_are_small (Upgrade kind base) files targets sum it h few = absurd h

@@ -18,7 +18,7 @@ use Rattle.command_rules.specs.Exercise.{chain, exercise_shelf, within}
 use Rattle.command_rules.specs.Forms.{Form, Source, OfConfig, Compile, Define, Bind, Run, Go, Show, Upgrade, Exercise, Plan, Survey, image_file, interface_file, kind_file, module_file, object_file}
 use Rattle.command_rules.specs.Listing.{listing_in}
 use Rattle.command_rules.specs.Modules.{interface_in, module_in}
-use Rattle.command_rules.specs.Objects.{image_in}
+use Rattle.command_rules.specs.Loading.{runnable_in}
 use Rattle.command_rules.specs.Passes.{Has, Trail, Pass}
 use Rattle.command_rules.specs.Passing.{Fails, refused, failed, memory}
 use Rattle.command_rules.specs.Planning.{plan_in}
@@ -29,7 +29,7 @@ use Rattle.command_rules.specs.Worlds.{Shelf, Scene}
 use Rattle.command_rules.specs.Ends.{RunsTo}
 use Rattle.command_rules.specs.Writing.{Target, holding, OfInterface, OfObject, OfImage, IsSmall, IsFirstTooLarge, NotStored, Written}
 use Rattle.command_rules.specs.Order.{NeverAnswered}
-use Rattle.command_rules.proofs.Stopping.{IsOfFiles, PassStopsSo, source_so, module_so, interface_in_so, bound_so, image_so, listing_so, plan_so, survey_so}
+use Rattle.command_rules.proofs.Stopping.{IsOfFiles, PassStopsSo, source_so, module_so, interface_in_so, bound_so, listing_so, plan_so, runnable_so, survey_so}
 use Rattle.command_laws.proofs.OneCase.{FormComes, of_its_form}
 use Rattle.command_laws.proofs.Sizes.{are_small, is_first, none_first}
 use Rattle.exercise_texts.specs.Files.{exercise_files}
@@ -68,12 +68,12 @@ run_not names (Err fault.WriteFault) file h = cc
 runs_not : (names : Names) (image : Image) (turns : ℕ) (old new : Scene) (case : Case) (file : List ℕ) → RunsTo names image turns old new case → Large case file → ⊥
 runs_not names image turns old new case file it e = run_not names it.end file (sym it.is_case ∙ e)
 
-loads_not : (base : List ℕ) (turns : ℕ) (folder folder' : Shelf) (old new : Scene) (case : Case) (file : List ℕ) → Loads base turns folder folder' old new case
+loads_not : (bases : List (List ℕ)) (turns : ℕ) (folder folder' : Shelf) (old new : Scene) (case : Case) (file : List ℕ) → Loads bases turns folder folder' old new case
     → Large case file → ⊥
-loads_not base turns folder folder' old new case file (not_read _ why onward same) e = fails_not (image_in (image_file base)) (image_so (image_file base)) folder folder' case file why e
-loads_not base turns folder folder' old new case file (Loads.unresolved parts i gives first same) e = cc
-loads_not base turns folder folder' old new case file (Loads.no_memory parts gives same) e = cc
-loads_not base turns folder folder' old new case file (Loads.ran parts image _ gives is all it) e = runs_not (image_names image) image turns old new case file it e
+loads_not bases turns folder folder' old new case file (not_read _ why onward same) e = fails_not (runnable_in bases) (runnable_so bases) folder folder' case file why e
+loads_not bases turns folder folder' old new case file (Loads.unresolved parts base i gives first same) e = cc
+loads_not bases turns folder folder' old new case file (Loads.no_memory parts gives same) e = cc
+loads_not bases turns folder folder' old new case file (Loads.ran parts image _ gives is all it) e = runs_not (image_names image) image turns old new case file it e
 
 prints_not : (p : Pass Case Report) → PassStopsSo p → (folder folder' : Shelf) (old new : Scene) (case : Case) (file : List ℕ) → Prints p folder folder' old new case
     → Large case file → ⊥
@@ -159,7 +159,7 @@ module _ (never : NeverAnswered) (files : Files) (folder folder' : Shelf) (told 
   form_large (Compile base) old new it = compiles_large files folder folder' told file base (Refused file TooLarge) it refl
   form_large (Define base stamp) old new it = defines_large files folder folder' told file base stamp (Refused file TooLarge) it refl
   form_large (Bind base) old new it = binds_large files folder folder' told file base (Refused file TooLarge) it refl
-  form_large (Run base turns) old new it = absurd (loads_not base turns folder folder' old new (Refused file TooLarge) file it refl)
+  form_large (Run bases turns) old new it = absurd (loads_not bases turns folder folder' old new (Refused file TooLarge) file it refl)
   form_large (Go source base turns) old new it = goes_large files folder folder' told file source base turns old new (Refused file TooLarge) it refl
   form_large (Show kind base) old new it =
       absurd (prints_not (listing_in kind (kind_file kind base)) (listing_so kind (kind_file kind base)) folder folder' old new (Refused file TooLarge) file it refl)
@@ -187,7 +187,7 @@ module _ (sums : SumsAreTold) (small : FilesAreSmall) (never : NeverAnswered) wh
   above (Compile base) files file it = let m = it.makes in summed (Compile base) files file (m.0, m.1, m.3) it
   above (Define base stamp) files file it = tt
   above (Bind base) files file it = tt
-  above (Run base turns) files file it = absurd it.makes
+  above (Run bases turns) files file it = absurd it.makes
   above (Go source base turns) files file it =
       let m = it.makes in summed (Go source base turns) files file (m.0, (m.1).configured, (m.1).comes) it
   above (Show kind base) files file it = absurd it.makes

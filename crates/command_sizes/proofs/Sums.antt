@@ -68,7 +68,7 @@ module _ (grounds : Grounds) where
   one (Compile base) files a b x y = one_size grounds files base a b x y
   one (Define base stamp) files a b x y = absurd x
   one (Bind base) files a b x y = absurd x
-  one (Run base turns) files a b x y = absurd x
+  one (Run bases turns) files a b x y = absurd x
   one (Go source base turns) files a b x y = one_go source base files a b x y
   one (Show kind base) files a b x y = absurd x
   one (Upgrade kind base) files a b x y = absurd x
@@ -80,7 +80,7 @@ module _ (grounds : Grounds) where
   some (Compile base) files it = size_of files base it.1 (from_file grounds files base it.1 (record { trail = it.0; comes = it.2 }))
   some (Define base stamp) files it = absurd it
   some (Bind base) files it = absurd it
-  some (Run base turns) files it = absurd it
+  some (Run bases turns) files it = absurd it
   some (Go source base turns) files it = some_go source base files it
   some (Show kind base) files it = absurd it
   some (Upgrade kind base) files it = absurd it

@@ -33,7 +33,7 @@ abbrev pub HasTexts : Form → Files → Type 0
 HasTexts (Compile base) files = (trail : Trail) × (m : Module) × (module_in (module_file base)).comes (Some files) trail (Has m)
 HasTexts (Define base stamp) files = ⊥
 HasTexts (Bind base) files = ⊥
-HasTexts (Run base turns) files = ⊥
+HasTexts (Run bases turns) files = ⊥
 HasTexts (Go source base turns) files = HasGoTexts source base files
 HasTexts (Show kind base) files = ⊥
 HasTexts (Upgrade kind base) files = ⊥
@@ -65,7 +65,7 @@ abbrev pub IsAbove : Form → Files → Type 0
 IsAbove (Compile base) files = (size : ℕ) × HasSize files base size × (most < size)
 IsAbove (Define base stamp) files = Unit {0}
 IsAbove (Bind base) files = Unit {0}
-IsAbove (Run base turns) files = ⊥
+IsAbove (Run bases turns) files = ⊥
 IsAbove (Go source base turns) files = (sum : ℕ) × HasGoSum source base files sum × (most < sum)
 IsAbove (Show kind base) files = ⊥
 IsAbove (Upgrade kind base) files = ⊥

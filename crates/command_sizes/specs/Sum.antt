@@ -57,7 +57,7 @@ abbrev pub IsSizeSum : Form → Files → ℕ → Type 0
 IsSizeSum (Compile base) files sum = HasSize files base sum
 IsSizeSum (Define base stamp) files sum = ⊥
 IsSizeSum (Bind base) files sum = ⊥
-IsSizeSum (Run base turns) files sum = ⊥
+IsSizeSum (Run bases turns) files sum = ⊥
 IsSizeSum (Go source base turns) files sum = HasGoSum source base files sum
 IsSizeSum (Show kind base) files sum = ⊥
 IsSizeSum (Upgrade kind base) files sum = ⊥

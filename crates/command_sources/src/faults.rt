@@ -71,7 +71,7 @@ fn not_readied(image: FileName, fault: ReadyFault) -> Stop
 }
 
 /// What ends the call where the image of this base is not made ready; or memory is wanting for its name.
-pub fn unready(alloc: Global, base: &[u8], fault: ReadyFault) -> Stop
+pub(crate) fn unready(alloc: Global, base: &[u8], fault: ReadyFault) -> Stop
     requires { IsAscii base.now }
     ensures { IsOrMemory (ready_case (image_file base.now) fault) (stop_case result) }
 {

@@ -14,7 +14,7 @@ mod objects;
 mod sources;
 
 pub use definitions::interface_defined_in;
-pub use faults::{unmade, unready};
+pub use faults::unmade;
 pub use laws::{definitions_can_be_written, modules_of_files_can_be_kept};
 pub use linked_objects;
 pub use making::{MadeProgram, made};

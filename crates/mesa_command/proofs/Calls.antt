@@ -1,21 +1,12 @@
 -- From the files of a folder to a machine, and from its run to the case that comes.
-use Rattle.std.proofs.Common.{◌≡◌, ℕ, ⊎_elim, List, [], ◌∷◌, length, map, All, Ok, Err, refl, sym, ◌∙◌, ap, subst, arith}
-use Rattle.std.specs.Prelude.{Result, IfOk, IfErr}
+use Rattle.std.proofs.Common.{◌≡◌, ℕ, List, [], ◌∷◌, length, map, Ok, Err, refl, sym, ◌∙◌, subst, arith}
+use Rattle.std.specs.Prelude.{Result}
 use Rattle.std.specs.List.{AllZip}
 use Rattle.std.proofs.lemmas.List.{length-map}
 use Rattle.std.proofs.lemmas.Slice.Zip.{AllZip-long}
-use Rattle.interface_records.specs.Hosts.{IsHostItem}
-use Rattle.interface_records.specs.declared.wanted.Wanted.{Wanted}
-use Rattle.machine_ready.specs.Hosts.{IsFault}
-use Rattle.machine_ready.specs.Order.{ImageInOrder}
-use Rattle.machine_ready.specs.declared.fault.ReadyFault.{ReadyFault}
-use Rattle.machine_ready.specs.declared.fault.ReadyFault.TheVariants as ready
 use Rattle.mesa_types.specs.Plain.{plain}
 use Rattle.object_files.specs.declared.image.Image.{Image}
-use Rattle.object_rules.specs.ImageForms.{parts_of_image}
 use Rattle.object_rules.specs.ObjectFiles.{IsObjectFile}
-use Rattle.object_rules.specs.Parts.{IsWhole}
-use Rattle.command_laws.specs.read_files.specs.Laws.{ImagesOfFilesAreInOrder}
 use Rattle.command_rules.specs.bound_images.specs.Programs.{program_of}
 use Rattle.command_laws.specs.Laws.{RunsAreMeant}
 use Rattle.command_rules.specs.Case.{Case, Memory}
@@ -23,8 +14,7 @@ use Rattle.command_rules.specs.Comes as rules
 use Rattle.command_rules.specs.Comes.{Goes, Loads, Made, linked, targets_of, not_configured, not_read}
 use Rattle.command_rules.specs.Configurations.{Configured, program, source_in}
 use Rattle.command_rules.specs.Ends.{Ends}
-use Rattle.command_rules.specs.Forms.{Source, image_file}
-use Rattle.command_rules.specs.Objects.{image_in}
+use Rattle.command_rules.specs.Forms.{Source}
 use Rattle.command_rules.specs.Passes.{Trail}
 use Rattle.command_rules.specs.Passing.{Fails, Gives}
 use Rattle.command_rules.specs.Passing as passing
@@ -32,65 +22,29 @@ use Rattle.command_rules.specs.Reading.{Asked, Onward}
 use Rattle.command_rules.specs.Worlds.{Shelf, Scene}
 use Rattle.command_rules.specs.Writing.{Stored, NotStored}
 use Rattle.command_rules.proofs.Passing.{onward_same}
-use Rattle.command_lines.specs.command_passes.specs.Filed.{IsFiledImage}
 use Rattle.command_lines.specs.command_passes.specs.Stops.{stop_case}
 use Rattle.command_lines.specs.command_passes.specs.declared.stop.Stop.{Stop}
 use Rattle.command_lines.specs.command_passes.specs.declared.stop.Stop.TheVariants as stop
 use Rattle.command_sources.specs.Bound.{IsBound, configured}
 use Rattle.command_sources.specs.Made as sources
 use Rattle.command_sources.specs.Made.{IsMadeOf, Unmade, targets_for}
-use Rattle.command_sources.specs.Stops.{IsOrMemory, ready_case}
 use Rattle.command_sources.specs.declared.making.MadeProgram.{MadeProgram}
 use Rattle.command_sources.specs.declared.sources.BoundSource.{BoundSource}
 use Rattle.command_writes.specs.Storing.{StoreEnds}
-use Rattle.mesa_command.specs.Machines.{IsNotReady, unresolved, no_memory, LoadsTo, IsWritten, IsUnwritten, unmade, not_stored, WritesTo, GoesTo, RunEnds}
+use Rattle.command_loads.specs.Loaded.{LoadsTo}
+use Rattle.mesa_command.specs.Machines.{IsWritten, IsUnwritten, unmade, not_stored, WritesTo, GoesTo, RunEnds}
 
--- ---- run NAME TURNS
+-- ---- run NAME TURNS, run NAME NAME .. TURNS
 
-unready : (base : List ℕ) (wanted : List Wanted) (fault : ReadyFault) → IsFault wanted fault → IsNotReady base wanted (ready_case (image_file base) fault)
-unready base wanted (ready.Unresolved i) h = unresolved i h
-unready base wanted ready.Memory h = no_memory
+pub no_room_loaded : (bases : List (List ℕ)) (s : Shelf) (why : Stop) → why ≡ stop.Memory → LoadsTo bases s s (Err why)
+no_room_loaded bases s why e turns old =
+    subst (λ w. Loads bases turns s s old old (stop_case w)) (sym e) (not_read Memory passing.memory (onward_same s) refl)
 
-pub not_ready : (base : List ℕ) (wanted : List Wanted) (fault : ReadyFault) (case : Case) → IsFault wanted fault
-    → IsOrMemory (ready_case (image_file base) fault) case → IsNotReady base wanted case
-not_ready base wanted fault case h is =
-    ⊎_elim (λ e. subst (IsNotReady base wanted) (sym e) (unready base wanted fault h)) (λ e. subst (IsNotReady base wanted) (sym e) no_memory) is
-
-pub filed_in_order : ImagesOfFilesAreInOrder → (image : Image) → IsFiledImage image → ImageInOrder image
-filed_in_order law image h = law h.version image h.bytes h.is_file
-
-module _ (base : List ℕ) where
-  pub no_room_loaded : (s : Shelf) (why : Stop) → why ≡ stop.Memory → LoadsTo base s s (Err why)
-  no_room_loaded s why e turns old =
-      subst (λ w. Loads base turns s s old old (stop_case w)) (sym e) (not_read Memory passing.memory (onward_same s) refl)
-
-  module _ (file : List ℕ) (named : file ≡ image_file base) (s t : Shelf) where
-    pub not_loaded : (why : Stop) → Fails (image_in file) s t (stop_case why) → Onward s t → LoadsTo base s t (Err why)
-    not_loaded why f on turns old = not_read (stop_case why) (subst (λ name. Fails (image_in name) s t (stop_case why)) named f) on refl
-
-    module _ (image : Image) (filed : IsFiledImage image) (g : Gives (image_in file) s t (parts_of_image image)) where
-      given : Gives (image_in (image_file base)) s t (parts_of_image image)
-      given = subst (λ name. Gives (image_in name) s t (parts_of_image image)) named g
-
-      refused : (case : Case) (turns : ℕ) (old : Scene) → IsNotReady base image.wanted case → Loads base turns s t old old case
-      refused _ turns old (unresolved i h) = rules.unresolved (parts_of_image image) i given h refl
-      refused _ turns old no_memory = rules.no_memory (parts_of_image image) given refl
-
-      pub loads_to : (r : Result Image Stop) → IfOk r (λ machine. machine ≡ image) → IfOk r (λ _. All IsHostItem image.wanted)
-          → IfErr r (λ why. IsNotReady base image.wanted (stop_case why)) → LoadsTo base s t r
-      loads_to (Ok machine) same hosts err = record {
-        parts = parts_of_image image;
-        gives = given;
-        its = record { its = ap parts_of_image same; whole = subst (λ i. All IsWhole i.modules) (sym same) filed.is_file.whole };
-        hosts = hosts;
-      }
-      loads_to (Err why) same hosts err = λ turns old. refused (stop_case why) turns old err
-
-pub loads : (base : List ℕ) (s t : Shelf) (r : Result Image Stop) (turns : ℕ) (old new : Scene) (case : Case) → LoadsTo base s t r → RunEnds r turns old new case
-    → Loads base turns s t old new case
-loads base s t (Ok machine) turns old new case h ends = rules.ran h.parts machine case h.gives h.its h.hosts ends
-loads base s t (Err why) turns old new case h ends =
-    subst (λ x. Loads base turns s t old x case) (sym ends.1) (subst (Loads base turns s t old old) (sym ends.0) (h turns old))
+pub loads : (bases : List (List ℕ)) (s t : Shelf) (r : Result Image Stop) (turns : ℕ) (old new : Scene) (case : Case) → LoadsTo bases s t r
+    → RunEnds r turns old new case → Loads bases turns s t old new case
+loads bases s t (Ok machine) turns old new case h ends = rules.ran h.parts machine case h.gives h.its h.hosts ends
+loads bases s t (Err why) turns old new case h ends =
+    subst (λ x. Loads bases turns s t old x case) (sym ends.1) (subst (Loads bases turns s t old old) (sym ends.0) (h turns old))
 
 -- ---- go NAME.mesa TURNS, go NAME.config TURNS
 

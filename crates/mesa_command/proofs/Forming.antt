@@ -28,7 +28,7 @@ pub well_formed : (words : List (List ℕ)) (f : Form) → HasForm words f → I
 well_formed _ _ (compile base named) = named
 well_formed _ _ (define base word stamp named is) = record { named = named; six = stamp_small word stamp is }
 well_formed _ _ (bind base named) = named
-well_formed _ _ (run base turns named bounded) = named
+well_formed _ _ (run bases turns some few named bounded) = record { some = some; few = few; named = named }
 well_formed _ _ (go source base turns named bounded) = named
 well_formed _ _ (list kind base named) = named
 well_formed _ _ (upgrade kind base named) = named
@@ -45,7 +45,7 @@ pub comes_of : (words : List (List ℕ)) (f : Form) (s t : Shelf) (old new : Sce
 comes_of words (Compile base) s t old new case has h = compiles base case has h.0 h.1
 comes_of words (Define base stamp) s t old new case has h = defines base stamp case has h.0 h.1
 comes_of words (Bind base) s t old new case has h = binds base case has h.0 h.1
-comes_of words (Run base turns) s t old new case has h = loads base turns case has h
+comes_of words (Run bases turns) s t old new case has h = loads bases turns case has h
 comes_of words (Go source base turns) s t old new case has h = goes source base turns case has h
 comes_of words (Show kind base) s t old new case has h = shows kind base case has h
 comes_of words (Upgrade kind base) s t old new case has h = upgrades kind base case has h.0 h.1

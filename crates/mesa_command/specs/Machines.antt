@@ -1,23 +1,16 @@
 -- From the files of a folder to a machine that is ready to run, or what ends the call before; and what comes of its run.
 use Rattle.std.specs.Prelude.{◌≡◌, ℕ, List, All, Result, Ok, Err}
 use Rattle.interface_records.specs.Hosts.{IsHostItem}
-use Rattle.interface_records.specs.declared.wanted.Wanted.{Wanted}
-use Rattle.interface_records.specs.declared.wanted.WantedItem.{WantedItem}
-use Rattle.machine_ready.specs.Hosts.{IsFirstUnresolved}
 use Rattle.object_files.specs.declared.image.Image.{Image}
 use Rattle.object_files.specs.declared.object.Object.{Object}
-use Rattle.object_rules.specs.ImageForms.{ImagePart}
 use Rattle.command_rules.specs.linked_programs.specs.Objects.{AreObjectsOf}
 use Rattle.command_rules.specs.linked_programs.specs.Programs.{IsMachineOf}
-use Rattle.command_rules.specs.Case.{Case, Refused, Memory}
-use Rattle.command_rules.specs.declared.trouble.Trouble.TheVariants.{Unresolved}
-use Rattle.command_rules.specs.Comes.{Goes, Loads, Made, linked, targets_of}
+use Rattle.command_rules.specs.Case.{Case}
+use Rattle.command_rules.specs.Comes.{Goes, Made, linked, targets_of}
 use Rattle.command_rules.specs.Configurations.{Configured, left_to_loader}
 use Rattle.command_rules.specs.Ends.{RunsTo}
-use Rattle.command_rules.specs.Forms.{Source, image_file}
-use Rattle.command_rules.specs.Objects.{IsImageWith, image_in}
+use Rattle.command_rules.specs.Forms.{Source}
 use Rattle.command_rules.specs.Passes.{Trail}
-use Rattle.command_rules.specs.Passing.{Gives}
 use Rattle.command_rules.specs.Reading.{Asked}
 use Rattle.command_rules.specs.Shown.{image_names}
 use Rattle.command_rules.specs.Worlds.{Shelf, Scene}
@@ -25,24 +18,6 @@ use Rattle.command_rules.specs.Writing.{IsSmall, Stored, NotStored}
 use Rattle.command_lines.specs.command_passes.specs.Stops.{stop_case}
 use Rattle.command_lines.specs.command_passes.specs.declared.stop.Stop.{Stop}
 use Rattle.command_sources.specs.Made.{Unmade, linked_from, targets_for}
-
--- ---- run NAME TURNS
-
--- the host has not what the image of this base wants, or memory was wanting
-pub data IsNotReady (base : List ℕ) (wanted : List Wanted) : Case → Type 0 where
-  unresolved : (i : WantedItem) → IsFirstUnresolved wanted i → IsNotReady base wanted (Refused (image_file base) (Unresolved i))
-  no_memory : IsNotReady base wanted Memory
-
--- the image that the file holds, which wants nothing but the host's items
-pub record IsLoaded (base : List ℕ) (folder folder' : Shelf) (machine : Image) : Type 0 where
-  pub parts : ImagePart
-  pub gives : Gives (image_in (image_file base)) folder folder' parts
-  pub its : IsImageWith parts machine
-  pub hosts : All IsHostItem parts.wanted
-
-abbrev pub LoadsTo : (base : List ℕ) → (folder folder' : Shelf) → Result Image Stop → Type 0
-LoadsTo base folder folder' (Ok machine) = IsLoaded base folder folder' machine
-LoadsTo base folder folder' (Err why) = (turns : ℕ) (old : Scene) → Loads base turns folder folder' old old (stop_case why)
 
 -- ---- go NAME.mesa TURNS, go NAME.config TURNS
 

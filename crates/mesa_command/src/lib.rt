@@ -14,6 +14,7 @@ mod storing;
 mod surveying;
 mod top;
 mod upgrading;
+mod words;
 
 pub use command_laws::one_case;
 pub use command_lines::command_passes::Stop;

@@ -1,6 +1,5 @@
 //! `plan NAME ..`.
 
-ghost use Rattle.std.specs.Prelude.{◌≡◌, ◌<◌, length, IfOk, Some, slice_get};
 ghost use Rattle.command_lines.specs.Words.{behind_first};
 ghost use Rattle.command_rules.specs.Planning.{plan_in};
 ghost use Rattle.command_rules.specs.Reading.{Onward};
@@ -8,32 +7,11 @@ ghost use Rattle.command_rules.specs.Worlds.{shelf};
 ghost use Rattle.mesa_command.specs.Forms.{ArePlanned};
 ghost use Rattle.mesa_command.specs.Printing.{ReportPasses};
 
+use crate::words::words_behind;
 use command_lines::command_passes::Stop;
 use command_plans::{PlanReport, plan_of_files};
-use mesa_base::{Bytes, Folder, List, OutOfMemory, Texts, Words};
+use mesa_base::{Bytes, Folder, Words};
 use std::alloc::Global;
-
-/// A copy of the word at this place.
-fn word_at(alloc: Global, words: &Words, at: usize) -> Result<Bytes, OutOfMemory>
-    requires { at < length words.now }
-    ensures { IfOk result (λ word. slice_get words.now at ≡ Some word) }
-{
-    match words.get(at) {
-        Some(word) => List::from_slice(alloc, word.as_slice()),
-        None => Ok(List::new(alloc)),
-    }
-}
-
-/// The words behind the first.
-fn bases_of(alloc: Global, words: &Words) -> Result<Texts, OutOfMemory>
-    ensures { IfOk result (λ bases. bases ≡ behind_first words.now) }
-{
-    let mut bases = List::new(alloc);
-    for at in 1..words.len() {
-        bases.push(word_at(alloc, words, at)?)?;
-    }
-    Ok(bases)
-}
 
 /// The report of the plan of the texts of these bases, or what ends the call. No file is changed.
 fn report_of<F: Folder>(alloc: Global, folder: &mut F, bases: &[Bytes]) -> Result<Bytes, Stop>
@@ -59,6 +37,6 @@ pub(crate) fn report<F: Folder>(alloc: Global, folder: &mut F, words: &Words) ->
     ensures onward { Onward (shelf (F.files folder.old) (F.calls folder.old) (F.faults folder.old) (F.misses folder.old))
         (shelf (F.files folder.new) (F.calls folder.new) (F.faults folder.new) (F.misses folder.new)) }
 {
-    let bases = bases_of(alloc, words)?;
+    let bases = words_behind(alloc, words)?;
     report_of(alloc, folder, bases.as_slice())
 }

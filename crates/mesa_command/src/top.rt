@@ -34,7 +34,7 @@ use std::sync::ledger::Ledger;
 /// - `compile NAME`: writes the object of the program in NAME.mesa to NAME.mob;
 /// - `compile NAME STAMP`: writes the interface of the definitions in NAME.mesa to NAME.mif;
 /// - `bind NAME`: writes the image of the configuration in NAME.config, with the objects of its components, to NAME.mim;
-/// - `run NAME TURNS`: runs the image in NAME.mim with a bound of so many turns;
+/// - `run NAME TURNS`, `run NAME NAME .. TURNS`: runs the image in NAME.mim, or what is loaded of several such images, with a bound of so many turns;
 /// - `go NAME.mesa TURNS`, `go NAME.config TURNS`: compiles the module in NAME.mesa, or those of the components of NAME.config, binds them, writes
 ///   the objects and the image, and runs that image;
 /// - `list FILE`: writes the listing of the interface in NAME.mif, the object in NAME.mob or the image in NAME.mim to `out`;
@@ -156,8 +156,8 @@ fn to_form<F: Folder, S: Source, K: Sink, E: Sink, L: Ledger>(
         Form::Compile { base } => told(compiled(alloc, folder, base), err),
         Form::Define { base, stamp } => told(defined(alloc, folder, base, stamp), err),
         Form::Bind { base } => told(bound(alloc, folder, base), err),
-        Form::Run { base, turns } => {
-            let machine = loaded(alloc, folder, base);
+        Form::Run { words, turns } => {
+            let machine = loaded(alloc, folder, words);
             run_or_tell(machine, turns, input, out, err, steps)
         }
         Form::Go {

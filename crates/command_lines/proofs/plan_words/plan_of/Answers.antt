@@ -1,4 +1,4 @@
-use Rattle.std.proofs.Common.{rules, ◌≡◌, ℕ, ◌<◌, ◌≤◌, length, arith, sym, ◌∙◌}
+use Rattle.std.proofs.Common.{rules, ◌<◌, ◌≤◌, length}
 use Rattle.command_lines.specs.Words.{IsFit}
 use Rattle.command_lines.proofs.Planning.{has_plan, no_plan}
 use Rattle.command_lines.proofs.plan_words.plan_of.Goals as goal

@@ -3,7 +3,7 @@ use Rattle.command_lines.specs.Words.{source_in as form_source}
 use Rattle.command_lines.specs.command_passes.specs.Kinds.{kind_in}
 use Rattle.mesa_command.proofs.Calls.{goes, loads}
 use Rattle.mesa_command.proofs.Exercised.{exercises}
-use Rattle.command_lines.specs.Words.{behind_first}
+use Rattle.command_lines.specs.Words.{behind_first, between}
 use Rattle.command_rules.specs.Forms.{kind_file}
 use Rattle.command_rules.specs.Listing.{listing_in}
 use Rattle.command_rules.specs.Planning.{plan_in}
@@ -15,7 +15,7 @@ pub returns-in-Run-clause-comes : goal.returns-in-Run-clause-comes
 returns-in-Run-clause-comes g c =
     let it = c.run_or_tell.ensures.ends in
     rw c.in-Run.is
-    (it.0, loads c.in-Run.base.now _ _ c.loaded-machine.result c.in-Run.turns _ _ it.0 c.loaded-machine.ensures.loads it.1, it.2)
+    (it.0, loads (between c.in-Run.words.now) _ _ c.loaded-machine.result c.in-Run.turns _ _ it.0 c.loaded-machine.ensures.loads it.1, it.2)
 
 pub returns-in-Go-clause-comes : goal.returns-in-Go-clause-comes
 returns-in-Go-clause-comes g c =

@@ -1,6 +1,6 @@
 use Rattle.std.proofs.Common.{rules, ◌≤◌, [], ◌∷◌, ◌++◌, sym, ◌∙◌, ap}
 use Rattle.mesa_command.proofs.Behind.{next_base}
-use Rattle.mesa_command.proofs.planning.bases_of.Goals as goal
+use Rattle.mesa_command.proofs.words.words_behind.Goals as goal
 
 pub loop-at-preserved : goal.loop-at-preserved
 loop-at-preserved c =

@@ -1,0 +1,6 @@
+mod Alone
+mod Faulty
+mod FromFiles
+mod Joining
+mod Reading
+mod Wanting

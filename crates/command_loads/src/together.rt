@@ -1,0 +1,91 @@
+//! Several images that are loaded as one.
+
+ghost use Rattle.std.specs.Prelude.{◌≡◌, ◌≤◌, All, IfErr, IfOk, length, map};
+ghost use Rattle.std.specs.Str.{IsAscii};
+ghost use Rattle.interface_records.specs.Hosts.{IsHostItem};
+ghost use Rattle.loader_rules.specs.declared.limits.TheConstants.{MOST_IMAGES};
+ghost use Rattle.machine_ready.specs.Order.{ImageInOrder};
+ghost use Rattle.object_rules.specs.ImageForms.{parts_of_image};
+ghost use Rattle.command_passes.specs.Filed.{IsFiledImage};
+ghost use Rattle.command_passes.specs.declared.stop.Stop.TheVariants as stop;
+ghost use Rattle.command_loads.specs.Lacking.{FindsLack};
+ghost use Rattle.command_loads.specs.Loaded.{ReadiesTo};
+
+use crate::ends::unloaded;
+use crate::images::{let_image_go, let_images_go};
+use crate::lacking::{Lack, first_lack, lacking};
+use command_passes::Stop;
+use image_loader::load;
+use loader_rules::{Images, first_image_has_the_fault, loaded_images_are_in_order, wanted_by_one};
+use machine_ready::{Machine, ReadyFault, ready};
+use mesa_base::{Bytes, OutOfMemory};
+use object_files::Image;
+use read_files::images_are_in_order;
+use std::alloc::Global;
+use upgraded_files::files_are_upgraded;
+
+/// The machine of an image that wants nothing but the host's items.
+fn readied(alloc: Global, image: Image) -> Result<Machine, Stop>
+    requires order { ImageInOrder image }
+    requires hosts { All IsHostItem image.wanted }
+    ensures same { IfOk result (λ machine. machine ≡ image) }
+    ensures memory { IfErr result (λ why. why ≡ stop.Memory) }
+{
+    match ready(alloc, image) {
+        Ok(machine) => Ok(machine),
+        Err(ReadyFault::Unresolved(_)) => unreachable!(),
+        Err(ReadyFault::Memory) => Err(Stop::Memory),
+    }
+}
+
+/// The machine of what is loaded of these images, where nothing lacks; or what ends the call.
+fn joined(
+    alloc: Global,
+    bases: &[Bytes],
+    images: Images,
+    lack: Option<Lack>,
+) -> Result<Machine, Stop>
+    requires plain { All IsAscii bases.now }
+    requires several { 2 ≤ length images.items }
+    requires few { length images.items ≤ MOST_IMAGES }
+    requires each { length images.items ≡ length bases.now }
+    requires filed { All IsFiledImage images.items }
+    requires lack { FindsLack images.items lack }
+    ensures { ReadiesTo bases.now (map parts_of_image images.items) result }
+{
+    files_are_upgraded();
+    loaded_images_are_in_order();
+    images_are_in_order();
+    first_image_has_the_fault();
+    wanted_by_one();
+    match load(alloc, images) {
+        Ok(image) => match lack {
+            Some(lack) => {
+                let_image_go(image);
+                Err(lacking(alloc, bases, lack))
+            }
+            None => readied(alloc, image),
+        },
+        Err(fault) => Err(unloaded(alloc, bases, fault)),
+    }
+}
+
+/// The machine of what is loaded of the images in the files of these bases; or what ends the call: the first fault of the first image that is not
+/// loaded, or else the first item that one of them wants and the host has not.
+pub(crate) fn together(alloc: Global, bases: &[Bytes], images: Images) -> Result<Machine, Stop>
+    requires plain { All IsAscii bases.now }
+    requires several { 2 ≤ length images.items }
+    requires few { length images.items ≤ MOST_IMAGES }
+    requires each { length images.items ≡ length bases.now }
+    requires filed { All IsFiledImage images.items }
+    ensures { ReadiesTo bases.now (map parts_of_image images.items) result }
+{
+    // Loading takes the images, so what the host has not is looked for before; it is told only where they are loaded.
+    match first_lack(alloc, images.as_slice()) {
+        Ok(lack) => joined(alloc, bases, images, lack),
+        Err(OutOfMemory) => {
+            let_images_go(images);
+            Err(Stop::Memory)
+        }
+    }
+}
