@@ -1,5 +1,21 @@
-//! The program: it makes the real folder and streams, and hands them with its words to `mesa`.
+//! The program: it makes the real folder and streams, and hands them with its words to `mesa`. Its tests are trials of `mesa` over objects in
+//! memory.
 #![tactic(auto)]
+
+#[cfg(test)]
+mod calls;
+#[cfg(test)]
+mod configurations;
+#[cfg(test)]
+mod demo;
+#[cfg(test)]
+mod failing;
+#[cfg(test)]
+mod limits;
+#[cfg(test)]
+mod requests;
+#[cfg(test)]
+mod storing;
 
 ghost use Rattle.std.specs.Prelude.{◌≡◌, ◌<◌, [], IsUtf8};
 

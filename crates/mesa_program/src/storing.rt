@@ -34,7 +34,7 @@ const LISTING: &str = "INTERFACE AskDefs 00000000000A\n\
     PROCEDURE Ask [x: INTEGER] RETURNS [INTEGER]\n\
     SIGNAL S [x: INTEGER] RETURNS [INTEGER]\n";
 
-const REQUESTS: [Request<'static>; 7] = [
+const REQUESTS: [Request<'static>; 8] = [
     GO,
     Request {
         words: DEFINE,
@@ -58,6 +58,14 @@ const REQUESTS: [Request<'static>; 7] = [
         printed: "",
     },
     RUN,
+    // The second image finds the input at its end.
+    Request {
+        words: "run Demo Demo 25",
+        bytes: INPUT,
+        files: &["Demo.mim", "Demo.mim"],
+        reads: 2,
+        printed: "s45s78..",
+    },
     Request {
         words: "list AskDefs.mif",
         bytes: INPUT,
