@@ -1,0 +1,7 @@
+//! Trials of `scopes`.
+#![tactic(auto)]
+
+#[cfg(test)]
+mod catching;
+#[cfg(test)]
+mod finding;
