@@ -1,8 +1,9 @@
-"""What `bind NAME`, `run NAME TURNS`, `list FILE`, `upgrade FILE`, `plan NAME ..` and `survey NAME` answer over some files, by the model."""
+"""What `bind NAME`, `run NAME .. TURNS`, `list FILE`, `upgrade FILE`, `plan NAME ..` and `survey NAME` answer over some files, by the model."""
 from collections import namedtuple
 
 from model.binding import image_of
 from model.listing import listing, read
+from model.loading import Fault, loaded, missing
 from model.machine import Machine, unresolved
 from model.objects import image_in
 from model.planning import plan
@@ -26,21 +27,44 @@ def bound(base, files):
     return Answer(DONE, b"", b"", {f"{base}.mim": image})
 
 
-def ran(base, turns, files, given=b""):
-    file = f"{base}.mim"
+def image_of_file(file, files):
+    """Returns the image that a file holds, or says by Wrong which line refuses it."""
     if file not in files:
-        return refused(f"{file}: absent")
+        raise Wrong(f"{file}: absent")
     try:
-        image = image_in(files[file])
+        return image_in(files[file])
     except Wrong as why:
-        return refused(f"{file}: {why}")
-    missing = unresolved(image)
-    if missing:
-        return refused(f"{file}: Unresolved {missing}")
+        raise Wrong(f"{file}: {why}") from why
+
+
+def ran_image(image, turns, given):
     machine = Machine(image, turns, given)
     end = machine.run()
     status = {"done": DONE, "turns spent": SPENT, "frames full": FULL}.get(end, UNCAUGHT)
     return Answer(status, machine.output, b"" if end == "done" else f"{end}\n".encode(), {})
+
+
+def ran(base, turns, files, given=b""):
+    file = f"{base}.mim"
+    try:
+        image = image_of_file(file, files)
+    except Wrong as why:
+        return refused(str(why))
+    lacking = unresolved(image)
+    return refused(f"{file}: Unresolved {lacking}") if lacking else ran_image(image, turns, given)
+
+
+def ran_together(bases, turns, files, given=b""):
+    """Of several images, which are loaded as one."""
+    try:
+        images = [image_of_file(f"{base}.mim", files) for base in bases]
+        image = loaded(images)
+    except Wrong as why:
+        return refused(str(why))
+    except Fault as why:
+        return refused(f"{bases[why.place]}.mim: {why.line}")
+    lacking = missing(images)
+    return refused(f"{bases[lacking[0]]}.mim: Unresolved {lacking[1]}") if lacking else ran_image(image, turns, given)
 
 
 def of_file(file, files, answer):

@@ -43,10 +43,10 @@ def text_shown(held):
 
 
 class Writer:
-    """Collects lines of bytes, in groups, with comments."""
+    """Collects lines of bytes, in groups, with comments. A module for whose bytes there is a word is shown by that word."""
 
-    def __init__(self):
-        self.lines, self.held, self.level = [], b"", 0
+    def __init__(self, words=None):
+        self.lines, self.held, self.level, self.words = [], b"", 0, words or {}
 
     def line(self, comment, *groups):
         self.held += b"".join(groups)
@@ -127,6 +127,11 @@ class Writer:
         self.listed("exports", module.exports, self.exported)
 
     def module_in_image(self, module):
+        word = self.words.get(module.spelled)
+        if word:
+            self.held += module.spelled
+            self.lines.append("  " * self.level + word)
+            return
         self.line(f"module {module.name}", s.name(module.name))
         self.level += 1
         self.parts_of(module)
@@ -155,9 +160,9 @@ class Writer:
         self.line("started" if image.control else "none is started", s.u32(len(image.control)), *map(s.u32, image.control))
 
 
-def shown(held):
-    """Returns the lines of an object's or an image's file."""
-    writer = Writer()
+def shown(held, words=None):
+    """Returns the lines of an object's or an image's file; there may be words for the bytes of modules."""
+    writer = Writer(words)
     if held[:3] == b"MOB":
         module = object_in(held)
         writer.line(f"an object of version {held[3]}, {module.name}", held[:3], held[3:4], s.name(module.name))
