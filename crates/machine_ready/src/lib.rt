@@ -22,4 +22,4 @@ pub use law::{
 pub use machine::{Machine, ready};
 pub use openings::Opening;
 pub use plan::{Plan, Plans};
-pub use prepared::Prepared;
+pub use prepared::{Prepared, Tables};

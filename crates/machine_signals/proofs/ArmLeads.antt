@@ -162,8 +162,8 @@ module _ (image : Image) (layout : Layout) (prepared : IsPrepared image layout) 
   unfolding put_at
   put_long = set_long S own _ ∙ w.high
 
-  turn : (m.turns ≡ 0 → ⊥) → enter_arm image number w.holder place w.why w.words S m ≡ then_entered spent
-  turn some = enters ∙ spent_by m.turns m then_entered (ne_eqb m.turns 0 some)
+  sequel : (m.turns ≡ 0 → ⊥) → enter_arm image number w.holder place w.why w.words S m ≡ then_entered spent
+  sequel some = enters ∙ spent_by m.turns m then_entered (ne_eqb m.turns 0 some)
 
   ends_so : (end : End) (n : Store) → enter_arm image number w.holder place w.why w.words S m ≡ Stops (Ended end) n → Ends image s (Ended end) n
   ends_so end n is = ends_alike image _ _ w.reaches (Ended end) n (subst (λ x. Ends image x (Ended end) n) (sym is) (stops (Ended end) n))
@@ -179,7 +179,7 @@ module _ (image : Image) (layout : Layout) (prepared : IsPrepared image layout) 
   pub arm_full : (m.turns ≡ 0 → ⊥) → 8192 ≤ top + 1 → Ends image s (Ended FrameLimit) spent
   arm_full some full =
       let l = put_long in
-      ends_so FrameLimit spent (turn some ∙ enter_if false (le-ltb (length (put_at S own a.slot new)) 8192 (omega (arith, l, full))))
+      ends_so FrameLimit spent (sequel some ∙ enter_if false (le-ltb (length (put_at S own a.slot new)) 8192 (omega (arith, l, full))))
 
   pub arm_shown : (m.turns ≡ 0 → ⊥) → top + 1 < 8192 → (top + 1) * layout.part ≤ length region → top + 1 < length table
       → (entry : ℕ) → Begins (spots p.code) entry a.start
@@ -202,5 +202,5 @@ module _ (image : Image) (layout : Layout) (prepared : IsPrepared image layout) 
         shows =
             subst (λ (t : List Row). Shows image layout (with_params region layout own a.slot new) t (arm_registers layout (top + 1) own entry) p made (put_at S own a.slot new)) rows_are
             (subst (λ q. Shows image layout (with_params region layout own a.slot new) (slice_set table (length S) (arm_row w.holder.instance w.holder.procedure own number reason)) (arm_registers layout q own entry) p made (put_at S own a.slot new)) h shows);
-        reaches = reaches_so image _ _ _ w.reaches (turn some ∙ enter_if true (lt-ltb (length (put_at S own a.slot new)) 8192 (omega (arith, l, less))));
+        reaches = reaches_so image _ _ _ w.reaches (sequel some ∙ enter_if true (lt-ltb (length (put_at S own a.slot new)) 8192 (omega (arith, l, less))));
       }

@@ -8,10 +8,12 @@ mod operate;
 mod perform;
 mod region;
 mod registers;
+mod routine;
 mod runner;
 mod texts;
 mod variables;
 
 pub use laws::works_as_defined;
 pub use registers::{Pause, Registers, Why};
+pub use routine::Routine;
 pub use runner::quiet;
