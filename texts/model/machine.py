@@ -1,13 +1,13 @@
 """Runs an image by the rules of the frame machine: what it prints, how it ends, and the turns that are left."""
 from collections import namedtuple
 
-from model.code import LINKED, NAMES, OWN, size_of
-from model.objects import ALL, BOUNDS, UNWIND, WANTED, ZERO, Entry, is_wanted, needs_of
+from model.code import NAMES, size_of
+from model.objects import UNWIND, WANTED, Entry, is_wanted, needs_of
 from model.reading import BOOLEAN, CHARACTER, ERROR, INTEGER, PROCEDURE, SIGNAL, STRING, Item, Type, signed, words_of
+from model.signals import NO_INPUT, UNNAMED, bound_signal, fits
 from model.words import BOUNDS_FAULT, ZERO_DIVISOR, Words
 
 ACTIVATIONS = 8_192
-NO_INPUT, UNNAMED = "IODefs.NoInput", "ERROR"
 
 
 def item(kind, name, takes=(), gives=()):
@@ -171,17 +171,6 @@ class Machine(Words):
 
     # ---- raises
 
-    def bound_signal(self, instance, number):
-        link = self.image.links[instance][number]
-        return NO_INPUT if link[0] == WANTED else tuple(link[1:])
-
-    def fits(self, label, instance, signal):
-        if label[0] == OWN:
-            return signal == (instance, label[1])
-        if label[0] == LINKED:
-            return signal == self.bound_signal(instance, label[1])
-        return {ALL: True, UNWIND: False, BOUNDS: signal == BOUNDS_FAULT, ZERO: signal == ZERO_DIVISOR}[label[0]]
-
     def raised(self, signal, args=()):
         self.spend()
         place = len(self.stack) - 1
@@ -197,7 +186,7 @@ class Machine(Words):
             activation = self.stack[place]
             for number in numbers:
                 for arm in activation.procedure.phrases[number].arms:
-                    if any(self.fits(label, activation.instance, signal) for label in arm.labels):
+                    if any(fits(self.image, label, activation.instance, signal) for label in arm.labels):
                         return self.run_arm(place, arm, ForRaise(signal, args, self.beyond(activation, number, True)), args)
             place = self.owner_of(place) - 1
             if place < 0:
@@ -284,7 +273,7 @@ class Machine(Words):
         elif name == "Raise":
             self.raised((self.top.instance, operands[0]), self.popped(self.module(self.top.instance).signals[operands[0]].args))
         elif name == "RaiseLink":
-            self.raised(self.bound_signal(self.top.instance, operands[0]), self.popped(self.args_of_link(operands[0])))
+            self.raised(bound_signal(self.image, self.top.instance, operands[0]), self.popped(self.args_of_link(operands[0])))
         elif name == "RaiseHost":
             self.raised((BOUNDS_FAULT, ZERO_DIVISOR, UNNAMED)[operands[0]])
         elif name == "ArmEnd":

@@ -1,8 +1,8 @@
 """The signals that may escape an image, told from its code alone: the least relation of a few rules, by plain iteration."""
-from model.code import BODY, FORWARD, LINKED, NAMES, OWN, Routine, size_of
-from model.machine import NO_INPUT, UNNAMED
-from model.objects import ALL, BOUNDS, UNWIND, WANTED, ZERO, needs_of
+from model.code import BODY, FORWARD, NAMES, Routine, size_of
+from model.objects import WANTED, needs_of
 from model.reading import SIGNAL
+from model.signals import NO_INPUT, UNNAMED, bound_signal, fits
 from model.words import BOUNDS_FAULT, ZERO_DIVISOR
 
 PREDECLARED = [BOUNDS_FAULT, ZERO_DIVISOR, NO_INPUT, UNNAMED]
@@ -82,17 +82,13 @@ class Survey:
     def procedures(self, instance):
         return self.code[self.image.instances[instance].module]
 
-    def bound_signal(self, instance, number):
-        link = self.image.links[instance][number]
-        return NO_INPUT if link[0] == WANTED else link[1:]
-
     # ---- what an instruction may raise, and what it may run
 
     def raised(self, instance, name, operands):
         if name == "Raise":
             yield instance, operands[0]
         if name == "RaiseLink":
-            yield self.bound_signal(instance, operands[0])
+            yield bound_signal(self.image, instance, operands[0])
         if name == "RaiseHost":
             yield (BOUNDS_FAULT, ZERO_DIVISOR, UNNAMED)[operands[0]]
         if name in BOUNDED:
@@ -117,13 +113,6 @@ class Survey:
 
     # ---- phrases that let a signal past
 
-    def fits(self, label, instance, signal):
-        if label[0] == OWN:
-            return signal == (instance, label[1])
-        if label[0] == LINKED:
-            return signal == self.bound_signal(instance, label[1])
-        return {ALL: True, UNWIND: False, BOUNDS: signal == BOUNDS_FAULT, ZERO: signal == ZERO_DIVISOR}[label[0]]
-
     def resumes(self, signal, words):
         """Whether a signal takes back so many words; an error takes nothing back."""
         if isinstance(signal, str):
@@ -134,7 +123,7 @@ class Survey:
     def stops(self, instance, its, number, signal):
         """Whether the first arm of a phrase that fits a signal has no end that is reached, and no RESUME but such as give back what it takes."""
         for arm in its.phrases[number].arms:
-            if any(self.fits(label, instance, signal) for label in arm.labels):
+            if any(fits(self.image, label, instance, signal) for label in arm.labels):
                 return all(name != "ArmEnd" and (name != "Resume" or self.resumes(signal, operands[0])) for name, operands in its.within(arm))
         return False
 
