@@ -2,8 +2,8 @@
 use Rattle.std.proofs.Common.{◌≡◌, ℕ, zero, suc, ◌+◌, ◌-◌, ◌*◌, List, [], ◌∷◌, ◌++◌, map, All, refl}
 use Rattle.code_forms.specs.declared.bad_code.CodeFault.TheVariants.{StackDiffers}
 use Rattle.code_forms.specs.declared.instruction.Instruction.{Instruction}
-use Rattle.code_forms.specs.declared.instruction.Instruction.TheVariants.{Lit, Str, LoadL, StoreL, LoadG, StoreG, LoadLX, StoreLX, LoadGX, StoreGX, Index, Add, Sub, Mul, Neg, DivI, ModI, DivC, ModC, Eq, LessI, LessC, Not, CheckI, CheckC, Jump, JumpIf, JumpIfNot, JumpBack, StrLen, StrAt, Call, CallLink, Return, Raise, RaiseLink, RaiseHost, ArmEnd, Resume, Leave, LeaveReturn, Pop, Roll, ZeroL, ZeroG}
-use Rattle.code_examples.proofs.Tables.{Row, good, wrong, phrase, any, found, wanted, Said, rows_mean}
+use Rattle.code_forms.specs.declared.instruction.Instruction.TheVariants.{Lit, Str, LoadL, StoreL, LoadG, StoreG, LoadLX, StoreLX, LoadGX, StoreGX, Index, Add, Sub, Mul, Neg, DivI, ModI, DivC, ModC, Eq, LessI, LessC, Not, CheckI, CheckC, Jump, JumpIf, JumpIfNot, JumpBack, StrLen, StrAt, Call, CallLink, Return, Raise, RaiseLink, RaiseHost, ArmEnd, Resume, Leave, LeaveReturn, Pop, Roll, ZeroL, ZeroG, AddD, SubD, MulD, NegD, DivDI, ModDI, DivDC, ModDC, EqD, LessDI, LessDC, WidenI, WidenC, NarrowI, NarrowC, CheckD}
+use Rattle.code_examples.proofs.Tables.{Row, good, wrong, good_deep, wrong_deep, phrase, any, found, wanted, Said, rows_mean}
 
 -- so many words on the operand stack
 abbrev lits : ℕ → List Instruction
@@ -61,6 +61,33 @@ too_few_found = refl
 too_few_mean : All Said too_few
 too_few_mean = rows_mean too_few too_few_found
 
+-- the same of those over LONG numbers, with room for two of them
+abbrev just_long : Effect → Row
+just_long e = good_deep (lits e.takes ++ (e.instruction ∷ Pop e.puts ∷ Return ∷ []))
+
+abbrev one_less_long : Effect → Row
+one_less_long e = wrong_deep (StackDiffers (3 * (e.takes - 1))) (lits (e.takes - 1) ++ (e.instruction ∷ Pop e.puts ∷ Return ∷ []))
+
+abbrev last_long : Effect → Row
+last_long e = wrong_deep (StackDiffers (3 * e.takes)) (lits e.takes ++ (e.instruction ∷ []))
+
+abbrev long_takers : List Effect
+long_takers =
+    moves AddD 4 2 ∷ moves SubD 4 2 ∷ moves MulD 4 2 ∷ moves NegD 2 2
+    ∷ moves DivDI 4 2 ∷ moves ModDI 4 2 ∷ moves DivDC 4 2 ∷ moves ModDC 4 2
+    ∷ moves EqD 4 1 ∷ moves LessDI 4 1 ∷ moves LessDC 4 1
+    ∷ moves WidenI 1 2 ∷ moves WidenC 1 2 ∷ moves NarrowI 2 1 ∷ moves NarrowC 2 1 ∷ moves CheckD 2 2
+    ∷ []
+
+abbrev longs : List Row
+longs = map just_long long_takers ++ map one_less_long long_takers ++ map last_long long_takers
+
+longs_found : found longs ≡ wanted longs
+longs_found = refl
+
+longs_mean : All Said longs
+longs_mean = rows_mean longs longs_found
+
 -- those that put more than they take: they may fill the room of 3 words, and not pass it
 abbrev full : Effect → Row
 full e = good (lits (3 + e.takes - e.puts) ++ (e.instruction ∷ Pop 3 ∷ Return ∷ [])) []
@@ -71,7 +98,7 @@ too_full e = wrong (StackDiffers (3 * (4 + e.takes - e.puts))) (lits (4 + e.take
 abbrev growers : List Effect
 growers =
     moves (Lit 0) 0 1 ∷ moves (Str 1) 0 2 ∷ moves (LoadL 0 3) 0 3 ∷ moves (LoadG 0 2) 0 2 ∷ moves (LoadLX 0 2 2) 1 2 ∷ moves (LoadGX 0 3 3) 1 3
-    ∷ moves (CallLink 0) 1 3 ∷ moves (Raise 0) 1 2
+    ∷ moves (CallLink 0) 1 3 ∷ moves (Raise 0) 1 2 ∷ moves WidenI 1 2 ∷ moves WidenC 1 2
     ∷ []
 
 abbrev brims : List Row

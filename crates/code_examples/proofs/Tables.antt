@@ -58,6 +58,10 @@ holds procedures = record {
 abbrev pub body : List Instruction → List Phrase → Parts
 body code phrases = holds (procedure 0 0 5 3 code phrases ∷ procedure 2 1 3 0 (Return ∷ []) [] ∷ [])
 
+-- the same with room for 4, two numbers of two words each
+abbrev pub deep_body : List Instruction → Parts
+deep_body code = holds (procedure 0 0 5 4 code [] ∷ procedure 2 1 3 0 (Return ∷ []) [] ∷ [])
+
 -- what a code is to come to: it is valid, or has this first fault
 pub record Row : Type 0 where
   pub parts : Parts
@@ -68,6 +72,12 @@ good code phrases = record { parts = body code phrases; fault = None }
 
 abbrev pub wrong : CodeFault → List Instruction → List Phrase → Row
 wrong fault code phrases = record { parts = body code phrases; fault = Some (record { procedure = 0; fault = fault }) }
+
+abbrev pub good_deep : List Instruction → Row
+good_deep code = record { parts = deep_body code; fault = None }
+
+abbrev pub wrong_deep : CodeFault → List Instruction → Row
+wrong_deep fault code = record { parts = deep_body code; fault = Some (record { procedure = 0; fault = fault }) }
 
 -- what is found of a code: whether it keeps the ranges of each module, and its first fault
 pub record Found : Type 0 where

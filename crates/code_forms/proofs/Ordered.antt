@@ -9,7 +9,7 @@ use Rattle.std.proofs.lemmas.Bool.{cases_lt}
 use Rattle.std.proofs.lemmas.List.Sorted.{IsNonDecreasingBy-from_all_adjacent}
 use Rattle.std.proofs.lemmas.Option.{slice_get-get_or, slice_get-map, slice_get_within, same_Some}
 use Rattle.code_forms.specs.declared.instruction.Instruction.{Instruction}
-use Rattle.code_forms.specs.declared.instruction.Instruction.TheVariants.{Lit, Str, LoadL, StoreL, LoadG, StoreG, LoadLX, StoreLX, LoadGX, StoreGX, Index, Add, Sub, Mul, Neg, DivI, ModI, DivC, ModC, Eq, LessI, LessC, Not, CheckI, CheckC, Jump, JumpIf, JumpIfNot, JumpBack, StrLen, StrAt, Call, CallLink, Return, Raise, RaiseLink, RaiseHost, ArmEnd, Resume, Leave, LeaveReturn, Pop, Roll, ZeroL, ZeroG}
+use Rattle.code_forms.specs.declared.instruction.Instruction.TheVariants.{Lit, Str, LoadL, StoreL, LoadG, StoreG, LoadLX, StoreLX, LoadGX, StoreGX, Index, Add, Sub, Mul, Neg, DivI, ModI, DivC, ModC, Eq, LessI, LessC, Not, CheckI, CheckC, Jump, JumpIf, JumpIfNot, JumpBack, StrLen, StrAt, Call, CallLink, Return, Raise, RaiseLink, RaiseHost, ArmEnd, Resume, Leave, LeaveReturn, Pop, Roll, ZeroL, ZeroG, AddD, SubD, MulD, NegD, DivDI, ModDI, DivDC, ModDC, EqD, LessDI, LessDC, WidenI, WidenC, NarrowI, NarrowC, CheckD}
 use Rattle.code_forms.specs.declared.module_code.CodeEntry.{CodeEntry}
 use Rattle.code_forms.specs.Instructions.{bytes_of}
 use Rattle.code_forms.specs.Ranges.{InOrder}
@@ -61,6 +61,22 @@ some_bytes (Pop words) = lit≤ tt
 some_bytes (Roll words over) = lit≤ tt
 some_bytes (ZeroL slot words) = lit≤ tt
 some_bytes (ZeroG slot words) = lit≤ tt
+some_bytes AddD = lit≤ tt
+some_bytes SubD = lit≤ tt
+some_bytes MulD = lit≤ tt
+some_bytes NegD = lit≤ tt
+some_bytes DivDI = lit≤ tt
+some_bytes ModDI = lit≤ tt
+some_bytes DivDC = lit≤ tt
+some_bytes ModDC = lit≤ tt
+some_bytes EqD = lit≤ tt
+some_bytes LessDI = lit≤ tt
+some_bytes LessDC = lit≤ tt
+some_bytes WidenI = lit≤ tt
+some_bytes WidenC = lit≤ tt
+some_bytes NarrowI = lit≤ tt
+some_bytes NarrowC = lit≤ tt
+some_bytes CheckD = lit≤ tt
 
 -- an entry, where one is asked for
 abbrev pub blank : CodeEntry

@@ -2,7 +2,7 @@
 -- takes from the operand stack and then puts there. Words that it looks at or moves and leaves there count as taken and put back.
 use Rattle.std.specs.Prelude.{ℕ, ◌+◌, List, codes}
 use Rattle.code_forms.specs.declared.instruction.Instruction.{Instruction}
-use Rattle.code_forms.specs.declared.instruction.Instruction.TheVariants.{Lit, Str, LoadL, StoreL, LoadG, StoreG, LoadLX, StoreLX, LoadGX, StoreGX, Index, Add, Sub, Mul, Neg, DivI, ModI, DivC, ModC, Eq, LessI, LessC, Not, CheckI, CheckC, Jump, JumpIf, JumpIfNot, JumpBack, StrLen, StrAt, Call, CallLink, Return, Raise, RaiseLink, RaiseHost, ArmEnd, Resume, Leave, LeaveReturn, Pop, Roll, ZeroL, ZeroG}
+use Rattle.code_forms.specs.declared.instruction.Instruction.TheVariants.{Lit, Str, LoadL, StoreL, LoadG, StoreG, LoadLX, StoreLX, LoadGX, StoreGX, Index, Add, Sub, Mul, Neg, DivI, ModI, DivC, ModC, Eq, LessI, LessC, Not, CheckI, CheckC, Jump, JumpIf, JumpIfNot, JumpBack, StrLen, StrAt, Call, CallLink, Return, Raise, RaiseLink, RaiseHost, ArmEnd, Resume, Leave, LeaveReturn, Pop, Roll, ZeroL, ZeroG, AddD, SubD, MulD, NegD, DivDI, ModDI, DivDC, ModDC, EqD, LessDI, LessDC, WidenI, WidenC, NarrowI, NarrowC, CheckD}
 
 -- so many words are taken and put; or the arguments and the results of a procedure, a signal or a link
 pub data Effect : Type 0 where
@@ -68,6 +68,22 @@ row (Pop words) = row_of 0x2A 3 (codes "Pop") (Fixed words 0)
 row (Roll words over) = row_of 0x2B 5 (codes "Roll") (Fixed (words + over) (words + over))
 row (ZeroL slot words) = row_of 0x2C 5 (codes "ZeroL") (Fixed 0 0)
 row (ZeroG slot words) = row_of 0x2D 5 (codes "ZeroG") (Fixed 0 0)
+row AddD = row_of 0x2E 1 (codes "AddD") (Fixed 4 2)
+row SubD = row_of 0x2F 1 (codes "SubD") (Fixed 4 2)
+row MulD = row_of 0x30 1 (codes "MulD") (Fixed 4 2)
+row NegD = row_of 0x31 1 (codes "NegD") (Fixed 2 2)
+row DivDI = row_of 0x32 1 (codes "DivDI") (Fixed 4 2)
+row ModDI = row_of 0x33 1 (codes "ModDI") (Fixed 4 2)
+row DivDC = row_of 0x34 1 (codes "DivDC") (Fixed 4 2)
+row ModDC = row_of 0x35 1 (codes "ModDC") (Fixed 4 2)
+row EqD = row_of 0x36 1 (codes "EqD") (Fixed 4 1)
+row LessDI = row_of 0x37 1 (codes "LessDI") (Fixed 4 1)
+row LessDC = row_of 0x38 1 (codes "LessDC") (Fixed 4 1)
+row WidenI = row_of 0x39 1 (codes "WidenI") (Fixed 1 2)
+row WidenC = row_of 0x3A 1 (codes "WidenC") (Fixed 1 2)
+row NarrowI = row_of 0x3B 1 (codes "NarrowI") (Fixed 2 1)
+row NarrowC = row_of 0x3C 1 (codes "NarrowC") (Fixed 2 1)
+row CheckD = row_of 0x3D 1 (codes "CheckD") (Fixed 2 2)
 
 abbrev pub number_of : Instruction → ℕ
 number_of i = (row i).number

@@ -77,6 +77,29 @@ pub enum Instruction {
     /// Sets so many words of the frame, of the globals to 0.
     ZeroL { slot: u16, words: u16 },
     ZeroG { slot: u16, words: u16 },
+    /// Of LONG numbers, each of two words, the more significant one pushed first: modulo 2^32; the number pushed first is
+    /// on the left.
+    AddD,
+    SubD,
+    MulD,
+    NegD,
+    /// Signed, and unsigned; `ZeroDivisor` by 0.
+    DivDI,
+    ModDI,
+    DivDC,
+    ModDC,
+    /// Push the word 1 or 0, `LessDI` over signed numbers.
+    EqD,
+    LessDI,
+    LessDC,
+    /// Pop a word, signed or unsigned, and push the number.
+    WidenI,
+    WidenC,
+    /// Pop a signed number, and push the word; `BoundsFault` outside -32768 to 32767, outside 0 to 65535.
+    NarrowI,
+    NarrowC,
+    /// `BoundsFault` where the first bit of the number on top is 1; it stays.
+    CheckD,
 }
 
 impl Instruction {
@@ -130,6 +153,22 @@ impl Instruction {
             Instruction::Roll { .. } => 0x2B,
             Instruction::ZeroL { .. } => 0x2C,
             Instruction::ZeroG { .. } => 0x2D,
+            Instruction::AddD => 0x2E,
+            Instruction::SubD => 0x2F,
+            Instruction::MulD => 0x30,
+            Instruction::NegD => 0x31,
+            Instruction::DivDI => 0x32,
+            Instruction::ModDI => 0x33,
+            Instruction::DivDC => 0x34,
+            Instruction::ModDC => 0x35,
+            Instruction::EqD => 0x36,
+            Instruction::LessDI => 0x37,
+            Instruction::LessDC => 0x38,
+            Instruction::WidenI => 0x39,
+            Instruction::WidenC => 0x3A,
+            Instruction::NarrowI => 0x3B,
+            Instruction::NarrowC => 0x3C,
+            Instruction::CheckD => 0x3D,
         }
     }
 
@@ -153,7 +192,23 @@ impl Instruction {
             | Instruction::StrLen
             | Instruction::StrAt
             | Instruction::Return
-            | Instruction::ArmEnd => 1,
+            | Instruction::ArmEnd
+            | Instruction::AddD
+            | Instruction::SubD
+            | Instruction::MulD
+            | Instruction::NegD
+            | Instruction::DivDI
+            | Instruction::ModDI
+            | Instruction::DivDC
+            | Instruction::ModDC
+            | Instruction::EqD
+            | Instruction::LessDI
+            | Instruction::LessDC
+            | Instruction::WidenI
+            | Instruction::WidenC
+            | Instruction::NarrowI
+            | Instruction::NarrowC
+            | Instruction::CheckD => 1,
             Instruction::RaiseHost { .. } => 2,
             Instruction::Lit { .. }
             | Instruction::Str { .. }
@@ -236,6 +291,22 @@ impl Instruction {
             Instruction::Roll { .. } => "Roll",
             Instruction::ZeroL { .. } => "ZeroL",
             Instruction::ZeroG { .. } => "ZeroG",
+            Instruction::AddD => "AddD",
+            Instruction::SubD => "SubD",
+            Instruction::MulD => "MulD",
+            Instruction::NegD => "NegD",
+            Instruction::DivDI => "DivDI",
+            Instruction::ModDI => "ModDI",
+            Instruction::DivDC => "DivDC",
+            Instruction::ModDC => "ModDC",
+            Instruction::EqD => "EqD",
+            Instruction::LessDI => "LessDI",
+            Instruction::LessDC => "LessDC",
+            Instruction::WidenI => "WidenI",
+            Instruction::WidenC => "WidenC",
+            Instruction::NarrowI => "NarrowI",
+            Instruction::NarrowC => "NarrowC",
+            Instruction::CheckD => "CheckD",
         }
     }
 }

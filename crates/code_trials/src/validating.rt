@@ -2,8 +2,9 @@
 
 use crate::building::{Catch, Handler, Own, any, judged};
 use code_forms::Instruction::{
-    Add, ArmEnd, Call, CallLink, Jump, JumpBack, JumpIf, Leave, LeaveReturn, Lit, LoadG, Pop,
-    Raise, RaiseHost, Return, StoreG, Str, ZeroL,
+    Add, AddD, ArmEnd, Call, CallLink, CheckD, Jump, JumpBack, JumpIf, Leave, LeaveReturn, LessDI,
+    Lit, LoadG, NarrowC, NarrowI, NegD, Pop, Raise, RaiseHost, Return, StoreG, Str, WidenC, WidenI,
+    ZeroL,
 };
 use code_forms::{CodeEntry, CodeFault, Instruction, Label, ValidCode};
 use std::alloc::Global;
@@ -24,9 +25,17 @@ const OTHER: Own<'static> = Own {
 };
 
 /// Valid code without phrases, with the depths of its instructions.
-const VALID: [(&[Instruction], &[u32]); 12] = [
+const VALID: [(&[Instruction], &[u32]); 14] = [
     (&[Return], &[0]),
     (&[LIT, LIT, Add, Pop { words: 1 }, Return], &[0, 1, 2, 1, 0]),
+    (
+        &[LIT, WidenC, NegD, CheckD, NarrowC, Pop { words: 1 }, Return],
+        &[0, 1, 2, 2, 2, 1, 0],
+    ),
+    (
+        &[LIT, LIT, WidenI, NarrowI, Pop { words: 2 }, Return],
+        &[0, 1, 2, 3, 2, 0],
+    ),
     (
         &[
             LIT,
@@ -63,7 +72,7 @@ const VALID: [(&[Instruction], &[u32]); 12] = [
 ];
 
 /// Code without phrases, with its first fault.
-const FAULTY: [(&[Instruction], CodeFault); 24] = [
+const FAULTY: [(&[Instruction], CodeFault); 28] = [
     (
         &[LIT, JumpIf { target: 11 }, LIT, Return],
         CodeFault::StackDiffers(8),
@@ -74,6 +83,22 @@ const FAULTY: [(&[Instruction], CodeFault); 24] = [
         CodeFault::StackDiffers(4),
     ),
     (&[LIT, LIT, LIT, LIT], CodeFault::StackDiffers(9)),
+    (
+        &[LIT, LIT, LIT, WidenI, Pop { words: 4 }, Return],
+        CodeFault::StackDiffers(9),
+    ),
+    (
+        &[LIT, LIT, LIT, AddD, Pop { words: 2 }, Return],
+        CodeFault::StackDiffers(9),
+    ),
+    (
+        &[LIT, LIT, LIT, LessDI, Pop { words: 1 }, Return],
+        CodeFault::StackDiffers(9),
+    ),
+    (
+        &[LIT, NarrowI, Pop { words: 1 }, Return],
+        CodeFault::StackDiffers(3),
+    ),
     (&[Pop { words: 1 }, Return], CodeFault::StackDiffers(0)),
     (&[LIT, Return], CodeFault::StackDiffers(3)),
     (&[ZERO], CodeFault::StackDiffers(0)),

@@ -9,6 +9,7 @@ pub mod Holding
 pub mod Kept
 pub mod LeavingExamples
 pub mod Located
+pub mod LongExamples
 pub mod Measure
 pub mod Nearer
 pub mod OneResult

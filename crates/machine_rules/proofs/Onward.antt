@@ -2,12 +2,12 @@
 use Rattle.std.specs.Prelude.{◌≡◌, ℕ, List, [], ◌∷◌, Bool, true, false, refl}
 use Rattle.std.proofs.lemmas.Bool.{true≢false}
 use Rattle.object_files.specs.mesa_types.specs.Operators.{Tried, Fine, Faulty}
-use Rattle.machine_rules.specs.Words.{on_top, under}
+use Rattle.machine_rules.specs.Words.{on_top, on_two, under}
 use Rattle.std.proofs.Common.{◌⊎◌, inl, inr}
 use Rattle.code_forms.specs.declared.instruction.Instruction.{Instruction}
-use Rattle.code_forms.specs.declared.instruction.Instruction.TheVariants.{Lit, Str, LoadL, StoreL, LoadG, StoreG, LoadLX, StoreLX, LoadGX, StoreGX, Index, Add, Sub, Mul, Neg, DivI, ModI, DivC, ModC, Eq, LessI, LessC, Not, CheckI, CheckC, Jump, JumpIf, JumpIfNot, JumpBack, StrLen, StrAt, Call, CallLink, Return, Raise, RaiseLink, RaiseHost, ArmEnd, Resume, Leave, LeaveReturn, Pop, Roll, ZeroL, ZeroG}
+use Rattle.code_forms.specs.declared.instruction.Instruction.TheVariants.{Lit, Str, LoadL, StoreL, LoadG, StoreG, LoadLX, StoreLX, LoadGX, StoreGX, Index, Add, Sub, Mul, Neg, DivI, ModI, DivC, ModC, Eq, LessI, LessC, Not, CheckI, CheckC, Jump, JumpIf, JumpIfNot, JumpBack, StrLen, StrAt, Call, CallLink, Return, Raise, RaiseLink, RaiseHost, ArmEnd, Resume, Leave, LeaveReturn, Pop, Roll, ZeroL, ZeroG, AddD, SubD, MulD, NegD, DivDI, ModDI, DivDC, ModDC, EqD, LessDI, LessDC, WidenI, WidenC, NarrowI, NarrowC, CheckD}
 use Rattle.code_forms.specs.Routine.{Routine, goes_on}
-use Rattle.machine_rules.specs.Working.{Work, Worked, Works, Faults, Touches, leaves, stores_local, stores_global, in_bounds, leaves_tried, works}
+use Rattle.machine_rules.specs.Working.{Work, Worked, Works, Faults, Touches, leaves, stores_local, stores_global, in_bounds, leaves_tried, leaves_long, leaves_long_tried, works}
 
 pub works_or_touches : (texts : ℕ → ℕ → List ℕ) (number : ℕ) (r : Routine) (i : Instruction) (w : Work)
     → (goes_on r i ≡ true) ⊎ (works texts number i w ≡ Touches)
@@ -43,6 +43,22 @@ works_or_touches texts number r (Pop x) w = inl refl
 works_or_touches texts number r (Roll x y) w = inl refl
 works_or_touches texts number r (ZeroL x y) w = inl refl
 works_or_touches texts number r (ZeroG x y) w = inl refl
+works_or_touches texts number r AddD w = inl refl
+works_or_touches texts number r SubD w = inl refl
+works_or_touches texts number r MulD w = inl refl
+works_or_touches texts number r NegD w = inl refl
+works_or_touches texts number r DivDI w = inl refl
+works_or_touches texts number r ModDI w = inl refl
+works_or_touches texts number r DivDC w = inl refl
+works_or_touches texts number r ModDC w = inl refl
+works_or_touches texts number r EqD w = inl refl
+works_or_touches texts number r LessDI w = inl refl
+works_or_touches texts number r LessDC w = inl refl
+works_or_touches texts number r WidenI w = inl refl
+works_or_touches texts number r WidenC w = inl refl
+works_or_touches texts number r NarrowI w = inl refl
+works_or_touches texts number r NarrowC w = inl refl
+works_or_touches texts number r CheckD w = inl refl
 works_or_touches texts number r (Jump x) w = inr refl
 works_or_touches texts number r (JumpIf x) w = inr refl
 works_or_touches texts number r (JumpIfNot x) w = inr refl
@@ -96,8 +112,20 @@ unfolding leaves_tried leaves
 no_tried (Fine x) operands w = refl
 no_tried (Faulty fault) operands w = refl
 
+no_two : (operands : List ℕ) (k : ℕ → ℕ → List ℕ → Worked) → ((x y : ℕ) (rest : List ℕ) → is_touch (k x y rest) ≡ false) → is_touch (on_two operands k) ≡ false
+no_two operands k h = no_top operands _ (λ y rest. no_top rest _ (λ x more. h x y more))
+
+no_four : (operands : List ℕ) (k : ℕ → ℕ → ℕ → ℕ → List ℕ → Worked) → ((a b c d : ℕ) (rest : List ℕ) → is_touch (k a b c d rest) ≡ false)
+    → is_touch (on_two operands (λ c d rest. on_two rest (λ a b more. k a b c d more))) ≡ false
+no_four operands k h = no_two operands _ (λ c d rest. no_two rest _ (λ a b more. h a b c d more))
+
+no_long_tried : (t : Tried) (operands : List ℕ) (w : Work) → is_touch (leaves_long_tried t operands w) ≡ false
+unfolding leaves_long_tried leaves_long leaves
+no_long_tried (Fine n) operands w = refl
+no_long_tried (Faulty fault) operands w = refl
+
 pub no_touch : (texts : ℕ → ℕ → List ℕ) (number : ℕ) (i : Instruction) (w : Work) → touches i ≡ false → is_touch (works texts number i w) ≡ false
-unfolding works leaves stores_local stores_global
+unfolding works leaves stores_local stores_global leaves_long
 no_touch texts number (Lit x) w e = refl
 no_touch texts number (Str x) w e = refl
 no_touch texts number (LoadL x y) w e = refl
@@ -129,4 +157,20 @@ no_touch texts number (Pop x) w e = refl
 no_touch texts number (Roll x y) w e = refl
 no_touch texts number (ZeroL x y) w e = refl
 no_touch texts number (ZeroG x y) w e = refl
+no_touch texts number AddD w e = no_four w.operands _ (λ a b c d rest. refl)
+no_touch texts number SubD w e = no_four w.operands _ (λ a b c d rest. refl)
+no_touch texts number MulD w e = no_four w.operands _ (λ a b c d rest. refl)
+no_touch texts number NegD w e = no_two w.operands _ (λ a b rest. refl)
+no_touch texts number DivDI w e = no_four w.operands _ (λ a b c d rest. no_long_tried _ rest w)
+no_touch texts number ModDI w e = no_four w.operands _ (λ a b c d rest. no_long_tried _ rest w)
+no_touch texts number DivDC w e = no_four w.operands _ (λ a b c d rest. no_long_tried _ rest w)
+no_touch texts number ModDC w e = no_four w.operands _ (λ a b c d rest. no_long_tried _ rest w)
+no_touch texts number EqD w e = no_four w.operands _ (λ a b c d rest. refl)
+no_touch texts number LessDI w e = no_four w.operands _ (λ a b c d rest. refl)
+no_touch texts number LessDC w e = no_four w.operands _ (λ a b c d rest. refl)
+no_touch texts number WidenI w e = no_top w.operands _ (λ x rest. refl)
+no_touch texts number WidenC w e = no_top w.operands _ (λ x rest. refl)
+no_touch texts number NarrowI w e = no_two w.operands _ (λ a b rest. no_bounds _ _ refl)
+no_touch texts number NarrowC w e = no_two w.operands _ (λ a b rest. no_bounds _ _ refl)
+no_touch texts number CheckD w e = no_two w.operands _ (λ a b rest. no_bounds _ _ refl)
 no_touch texts number _ w e = absurd (true≢false e)

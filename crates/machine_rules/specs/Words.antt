@@ -1,5 +1,6 @@
 -- Words of variables and of operands (rule of this project).
 use Rattle.std.specs.Prelude.{ℕ, ◌+◌, List, [], ◌∷◌, ◌++◌, length, take, drop, reverse, replicate}
+use Rattle.object_files.specs.mesa_types.specs.Longs.{long_of}
 
 -- so many zeros
 abbrev pub zeros : ℕ → List ℕ
@@ -34,3 +35,11 @@ on_top (x ∷ rest) k = k x rest
 -- goes on with the two topmost ones, the one pushed first on the left, and those under them
 abbrev pub on_two : {A : Type 0} → List ℕ → (ℕ → ℕ → List ℕ → A) → A
 on_two operands k = on_top operands λ y rest. on_top rest λ x more. k x y more
+
+-- goes on with the LONG number whose two words are the topmost operands, the more significant one pushed first, and those under it
+abbrev pub on_long : {A : Type 0} → List ℕ → (ℕ → List ℕ → A) → A
+on_long operands k = on_two operands λ more less rest. k (long_of more less) rest
+
+-- goes on with two LONG numbers, the one pushed first on the left, and those under them
+abbrev pub on_two_longs : {A : Type 0} → List ℕ → (ℕ → ℕ → List ℕ → A) → A
+on_two_longs operands k = on_long operands λ y rest. on_long rest λ x more. k x y more

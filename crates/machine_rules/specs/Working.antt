@@ -5,9 +5,10 @@ use Rattle.object_files.specs.mesa_types.specs.declared.typed_parts.Base.TheVari
 use Rattle.object_files.specs.mesa_types.specs.declared.typed_parts.Range.TheVariants.{From}
 use Rattle.code_forms.specs.mesa_base.specs.declared.relation.Relation.TheVariants.{Less}
 use Rattle.object_files.specs.mesa_types.specs.Operators.{WordFault, OutOfBounds, Tried, Fine, Faulty, wrap, opposite, quotient, remainder, related, truth, fits, by_divisor, byte_at}
+use Rattle.object_files.specs.mesa_types.specs.Longs.{more_of, less_of, wrap_long, opposite_long, quotient_long, remainder_long, related_long, extended, is_in_common, is_word_of, shifted_long}
 use Rattle.code_forms.specs.declared.instruction.Instruction.{Instruction}
-use Rattle.code_forms.specs.declared.instruction.Instruction.TheVariants.{Lit, Str, LoadL, StoreL, LoadG, StoreG, LoadLX, StoreLX, LoadGX, StoreGX, Index, Add, Sub, Mul, Neg, DivI, ModI, DivC, ModC, Eq, LessI, LessC, Not, CheckI, CheckC, StrLen, StrAt, Pop, Roll, ZeroL, ZeroG}
-use Rattle.machine_rules.specs.Words.{zeros, words_at, put_words, push, popped, under, on_top, on_two}
+use Rattle.code_forms.specs.declared.instruction.Instruction.TheVariants.{Lit, Str, LoadL, StoreL, LoadG, StoreG, LoadLX, StoreLX, LoadGX, StoreGX, Index, Add, Sub, Mul, Neg, DivI, ModI, DivC, ModC, Eq, LessI, LessC, Not, CheckI, CheckC, StrLen, StrAt, Pop, Roll, ZeroL, ZeroG, AddD, SubD, MulD, NegD, DivDI, ModDI, DivDC, ModDC, EqD, LessDI, LessDC, WidenI, WidenC, NarrowI, NarrowC, CheckD}
+use Rattle.machine_rules.specs.Words.{zeros, words_at, put_words, push, popped, under, on_top, on_two, on_long, on_two_longs}
 
 pub record Work : Type 0 where
   pub operands : List ℕ
@@ -38,6 +39,14 @@ in_bounds b goes = if b then goes else Faults OutOfBounds
 unfoldable pub leaves_tried : Tried → List ℕ → Work → Worked
 leaves_tried (Fine x) operands w = leaves (x ∷ operands) w
 leaves_tried (Faulty fault) operands w = Faults fault
+
+-- the two words of a LONG number are pushed, the more significant one first
+unfoldable pub leaves_long : ℕ → List ℕ → Work → Worked
+leaves_long n operands w = leaves (less_of n ∷ more_of n ∷ operands) w
+
+unfoldable pub leaves_long_tried : Tried → List ℕ → Work → Worked
+leaves_long_tried (Fine n) operands w = leaves_long n operands w
+leaves_long_tried (Faulty fault) operands w = Faults fault
 
 -- in a module of this number, with the bytes for which the two words of a string stand
 unfoldable pub works : (texts : ℕ → ℕ → List ℕ) → (number : ℕ) → Instruction → Work → Worked
@@ -78,4 +87,20 @@ works texts number (Roll n k) w =
     leaves (push (popped n (under k w.operands)) (push (popped k w.operands) (under n (under k w.operands)))) w
 works texts number (ZeroL s n) w = stores_local s (zeros n) w.operands w
 works texts number (ZeroG s n) w = stores_global s (zeros n) w.operands w
+works texts number AddD w = on_two_longs w.operands λ x y rest. leaves_long (wrap_long (x + y)) rest w
+works texts number SubD w = on_two_longs w.operands λ x y rest. leaves_long (wrap_long (x + (4294967296 - y))) rest w
+works texts number MulD w = on_two_longs w.operands λ x y rest. leaves_long (wrap_long (x * y)) rest w
+works texts number NegD w = on_long w.operands λ x rest. leaves_long (opposite_long x) rest w
+works texts number DivDI w = on_two_longs w.operands λ x y rest. leaves_long_tried (by_divisor y (quotient_long Signed x y)) rest w
+works texts number ModDI w = on_two_longs w.operands λ x y rest. leaves_long_tried (by_divisor y (remainder_long Signed x y)) rest w
+works texts number DivDC w = on_two_longs w.operands λ x y rest. leaves_long_tried (by_divisor y (quotient_long Unsigned x y)) rest w
+works texts number ModDC w = on_two_longs w.operands λ x y rest. leaves_long_tried (by_divisor y (remainder_long Unsigned x y)) rest w
+works texts number EqD w = on_two_longs w.operands λ x y rest. leaves (truth (nat_eq x y) ∷ rest) w
+works texts number LessDI w = on_two_longs w.operands λ x y rest. leaves (truth (related_long Less Signed x y) ∷ rest) w
+works texts number LessDC w = on_two_longs w.operands λ x y rest. leaves (truth (related_long Less Unsigned x y) ∷ rest) w
+works texts number WidenI w = on_top w.operands λ x rest. leaves_long (extended Signed x) rest w
+works texts number WidenC w = on_top w.operands λ x rest. leaves_long (extended Unsigned x) rest w
+works texts number NarrowI w = on_long w.operands λ x rest. in_bounds (is_word_of Signed (shifted_long Signed x)) (leaves (less_of x ∷ rest) w)
+works texts number NarrowC w = on_long w.operands λ x rest. in_bounds (is_word_of Unsigned (shifted_long Signed x)) (leaves (less_of x ∷ rest) w)
+works texts number CheckD w = on_long w.operands λ x rest. in_bounds (is_in_common x) (leaves w.operands w)
 works texts number _ w = Touches
