@@ -126,7 +126,7 @@ put_numbers (size ∷ sizes) (n ∷ ns) h = (h.0, put_numbers sizes ns h.1)
 put_instruction : (left : ℕ) (x : Instruction) → OperandsInBytes x → bytes_of x ≤ left → (instruction left).fits x
 unfolding instruction
 put_instruction left x h room = (
-  (few x, and_from (between 0x01 0x2D (number_of x)) (nat_le (size_of (number_of x)) left) (known x) (le-leb (size_of (number_of x)) left (omega (arith, room, sizes_sum x)))),
+  (few x, and_from (between 0x01 0x3D (number_of x)) (nat_le (size_of (number_of x)) left) (known x) (le-leb (size_of (number_of x)) left (omega (arith, room, sizes_sum x)))),
   put_numbers (sizes_of (number_of x)) (operands_of x) h,
 )
 

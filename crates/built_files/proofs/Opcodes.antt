@@ -1,11 +1,11 @@
 -- The numbers of instructions.
 use Rattle.std.proofs.Common.{◌≡◌, ◌<◌, true, refl, arith}
 use Rattle.code_forms.specs.declared.instruction.Instruction.{Instruction}
-use Rattle.code_forms.specs.declared.instruction.Instruction.TheVariants.{Add, ArmEnd, Call, CallLink, CheckC, CheckI, DivC, DivI, Eq, Index, Jump, JumpBack, JumpIf, JumpIfNot, Leave, LeaveReturn, LessC, LessI, Lit, LoadG, LoadGX, LoadL, LoadLX, ModC, ModI, Mul, Neg, Not, Pop, Raise, RaiseHost, RaiseLink, Resume, Return, Roll, StoreG, StoreGX, StoreL, StoreLX, Str, StrAt, StrLen, Sub, ZeroG, ZeroL}
+use Rattle.code_forms.specs.declared.instruction.Instruction.TheVariants.{Add, AddD, ArmEnd, Call, CallLink, CheckC, CheckD, CheckI, DivC, DivDC, DivDI, DivI, Eq, EqD, Index, Jump, JumpBack, JumpIf, JumpIfNot, Leave, LeaveReturn, LessC, LessDC, LessDI, LessI, Lit, LoadG, LoadGX, LoadL, LoadLX, ModC, ModDC, ModDI, ModI, Mul, MulD, NarrowC, NarrowI, Neg, NegD, Not, Pop, Raise, RaiseHost, RaiseLink, Resume, Return, Roll, StoreG, StoreGX, StoreL, StoreLX, Str, StrAt, StrLen, Sub, SubD, WidenC, WidenI, ZeroG, ZeroL}
 use Rattle.code_forms.specs.Instructions.{number_of}
 use Rattle.file_forms.specs.Forms.{between}
 
-pub known : (x : Instruction) → between 0x01 0x2D (number_of x) ≡ true
+pub known : (x : Instruction) → between 0x01 0x3D (number_of x) ≡ true
 known (Lit a) = refl
 known (Str a) = refl
 known (LoadL a b) = refl
@@ -51,6 +51,22 @@ known (Pop a) = refl
 known (Roll a b) = refl
 known (ZeroL a b) = refl
 known (ZeroG a b) = refl
+known AddD = refl
+known SubD = refl
+known MulD = refl
+known NegD = refl
+known DivDI = refl
+known ModDI = refl
+known DivDC = refl
+known ModDC = refl
+known EqD = refl
+known LessDI = refl
+known LessDC = refl
+known WidenI = refl
+known WidenC = refl
+known NarrowI = refl
+known NarrowC = refl
+known CheckD = refl
 
 pub few : (x : Instruction) → number_of x < 256
 few (Lit a) = omega arith
@@ -98,3 +114,19 @@ few (Pop a) = omega arith
 few (Roll a b) = omega arith
 few (ZeroL a b) = omega arith
 few (ZeroG a b) = omega arith
+few AddD = omega arith
+few SubD = omega arith
+few MulD = omega arith
+few NegD = omega arith
+few DivDI = omega arith
+few ModDI = omega arith
+few DivDC = omega arith
+few ModDC = omega arith
+few EqD = omega arith
+few LessDI = omega arith
+few LessDC = omega arith
+few WidenI = omega arith
+few WidenC = omega arith
+few NarrowI = omega arith
+few NarrowC = omega arith
+few CheckD = omega arith

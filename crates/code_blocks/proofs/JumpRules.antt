@@ -75,6 +75,22 @@ own_right r at (i.Pop words) h = tt
 own_right r at (i.Roll words over) h = tt
 own_right r at (i.ZeroL slot words) h = tt
 own_right r at (i.ZeroG slot words) h = tt
+own_right r at i.AddD h = tt
+own_right r at i.SubD h = tt
+own_right r at i.MulD h = tt
+own_right r at i.NegD h = tt
+own_right r at i.DivDI h = tt
+own_right r at i.ModDI h = tt
+own_right r at i.DivDC h = tt
+own_right r at i.ModDC h = tt
+own_right r at i.EqD h = tt
+own_right r at i.LessDI h = tt
+own_right r at i.LessDC h = tt
+own_right r at i.WidenI h = tt
+own_right r at i.WidenC h = tt
+own_right r at i.NarrowI h = tt
+own_right r at i.NarrowC h = tt
+own_right r at i.CheckD h = tt
 
 jump_not : (arms : ℕ) (to : Destination) → JumpsInside (jump_to arms to) → ⊥
 jump_not zero (Offset o) h = h

@@ -83,6 +83,22 @@ own_fixed (i.Pop words) h = h
 own_fixed (i.Roll words over) h = h
 own_fixed (i.ZeroL slot words) h = h
 own_fixed (i.ZeroG slot words) h = h
+own_fixed i.AddD h = h
+own_fixed i.SubD h = h
+own_fixed i.MulD h = h
+own_fixed i.NegD h = h
+own_fixed i.DivDI h = h
+own_fixed i.ModDI h = h
+own_fixed i.DivDC h = h
+own_fixed i.ModDC h = h
+own_fixed i.EqD h = h
+own_fixed i.LessDI h = h
+own_fixed i.LessDC h = h
+own_fixed i.WidenI h = h
+own_fixed i.WidenC h = h
+own_fixed i.NarrowI h = h
+own_fixed i.NarrowC h = h
+own_fixed i.CheckD h = h
 
 -- jumps take and put the same words in every module too
 abbrev pub AreFixed : List Instruction → Type 0

@@ -83,6 +83,22 @@ module _ (r : Routine) (few : Few r) where
   in_range (i.Roll words over) h l = omega (arith, l.0, l.1)
   in_range (i.ZeroL slot words) h l = omega (arith, h, few.frame)
   in_range (i.ZeroG slot words) h l = omega (arith, h, few.globals)
+  in_range i.AddD h l = refl
+  in_range i.SubD h l = refl
+  in_range i.MulD h l = refl
+  in_range i.NegD h l = refl
+  in_range i.DivDI h l = refl
+  in_range i.ModDI h l = refl
+  in_range i.DivDC h l = refl
+  in_range i.ModDC h l = refl
+  in_range i.EqD h l = refl
+  in_range i.LessDI h l = refl
+  in_range i.LessDC h l = refl
+  in_range i.WidenI h l = refl
+  in_range i.WidenC h l = refl
+  in_range i.NarrowI h l = refl
+  in_range i.NarrowC h l = refl
+  in_range i.CheckD h l = refl
 
   one_in_range : (depth : ℕ) (x : Instruction) → FitsIn r depth x → IsLow x → excess_of x ≡ 0
   one_in_range depth x h l = in_range x (h (ArmOf 0 0) (λ some e. cc)) l

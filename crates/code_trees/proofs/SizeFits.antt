@@ -53,6 +53,22 @@ instruction_bytes (i.Pop words) = omega arith
 instruction_bytes (i.Roll words over) = omega arith
 instruction_bytes (i.ZeroL slot words) = omega arith
 instruction_bytes (i.ZeroG slot words) = omega arith
+instruction_bytes i.AddD = omega arith
+instruction_bytes i.SubD = omega arith
+instruction_bytes i.MulD = omega arith
+instruction_bytes i.NegD = omega arith
+instruction_bytes i.DivDI = omega arith
+instruction_bytes i.ModDI = omega arith
+instruction_bytes i.DivDC = omega arith
+instruction_bytes i.ModDC = omega arith
+instruction_bytes i.EqD = omega arith
+instruction_bytes i.LessDI = omega arith
+instruction_bytes i.LessDC = omega arith
+instruction_bytes i.WidenI = omega arith
+instruction_bytes i.WidenC = omega arith
+instruction_bytes i.NarrowI = omega arith
+instruction_bytes i.NarrowC = omega arith
+instruction_bytes i.CheckD = omega arith
 
 pub size_fits : (b : Block) → excess b ≡ 0 → size b ≤ 4294967295
 unfolding excess

@@ -77,6 +77,17 @@ fn moves(instruction: Instruction) -> Exchange
         | Instruction::CheckI { .. }
         | Instruction::CheckC { .. } => words_moved(1, 1),
         Instruction::StrAt => words_moved(3, 1),
+        Instruction::AddD
+        | Instruction::SubD
+        | Instruction::MulD
+        | Instruction::DivDI
+        | Instruction::ModDI
+        | Instruction::DivDC
+        | Instruction::ModDC => words_moved(4, 2),
+        Instruction::EqD | Instruction::LessDI | Instruction::LessDC => words_moved(4, 1),
+        Instruction::NegD | Instruction::CheckD => words_moved(2, 2),
+        Instruction::WidenI | Instruction::WidenC => words_moved(1, 2),
+        Instruction::NarrowI | Instruction::NarrowC => words_moved(2, 1),
         Instruction::JumpIf { .. } | Instruction::JumpIfNot { .. } => words_moved(1, 0),
         Instruction::Roll { words, over } => {
             let all = u32::from(words) + u32::from(over);

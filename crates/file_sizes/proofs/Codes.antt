@@ -1,7 +1,7 @@
 -- How many bytes the code and the phrases of procedures take, signals and strings.
 use Rattle.std.proofs.Common.{◌≡◌, ℕ, ◌+◌, ◌-◌, List, [], ◌∷◌, length, refl, arith}
 use Rattle.code_forms.specs.declared.instruction.Instruction.{Instruction}
-use Rattle.code_forms.specs.declared.instruction.Instruction.TheVariants.{Lit, Str, LoadL, StoreL, LoadG, StoreG, LoadLX, StoreLX, LoadGX, StoreGX, Index, Add, Sub, Mul, Neg, DivI, ModI, DivC, ModC, Eq, LessI, LessC, Not, CheckI, CheckC, Jump, JumpIf, JumpIfNot, JumpBack, StrLen, StrAt, Call, CallLink, Return, Raise, RaiseLink, RaiseHost, ArmEnd, Resume, Leave, LeaveReturn, Pop, Roll, ZeroL, ZeroG}
+use Rattle.code_forms.specs.declared.instruction.Instruction.TheVariants.{Lit, Str, LoadL, StoreL, LoadG, StoreG, LoadLX, StoreLX, LoadGX, StoreGX, Index, Add, Sub, Mul, Neg, DivI, ModI, DivC, ModC, Eq, LessI, LessC, Not, CheckI, CheckC, Jump, JumpIf, JumpIfNot, JumpBack, StrLen, StrAt, Call, CallLink, Return, Raise, RaiseLink, RaiseHost, ArmEnd, Resume, Leave, LeaveReturn, Pop, Roll, ZeroL, ZeroG, AddD, SubD, MulD, NegD, DivDI, ModDI, DivDC, ModDC, EqD, LessDI, LessDC, WidenI, WidenC, NarrowI, NarrowC, CheckD}
 use Rattle.code_forms.specs.declared.module_code.Arm.{Arm}
 use Rattle.code_forms.specs.declared.module_code.CodeEntry.{CodeEntry}
 use Rattle.code_forms.specs.declared.module_code.CodeLink.{CodeLink}
@@ -71,6 +71,22 @@ instruction_sized left (Pop a) = refl
 instruction_sized left (Roll a b) = refl
 instruction_sized left (ZeroL a b) = refl
 instruction_sized left (ZeroG a b) = refl
+instruction_sized left AddD = refl
+instruction_sized left SubD = refl
+instruction_sized left MulD = refl
+instruction_sized left NegD = refl
+instruction_sized left DivDI = refl
+instruction_sized left ModDI = refl
+instruction_sized left DivDC = refl
+instruction_sized left ModDC = refl
+instruction_sized left EqD = refl
+instruction_sized left LessDI = refl
+instruction_sized left LessDC = refl
+instruction_sized left WidenI = refl
+instruction_sized left WidenC = refl
+instruction_sized left NarrowI = refl
+instruction_sized left NarrowC = refl
+instruction_sized left CheckD = refl
 
 full_sized : (left : ℕ) (all : List CodeEntry) → length (spell_full bytes_of instruction left (instructions all)) ≡ entries_bytes all
 unfolding spell_full

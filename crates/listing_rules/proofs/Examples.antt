@@ -16,7 +16,7 @@ use Rattle.object_files.specs.declared.image.Link.TheVariants.{Wanted, To}
 use Rattle.listing_rules.specs.Lines.{between, line, offset_text}
 use Rattle.listing_rules.specs.Types.{Printed, signed, bounds_text, word_text, printed, type_text}
 use Rattle.listing_rules.specs.Interfaces.{constant_line, interface_listing}
-use Rattle.listing_rules.specs.Code.{operand_texts, procedure_lines}
+use Rattle.listing_rules.specs.Code.{operand_texts, entry_line, procedure_lines}
 use Rattle.listing_rules.specs.Images.{bound_lines, instances_from}
 use Rattle.listing_rules.specs.Objects.{import_lines, export_lines}
 use Rattle.listing_rules.proofs.TypeLaws.{integer_printed, cardinal_printed, character_printed, subrange_printed, array_printed, made_field_printed}
@@ -103,6 +103,11 @@ the_procedure : procedure_lines caught ≡ lines (
     ∷ codes "PHRASE 00000000 00000005" ∷ codes "ARM 00000006 0000000D 1 2 own 0 link 1" ∷ [])
 unfolding digits caught lines between line offset_text operand_texts
 the_procedure = refl
+
+-- an instruction without operands
+the_sum : entry_line (record { at = 16; depth = 4; instruction = i.AddD }) ≡ lines (codes "00000010 AddD" ∷ [])
+unfolding lines between line offset_text operand_texts
+the_sum = refl
 
 an_import : Import
 an_import = record { face = record { name = codes "Two"; stamp = 11; items = error (codes "Full") ∷ error (codes "Empty") ∷ [] }; used = 1 ∷ [] }

@@ -84,7 +84,23 @@ fn operands_of(instruction: Instruction) -> Operands
         | Instruction::StrLen
         | Instruction::StrAt
         | Instruction::Return
-        | Instruction::ArmEnd => Operands::Nothing,
+        | Instruction::ArmEnd
+        | Instruction::AddD
+        | Instruction::SubD
+        | Instruction::MulD
+        | Instruction::NegD
+        | Instruction::DivDI
+        | Instruction::ModDI
+        | Instruction::DivDC
+        | Instruction::ModDC
+        | Instruction::EqD
+        | Instruction::LessDI
+        | Instruction::LessDC
+        | Instruction::WidenI
+        | Instruction::WidenC
+        | Instruction::NarrowI
+        | Instruction::NarrowC
+        | Instruction::CheckD => Operands::Nothing,
     }
 }
 

@@ -1,9 +1,9 @@
 -- Which instructions have operands of these sizes, and that each has the bytes that they take.
-use Rattle.std.proofs.Common.{◌≡◌, ◌≢◌, ℕ, zero, suc, ◌+◌, ◌<◌, ◌≤◌, ◌⊎◌, inl, inr, Bool, true, false, List, [], ◌∷◌, refl, sym, ap, subst, ◌∙◌, arith}
+use Rattle.std.proofs.Common.{◌≡◌, ◌≢◌, ℕ, zero, suc, ◌<◌, ◌≤◌, ◌⊎◌, inl, inr, Bool, true, false, List, [], ◌∷◌, refl, sym, ap, subst, ◌∙◌, arith}
 use Rattle.std.specs.Prelude.{◌&&◌, ◌||◌, ◌==◌, not, bytes_eq}
 use Rattle.std.proofs.lemmas.Bool.{eqb-true}
 use Rattle.code_forms.specs.Instructions.{bytes_of}
-use Rattle.code_forms.specs.declared.instruction.Instruction.TheVariants.{ArmEnd, Pop, ZeroG, StoreGX, RaiseLink}
+use Rattle.code_forms.specs.declared.instruction.Instruction.TheVariants.{ArmEnd, Pop, ZeroG, StoreGX, RaiseLink, CheckD}
 use Rattle.module_readers.specs.Behind.{IsNumber}
 use Rattle.object_rules.specs.Instructions.{sizes_of, size_of, with_operands}
 
@@ -34,13 +34,14 @@ holds_at test (suc n) op all less =
 unfoldable has : List ℕ → ℕ → (ℕ → Bool) → Bool
 has sizes op others = not (bytes_eq (sizes_of op) sizes) || others op
 
--- a number with these sizes is one of those
-among : (sizes : List ℕ) (others : ℕ → Bool) (op : ℕ) → bytes_eq sizes sizes ≡ true → up_to (λ n. has sizes n others) 46 ≡ true → IsNumber op → sizes_of op ≡ sizes → others op ≡ true
+-- a number below this one with these sizes is one of those
+among : (end : ℕ) (sizes : List ℕ) (others : ℕ → Bool) (op : ℕ) → bytes_eq sizes sizes ≡ true → up_to (λ n. has sizes n others) end ≡ true → op < end → sizes_of op ≡ sizes → others op ≡ true
 unfolding has
-among sizes others op same all there e =
-    let h : has sizes op others ≡ true = holds_at (λ n. has sizes n others) 46 op all (omega (arith, there.1)) in
+among end sizes others op same all less e =
+    let h : has sizes op others ≡ true = holds_at (λ n. has sizes n others) end op all less in
     sym (ap (λ (b : Bool). not b || others op) (ap (λ (l : List ℕ). bytes_eq l sizes) e ∙ same)) ∙ h
 
+-- those of the instructions over words
 abbrev is_plain : ℕ → Bool
 is_plain op = (op == 0x0C) || ((op == 0x0D) || ((op == 0x0E) || ((op == 0x0F) || ((op == 0x10) || ((op == 0x11) || ((op == 0x12) || ((op == 0x13) || ((op == 0x14) || ((op == 0x15) || ((op == 0x16) || ((op == 0x17) || ((op == 0x1E) || ((op == 0x1F) || ((op == 0x22) || (op == 0x26)))))))))))))))
 
@@ -48,62 +49,62 @@ all_plain_among : up_to (λ n. has [] n is_plain) 46 ≡ true
 unfolding up_to has sizes_of
 all_plain_among = refl
 
-pub plain_among : (op : ℕ) → IsNumber op → sizes_of op ≡ [] → is_plain op ≡ true
-plain_among op there e = among [] is_plain op refl all_plain_among there e
+pub plain_among : (op : ℕ) → op < 46 → sizes_of op ≡ [] → is_plain op ≡ true
+plain_among op less e = among 46 [] is_plain op refl all_plain_among less e
 
 abbrev is_word : ℕ → Bool
 is_word op = (op == 0) || ((op == 0x01) || ((op == 0x02) || ((op == 0x27) || ((op == 0x29) || (op == 0x2A)))))
 
-all_word_among : up_to (λ n. has (2 ∷ []) n is_word) 46 ≡ true
+all_word_among : up_to (λ n. has (2 ∷ []) n is_word) 62 ≡ true
 unfolding up_to has sizes_of
 all_word_among = refl
 
 pub word_among : (op : ℕ) → IsNumber op → sizes_of op ≡ 2 ∷ [] → is_word op ≡ true
-word_among op there e = among (2 ∷ []) is_word op refl all_word_among there e
+word_among op there e = among 62 (2 ∷ []) is_word op refl all_word_among (omega (arith, there.1)) e
 
 abbrev is_words : ℕ → Bool
 is_words op = (op == 0x03) || ((op == 0x04) || ((op == 0x05) || ((op == 0x06) || ((op == 0x0B) || ((op == 0x18) || ((op == 0x19) || ((op == 0x2B) || ((op == 0x2C) || (op == 0x2D)))))))))
 
-all_words_among : up_to (λ n. has (2 ∷ 2 ∷ []) n is_words) 46 ≡ true
+all_words_among : up_to (λ n. has (2 ∷ 2 ∷ []) n is_words) 62 ≡ true
 unfolding up_to has sizes_of
 all_words_among = refl
 
 pub words_among : (op : ℕ) → IsNumber op → sizes_of op ≡ 2 ∷ 2 ∷ [] → is_words op ≡ true
-words_among op there e = among (2 ∷ 2 ∷ []) is_words op refl all_words_among there e
+words_among op there e = among 62 (2 ∷ 2 ∷ []) is_words op refl all_words_among (omega (arith, there.1)) e
 
 abbrev is_three : ℕ → Bool
 is_three op = (op == 0x07) || ((op == 0x08) || ((op == 0x09) || (op == 0x0A)))
 
-all_three_among : up_to (λ n. has (2 ∷ 2 ∷ 2 ∷ []) n is_three) 46 ≡ true
+all_three_among : up_to (λ n. has (2 ∷ 2 ∷ 2 ∷ []) n is_three) 62 ≡ true
 unfolding up_to has sizes_of
 all_three_among = refl
 
 pub three_among : (op : ℕ) → IsNumber op → sizes_of op ≡ 2 ∷ 2 ∷ 2 ∷ [] → is_three op ≡ true
-three_among op there e = among (2 ∷ 2 ∷ 2 ∷ []) is_three op refl all_three_among there e
+three_among op there e = among 62 (2 ∷ 2 ∷ 2 ∷ []) is_three op refl all_three_among (omega (arith, there.1)) e
 
 abbrev is_four : ℕ → Bool
 is_four op = (op == 0x1A) || ((op == 0x1B) || ((op == 0x1C) || ((op == 0x1D) || ((op == 0x20) || ((op == 0x21) || ((op == 0x23) || (op == 0x24)))))))
 
-all_four_among : up_to (λ n. has (4 ∷ []) n is_four) 46 ≡ true
+all_four_among : up_to (λ n. has (4 ∷ []) n is_four) 62 ≡ true
 unfolding up_to has sizes_of
 all_four_among = refl
 
 pub four_among : (op : ℕ) → IsNumber op → sizes_of op ≡ 4 ∷ [] → is_four op ≡ true
-four_among op there e = among (4 ∷ []) is_four op refl all_four_among there e
+four_among op there e = among 62 (4 ∷ []) is_four op refl all_four_among (omega (arith, there.1)) e
 
-all_byte_is : up_to (λ n. has (1 ∷ []) n (λ n. n == 37)) 46 ≡ true
+all_byte_is : up_to (λ n. has (1 ∷ []) n (λ n. n == 37)) 62 ≡ true
 unfolding up_to has sizes_of
 all_byte_is = refl
 
 pub byte_is : (op : ℕ) → IsNumber op → sizes_of op ≡ 1 ∷ [] → (op == 37) ≡ true
-byte_is op there e = among (1 ∷ []) (λ n. n == 37) op refl all_byte_is there e
+byte_is op there e = among 62 (1 ∷ []) (λ n. n == 37) op refl all_byte_is (omega (arith, there.1)) e
 
-all_leave_is : up_to (λ n. has (2 ∷ 4 ∷ []) n (λ n. n == 40)) 46 ≡ true
+all_leave_is : up_to (λ n. has (2 ∷ 4 ∷ []) n (λ n. n == 40)) 62 ≡ true
 unfolding up_to has sizes_of
 all_leave_is = refl
 
 pub leave_is : (op : ℕ) → IsNumber op → sizes_of op ≡ 2 ∷ 4 ∷ [] → (op == 40) ≡ true
-leave_is op there e = among (2 ∷ 4 ∷ []) (λ n. n == 40) op refl all_leave_is there e
+leave_is op there e = among 62 (2 ∷ 4 ∷ []) (λ n. n == 40) op refl all_leave_is (omega (arith, there.1)) e
 
 -- ---- the last of those with these sizes
 
@@ -114,11 +115,15 @@ skip k op b h ne = past (op == k) (λ e. ne (eqb-true op k e)) h
     past true differs h = absurd (differs refl)
     past false differs h = h
 
-pub plain_last : (op : ℕ) → IsNumber op → sizes_of op ≡ [] → op ≢ 12 → op ≢ 13 → op ≢ 14 → op ≢ 15 → op ≢ 16 → op ≢ 17 → op ≢ 18 → op ≢ 19 → op ≢ 20 → op ≢ 21 → op ≢ 22 → op ≢ 23 → op ≢ 30 → op ≢ 31 → op ≢ 34 → ArmEnd ≡ with_operands op 0 0 0
+pub plain_last : (op : ℕ) → op < 46 → sizes_of op ≡ [] → op ≢ 12 → op ≢ 13 → op ≢ 14 → op ≢ 15 → op ≢ 16 → op ≢ 17 → op ≢ 18 → op ≢ 19 → op ≢ 20 → op ≢ 21 → op ≢ 22 → op ≢ 23 → op ≢ 30 → op ≢ 31 → op ≢ 34 → ArmEnd ≡ with_operands op 0 0 0
 unfolding with_operands
-plain_last op there e n0 n1 n2 n3 n4 n5 n6 n7 n8 n9 n10 n11 n12 n13 n14 =
-    let is : op ≡ 38 = eqb-true op 38 (skip 34 op _ (skip 31 op _ (skip 30 op _ (skip 23 op _ (skip 22 op _ (skip 21 op _ (skip 20 op _ (skip 19 op _ (skip 18 op _ (skip 17 op _ (skip 16 op _ (skip 15 op _ (skip 14 op _ (skip 13 op _ (skip 12 op _ (plain_among op there e) n0) n1) n2) n3) n4) n5) n6) n7) n8) n9) n10) n11) n12) n13) n14) in
+plain_last op less e n0 n1 n2 n3 n4 n5 n6 n7 n8 n9 n10 n11 n12 n13 n14 =
+    let is : op ≡ 38 = eqb-true op 38 (skip 34 op _ (skip 31 op _ (skip 30 op _ (skip 23 op _ (skip 22 op _ (skip 21 op _ (skip 20 op _ (skip 19 op _ (skip 18 op _ (skip 17 op _ (skip 16 op _ (skip 15 op _ (skip 14 op _ (skip 13 op _ (skip 12 op _ (plain_among op less e) n0) n1) n2) n3) n4) n5) n6) n7) n8) n9) n10) n11) n12) n13) n14) in
     subst (λ k. ArmEnd ≡ with_operands k 0 0 0) (sym is) refl
+
+pub longs_last : (op : ℕ) → op ≡ 61 → CheckD ≡ with_operands op 0 0 0
+unfolding with_operands
+longs_last op is = subst (λ k. CheckD ≡ with_operands k 0 0 0) (sym is) refl
 
 pub word_last : (op : ℕ) (a : ℕ) → IsNumber op → sizes_of op ≡ 2 ∷ [] → op ≢ 0 → op ≢ 1 → op ≢ 2 → op ≢ 39 → op ≢ 41 → Pop a ≡ with_operands op a 0 0
 unfolding with_operands
@@ -165,10 +170,10 @@ sized_at zero op all first last = absurd (omega (arith, first, last))
 sized_at (suc n) op all first last =
     elim (split op (suc n) (omega (arith, last))) [ inl e ↦ subst Sized (sym e) all.0 | inr l ↦ sized_at n op all.1 first (omega (arith, l)) ]
 
-all_sized : AllSized 45
+all_sized : AllSized 61
 unfolding AllSized Sized with_operands sizes_of
-all_sized = ((λ a b c. refl), ((λ a b c. refl), ((λ a b c. refl), ((λ a b c. refl), ((λ a b c. refl), ((λ a b c. refl), ((λ a b c. refl), ((λ a b c. refl), ((λ a b c. refl), ((λ a b c. refl), ((λ a b c. refl), ((λ a b c. refl), ((λ a b c. refl), ((λ a b c. refl), ((λ a b c. refl), ((λ a b c. refl), ((λ a b c. refl), ((λ a b c. refl), ((λ a b c. refl), ((λ a b c. refl), ((λ a b c. refl), ((λ a b c. refl), ((λ a b c. refl), ((λ a b c. refl), ((λ a b c. refl), ((λ a b c. refl), ((λ a b c. refl), ((λ a b c. refl), ((λ a b c. refl), ((λ a b c. refl), ((λ a b c. refl), ((λ a b c. refl), ((λ a b c. refl), ((λ a b c. refl), ((λ a b c. refl), ((λ a b c. refl), ((λ a b c. refl), ((λ a b c. refl), ((λ a b c. refl), ((λ a b c. refl), ((λ a b c. refl), ((λ a b c. refl), ((λ a b c. refl), ((λ a b c. refl), ((λ a b c. refl), tt)))))))))))))))))))))))))))))))))))))))))))))
+all_sized = ((λ a b c. refl), ((λ a b c. refl), ((λ a b c. refl), ((λ a b c. refl), ((λ a b c. refl), ((λ a b c. refl), ((λ a b c. refl), ((λ a b c. refl), ((λ a b c. refl), ((λ a b c. refl), ((λ a b c. refl), ((λ a b c. refl), ((λ a b c. refl), ((λ a b c. refl), ((λ a b c. refl), ((λ a b c. refl), ((λ a b c. refl), ((λ a b c. refl), ((λ a b c. refl), ((λ a b c. refl), ((λ a b c. refl), ((λ a b c. refl), ((λ a b c. refl), ((λ a b c. refl), ((λ a b c. refl), ((λ a b c. refl), ((λ a b c. refl), ((λ a b c. refl), ((λ a b c. refl), ((λ a b c. refl), ((λ a b c. refl), ((λ a b c. refl), ((λ a b c. refl), ((λ a b c. refl), ((λ a b c. refl), ((λ a b c. refl), ((λ a b c. refl), ((λ a b c. refl), ((λ a b c. refl), ((λ a b c. refl), ((λ a b c. refl), ((λ a b c. refl), ((λ a b c. refl), ((λ a b c. refl), ((λ a b c. refl), ((λ a b c. refl), ((λ a b c. refl), ((λ a b c. refl), ((λ a b c. refl), ((λ a b c. refl), ((λ a b c. refl), ((λ a b c. refl), ((λ a b c. refl), ((λ a b c. refl), ((λ a b c. refl), ((λ a b c. refl), ((λ a b c. refl), ((λ a b c. refl), ((λ a b c. refl), ((λ a b c. refl), ((λ a b c. refl), tt)))))))))))))))))))))))))))))))))))))))))))))))))))))))))))))
 
 pub sized : (op a b c : ℕ) → IsNumber op → bytes_of (with_operands op a b c) ≡ size_of op
 unfolding Sized
-sized op a b c there = sized_at 45 op all_sized there.0 there.1 a b c
+sized op a b c there = sized_at 61 op all_sized there.0 there.1 a b c

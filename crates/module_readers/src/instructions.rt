@@ -21,7 +21,7 @@ fn opcode(input: &mut FileCursor<'_>, left: u32) -> Result<u8, Stopped>
 {
     let before = input.rest.len();
     let number = input.u8()?;
-    if number < 0x01 || number > 0x2D || Operands::of(number).size() > left {
+    if number < 0x01 || number > 0x3D || Operands::of(number).size() > left {
         return Err(Stopped::Bad(Field::Opcode, before));
     }
     Ok(number)

@@ -1,5 +1,5 @@
 //! Instructions of their number and their operands.
-ghost use Rattle.std.specs.Prelude.{◌≡◌, [], ◌∷◌};
+ghost use Rattle.std.specs.Prelude.{◌≡◌, ◌≤◌, [], ◌∷◌};
 ghost use Rattle.module_readers.specs.Behind.{IsNumber};
 ghost use Rattle.object_rules.specs.Instructions.{sizes_of, with_operands};
 
@@ -11,6 +11,9 @@ pub(crate) fn of_none(number: u8) -> Instruction
     requires sizes { sizes_of number ≡ [] }
     ensures { result ≡ with_operands number 0 0 0 }
 {
+    if number >= 0x2E {
+        return of_longs(number);
+    }
     match number {
         0x0C => Instruction::Add,
         0x0D => Instruction::Sub,
@@ -28,6 +31,33 @@ pub(crate) fn of_none(number: u8) -> Instruction
         0x1F => Instruction::StrAt,
         0x22 => Instruction::Return,
         _ => Instruction::ArmEnd,
+    }
+}
+
+// The instructions over LONG numbers.
+#[tactic(auto, unfolding(object_rules::specs::Instructions::with_operands))]
+fn of_longs(number: u8) -> Instruction
+    requires there { IsNumber number }
+    requires long { 46 ≤ number }
+    ensures { result ≡ with_operands number 0 0 0 }
+{
+    match number {
+        0x2E => Instruction::AddD,
+        0x2F => Instruction::SubD,
+        0x30 => Instruction::MulD,
+        0x31 => Instruction::NegD,
+        0x32 => Instruction::DivDI,
+        0x33 => Instruction::ModDI,
+        0x34 => Instruction::DivDC,
+        0x35 => Instruction::ModDC,
+        0x36 => Instruction::EqD,
+        0x37 => Instruction::LessDI,
+        0x38 => Instruction::LessDC,
+        0x39 => Instruction::WidenI,
+        0x3A => Instruction::WidenC,
+        0x3B => Instruction::NarrowI,
+        0x3C => Instruction::NarrowC,
+        _ => Instruction::CheckD,
     }
 }
 

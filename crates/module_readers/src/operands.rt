@@ -69,7 +69,10 @@ impl Operands {
         if number <= 0x2A {
             return Operands::Word;
         }
-        Operands::Words
+        if number <= 0x2D {
+            return Operands::Words;
+        }
+        Operands::Plain
     }
 
     /// The bytes of the instruction, its number included.

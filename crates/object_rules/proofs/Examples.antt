@@ -2,7 +2,8 @@
 use Rattle.std.proofs.Common.{◌≡◌, ℕ, List, [], ◌∷◌, Ok, Err, take, drop, refl}
 use Rattle.std.specs.Prelude.{codes, slice_set}
 use Rattle.mesa_base.specs.declared.file_fault.Field.TheVariants as field
-use Rattle.code_forms.specs.declared.instruction.Instruction.TheVariants.{Return}
+use Rattle.code_forms.specs.declared.instruction.Instruction.{Instruction}
+use Rattle.code_forms.specs.declared.instruction.Instruction.TheVariants.{Return, CheckD}
 use Rattle.file_forms.specs.declared.stopped.Stopped.TheVariants.{Cut, Bad}
 use Rattle.file_forms.specs.Files.{versioned}
 use Rattle.file_forms.specs.Forms.{Reading, read_each}
@@ -35,6 +36,10 @@ body = record { name = codes "N"; args = 0; results = 0; frame = 0; depth = 0; c
 
 the_module : ModulePart
 the_module = record { name = codes "N"; imports = []; global_words = 0; signals = []; strings = []; procedures = body ∷ []; exports = [] }
+
+-- that module, whose procedure has this code
+with_code : List Instruction → ModulePart
+with_code all = record the_module { procedures = record body { code = all } ∷ [] }
 
 the_instance : Instance
 the_instance = record { path = codes "N" ∷ []; «module» = 0 }
@@ -80,6 +85,14 @@ empty_path = refl
 no_opcode : image_in (slice_set image_file 44 0xFF) ≡ Err (Bad field.Opcode 36)
 unfolding object_file image_file body the_module the_instance the_image short_text name path has_path instance_form link_table link_tables image_form sizes_of with_operands numbers instruction code procedure module_form read_each read_full
 no_opcode = refl
+
+last_opcode : object_in (slice_set object_file 40 0x3D) ≡ Ok ((1, with_code (CheckD ∷ [])), [])
+unfolding with_code object_file image_file body the_module the_instance the_image short_text name path has_path instance_form link_table link_tables image_form sizes_of with_operands numbers instruction code procedure module_form read_each read_full
+last_opcode = refl
+
+past_last_opcode : object_in (slice_set object_file 40 0x3E) ≡ Err (Bad field.Opcode 9)
+unfolding object_file image_file body the_module the_instance the_image short_text name path has_path instance_form link_table link_tables image_form sizes_of with_operands numbers instruction code procedure module_form read_each read_full
+past_last_opcode = refl
 
 instruction_is_cut : object_in (slice_set object_file 40 0x1A) ≡ Err (Bad field.Opcode 9)
 unfolding object_file image_file body the_module the_instance the_image short_text name path has_path instance_form link_table link_tables image_form sizes_of with_operands numbers instruction code procedure module_form read_each read_full

@@ -4,7 +4,7 @@ use Rattle.std.specs.Prelude.{IsTrue}
 use Rattle.std.proofs.lemmas.Bool.Decides.{nat_tests}
 use Rattle.mesa_base.specs.declared.file_fault.Field.TheVariants as field
 use Rattle.code_forms.specs.declared.instruction.Instruction.{Instruction}
-use Rattle.code_forms.specs.declared.instruction.Instruction.TheVariants.{Lit, Str, LoadL, StoreL, LoadG, StoreG, LoadLX, StoreLX, LoadGX, StoreGX, Index, Add, Sub, Mul, Neg, DivI, ModI, DivC, ModC, Eq, LessI, LessC, Not, CheckI, CheckC, Jump, JumpIf, JumpIfNot, JumpBack, StrLen, StrAt, Call, CallLink, Return, Raise, RaiseLink, RaiseHost, ArmEnd, Resume, Leave, LeaveReturn, Pop, Roll, ZeroL, ZeroG}
+use Rattle.code_forms.specs.declared.instruction.Instruction.TheVariants.{Lit, Str, LoadL, StoreL, LoadG, StoreG, LoadLX, StoreLX, LoadGX, StoreGX, Index, Add, Sub, Mul, Neg, DivI, ModI, DivC, ModC, Eq, LessI, LessC, Not, CheckI, CheckC, Jump, JumpIf, JumpIfNot, JumpBack, StrLen, StrAt, Call, CallLink, Return, Raise, RaiseLink, RaiseHost, ArmEnd, Resume, Leave, LeaveReturn, Pop, Roll, ZeroL, ZeroG, AddD, SubD, MulD, NegD, DivDI, ModDI, DivDC, ModDC, EqD, LessDI, LessDC, WidenI, WidenC, NarrowI, NarrowC, CheckD}
 use Rattle.code_forms.specs.Instructions.{number_of, bytes_of}
 use Rattle.file_forms.specs.Forms.{number, pair, ruled}
 use Rattle.file_forms.specs.Lawful.{Lawful}
@@ -78,7 +78,7 @@ back_at d zero from all less = absurd (omega (arith, less))
 back_at zero (suc n) from all less = subst Back (omega arith) all.0
 back_at (suc d) (suc n) from all less = subst Back (omega arith) (back_at d n (suc from) all.1 (omega (arith, less)))
 
-backs : Backs 45 1
+backs : Backs 61 1
 unfolding Backs sizes_of with_operands
 backs =
     one 0x01 refl (λ a. refl) then
@@ -126,15 +126,31 @@ backs =
     two 0x2B refl (λ a b. refl) then
     two 0x2C refl (λ a b. refl) then
     two 0x2D refl (λ a b. refl) then
+    none 0x2E refl refl then
+    none 0x2F refl refl then
+    none 0x30 refl refl then
+    none 0x31 refl refl then
+    none 0x32 refl refl then
+    none 0x33 refl refl then
+    none 0x34 refl refl then
+    none 0x35 refl refl then
+    none 0x36 refl refl then
+    none 0x37 refl refl then
+    none 0x38 refl refl then
+    none 0x39 refl refl then
+    none 0x3A refl refl then
+    none 0x3B refl refl then
+    none 0x3C refl refl then
+    none 0x3D refl refl then
     tt
 
-in_range : (left op : ℕ) → IsTrue (may_stand left op) → (1 ≤ op) × (op ≤ 45) × (size_of op ≤ left)
+in_range : (left op : ℕ) → IsTrue (may_stand left op) → (1 ≤ op) × (op ≤ 61) × (size_of op ≤ left)
 in_range left op h = (first, last, room)
   where
     first : 1 ≤ op
     first = grind (arith, nat_tests, h)
 
-    last : op ≤ 45
+    last : op ≤ 61
     last = grind (arith, nat_tests, h)
 
     room : size_of op ≤ left
@@ -144,7 +160,7 @@ instruction_back : (left : ℕ) (p : ℕ × List ℕ) → IsTrue (may_stand left
 unfolding Back
 instruction_back left p may fits =
     let range = in_range left p.0 may in
-    let back : Back p.0 = subst Back (omega (arith, range.0)) (back_at (p.0 - 1) 45 1 backs (omega (arith, range.0, range.1))) in
+    let back : Back p.0 = subst Back (omega (arith, range.0)) (back_at (p.0 - 1) 61 1 backs (omega (arith, range.0, range.1))) in
     back p.1 (numbers_fit (sizes_of p.0) p.1 fits)
 
 instruction_forth : (x : Instruction) → instruction_of (instruction_parts x) ≡ x
@@ -194,6 +210,22 @@ instruction_forth (Pop a) = refl
 instruction_forth (Roll a b) = refl
 instruction_forth (ZeroL a b) = refl
 instruction_forth (ZeroG a b) = refl
+instruction_forth AddD = refl
+instruction_forth SubD = refl
+instruction_forth MulD = refl
+instruction_forth NegD = refl
+instruction_forth DivDI = refl
+instruction_forth ModDI = refl
+instruction_forth DivDC = refl
+instruction_forth ModDC = refl
+instruction_forth EqD = refl
+instruction_forth LessDI = refl
+instruction_forth LessDC = refl
+instruction_forth WidenI = refl
+instruction_forth WidenC = refl
+instruction_forth NarrowI = refl
+instruction_forth NarrowC = refl
+instruction_forth CheckD = refl
 
 -- the length in bytes
 pub sizes_sum : (x : Instruction) → size_of (number_of x) ≡ bytes_of x
@@ -243,6 +275,22 @@ sizes_sum (Pop a) = refl
 sizes_sum (Roll a b) = refl
 sizes_sum (ZeroL a b) = refl
 sizes_sum (ZeroG a b) = refl
+sizes_sum AddD = refl
+sizes_sum SubD = refl
+sizes_sum MulD = refl
+sizes_sum NegD = refl
+sizes_sum DivDI = refl
+sizes_sum ModDI = refl
+sizes_sum DivDC = refl
+sizes_sum ModDC = refl
+sizes_sum EqD = refl
+sizes_sum LessDI = refl
+sizes_sum LessDC = refl
+sizes_sum WidenI = refl
+sizes_sum WidenC = refl
+sizes_sum NarrowI = refl
+sizes_sum NarrowC = refl
+sizes_sum CheckD = refl
 
 pub instruction_law : (left : ℕ) → Lawful (instruction left)
 unfolding instruction

@@ -27,7 +27,8 @@ sizes_of op =
     else if nat_le op 0x27 then 2 ∷ []
     else if nat_le op 0x28 then 2 ∷ 4 ∷ []
     else if nat_le op 0x2A then 2 ∷ []
-    else 2 ∷ 2 ∷ []
+    else if nat_le op 0x2D then 2 ∷ 2 ∷ []
+    else []
 
 -- the operands, in order
 abbrev pub operands_of : Instruction → List ℕ
@@ -109,7 +110,23 @@ with_operands op a b c =
     else if op == 0x2A then i.Pop a
     else if op == 0x2B then i.Roll a b
     else if op == 0x2C then i.ZeroL a b
-    else i.ZeroG a b
+    else if op == 0x2D then i.ZeroG a b
+    else if op == 0x2E then i.AddD
+    else if op == 0x2F then i.SubD
+    else if op == 0x30 then i.MulD
+    else if op == 0x31 then i.NegD
+    else if op == 0x32 then i.DivDI
+    else if op == 0x33 then i.ModDI
+    else if op == 0x34 then i.DivDC
+    else if op == 0x35 then i.ModDC
+    else if op == 0x36 then i.EqD
+    else if op == 0x37 then i.LessDI
+    else if op == 0x38 then i.LessDC
+    else if op == 0x39 then i.WidenI
+    else if op == 0x3A then i.WidenC
+    else if op == 0x3B then i.NarrowI
+    else if op == 0x3C then i.NarrowC
+    else i.CheckD
 
 abbrev pub instruction_of : ℕ × List ℕ → Instruction
 instruction_of p = with_operands p.0 (get_or p.1 0 0) (get_or p.1 1 0) (get_or p.1 2 0)
@@ -132,7 +149,7 @@ size_of op = suc (sum (sizes_of op))
 
 -- there is such an instruction, and it has no more bytes than are left
 abbrev pub may_stand : (left op : ℕ) → Bool
-may_stand left op = between 0x01 0x2D op && nat_le (size_of op) left
+may_stand left op = between 0x01 0x3D op && nat_le (size_of op) left
 
 -- an instruction where so many bytes of the code are left
 unfoldable pub instruction : ℕ → Form Instruction

@@ -2,7 +2,7 @@
 use Rattle.std.proofs.Common.{◌≡◌, ℕ, ◌-◌, ◌<◌, ◌^◌, List, [], ◌∷◌, ◌++◌, refl, ap, ◌∙◌}
 use Rattle.std.proofs.lemmas.List.{append-nil}
 use Rattle.code_forms.specs.declared.instruction.Instruction.{Instruction}
-use Rattle.code_forms.specs.declared.instruction.Instruction.TheVariants.{Lit, Str, LoadL, StoreL, LoadG, StoreG, LoadLX, StoreLX, LoadGX, StoreGX, Index, Add, Sub, Mul, Neg, DivI, ModI, DivC, ModC, Eq, LessI, LessC, Not, CheckI, CheckC, Jump, JumpIf, JumpIfNot, JumpBack, StrLen, StrAt, Call, CallLink, Return, Raise, RaiseLink, RaiseHost, ArmEnd, Resume, Leave, LeaveReturn, Pop, Roll, ZeroL, ZeroG}
+use Rattle.code_forms.specs.declared.instruction.Instruction.TheVariants.{Lit, Str, LoadL, StoreL, LoadG, StoreG, LoadLX, StoreLX, LoadGX, StoreGX, Index, Add, Sub, Mul, Neg, DivI, ModI, DivC, ModC, Eq, LessI, LessC, Not, CheckI, CheckC, Jump, JumpIf, JumpIfNot, JumpBack, StrLen, StrAt, Call, CallLink, Return, Raise, RaiseLink, RaiseHost, ArmEnd, Resume, Leave, LeaveReturn, Pop, Roll, ZeroL, ZeroG, AddD, SubD, MulD, NegD, DivDI, ModDI, DivDC, ModDC, EqD, LessDI, LessDC, WidenI, WidenC, NarrowI, NarrowC, CheckD}
 use Rattle.code_forms.specs.declared.module_code.Arm.{Arm}
 use Rattle.code_forms.specs.declared.module_code.CodeEntry.{CodeEntry}
 use Rattle.code_forms.specs.declared.module_code.CodeLink.{CodeLink}
@@ -92,6 +92,22 @@ instruction_spelled left (Pop a) = behind 0x2A _ _ (one 2 a)
 instruction_spelled left (Roll a b) = behind 0x2B _ _ (two 2 2 a b)
 instruction_spelled left (ZeroL a b) = behind 0x2C _ _ (two 2 2 a b)
 instruction_spelled left (ZeroG a b) = behind 0x2D _ _ (two 2 2 a b)
+instruction_spelled left AddD = behind 0x2E _ _ none
+instruction_spelled left SubD = behind 0x2F _ _ none
+instruction_spelled left MulD = behind 0x30 _ _ none
+instruction_spelled left NegD = behind 0x31 _ _ none
+instruction_spelled left DivDI = behind 0x32 _ _ none
+instruction_spelled left ModDI = behind 0x33 _ _ none
+instruction_spelled left DivDC = behind 0x34 _ _ none
+instruction_spelled left ModDC = behind 0x35 _ _ none
+instruction_spelled left EqD = behind 0x36 _ _ none
+instruction_spelled left LessDI = behind 0x37 _ _ none
+instruction_spelled left LessDC = behind 0x38 _ _ none
+instruction_spelled left WidenI = behind 0x39 _ _ none
+instruction_spelled left WidenC = behind 0x3A _ _ none
+instruction_spelled left NarrowI = behind 0x3B _ _ none
+instruction_spelled left NarrowC = behind 0x3C _ _ none
+instruction_spelled left CheckD = behind 0x3D _ _ none
 
 full_spelled : (left : ℕ) (all : List CodeEntry) → spell_full bytes_of instruction left (instructions all) ≡ spell_all entry_bytes all
 unfolding spell_full spell_all

@@ -3,7 +3,7 @@ use Rattle.std.proofs.Common.{◌≡◌, inl, ℕ, zero, suc, [], ◌∷◌, Boo
 use Rattle.std.specs.Prelude.{if◌then◌else◌, slice_get}
 use Rattle.std.proofs.lemmas.Option.{none-some, same_Some}
 use Rattle.code_forms.specs.declared.instruction.Instruction.{Instruction}
-use Rattle.code_forms.specs.declared.instruction.Instruction.TheVariants.{Add, Index, ModC, Call, Return, Raise, ArmEnd, Resume}
+use Rattle.code_forms.specs.declared.instruction.Instruction.TheVariants.{Add, Index, ModC, Call, Return, Raise, ArmEnd, Resume, AddD, ModDC, NarrowC}
 use Rattle.code_forms.specs.declared.module_code.Arm.{Arm}
 use Rattle.code_forms.specs.declared.module_code.CodeProcedure.{CodeProcedure}
 use Rattle.code_forms.specs.declared.module_code.Label.TheVariants as l
@@ -29,6 +29,15 @@ divisor_has_one = refl
 
 sum_has_none : event_of Add ≡ None
 sum_has_none = refl
+
+narrowed_has_one : event_of NarrowC ≡ Some e.PassBounds
+narrowed_has_one = refl
+
+long_divisor_has_one : event_of ModDC ≡ Some e.Divide
+long_divisor_has_one = refl
+
+long_sum_has_none : event_of AddD ≡ None
+long_sum_has_none = refl
 
 -- An arm whose end is reached: P[! S => NULL];
 

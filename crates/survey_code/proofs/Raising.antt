@@ -2,7 +2,7 @@
 use Rattle.std.proofs.Common.{◌≡◌, ℕ, Option, Some, None, refl, sym, subst}
 use Rattle.std.proofs.lemmas.Option.{none-some, same_Some}
 use Rattle.code_forms.specs.declared.instruction.Instruction.{Instruction}
-use Rattle.code_forms.specs.declared.instruction.Instruction.TheVariants.{LoadLX, StoreLX, LoadGX, StoreGX, Index, DivI, ModI, DivC, ModC, CheckI, CheckC, StrAt, Call, CallLink, Raise, RaiseLink, RaiseHost}
+use Rattle.code_forms.specs.declared.instruction.Instruction.TheVariants.{LoadLX, StoreLX, LoadGX, StoreGX, Index, DivI, ModI, DivC, ModC, CheckI, CheckC, StrAt, Call, CallLink, Raise, RaiseLink, RaiseHost, DivDI, ModDI, DivDC, ModDC, NarrowI, NarrowC, CheckD}
 use Rattle.object_files.specs.declared.image.Image.{Image}
 use Rattle.object_files.specs.declared.image.Link.{Link}
 use Rattle.object_files.specs.declared.image.Link.TheVariants.{Wanted, To}
@@ -25,6 +25,9 @@ bounds_event (Index count size) may = refl
 bounds_event (CheckI least most) may = refl
 bounds_event (CheckC least most) may = refl
 bounds_event StrAt may = refl
+bounds_event NarrowI may = refl
+bounds_event NarrowC may = refl
+bounds_event CheckD may = refl
 bounds_event _ may = absurd may
 
 divides_event : (i : Instruction) → MayDivide i → event_of i ≡ Some e.Divide
@@ -32,6 +35,10 @@ divides_event DivI may = refl
 divides_event ModI may = refl
 divides_event DivC may = refl
 divides_event ModC may = refl
+divides_event DivDI may = refl
+divides_event ModDI may = refl
+divides_event DivDC may = refl
+divides_event ModDC may = refl
 divides_event _ may = absurd may
 
 -- What is raised.
@@ -82,10 +89,17 @@ may_raise image j (Index count size) s event is r = passes image j (Index count 
 may_raise image j (CheckI least most) s event is r = passes image j (CheckI least most) s event tt is r
 may_raise image j (CheckC least most) s event is r = passes image j (CheckC least most) s event tt is r
 may_raise image j StrAt s event is r = passes image j StrAt s event tt is r
+may_raise image j NarrowI s event is r = passes image j NarrowI s event tt is r
+may_raise image j NarrowC s event is r = passes image j NarrowC s event tt is r
+may_raise image j CheckD s event is r = passes image j CheckD s event tt is r
 may_raise image j DivI s event is r = divides image j DivI s event tt is r
 may_raise image j ModI s event is r = divides image j ModI s event tt is r
 may_raise image j DivC s event is r = divides image j DivC s event tt is r
 may_raise image j ModC s event is r = divides image j ModC s event tt is r
+may_raise image j DivDI s event is r = divides image j DivDI s event tt is r
+may_raise image j ModDI s event is r = divides image j ModDI s event tt is r
+may_raise image j DivDC s event is r = divides image j DivDC s event tt is r
+may_raise image j ModDC s event is r = divides image j ModDC s event tt is r
 may_raise image j (Call q) s event is r = absurd (its image j s (e.Call q) event is r)
 may_raise image j (CallLink k) s event is r = link_reads image j k s (bound_to image j k) refl (its image j s (e.CallLink k) event is r)
 may_raise image j _ s event is r = absurd (none-some event is)
@@ -125,10 +139,17 @@ calls image j (Index count size) other procedure event is r = absurd (its_call i
 calls image j (CheckI least most) other procedure event is r = absurd (its_call image j other procedure e.PassBounds event is r)
 calls image j (CheckC least most) other procedure event is r = absurd (its_call image j other procedure e.PassBounds event is r)
 calls image j StrAt other procedure event is r = absurd (its_call image j other procedure e.PassBounds event is r)
+calls image j NarrowI other procedure event is r = absurd (its_call image j other procedure e.PassBounds event is r)
+calls image j NarrowC other procedure event is r = absurd (its_call image j other procedure e.PassBounds event is r)
+calls image j CheckD other procedure event is r = absurd (its_call image j other procedure e.PassBounds event is r)
 calls image j DivI other procedure event is r = absurd (its_call image j other procedure e.Divide event is r)
 calls image j ModI other procedure event is r = absurd (its_call image j other procedure e.Divide event is r)
 calls image j DivC other procedure event is r = absurd (its_call image j other procedure e.Divide event is r)
 calls image j ModC other procedure event is r = absurd (its_call image j other procedure e.Divide event is r)
+calls image j DivDI other procedure event is r = absurd (its_call image j other procedure e.Divide event is r)
+calls image j ModDI other procedure event is r = absurd (its_call image j other procedure e.Divide event is r)
+calls image j DivDC other procedure event is r = absurd (its_call image j other procedure e.Divide event is r)
+calls image j ModDC other procedure event is r = absurd (its_call image j other procedure e.Divide event is r)
 calls image j (Call q) other procedure event is r =
     let c = its_call image j other procedure (e.Call q) event is r in own_call image j other procedure q c.0 c.1
 calls image j (CallLink k) other procedure event is r =

@@ -1,7 +1,7 @@
 -- What instructions may do by which a signal comes (rule of this project).
 use Rattle.std.specs.Prelude.{◌≡◌, ℕ, Option, Some, None}
 use Rattle.code_forms.specs.declared.instruction.Instruction.{Instruction}
-use Rattle.code_forms.specs.declared.instruction.Instruction.TheVariants.{LoadLX, StoreLX, LoadGX, StoreGX, Index, DivI, ModI, DivC, ModC, CheckI, CheckC, StrAt, Call, CallLink, Raise, RaiseLink, RaiseHost}
+use Rattle.code_forms.specs.declared.instruction.Instruction.TheVariants.{LoadLX, StoreLX, LoadGX, StoreGX, Index, DivI, ModI, DivC, ModC, CheckI, CheckC, StrAt, Call, CallLink, Raise, RaiseLink, RaiseHost, DivDI, ModDI, DivDC, ModDC, NarrowI, NarrowC, CheckD}
 use Rattle.object_files.specs.declared.image.Image.{Image}
 use Rattle.object_files.specs.declared.image.Link.{Link}
 use Rattle.object_files.specs.declared.image.Link.TheVariants.{Wanted, To}
@@ -25,10 +25,17 @@ event_of (Index count size) = Some e.PassBounds
 event_of (CheckI least most) = Some e.PassBounds
 event_of (CheckC least most) = Some e.PassBounds
 event_of StrAt = Some e.PassBounds
+event_of NarrowI = Some e.PassBounds
+event_of NarrowC = Some e.PassBounds
+event_of CheckD = Some e.PassBounds
 event_of DivI = Some e.Divide
 event_of ModI = Some e.Divide
 event_of DivC = Some e.Divide
 event_of ModC = Some e.Divide
+event_of DivDI = Some e.Divide
+event_of ModDI = Some e.Divide
+event_of DivDC = Some e.Divide
+event_of ModDC = Some e.Divide
 event_of (Call procedure) = Some (e.Call procedure)
 event_of (CallLink k) = Some (e.CallLink k)
 event_of _ = None

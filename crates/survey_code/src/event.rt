@@ -39,10 +39,18 @@ pub fn event_of(instruction: Instruction) -> Option<Event>
         | Instruction::Index { .. }
         | Instruction::CheckI { .. }
         | Instruction::CheckC { .. }
-        | Instruction::StrAt => Some(Event::PassBounds),
-        Instruction::DivI | Instruction::ModI | Instruction::DivC | Instruction::ModC => {
-            Some(Event::Divide)
-        }
+        | Instruction::StrAt
+        | Instruction::NarrowI
+        | Instruction::NarrowC
+        | Instruction::CheckD => Some(Event::PassBounds),
+        Instruction::DivI
+        | Instruction::ModI
+        | Instruction::DivC
+        | Instruction::ModC
+        | Instruction::DivDI
+        | Instruction::ModDI
+        | Instruction::DivDC
+        | Instruction::ModDC => Some(Event::Divide),
         Instruction::Call { procedure } => Some(Event::Call(procedure)),
         Instruction::CallLink { link } => Some(Event::CallLink(link)),
         _ => None,

@@ -1,7 +1,7 @@
 -- The signals that may escape an image, by its code alone: the least relation of these rules (rule of this project).
 use Rattle.std.specs.Prelude.{◌≡◌, ◌≢◌, ◌⊎◌, ℕ, true, Option, None, Some, Contains, position, slice_get}
 use Rattle.code_forms.specs.declared.instruction.Instruction.{Instruction}
-use Rattle.code_forms.specs.declared.instruction.Instruction.TheVariants.{LoadLX, StoreLX, LoadGX, StoreGX, Index, DivI, ModI, DivC, ModC, CheckI, CheckC, StrAt, Call, CallLink, Raise, RaiseLink, RaiseHost, ArmEnd, Resume}
+use Rattle.code_forms.specs.declared.instruction.Instruction.TheVariants.{LoadLX, StoreLX, LoadGX, StoreGX, Index, DivI, ModI, DivC, ModC, CheckI, CheckC, StrAt, Call, CallLink, Raise, RaiseLink, RaiseHost, ArmEnd, Resume, DivDI, ModDI, DivDC, ModDC, NarrowI, NarrowC, CheckD}
 use Rattle.code_forms.specs.declared.module_code.Arm.{Arm}
 use Rattle.code_forms.specs.declared.module_code.CodeProcedure.{CodeProcedure}
 use Rattle.code_forms.specs.declared.module_code.ModuleCode.{ModuleCode}
@@ -40,6 +40,9 @@ MayPassBounds (Index count size) = Unit {0}
 MayPassBounds (CheckI least most) = Unit {0}
 MayPassBounds (CheckC least most) = Unit {0}
 MayPassBounds StrAt = Unit {0}
+MayPassBounds NarrowI = Unit {0}
+MayPassBounds NarrowC = Unit {0}
+MayPassBounds CheckD = Unit {0}
 MayPassBounds _ = ⊥
 
 abbrev pub MayDivide : Instruction → Type 0
@@ -47,6 +50,10 @@ MayDivide DivI = Unit {0}
 MayDivide ModI = Unit {0}
 MayDivide DivC = Unit {0}
 MayDivide ModC = Unit {0}
+MayDivide DivDI = Unit {0}
+MayDivide ModDI = Unit {0}
+MayDivide DivDC = Unit {0}
+MayDivide ModDC = Unit {0}
 MayDivide _ = ⊥
 
 -- an instruction of an instance may raise this signal
