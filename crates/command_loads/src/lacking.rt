@@ -7,11 +7,12 @@ ghost use Rattle.command_passes.specs.Stops.{stop_case};
 ghost use Rattle.command_loads.specs.Lacking.{FindsLack, LackEnds, LacksAmong, built_in_of};
 
 use crate::ends::refused;
-use crate::hosts::{is_had, named};
+use crate::hosts::is_had;
 use command_passes::Stop;
 use command_passes::command_rules::Trouble;
 use held_trees::LetGo;
 use interface_records::{Wanted, WantedItem, io_face};
+use machine_ready::named_item;
 use mesa_base::{Bytes, OutOfMemory};
 use mesa_types::Face;
 use object_files::Image;
@@ -35,7 +36,7 @@ fn lack_among(
 {
     for wanted in wanteds {
         if !is_had(face, wanted) {
-            return Ok(Some(named(alloc, wanted)?));
+            return Ok(Some(named_item(alloc, wanted)?));
         }
     }
     Ok(None)

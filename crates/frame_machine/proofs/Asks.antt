@@ -3,7 +3,7 @@ use Rattle.std.proofs.Common.{◌≡◌, ℕ, ◌≤◌, List, refl, sym, subst,
 use Rattle.std.specs.Prelude.{Option, Some, None, Result, Ok, Err}
 use Rattle.mesa_base.specs.Asked.{Asked, AskedOnce}
 use Rattle.machine_topmost.specs.declared.registers.Registers.{Registers}
-use Rattle.machine_activations.specs.declared.calling.Turn.{Turn}
+use Rattle.machine_activations.specs.declared.calling.Sequel.{Sequel}
 use Rattle.machine_calls.specs.declared.ahead.Coming.{Coming}
 use Rattle.machine_calls.specs.declared.ahead.Coming.TheVariants.{Byte, End}
 use Rattle.machine_calls.specs.Hosting.{AsksOn, vain_by}
@@ -23,13 +23,13 @@ pub asks_later : (ahead between : Option Coming) (left low left' : Option (List 
     → AsksOn between low left' least calls' vain → AsksOn ahead left left' calls calls' vain
 asks_later ahead between left low left' calls least calls' vain a b told first so_far = b told first (a told first so_far)
 
-vain_settled : (result : Result (Option Turn) RunFault) (r : Registers) (ahead : Option Coming) → vain_then (onward_or result r) ahead ≡ vain_then result ahead
+vain_settled : (result : Result (Option Sequel) RunFault) (r : Registers) (ahead : Option Coming) → vain_then (onward_or result r) ahead ≡ vain_then result ahead
 vain_settled (Ok None) r ahead = refl
-vain_settled (Ok (Some turn)) r ahead = refl
+vain_settled (Ok (Some sequel)) r ahead = refl
 vain_settled (Err fault) r ahead = refl
 
 -- where the activation goes on in its registers
-pub asks_settled : (result : Result (Option Turn) RunFault) (r : Registers) (ahead ahead' : Option Coming) (left left' : Option (List ℕ)) (calls calls' : ℕ)
+pub asks_settled : (result : Result (Option Sequel) RunFault) (r : Registers) (ahead ahead' : Option Coming) (left left' : Option (List ℕ)) (calls calls' : ℕ)
     → AsksOn ahead left left' calls calls' (vain_then (onward_or result r) ahead') → AsksOn ahead left left' calls calls' (vain_then result ahead')
 asks_settled result r ahead ahead' left left' calls calls' a = subst (λ n. AsksOn ahead left left' calls calls' n) (vain_settled result r ahead') a
 

@@ -3,7 +3,7 @@ use Rattle.std.proofs.Common.{◌≡◌, ℕ, ◌≤◌, inl, inr, refl, subst, 
 use Rattle.std.specs.Prelude.{Option, Some, None, Result, Ok, Err, IsErrOf}
 use Rattle.mesa_base.specs.Outside.{Rose}
 use Rattle.machine_topmost.specs.declared.registers.Registers.{Registers}
-use Rattle.machine_activations.specs.declared.calling.Turn.{Turn}
+use Rattle.machine_activations.specs.declared.calling.Sequel.{Sequel}
 use Rattle.frame_machine.specs.declared.outcome.RunFault.{RunFault}
 use Rattle.frame_machine.specs.declared.outcome.RunFault.TheVariants.{ReadFault, WriteFault}
 use Rattle.frame_machine.specs.Onward.{CountsFaults, onward_or}
@@ -45,8 +45,8 @@ later_counted {A} result read low read' written least written' l k c = record {
 }
 
 -- where the activation goes on in its registers
-pub settled_faults : (result : Result (Option Turn) RunFault) (r : Registers) (read read' written written' : ℕ) → CountsFaults (onward_or result r) read read' written written'
+pub settled_faults : (result : Result (Option Sequel) RunFault) (r : Registers) (read read' written written' : ℕ) → CountsFaults (onward_or result r) read read' written written'
     → CountsFaults result read read' written written'
 settled_faults (Ok None) r read read' written written' c = none_failed None read read' written written' c.source_stays c.sink_stays
-settled_faults (Ok (Some turn)) r read read' written written' c = none_failed (Some turn) read read' written written' c.source_stays c.sink_stays
+settled_faults (Ok (Some sequel)) r read read' written written' c = none_failed (Some sequel) read read' written written' c.source_stays c.sink_stays
 settled_faults (Err fault) r read read' written written' c = later_failed fault read read read' written written written' (omega arith) (omega arith) c

@@ -13,7 +13,7 @@ use Rattle.machine_rules.specs.Steps.{run, step, Ends, globals_in, fresh, begins
 use Rattle.machine_topmost.specs.declared.registers.Pause.{Pause}
 use Rattle.machine_topmost.specs.declared.registers.Registers.{Registers}
 use Rattle.machine_topmost.specs.declared.registers.Why.{Why}
-use Rattle.machine_activations.specs.declared.calling.Turn.TheVariants.{Goes as GoesOn, Empty}
+use Rattle.machine_activations.specs.declared.calling.Sequel.TheVariants.{Goes as GoesOn, Empty}
 use Rattle.machine_activations.specs.Calling.{LeadsTo}
 use Rattle.machine_activations.specs.Reaching.{Reaches, IsUnstuck}
 use Rattle.machine_activations.specs.Shows.{IsPrepared, IsAmple}
@@ -152,7 +152,7 @@ module _ (image : Image) (can : CanRun image) (bound : ℕ) (told left held hold
       → Wrote holds holds' (GoesAt image p r turns) (Paused image p' pause count)
       → (before : ℕ) → count ≡ before + 1
       → SoFar image bound p control turns begun ahead told left held holds (At image p (GoesOn r))
-      → SoFar image bound p' control pause.turns (begun + before) ahead told left held holds' (PausesAt image p'.layout p'.region.items p'.rows.items pause.registers pause.why)
+      → SoFar image bound p' control pause.turns (begun + before) ahead told left held holds' (PausesAt image p'.stack.layout p'.stack.region.items p'.stack.rows.items pause.registers pause.why)
   unfolding LeadsTo
   paused p p' control turns begun count r pause holds' marks w before counted so = record {
     got = so.got;
@@ -183,8 +183,8 @@ module _ (image : Image) (can : CanRun image) (bound : ℕ) (told left held hold
   -- Output.
 
   -- the machine goes on behind a call that writes
-  pub wrote_on : (p : Prepared) (control : List ℕ) (turns begun : ℕ) (r r' : Registers) (writing : Writing) (piece : List ℕ) → IsPrepared image p.layout
-      → IsAmple p.layout p.region.items p.rows.items r.top → WritesOn image p.region.items r writing piece r'
+  pub wrote_on : (p : Prepared) (control : List ℕ) (turns begun : ℕ) (r r' : Registers) (writing : Writing) (piece : List ℕ) → IsPrepared image p.stack.layout
+      → IsAmple p.stack.layout p.stack.region.items p.stack.rows.items r.top → WritesOn image p.stack.region.items r writing piece r'
       → (so : SoFar image bound p control turns begun ahead told left held holds (AtHost image p r (Write writing)))
       → (rest : List ℕ) (faulty : Bool) → Known ahead rest faulty
       → ComesTo (begins image (so.got ++ rest) faulty bound) p control turns begun (so.output ++ piece) rest faulty (At image p (GoesOn r'))
@@ -203,11 +203,11 @@ module _ (image : Image) (can : CanRun image) (bound : ℕ) (told left held hold
           its_input = b.its_input;
           its_fault = b.its_fault;
         };
-        leads = leads p.layout p.rows.items prepared ample c.leads.0 (begins image (so.got ++ rest) faulty bound) c.store c.leads.1;
+        leads = leads p.stack.layout p.stack.rows.items prepared ample c.leads.0 (begins image (so.got ++ rest) faulty bound) c.store c.leads.1;
       }
 
-  pub written : (p : Prepared) (control : List ℕ) (turns begun : ℕ) (r r' : Registers) (writing : Writing) (piece : List ℕ) (holds' : Option (List ℕ)) → IsPrepared image p.layout
-      → IsAmple p.layout p.region.items p.rows.items r.top → WritesOn image p.region.items r writing piece r' → IfSome holds (λ bytes. holds' ≡ Some (bytes ++ piece))
+  pub written : (p : Prepared) (control : List ℕ) (turns begun : ℕ) (r r' : Registers) (writing : Writing) (piece : List ℕ) (holds' : Option (List ℕ)) → IsPrepared image p.stack.layout
+      → IsAmple p.stack.layout p.stack.region.items p.stack.rows.items r.top → WritesOn image p.stack.region.items r writing piece r' → IfSome holds (λ bytes. holds' ≡ Some (bytes ++ piece))
       → SoFar image bound p control turns begun ahead told left held holds (AtHost image p r (Write writing))
       → SoFar image bound p control turns begun ahead told left held holds' (At image p (GoesOn r'))
   written p control turns begun r r' writing piece holds' prepared ample leads put so = record {
@@ -224,12 +224,12 @@ module _ (image : Image) (can : CanRun image) (bound : ℕ) (told left held hold
 
 -- the source failed
 pub broken : (image : Image) (bound : ℕ) (p : Prepared) (control : List ℕ) (turns begun : ℕ) (told left held holds : Option (List ℕ)) (r : Registers) (reading : Reading)
-    → Breaks p.region.items r reading → SoFar image bound p control turns begun None told left held holds (AtHost image p r (Read reading))
+    → Breaks p.stack.region.items r reading → SoFar image bound p control turns begun None told left held holds (AtHost image p r (Read reading))
     → BreaksAtInput image bound begun told left held holds
 unfolding LinkLeads
 broken image bound p control turns begun told left held holds r reading breaks so =
     let c = so.comes [] true tt in let b = c.beside in
-    let ends : Ends image (begins image (so.got ++ []) true bound) Broken c.store = breaks image p.layout p.rows.items c.leads.0 (begins image (so.got ++ []) true bound) c.store c.leads.1 b.its_input b.its_fault in
+    let ends : Ends image (begins image (so.got ++ []) true bound) Broken c.store = breaks image p.stack.layout p.stack.rows.items c.leads.0 (begins image (so.got ++ []) true bound) c.store c.leads.1 b.its_input b.its_fault in
     record {
       input = so.got;
       output = so.output;
@@ -254,12 +254,12 @@ broken image bound p control turns begun told left held holds r reading breaks s
 -- How many instructions are begun.
 
 pub less_than_most : (image : Image) → CanRun image → (bound : ℕ) (told left held holds : Option (List ℕ)) (ahead : Option Coming) (p : Prepared) (control : List ℕ) (turns begun : ℕ)
-    (r : Registers) (why : Why) → IsPrepared image p.layout → length p.rows.items ≡ 8192 → length control ≤ reach image
-    → SoFar image bound p control turns begun ahead told left held holds (PausesAt image p.layout p.region.items p.rows.items r why) → suc begun ≤ most image bound
+    (r : Registers) (why : Why) → IsPrepared image p.stack.layout → length p.stack.rows.items ≡ 8192 → length control ≤ reach image
+    → SoFar image bound p control turns begun ahead told left held holds (PausesAt image p.stack.layout p.stack.region.items p.stack.rows.items r why) → suc begun ≤ most image bound
 less_than_most image can bound told left held holds ahead p control turns begun r why prepared long short so =
     let t = untold left ahead so.got so.bytes so.byte in
     let c = so.comes t.rest false t.known in
     let q = c.leads in
-    let l = begun_less image can p.layout prepared p.region.items p.rows.items r q.procedure q.top q.rest q.shows long c.store
+    let l = begun_less image can p.stack.layout prepared p.stack.region.items p.stack.rows.items r q.procedure q.top q.rest q.shows long c.store
     (subst (λ (x : List ℕ). length x ≤ reach image) (sym c.beside.its_control) short) q.entry q.fetched (so.got ++ t.rest) false bound q.reaches in
     let e = c.beside.its_count in omega (arith, l, e)

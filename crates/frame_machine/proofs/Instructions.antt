@@ -1,6 +1,6 @@
 -- The code of the topmost activation, as it is read.
-use Rattle.std.proofs.Common.{◌≡◌, ℕ, List, Option, Some, refl, sym, ap, subst, ◌∙◌}
-use Rattle.std.specs.Prelude.{IsSome, slice_get}
+use Rattle.std.proofs.Common.{◌≡◌, ℕ, List, Some, sym, ap, subst, ◌∙◌}
+use Rattle.std.specs.Prelude.{slice_get}
 use Rattle.std.proofs.lemmas.Option.{same_Some}
 use Rattle.code_forms.specs.declared.instruction.Instruction.{Instruction}
 use Rattle.code_forms.specs.declared.module_code.CodeEntry.{CodeEntry}
@@ -16,21 +16,8 @@ use Rattle.machine_activations.specs.Frames.{row_at}
 use Rattle.machine_activations.specs.Shows.{IsPrepared}
 use Rattle.machine_calls.specs.Linking.{StandsAt}
 
-module _ (image : Image) (table : List Row) (r : Registers) (i : Instruction) (at : StandsAt image table r i) (row : Row) (same : row ≡ row_at table r.top) where
-  pub code_there : IsSome (code_of image row.instance)
-  code_there =
-      subst (λ (o : Option ModuleCode). IsSome o) (sym (ap (λ (x : Row). code_of image x.instance) same ∙ at.is_code)) refl
-
-  module _ (code : ModuleCode) (is : code_of image row.instance ≡ Some code) where
-    pub code_here : IsCodeOf image code table r
-    code_here = ap (λ (x : Row). code_of image x.instance) (sym same) ∙ is
-
-    pub at_here : IsAt code table r i
-    at_here = subst (λ (c : ModuleCode). IsAt c table r i) (same_Some at.code code (sym at.is_code ∙ code_here)) at.at
-
-    pub stands_here : (layout : Layout) → IsPrepared image layout → (region : List ℕ) → StandsIn image layout region table r → Stands layout code region table r
-    stands_here layout prepared region stands =
-        record { image = image; prepared = prepared; is = code_here; start = stands.start; unstuck = stands.unstuck; store = stands.store; shown = stands.shown }
+pub at_read : (image : Image) (table : List Row) (r : Registers) (i : Instruction) → StandsAt image table r i → (code : ModuleCode) → IsCodeOf image code table r → IsAt code table r i
+at_read image table r i at code is = subst (λ (c : ModuleCode). IsAt c table r i) (same_Some at.code code (sym at.is_code ∙ is)) at.at
 
 -- it stands at an entry of the code that was read
 pub stands_at : (image : Image) (table : List Row) (r u : Registers) (row : Row) → row ≡ row_at table r.top → u.top ≡ r.top → (code : ModuleCode) → code_of image row.instance ≡ Some code
@@ -49,3 +36,16 @@ stands_at image table r u row same top code is procedure read e fetched i at =
         at = at;
       };
     }
+
+-- the topmost activation stands in the code that was read
+pub stands_there : (image : Image) (layout : Layout) → IsPrepared image layout → (region : List ℕ) (table : List Row) (r : Registers) (code : ModuleCode) → IsCodeOf image code table r
+    → StandsIn image layout region table r → Stands code layout region table r
+stands_there image layout prepared region table r code is stands = record {
+  image = image;
+  prepared = prepared;
+  is = is;
+  start = stands.start;
+  unstuck = stands.unstuck;
+  store = stands.store;
+  shown = stands.shown;
+}

@@ -3,7 +3,7 @@ pub mod Cleared
 pub mod Faults
 pub mod FirstRow
 pub mod Going
-pub mod HostTurns
+pub mod HostSequels
 pub mod Instructions
 pub mod NoJump
 pub mod Onwards
@@ -11,6 +11,7 @@ pub mod Pauses
 pub mod Pausing
 pub mod Reach
 pub mod Reading
+pub mod Readying
 pub mod Starts
 pub mod Told
 pub mod OnTop

@@ -20,6 +20,7 @@ use Rattle.machine_activations.specs.declared.row.Row.{Row}
 use Rattle.machine_activations.specs.Calling.{StandsIn}
 use Rattle.machine_activations.specs.Frames.{row_at}
 use Rattle.machine_activations.specs.Reaching.{Shown}
+use Rattle.machine_activations.specs.Stacks.{on}
 use Rattle.machine_activations.specs.Shows.{IsPrepared, IsAmple}
 use Rattle.machine_calls.specs.declared.host.HostProcedure.TheVariants.{Write}
 use Rattle.machine_calls.specs.declared.host.Writing.{Writing}
@@ -140,18 +141,18 @@ module _ (image : Image) (layout : Layout) (prepared : IsPrepared image layout) 
 
 -- Of all that a run has.
 
-pub goes_in : (image : Image) (p : Prepared) (r : Registers) (turns : ℕ) → Somewhere image (GoesAt image p r turns) → StandsIn image p.layout p.region.items p.rows.items r
+pub goes_in : (image : Image) (p : Prepared) (r : Registers) (turns : ℕ) → Somewhere image (GoesAt image p r turns) → StandsIn image p.stack.layout p.stack.region.items p.stack.rows.items r
 goes_in image p r turns h = record { start = h.start; unstuck = h.unstuck; store = h.store; shown = h.at.shown }
 
-module _ (image : Image) (p : Prepared) (ready : IsReady image p) (r : Registers) (turns : ℕ) (stands : Somewhere image (GoesAt image p r turns)) (table : List Row) (rows : table ≡ p.rows.items)
+module _ (image : Image) (p : Prepared) (ready : IsReady image p) (r : Registers) (turns : ℕ) (stands : Somewhere image (GoesAt image p r turns)) (table : List Row) (rows : table ≡ p.stack.rows.items)
     (row : Row) (row_is : row ≡ row_at table r.top) where
-  same_row : row ≡ row_at p.rows.items r.top
+  same_row : row ≡ row_at p.stack.rows.items r.top
   same_row = row_is ∙ ap (λ (t : List Row). row_at t r.top) rows
 
   pub own_low : row.instance < length image.instances
   own_low =
       instance_low image row.instance
-      (some_code image p.layout (ready_is_prepared image p ready) p.region.items p.rows.items r row same_row (goes_in image p r turns stands))
+      (some_code image p.stack.layout (ready_is_prepared image p ready) p.stack.region.items p.stack.rows.items r row same_row (goes_in image p r turns stands))
 
   abbrev own_is : (words : Vec ℕ Global) × (slice_get p.globals.items row.instance ≡ Some words) × (length words.items ≡ globals_in (code_of image row.instance))
   own_is = some_and (slice_get p.globals.items row.instance) (λ words. length words.items ≡ globals_in (code_of image row.instance)) (ready.globals row.instance own_low)
@@ -169,14 +170,14 @@ module _ (image : Image) (p : Prepared) (ready : IsReady image p) (r : Registers
     own_row : (row_at table r.top).instance ≡ row.instance
     own_row = ap (λ (x : Row). x.instance) (sym row_is)
 
-    pub top_from : (region globals : List ℕ) → region ≡ p.region.items → globals ≡ own.items → (s : Stepped) (m : Store) → GoesAt image p r turns s m
-        → TopAt image p.layout region table r (row_at table r.top).instance globals turns s m
+    pub top_from : (region globals : List ℕ) → region ≡ p.stack.region.items → globals ≡ own.items → (s : Stepped) (m : Store) → GoesAt image p r turns s m
+        → TopAt image p.stack.layout region table r (row_at table r.top).instance globals turns s m
     top_from region globals region_is globals_are s m from = record {
       its_turns = from.its_turns;
       its_globals =
           ap m.globals own_row ∙ subst (λ o. IfSome o (λ words. m.globals row.instance ≡ words.items)) own_is.1 (from.its_globals row.instance)
           ∙ ap (λ (v : Vec ℕ Global). v.items) (sym own_there) ∙ sym globals_are;
-      shown = subst (λ (x : List ℕ). Shown image p.layout x table r s m) (sym region_is) (subst (λ (t : List Row). Shown image p.layout p.region.items t r s m) (sym rows) from.shown);
+      shown = subst (λ (x : List ℕ). Shown image p.stack.layout x table r s m) (sym region_is) (subst (λ (t : List Row). Shown image p.stack.layout p.stack.region.items t r s m) (sym rows) from.shown);
     }
 
     -- with other words of that instance
@@ -196,32 +197,29 @@ module _ (image : Image) (p : Prepared) (ready : IsReady image p) (r : Registers
         (λ v h. others j (λ e. other (sym (e ∙ own_row))) ∙ h) (globals j))
 
 -- what it comes to
-module _ (image : Image) (p p' : Prepared) (r : Registers) (turns : ℕ) (table : List Row) (region' : List ℕ) (i : ℕ) (globals' : List ℕ) (count : ℕ) (Top : Stepped → Store → Type 0)
-    (top : (s : Stepped) (m : Store) → GoesAt image p r turns s m → Top s m) (rows : p'.rows.items ≡ table) (layout : p'.layout ≡ p.layout) (region : p'.region.items ≡ region')
+module _ (image : Image) (p p' : Prepared) (r : Registers) (turns : ℕ) (i : ℕ) (globals' : List ℕ) (count : ℕ) (Top : Stepped → Store → Type 0)
+    (top : (s : Stepped) (m : Store) → GoesAt image p r turns s m → Top s m)
     (globals : (m n : Store) → ShowsGlobals p m.globals → n.globals i ≡ globals' → ((j : ℕ) → j ≢ i → n.globals j ≡ m.globals j) → ShowsGlobals p' n.globals)
     (held : Option (List ℕ)) where
-  pub wrote_paused : (holds : Option (List ℕ)) (pause : Pause) → Wrote held holds Top (TopRuns image p.layout region' table i globals' pause count)
+  pub wrote_paused : (holds : Option (List ℕ)) (pause : Pause) → Wrote held holds Top (on p'.stack (TopRuns image) i globals' pause count)
       → Wrote held holds (GoesAt image p r turns) (Paused image p' pause count)
   wrote_paused holds pause w = record {
     output = w.output;
     given = w.given;
     leads = λ s m from.
-        to_paused image p p' table region' i globals' pause count s (record m { output = m.output ++ w.output }) rows layout region
+        to_paused image p p' i globals' pause count s (record m { output = m.output ++ w.output })
         (λ before n later. globals m n from.its_globals later.own later.others) (w.leads s m (top s m from));
   }
 
-  pub fails_paused : (holds : Option (List ℕ)) (place : ℕ) → FailsAtWrite image p.layout region' table place held holds Top (λ pause. TopRuns image p.layout region' table i globals' pause count)
-      → FailsAtWrite image p'.layout p'.region.items p'.rows.items place held holds (GoesAt image p r turns) (λ pause. Paused image p' pause count)
-  fails_paused holds place h =
-      subst (λ (l : Layout). FailsAtWrite image l p'.region.items p'.rows.items place held holds (GoesAt image p r turns) (λ pause. Paused image p' pause count)) (sym layout)
-      (subst (λ (x : List ℕ). FailsAtWrite image p.layout x p'.rows.items place held holds (GoesAt image p r turns) (λ pause. Paused image p' pause count)) (sym region)
-      (subst (λ (t : List Row). FailsAtWrite image p.layout region' t place held holds (GoesAt image p r turns) (λ pause. Paused image p' pause count)) (sym rows) (record {
-        pause = h.pause;
-        same_top = h.same_top;
-        between = h.between;
-        comes = wrote_paused h.between h.pause h.comes;
-        writing = h.writing;
-        calls = h.calls;
-        some = h.some;
-        partly = h.partly;
-      })))
+  pub fails_paused : (holds : Option (List ℕ)) (place : ℕ) → on p'.stack (FailsAtWrite image) place held holds Top (λ pause. on p'.stack (TopRuns image) i globals' pause count)
+      → on p'.stack (FailsAtWrite image) place held holds (GoesAt image p r turns) (λ pause. Paused image p' pause count)
+  fails_paused holds place h = record {
+    pause = h.pause;
+    same_top = h.same_top;
+    between = h.between;
+    comes = wrote_paused h.between h.pause h.comes;
+    writing = h.writing;
+    calls = h.calls;
+    some = h.some;
+    partly = h.partly;
+  }

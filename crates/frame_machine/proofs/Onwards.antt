@@ -1,4 +1,4 @@
--- How a turn of the loop follows from the calls that it makes.
+-- How a round of the loop follows from the calls that it makes.
 use Rattle.std.proofs.Common.{◌≡◌, ℕ, suc, ◌+◌, ◌-◌, ◌*◌, ◌<◌, ◌≤◌, List, [], length, false, Option, refl, sym, ap, subst, ◌∙◌, arith, add-zero}
 use Rattle.std.proofs.Math.Nat.{mul-le-mul_right}
 use Rattle.std.specs.Prelude.{◌≢◌, IfSome, Result, Ok, Err, slice_get}
@@ -12,8 +12,8 @@ use Rattle.machine_rules.specs.Steps.{begins}
 use Rattle.machine_topmost.specs.declared.registers.Pause.{Pause}
 use Rattle.machine_topmost.specs.declared.registers.Registers.{Registers}
 use Rattle.machine_topmost.specs.declared.registers.Why.{Why}
-use Rattle.machine_activations.specs.declared.calling.Turn.{Turn}
-use Rattle.machine_activations.specs.declared.calling.Turn.TheVariants.{Goes as GoesOn, Empty, Pending, Ends as EndsSo}
+use Rattle.machine_activations.specs.declared.calling.Sequel.{Sequel}
+use Rattle.machine_activations.specs.declared.calling.Sequel.TheVariants.{Goes as GoesOn, Empty, Pending, Ends as EndsSo}
 use Rattle.machine_activations.specs.declared.row.Layout.{Layout}
 use Rattle.machine_activations.specs.declared.row.Row.{Row}
 use Rattle.machine_activations.specs.Calling.{AddsFrame, CallsThen, LeadsTo}
@@ -23,8 +23,8 @@ use Rattle.machine_calls.specs.declared.ahead.Coming.{Coming}
 use Rattle.machine_calls.specs.declared.host.HostProcedure.{HostProcedure}
 use Rattle.machine_calls.specs.declared.host.HostProcedure.TheVariants.{Write}
 use Rattle.machine_calls.specs.declared.host.Writing.{Writing}
-use Rattle.machine_calls.specs.declared.linking.LinkTurn.{LinkTurn}
-use Rattle.machine_calls.specs.declared.linking.LinkTurn.TheVariants.{Done}
+use Rattle.machine_calls.specs.declared.linking.LinkSequel.{LinkSequel}
+use Rattle.machine_calls.specs.declared.linking.LinkSequel.TheVariants.{Done}
 use Rattle.machine_calls.specs.Hosting.{text_written}
 use Rattle.machine_calls.specs.Hosts.{host_is, CallsHost}
 use Rattle.machine_calls.specs.Linking.{LinkLeads, LinkedTo, WaitsToCall, CallsWriting}
@@ -43,8 +43,8 @@ use Rattle.frame_machine.proofs.Pauses.{pause_shown}
 use Rattle.frame_machine.proofs.Writes.{write_breaks}
 
 -- to where a call through a link leads
-abbrev pub AtLink : Image → Prepared → Registers → LinkTurn → Stepped → Store → Type 0
-AtLink image p r turn s m = LinkLeads image p.layout p.region.items p.rows.items r s m turn
+abbrev pub AtLink : Image → Prepared → Registers → LinkSequel → Stepped → Store → Type 0
+AtLink image p r sequel s m = LinkLeads image p.stack.layout p.stack.region.items p.stack.rows.items r s m sequel
 
 -- a run that comes to one place comes so many instructions later to another
 abbrev pub Moves : (image : Image) → (p p' : Prepared) → (turns turns' count : ℕ) → (ahead ahead' : Option Coming) → (left left' holds holds' : Option (List ℕ))
@@ -61,7 +61,7 @@ broke image bound p p' control control' turns turns' begun ahead ahead' told lef
 
 module _ (image : Image) (p p' : Prepared) (turns turns' : ℕ) (ahead ahead' : Option Coming) (left left' holds holds' : Option (List ℕ)) where
   -- nothing is begun
-  pub still : (P : Stepped → Store → Type 0) (result : Result Turn RunFault)
+  pub still : (P : Stepped → Store → Type 0) (result : Result Sequel RunFault)
       → ((bound : ℕ) (control : List ℕ) (begun : ℕ) (told held : Option (List ℕ)) → length control ≤ length image.control
       → SoFar image bound p control turns begun ahead told left held holds P → Then image bound p' control turns' begun ahead' told left' held holds' result)
       → Follows image p p' turns turns' 0 ahead ahead' left left' holds holds' P result
@@ -83,7 +83,7 @@ module _ (image : Image) (p p' : Prepared) (turns turns' : ℕ) (ahead ahead' : 
   }
 
   -- one after the other
-  pub after : (p2 : Prepared) (turns2 : ℕ) (ahead2 : Option Coming) (left2 holds2 : Option (List ℕ)) (P Q : Stepped → Store → Type 0) (result : Result Turn RunFault) (one two count : ℕ)
+  pub after : (p2 : Prepared) (turns2 : ℕ) (ahead2 : Option Coming) (left2 holds2 : Option (List ℕ)) (P Q : Stepped → Store → Type 0) (result : Result Sequel RunFault) (one two count : ℕ)
       → Moves image p p' turns turns' one ahead ahead' left left' holds holds' P Q → Follows image p' p2 turns' turns2 two ahead' ahead2 left' left2 holds' holds2 Q result
       → count ≡ one + two → Follows image p p2 turns turns2 count ahead ahead2 left left2 holds holds2 P result
   after p2 turns2 ahead2 left2 holds2 P Q result one two count f g e bound control begun begun' told held short is so =
@@ -107,18 +107,18 @@ module _ (image : Image) (can : CanRun image) (p : Prepared) (turns : ℕ) (ahea
         at = record { its_turns = w.comes.beside.its_turns; its_globals = w.comes.beside.its_globals; shown = w.comes.leads };
       }
 
-  pub can_pause : (r : Registers) (why : Why) → CanGoOn image p turns ahead left holds (PausesAt image p.layout p.region.items p.rows.items r why) → CanPause image p r why
+  pub can_pause : (r : Registers) (why : Why) → CanGoOn image p turns ahead left holds (PausesAt image p.stack.layout p.stack.region.items p.stack.rows.items r why) → CanPause image p r why
   can_pause r why c =
-      let w = seen (PausesAt image p.layout p.region.items p.rows.items r why) c in
+      let w = seen (PausesAt image p.stack.layout p.stack.region.items p.stack.rows.items r why) c in
       record { start = begins image w.input false c.bound; unstuck = w.unstuck_so; store = w.comes.store; pauses = w.comes.leads }
 
-  pub waits_so : (r : Registers) → CanGoOn image p turns ahead left holds (At image p (Pending r)) → WaitsToCall image p.layout p.region.items p.rows.items r
+  pub waits_so : (r : Registers) → CanGoOn image p turns ahead left holds (At image p (Pending r)) → WaitsToCall image p.stack.layout p.stack.region.items p.stack.rows.items r
   unfolding LeadsTo
   waits_so r c =
       let w = seen (At image p (Pending r)) c in
       record { start = begins image w.input false c.bound; unstuck = w.unstuck_so; store = w.comes.store; then = w.comes.leads }
 
-  pub calls_so : (r : Registers) (h : HostProcedure) → CanGoOn image p turns ahead left holds (AtHost image p r h) → CallsHost image p.layout p.region.items p.rows.items r (host_is h)
+  pub calls_so : (r : Registers) (h : HostProcedure) → CanGoOn image p turns ahead left holds (AtHost image p r h) → CallsHost image p.stack.layout p.stack.region.items p.stack.rows.items r (host_is h)
   unfolding LinkLeads
   calls_so r h c = let w = seen (AtHost image p r h) c in w.comes.leads.0
 
@@ -126,12 +126,12 @@ module _ (image : Image) (can : CanRun image) (p : Prepared) (turns : ℕ) (ahea
 
 module _ (image : Image) (can : CanRun image) (p p' : Prepared) (turns : ℕ) (ahead : Option Coming) (left holds holds' : Option (List ℕ)) (r : Registers) (pause : Pause) (count : ℕ)
     (marks : p'.started.items ≡ p.started.items) (some : 0 < count) (w : Wrote holds holds' (GoesAt image p r turns) (Paused image p' pause count)) where
-  pub pause_moves : Moves image p p' turns pause.turns (count - 1) ahead ahead left left holds holds' (At image p (GoesOn r)) (PausesAt image p'.layout p'.region.items p'.rows.items pause.registers pause.why)
+  pub pause_moves : Moves image p p' turns pause.turns (count - 1) ahead ahead left left holds holds' (At image p (GoesOn r)) (PausesAt image p'.stack.layout p'.stack.region.items p'.stack.rows.items pause.registers pause.why)
   pause_moves bound control begun begun' told held short e so =
-      subst (λ n. SoFar image bound p' control pause.turns n ahead told left held holds' (PausesAt image p'.layout p'.region.items p'.rows.items pause.registers pause.why)) (sym e)
+      subst (λ n. SoFar image bound p' control pause.turns n ahead told left held holds' (PausesAt image p'.stack.layout p'.stack.region.items p'.stack.rows.items pause.registers pause.why)) (sym e)
       (paused image can bound told left held holds ahead p p' control turns begun count r pause holds' marks w (count - 1) (omega arith) so)
 
-  pub few_begun : IsPrepared image p'.layout → length p'.rows.items ≡ 8192 → BeginsFew image p turns count ahead left holds (At image p (GoesOn r))
+  pub few_begun : IsPrepared image p'.stack.layout → length p'.stack.rows.items ≡ 8192 → BeginsFew image p turns count ahead left holds (At image p (GoesOn r))
   few_begun prepared long bound control begun told held short so =
       let there = pause_moves bound control begun (begun + (count - 1)) told held short refl so in
       let l = less_than_most image can bound told left held holds' ahead p' control pause.turns (begun + (count - 1)) pause.registers pause.why prepared long (omega (arith, short)) there in
@@ -140,16 +140,16 @@ module _ (image : Image) (can : CanRun image) (p p' : Prepared) (turns : ℕ) (a
   pub pauses_then : CanGoOn image p turns ahead left holds (At image p (GoesOn r)) → CanPause image p' pause.registers pause.why
   pauses_then c =
       can_pause image can p' pause.turns ahead left holds' pause.registers pause.why
-      (along image p p' turns pause.turns ahead ahead left left holds holds' (At image p (GoesOn r)) (PausesAt image p'.layout p'.region.items p'.rows.items pause.registers pause.why) (count - 1) c pause_moves)
+      (along image p p' turns pause.turns ahead ahead left left holds holds' (At image p (GoesOn r)) (PausesAt image p'.stack.layout p'.stack.region.items p'.stack.rows.items pause.registers pause.why) (count - 1) c pause_moves)
 
   -- where the sink fails at a call that writes
-  module _ (prepared : IsPrepared image p'.layout) (ample : IsAmple p'.layout p'.region.items p'.rows.items pause.registers.top) (writing : Writing)
-      (calls : CallsWriting image p'.layout p'.region.items p'.rows.items pause.registers pause.turns writing) (holds'' : Option (List ℕ))
-      (some_text : text_written image p'.region.items pause.registers writing ≢ []) (partly : IfSome holds' (λ bytes. AppendsPrefix bytes (text_written image p'.region.items pause.registers writing) holds'')) where
-    call_moves : Moves image p' p' pause.turns (pause.turns - 1) 1 ahead ahead left left holds' holds' (PausesAt image p'.layout p'.region.items p'.rows.items pause.registers pause.why)
+  module _ (prepared : IsPrepared image p'.stack.layout) (ample : IsAmple p'.stack.layout p'.stack.region.items p'.stack.rows.items pause.registers.top) (writing : Writing)
+      (calls : CallsWriting image p'.stack.layout p'.stack.region.items p'.stack.rows.items pause.registers pause.turns writing) (holds'' : Option (List ℕ))
+      (some_text : text_written image p'.stack.region.items pause.registers writing ≢ []) (partly : IfSome holds' (λ bytes. AppendsPrefix bytes (text_written image p'.stack.region.items pause.registers writing) holds'')) where
+    call_moves : Moves image p' p' pause.turns (pause.turns - 1) 1 ahead ahead left left holds' holds' (PausesAt image p'.stack.layout p'.stack.region.items p'.stack.rows.items pause.registers pause.why)
         (AtHost image p' pause.registers (Write writing))
     call_moves bound control begun begun' told held short e =
-        onward image can bound told left held holds' ahead p' p' control control pause.turns (pause.turns - 1) begun begun' (PausesAt image p'.layout p'.region.items p'.rows.items pause.registers pause.why)
+        onward image can bound told left held holds' ahead p' p' control control pause.turns (pause.turns - 1) begun begun' (PausesAt image p'.stack.layout p'.stack.region.items p'.stack.rows.items pause.registers pause.why)
         (AtHost image p' pause.registers (Write writing)) (λ s m output input faulty free b there. record {
           store = record m { turns = pause.turns - 1; begun = suc m.begun };
           beside = record {
@@ -162,7 +162,7 @@ module _ (image : Image) (can : CanRun image) (p p' : Prepared) (turns : ℕ) (a
             its_input = b.its_input;
             its_fault = b.its_fault;
           };
-          leads = calls s m b.its_turns (pause_shown image p'.layout p'.region.items p'.rows.items pause.registers s m pause.why there);
+          leads = calls s m b.its_turns (pause_shown image p'.stack.layout p'.stack.region.items p'.stack.rows.items pause.registers s m pause.why there);
         })
 
     pub write_fails : (turns' : ℕ) → Follows image p p' turns turns' count ahead ahead left left holds holds'' (At image p (GoesOn r)) (Err WriteFault)
@@ -174,13 +174,13 @@ module _ (image : Image) (can : CanRun image) (p p' : Prepared) (turns : ℕ) (a
 module _ (image : Image) (can : CanRun image) (p p' : Prepared) (turns : ℕ) (ahead : Option Coming) (left holds : Option (List ℕ)) where
   -- What its pause leads to.
 
-  module _ (r : Registers) (turns' : ℕ) (linked : LinkTurn) (same_globals : p'.globals.items ≡ p.globals.items) where
+  module _ (r : Registers) (turns' : ℕ) (linked : LinkSequel) (same_globals : p'.globals.items ≡ p.globals.items) where
     pub happen_moves : (why : Why)
-        → ((s : Stepped) (m : Store) → m.turns ≡ turns → ShowsStarted p.started.items m.started → IsUnstuck image s → PausesAt image p.layout p.region.items p.rows.items r why s m
-        → LinkedTo image p'.layout p'.region.items p'.rows.items r p'.started.items s (record m { turns = turns'; begun = suc m.begun }) linked)
-        → Moves image p p' turns turns' 1 ahead ahead left left holds holds (PausesAt image p.layout p.region.items p.rows.items r why) (AtLink image p' r linked)
+        → ((s : Stepped) (m : Store) → m.turns ≡ turns → ShowsStarted p.started.items m.started → IsUnstuck image s → PausesAt image p.stack.layout p.stack.region.items p.stack.rows.items r why s m
+        → LinkedTo image p'.stack.layout p'.stack.region.items p'.stack.rows.items r p'.started.items s (record m { turns = turns'; begun = suc m.begun }) linked)
+        → Moves image p p' turns turns' 1 ahead ahead left left holds holds (PausesAt image p.stack.layout p.stack.region.items p.stack.rows.items r why) (AtLink image p' r linked)
     happen_moves why leads bound control begun begun' told held short e =
-        onward image can bound told left held holds ahead p p' control control turns turns' begun begun' (PausesAt image p.layout p.region.items p.rows.items r why) (AtLink image p' r linked)
+        onward image can bound told left held holds ahead p p' control control turns turns' begun begun' (PausesAt image p.stack.layout p.stack.region.items p.stack.rows.items r why) (AtLink image p' r linked)
         (λ s m output input faulty free b there.
         let l = leads s m b.its_turns b.its_started free there in
         record {
@@ -199,8 +199,8 @@ module _ (image : Image) (can : CanRun image) (p p' : Prepared) (turns : ℕ) (a
         })
 
     -- what the call that waited leads to
-    pub pend_moves : ((s : Stepped) (m : Store) → m.turns ≡ turns → ShowsStarted p.started.items m.started → IsUnstuck image s → CallsThen image p.layout p.region.items p.rows.items r s m
-        → LinkedTo image p'.layout p'.region.items p'.rows.items r p'.started.items s (record m { turns = turns' }) linked)
+    pub pend_moves : ((s : Stepped) (m : Store) → m.turns ≡ turns → ShowsStarted p.started.items m.started → IsUnstuck image s → CallsThen image p.stack.layout p.stack.region.items p.stack.rows.items r s m
+        → LinkedTo image p'.stack.layout p'.stack.region.items p'.stack.rows.items r p'.started.items s (record m { turns = turns' }) linked)
         → Moves image p p' turns turns' 0 ahead ahead left left holds holds (At image p (Pending r)) (AtLink image p' r linked)
     unfolding LeadsTo
     pend_moves leads bound control begun begun' told held short e =
@@ -223,56 +223,56 @@ module _ (image : Image) (can : CanRun image) (p p' : Prepared) (turns : ℕ) (a
         })
 
 -- both
-module _ (image : Image) (can : CanRun image) (p p1 p2 : Prepared) (turns turns2 : ℕ) (ahead : Option Coming) (left holds holds' : Option (List ℕ)) (r : Registers) (pause : Pause) (count : ℕ) (linked : LinkTurn)
+module _ (image : Image) (can : CanRun image) (p p1 p2 : Prepared) (turns turns2 : ℕ) (ahead : Option Coming) (left holds holds' : Option (List ℕ)) (r : Registers) (pause : Pause) (count : ℕ) (linked : LinkSequel)
     (marks : p1.started.items ≡ p.started.items) (some : 0 < count) (w : Wrote holds holds' (GoesAt image p r turns) (Paused image p1 pause count))
     (same_globals : p2.globals.items ≡ p1.globals.items)
     (leads2 : (s : Stepped) (m : Store) → m.turns ≡ pause.turns → ShowsStarted p1.started.items m.started → IsUnstuck image s
-    → PausesAt image p1.layout p1.region.items p1.rows.items pause.registers pause.why s m
-    → LinkedTo image p2.layout p2.region.items p2.rows.items pause.registers p2.started.items s (record m { turns = turns2; begun = suc m.begun }) linked) where
+    → PausesAt image p1.stack.layout p1.stack.region.items p1.stack.rows.items pause.registers pause.why s m
+    → LinkedTo image p2.stack.layout p2.stack.region.items p2.stack.rows.items pause.registers p2.started.items s (record m { turns = turns2; begun = suc m.begun }) linked) where
   pub links_then : Moves image p p2 turns turns2 count ahead ahead left left holds holds' (At image p (GoesOn r)) (AtLink image p2 pause.registers linked)
   links_then bound control begun begun' told held short e so =
       happen_moves image can p1 p2 pause.turns ahead left holds' pause.registers turns2 linked same_globals pause.why leads2
       bound control (begun + (count - 1)) begun' told held short (omega (arith, e, some))
       (pause_moves image can p p1 turns ahead left holds holds' r pause count marks some w bound control begun (begun + (count - 1)) told held short refl so)
 
--- where a turn leads
-pub done_there : (image : Image) (p p' : Prepared) (turns turns' count : ℕ) (ahead ahead' : Option Coming) (left left' holds holds' : Option (List ℕ)) (P : Stepped → Store → Type 0) (r : Registers) (turn : Turn)
-    → Moves image p p' turns turns' count ahead ahead' left left' holds holds' P (AtLink image p' r (Done turn))
-    → Follows image p p' turns turns' count ahead ahead' left left' holds holds' P (Ok turn)
+-- what comes next
+pub done_there : (image : Image) (p p' : Prepared) (turns turns' count : ℕ) (ahead ahead' : Option Coming) (left left' holds holds' : Option (List ℕ)) (P : Stepped → Store → Type 0) (r : Registers) (sequel : Sequel)
+    → Moves image p p' turns turns' count ahead ahead' left left' holds holds' P (AtLink image p' r (Done sequel))
+    → Follows image p p' turns turns' count ahead ahead' left left' holds holds' P (Ok sequel)
 unfolding LinkLeads
-done_there image p p' turns turns' count ahead ahead' left left' holds holds' P r turn f = f
+done_there image p p' turns turns' count ahead ahead' left left' holds holds' P r sequel f = f
 
 pub top_low : (image : Image) (layout : Layout) (region : List ℕ) (table : List Row) (r : Registers) → WaitsToCall image layout region table r → r.top < length table
 top_low image layout region table r w =
     let k = w.then in
     subst (λ q. q < length table) (sym k.shows.top) (slice_get_within table (length k.rest) k.shows.rowed.row k.shows.rowed.there)
 
--- Turns that do not wait.
+-- What comes next that does not wait.
 
-pub added_waits : (layout : Layout) (table : List Row) (r : Registers) (table' : List Row) (turn : Turn) → AddsFrame layout table r table' turn → waits turn ≡ 0
+pub added_waits : (layout : Layout) (table : List Row) (r : Registers) (table' : List Row) (sequel : Sequel) → AddsFrame layout table r table' sequel → waits sequel ≡ 0
 added_waits layout table r table' (GoesOn r') h = refl
 added_waits layout table r table' Empty h = refl
 added_waits layout table r table' (Pending r') h = absurd h
 added_waits layout table r table' (EndsSo end) h = refl
 
-pub arm_waits : (turn : Turn) → RunsArm turn → waits turn ≡ 0
+pub arm_waits : (sequel : Sequel) → RunsArm sequel → waits sequel ≡ 0
 arm_waits (GoesOn r) h = refl
 arm_waits Empty h = refl
 arm_waits (Pending r) h = absurd h
 arm_waits (EndsSo end) h = refl
 
--- A turn of the loop.
+-- A round of the loop.
 
-module _ (image : Image) (p p' : Prepared) (turns turns' : ℕ) (ahead ahead' : Option Coming) (left left' holds holds' : Option (List ℕ)) (turn turn' : Turn) (is : turn ≡ turn') where
-  pub as_turn : (result : Result Turn RunFault) (count count' : ℕ) → count' ≡ count → Follows image p p' turns turns' count ahead ahead' left left' holds holds' (At image p turn') result
-      → Follows image p p' turns turns' count' ahead ahead' left left' holds holds' (At image p turn) result
-  as_turn result count count' same f bound control begun begun' told held short e so =
+module _ (image : Image) (p p' : Prepared) (turns turns' : ℕ) (ahead ahead' : Option Coming) (left left' holds holds' : Option (List ℕ)) (sequel sequel' : Sequel) (is : sequel ≡ sequel') where
+  pub as_sequel : (result : Result Sequel RunFault) (count count' : ℕ) → count' ≡ count → Follows image p p' turns turns' count ahead ahead' left left' holds holds' (At image p sequel') result
+      → Follows image p p' turns turns' count' ahead ahead' left left' holds holds' (At image p sequel) result
+  as_sequel result count count' same f bound control begun begun' told held short e so =
       f bound control begun begun' told held short (omega (arith, e, same)) (subst (λ t. SoFar image bound p control turns begun ahead told left held holds (At image p t)) is so)
 
-pub stays : (image : Image) (p : Prepared) (turns steps : ℕ) (ahead : Option Coming) (left holds : Option (List ℕ)) (turn turn' : Turn) → turn ≡ turn'
-    → Follows image p p turns turns (steps - steps) ahead ahead left left holds holds (At image p turn) (Ok turn')
-stays image p turns steps ahead left holds turn turn' is bound control begun begun' told held short e so =
-    subst (λ n. SoFar image bound p control turns n ahead told left held holds (At image p turn')) (let k : begun ≡ begun' = omega (arith, e) in k)
+pub stays : (image : Image) (p : Prepared) (turns steps : ℕ) (ahead : Option Coming) (left holds : Option (List ℕ)) (sequel sequel' : Sequel) → sequel ≡ sequel'
+    → Follows image p p turns turns (steps - steps) ahead ahead left left holds holds (At image p sequel) (Ok sequel')
+stays image p turns steps ahead left holds sequel sequel' is bound control begun begun' told held short e so =
+    subst (λ n. SoFar image bound p control turns n ahead told left held holds (At image p sequel')) (let k : begun ≡ begun' = omega (arith, e) in k)
     (subst (λ t. SoFar image bound p control turns begun ahead told left held holds (At image p t)) is so)
 
 -- The loop.
@@ -292,30 +292,30 @@ falls_by M first steps steps' w a b c d = omega (arith, a, b, c, d)
 pend_by : (M first steps steps' w : ℕ) → steps' ≡ steps → w ≡ 0 → 2 * (M + first - steps') + w < 2 * (M + first - steps) + 1
 pend_by M first steps steps' w same none = omega (arith, same, none)
 
-waits_little : (turn : Turn) → waits turn ≤ 1
+waits_little : (sequel : Sequel) → waits sequel ≤ 1
 waits_little (GoesOn r) = omega arith
 waits_little Empty = omega arith
 waits_little (Pending r) = omega arith
 waits_little (EndsSo end) = omega arith
 
 -- it falls where the run is not at its end
-pub falls : (image : Image) (p0 p : Prepared) (turns0 turns first steps steps' : ℕ) (ahead0 ahead : Option Coming) (left0 left holds0 holds : Option (List ℕ)) (begin turn turn' : Turn)
-    → turn ≢ Empty → ((end : End) → turn ≢ EndsSo end) → first ≤ steps
+pub falls : (image : Image) (p0 p : Prepared) (turns0 turns first steps steps' : ℕ) (ahead0 ahead : Option Coming) (left0 left holds0 holds : Option (List ℕ)) (begin sequel sequel' : Sequel)
+    → sequel ≢ Empty → ((end : End) → sequel ≢ EndsSo end) → first ≤ steps
     → CanGoOn image p0 turns0 ahead0 left0 holds0 (At image p0 begin)
-    → Follows image p0 p turns0 turns (steps - first) ahead0 ahead left0 left holds0 holds (At image p0 begin) (Ok turn)
-    → Advances image p turns ahead left holds turn steps steps' (Ok turn')
-    → 2 * still_most image first steps' + waits turn' < 2 * still_most image first steps + waits turn
-falls image p0 p turns0 turns first steps steps' ahead0 ahead left0 left holds0 holds begin Empty turn' n e l c f a = absurd (n refl)
-falls image p0 p turns0 turns first steps steps' ahead0 ahead left0 left holds0 holds begin (EndsSo end) turn' n e l c f a = absurd (e end refl)
-falls image p0 p turns0 turns first steps steps' ahead0 ahead left0 left holds0 holds begin (Pending r) turn' n e l c f (same, none) =
-    pend_by (most image 18446744073709551616) first steps steps' (waits turn') same none
-falls image p0 p turns0 turns first steps steps' ahead0 ahead left0 left holds0 holds begin (GoesOn r) turn' n e l c f (more, few) =
+    → Follows image p0 p turns0 turns (steps - first) ahead0 ahead left0 left holds0 holds (At image p0 begin) (Ok sequel)
+    → Advances image p turns ahead left holds sequel steps steps' (Ok sequel')
+    → 2 * still_most image first steps' + waits sequel' < 2 * still_most image first steps + waits sequel
+falls image p0 p turns0 turns first steps steps' ahead0 ahead left0 left holds0 holds begin Empty sequel' n e l c f a = absurd (n refl)
+falls image p0 p turns0 turns first steps steps' ahead0 ahead left0 left holds0 holds begin (EndsSo end) sequel' n e l c f a = absurd (e end refl)
+falls image p0 p turns0 turns first steps steps' ahead0 ahead left0 left holds0 holds begin (Pending r) sequel' n e l c f (same, none) =
+    pend_by (most image 18446744073709551616) first steps steps' (waits sequel') same none
+falls image p0 p turns0 turns first steps steps' ahead0 ahead left0 left holds0 holds begin (GoesOn r) sequel' n e l c f (more, few) =
     let k = few c.bound c.control (c.begun + (steps - first)) c.told c.held c.short (f c.bound c.control c.begun (c.begun + (steps - first)) c.told c.held c.short refl c.so) in
     let m = most_of_bound image c.bound c.few in
-    falls_by (most image 18446744073709551616) first steps steps' (waits turn') l more (omega (arith, k, m, l, more)) (waits_little turn')
+    falls_by (most image 18446744073709551616) first steps steps' (waits sequel') l more (omega (arith, k, m, l, more)) (waits_little sequel')
 
 -- the same of the loop in which an activation goes on
-pub frame_falls : (image : Image) (p0 p : Prepared) (turns0 turns first steps steps' : ℕ) (ahead0 ahead : Option Coming) (left0 left holds0 holds : Option (List ℕ)) (begin : Turn) (r : Registers)
+pub frame_falls : (image : Image) (p0 p : Prepared) (turns0 turns first steps steps' : ℕ) (ahead0 ahead : Option Coming) (left0 left holds0 holds : Option (List ℕ)) (begin : Sequel) (r : Registers)
     → first ≤ steps → CanGoOn image p0 turns0 ahead0 left0 holds0 (At image p0 begin)
     → Follows image p0 p turns0 turns (steps - first) ahead0 ahead left0 left holds0 holds (At image p0 begin) (Ok (GoesOn r))
     → steps < steps' → BeginsFew image p turns (steps' - steps) ahead left holds (At image p (GoesOn r))
@@ -329,7 +329,7 @@ frame_falls image p0 p turns0 turns first steps steps' ahead0 ahead left0 left h
     frame_falls_by M first steps steps' a b c = omega (arith, a, b, c)
 
 -- what began few instructions after others did in all
-pub few_in_all : (image : Image) (p0 p : Prepared) (turns0 turns one two count : ℕ) (ahead0 ahead : Option Coming) (left0 left holds0 holds : Option (List ℕ)) (begin : Turn) (r : Registers)
+pub few_in_all : (image : Image) (p0 p : Prepared) (turns0 turns one two count : ℕ) (ahead0 ahead : Option Coming) (left0 left holds0 holds : Option (List ℕ)) (begin : Sequel) (r : Registers)
     → Follows image p0 p turns0 turns one ahead0 ahead left0 left holds0 holds (At image p0 begin) (Ok (GoesOn r))
     → BeginsFew image p turns two ahead left holds (At image p (GoesOn r)) → count ≡ one + two
     → BeginsFew image p0 turns0 count ahead0 left0 holds0 (At image p0 begin)

@@ -24,6 +24,7 @@ use Rattle.machine_activations.specs.Calling.{StandsIn}
 use Rattle.machine_activations.specs.Frames.{row_at}
 use Rattle.machine_activations.specs.Placed.{floor_at}
 use Rattle.machine_activations.specs.Reaching.{Shown, Later}
+use Rattle.machine_activations.specs.Stacks.{on}
 use Rattle.machine_activations.specs.Shows.{IsPrepared, IsAmple, Shows}
 use Rattle.machine_activations.proofs.Defined.{runs_as_defined}
 use Rattle.machine_activations.proofs.Located.{valid_code, IsValid}
@@ -33,7 +34,7 @@ use Rattle.machine_activations.proofs.Tables.{row_there}
 use Rattle.machine_ready.specs.declared.prepared.Prepared.{Prepared}
 use Rattle.machine_ready.proofs.Reading.{code_at, mapped, some_there}
 use Rattle.machine_signals.proofs.InImage.{has_code}
-use Rattle.frame_machine.specs.SoFar.{ShowsGlobals, IsNoJump, Paused, PausesAt, TopRuns}
+use Rattle.frame_machine.specs.SoFar.{ShowsGlobals, IsNoJump, Paused, TopRuns}
 use Rattle.frame_machine.proofs.NoJump.{no_jump_at}
 
 some_is : {X : Type 0} (o : Option X) (x : X) → o ≡ Some x → IsSome o
@@ -198,11 +199,10 @@ if_some None P Q f h = tt
 if_some (Some x) P Q f h = f x h
 
 -- what stands beside the activations then
-pub to_paused : (image : Image) (p p' : Prepared) (table : List Row) (region' : List ℕ) (i : ℕ) (globals' : List ℕ) (pause : Pause) (count : ℕ) (s : Stepped) (m : Store)
-    → p'.rows.items ≡ table → p'.layout ≡ p.layout → p'.region.items ≡ region'
+pub to_paused : (image : Image) (p p' : Prepared) (i : ℕ) (globals' : List ℕ) (pause : Pause) (count : ℕ) (s : Stepped) (m : Store)
     → ((before : ℕ) (n : Store) → Later i m before globals' pause.turns n → ShowsGlobals p' n.globals)
-    → TopRuns image p.layout region' table i globals' pause count s m → Paused image p' pause count s m
-to_paused image p p' table region' i globals' pause count s m rows layout words globals t = record {
+    → on p'.stack (TopRuns image) i globals' pause count s m → Paused image p' pause count s m
+to_paused image p p' i globals' pause count s m globals t = record {
   store = t.store;
   before = t.before;
   counted = t.counted;
@@ -214,7 +214,5 @@ to_paused image p p' table region' i globals' pause count s m rows layout words 
   same_input = t.later.input;
   same_fault = t.later.faulty;
   same_output = t.later.output;
-  pauses = subst (λ l. PausesAt image l p'.region.items p'.rows.items pause.registers pause.why s t.store) (sym layout)
-      (subst (λ (r : List ℕ). PausesAt image p.layout r p'.rows.items pause.registers pause.why s t.store) (sym words)
-      (subst (λ (x : List Row). PausesAt image p.layout region' x pause.registers pause.why s t.store) (sym rows) t.pauses));
+  pauses = t.pauses;
 }

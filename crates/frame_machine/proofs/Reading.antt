@@ -11,7 +11,7 @@ use Rattle.machine_calls.specs.declared.ahead.Coming.TheVariants.{Byte, End}
 use Rattle.machine_calls.specs.declared.host.HostProcedure.TheVariants.{Read}
 use Rattle.machine_calls.specs.declared.host.Reading.{Reading}
 use Rattle.machine_calls.specs.declared.host.Reading.TheVariants.{Next, AtEnd}
-use Rattle.machine_calls.specs.declared.reading.ReadTurn.{ReadTurn}
+use Rattle.machine_calls.specs.declared.reading.ReadSequel.{ReadSequel}
 use Rattle.machine_calls.specs.Hosting.{input_left, Looks, Comes, known_after, input_after, ReadLeads, ReadsOn}
 use Rattle.machine_calls.specs.Linking.{LinkLeads}
 use Rattle.machine_ready.specs.declared.prepared.Prepared.{Prepared}
@@ -100,11 +100,11 @@ byte_after AtEnd coming byte b e = byte b (same_Some coming (Byte b) e)
 -- The machine reads that, or raises NoInput.
 
 module _ (image : Image) (bound : ℕ) (told left left' held holds : Option (List ℕ)) (ahead : Option Coming) (p p' : Prepared) (control : List ℕ) (turns begun : ℕ)
-    (r : Registers) (reading : Reading) (coming : Coming) (turn : ReadTurn) (prepared : IsPrepared image p.layout) (ample : IsAmple p.layout p.region.items p.rows.items r.top)
-    (same_layout : p'.layout ≡ p.layout) (same_rows : p'.rows.items ≡ p.rows.items) (same_globals : p'.globals.items ≡ p.globals.items) (same_marks : p'.started.items ≡ p.started.items)
-    (looks : Looks ahead coming left left') (leads : ReadsOn p.region.items p'.region.items r reading coming turn) where
+    (r : Registers) (reading : Reading) (coming : Coming) (sequel : ReadSequel) (prepared : IsPrepared image p.stack.layout) (ample : IsAmple p.stack.layout p.stack.region.items p.stack.rows.items r.top)
+    (same_layout : p'.stack.layout ≡ p.stack.layout) (same_rows : p'.stack.rows.items ≡ p.stack.rows.items) (same_globals : p'.globals.items ≡ p.globals.items) (same_marks : p'.started.items ≡ p.started.items)
+    (looks : Looks ahead coming left left') (leads : ReadsOn p.stack.region.items p'.stack.region.items r reading coming sequel) where
   pub read_on : SoFar image bound p control turns begun ahead told left held holds (AtHost image p r (Read reading))
-      → SoFar image bound p' control turns begun (known_after reading coming) told left' held holds (λ s m. ReadLeads image p.layout p'.region.items p.rows.items r s m turn)
+      → SoFar image bound p' control turns begun (known_after reading coming) told left' held holds (λ s m. ReadLeads image p.stack.layout p'.stack.region.items p.stack.rows.items r s m sequel)
   unfolding LinkLeads
   read_on so = record {
     got = got_after reading coming so.got;
@@ -119,8 +119,8 @@ module _ (image : Image) (bound : ℕ) (told left left' held holds : Option (Lis
         let b = c.beside in
         let input : List ℕ = so.got ++ rest_before reading coming rest in
         let there : Comes coming c.store.input c.store.faulty = subst (λ f. Comes coming c.store.input f) (sym b.its_fault) (subst (λ i. Comes coming i faulty) (sym b.its_input) before) in
-        let leads_so : ReadLeads image p.layout p'.region.items p.rows.items r (begins image input faulty bound) (record c.store { input = input_after reading c.store.input }) turn =
-        leads image p.layout p.rows.items prepared ample c.leads.0 (begins image input faulty bound) c.store c.leads.1 there in
+        let leads_so : ReadLeads image p.stack.layout p'.stack.region.items p.stack.rows.items r (begins image input faulty bound) (record c.store { input = input_after reading c.store.input }) sequel =
+        leads image p.stack.layout p.stack.rows.items prepared ample c.leads.0 (begins image input faulty bound) c.store c.leads.1 there in
         record {
           store = record c.store { input = input_after reading c.store.input };
           beside = record {
@@ -133,7 +133,7 @@ module _ (image : Image) (bound : ℕ) (told left left' held holds : Option (Lis
             its_input = ap (input_after reading) b.its_input ∙ left_then reading coming rest faulty before;
             its_fault = b.its_fault;
           };
-          leads = subst (λ i. ReadLeads image p.layout p'.region.items p.rows.items r (begins image i faulty bound) (record c.store { input = input_after reading c.store.input }) turn)
+          leads = subst (λ i. ReadLeads image p.stack.layout p'.stack.region.items p.stack.rows.items r (begins image i faulty bound) (record c.store { input = input_after reading c.store.input }) sequel)
               (taken_then reading coming so.got rest) leads_so;
         };
   }

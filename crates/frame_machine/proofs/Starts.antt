@@ -11,8 +11,8 @@ use Rattle.machine_rules.specs.State.{Store, Stepped}
 use Rattle.machine_rules.specs.LookUps.{code_of}
 use Rattle.machine_rules.specs.Calls.{set_of, start}
 use Rattle.machine_rules.specs.Laws.{CanRun}
-use Rattle.machine_activations.specs.declared.calling.Turn.{Turn}
-use Rattle.machine_activations.specs.declared.calling.Turn.TheVariants.{Goes as GoesOn, Empty, Pending, Ends as EndsSo}
+use Rattle.machine_activations.specs.declared.calling.Sequel.{Sequel}
+use Rattle.machine_activations.specs.declared.calling.Sequel.TheVariants.{Goes as GoesOn, Empty, Pending, Ends as EndsSo}
 use Rattle.machine_activations.specs.declared.row.Row.{Row}
 use Rattle.machine_activations.specs.Calling.{AddsFirst, LeadsTo}
 use Rattle.machine_activations.specs.Frames.{frame_row}
@@ -28,7 +28,7 @@ use Rattle.machine_ready.proofs.Reading.{some_there}
 use Rattle.machine_ready.proofs.Running.{ready_can_run}
 use Rattle.frame_machine.specs.declared.outcome.RunFault.{RunFault}
 use Rattle.frame_machine.specs.declared.outcome.RunFault.TheVariants.{ReadFault, WriteFault}
-use Rattle.frame_machine.specs.Onward.{CanGoOn, CanStart, last_turn}
+use Rattle.frame_machine.specs.Onward.{CanGoOn, CanStart, last_sequel}
 use Rattle.frame_machine.specs.Running.{BreaksAtInput, BreaksAtOutput, CutsOff, Completes, EndIsInRange}
 use Rattle.frame_machine.specs.SoFar.{At, SoFar, Then}
 use Rattle.frame_machine.proofs.FirstRow.{first_arms}
@@ -52,21 +52,21 @@ code_there image j order less =
 
 -- The first frame.
 
-pub holds_first : (image : Image) (table table' : List Row) (turn : Turn) → AddsFirst table table' turn → HoldsOn image table' turn
+pub holds_first : (image : Image) (table table' : List Row) (sequel : Sequel) → AddsFirst table table' sequel → HoldsOn image table' sequel
 holds_first image table table' (GoesOn r) (j, top, rows) =
     subst (λ (x : List Row). ArmsHold image x r.top) (sym rows) (subst (λ q. ArmsHold image (slice_set table 0 (frame_row j 0)) q) (sym top) (first_arms image table j))
 holds_first image table table' Empty h = tt
 holds_first image table table' (Pending r) h = absurd h
 holds_first image table table' (EndsSo end) h = tt
 
-pub started_then : (image : Image) (can : CanRun image) (p p' : Prepared) (instance turns turns' : ℕ) (turn : Turn) → instance < length p.started.items → slice_get p.started.items instance ≡ Some false
+pub started_then : (image : Image) (can : CanRun image) (p p' : Prepared) (instance turns turns' : ℕ) (sequel : Sequel) → instance < length p.started.items → slice_get p.started.items instance ≡ Some false
     → p'.started.items ≡ slice_set p.started.items instance true → p'.globals.items ≡ p.globals.items
     → ((s : Stepped) (m : Store) → m.turns ≡ turns → Reaches image s (start image instance [] m)
-    → LeadsTo image p'.layout p'.region.items p'.rows.items s (record m { started = set_of m.started instance true; turns = turns' }) turn)
+    → LeadsTo image p'.stack.layout p'.stack.region.items p'.stack.rows.items s (record m { started = set_of m.started instance true; turns = turns' }) sequel)
     → (bound : ℕ) (control : List ℕ) (begun : ℕ) (ahead : Option Coming) (told left held holds : Option (List ℕ))
-    → SoFar image bound p (instance ∷ control) turns begun ahead told left held holds (At image p Empty) → SoFar image bound p' control turns' begun ahead told left held holds (At image p' turn)
-started_then image can p p' instance turns turns' turn within unmarked marks globals leads bound control begun ahead told left held holds so =
-    onward image can bound told left held holds ahead p p' control control turns turns' begun begun (λ s m. Reaches image s (start image instance [] m)) (At image p' turn)
+    → SoFar image bound p (instance ∷ control) turns begun ahead told left held holds (At image p Empty) → SoFar image bound p' control turns' begun ahead told left held holds (At image p' sequel)
+started_then image can p p' instance turns turns' sequel within unmarked marks globals leads bound control begun ahead told left held holds so =
+    onward image can bound told left held holds ahead p p' control control turns turns' begun begun (λ s m. Reaches image s (start image instance [] m)) (At image p' sequel)
     (λ s m output input faulty free b reaches. record {
       store = record m { started = set_of m.started instance true; turns = turns' };
       beside = record {
@@ -85,11 +85,11 @@ started_then image can p p' instance turns turns' turn within unmarked marks glo
 -- The run of an instance.
 
 module _ (image : Image) (p : Prepared) (instance turns : ℕ) (ahead : Option Coming) (left holds : Option (List ℕ)) where
-  pub begun_then : (p' : Prepared) (turns' : ℕ) (turn : Turn) → CanStart image p instance turns ahead left holds
+  pub begun_then : (p' : Prepared) (turns' : ℕ) (sequel : Sequel) → CanStart image p instance turns ahead left holds
       → ((bound : ℕ) (control : List ℕ) (begun : ℕ) (ahead : Option Coming) (told left held holds : Option (List ℕ))
-      → SoFar image bound p (instance ∷ control) turns begun ahead told left held holds (At image p Empty) → SoFar image bound p' control turns' begun ahead told left held holds (At image p' turn))
-      → CanGoOn image p' turns' ahead left holds (At image p' turn)
-  begun_then p' turns' turn c f = record {
+      → SoFar image bound p (instance ∷ control) turns begun ahead told left held holds (At image p Empty) → SoFar image bound p' control turns' begun ahead told left held holds (At image p' sequel))
+      → CanGoOn image p' turns' ahead left holds (At image p' sequel)
+  begun_then p' turns' sequel c f = record {
     bound = c.bound;
     few = c.few;
     control = c.control;
@@ -175,11 +175,11 @@ module _ (image : Image) (bound : ℕ) (p : Prepared) (control : List ℕ) (turn
 
 -- where an instance's run ends, or no activation is left
 module _ (image : Image) (bound : ℕ) (p : Prepared) (control : List ℕ) (turns begun : ℕ) (ahead : Option Coming) (told left held holds : Option (List ℕ)) (last : Option End)
-    (so : Then image bound p control turns begun ahead told left held holds (last_turn (Ok last))) where
+    (so : Then image bound p control turns begun ahead told left held holds (last_sequel (Ok last))) where
   pub ended_so : (end : End) → last ≡ Some end → Completes image bound (record { end = end; left = turns }) begun told left held holds
   ended_so end is =
       completes image bound p control turns begun ahead told left held holds end
-      (subst (λ (o : Option End). Then image bound p control turns begun ahead told left held holds (last_turn (Ok o))) is so)
+      (subst (λ (o : Option End). Then image bound p control turns begun ahead told left held holds (last_sequel (Ok o))) is so)
 
   pub empty_so : last ≡ None → SoFar image bound p control turns begun ahead told left held holds (At image p Empty)
-  empty_so is = subst (λ (o : Option End). Then image bound p control turns begun ahead told left held holds (last_turn (Ok o))) is so
+  empty_so is = subst (λ (o : Option End). Then image bound p control turns begun ahead told left held holds (last_sequel (Ok o))) is so

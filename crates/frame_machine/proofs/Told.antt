@@ -13,7 +13,7 @@ use Rattle.machine_rules.specs.State.{Runs, Ended, Stops}
 use Rattle.machine_rules.specs.Calls.{start_next}
 use Rattle.machine_rules.specs.Laws.{HasValidCode}
 use Rattle.machine_rules.specs.Steps.{run, step, Ends, stops, goes, begins}
-use Rattle.machine_activations.specs.declared.calling.Turn.TheVariants.{Goes as GoesOn, Empty, Ends as EndsSo}
+use Rattle.machine_activations.specs.declared.calling.Sequel.TheVariants.{Goes as GoesOn, Empty, Ends as EndsSo}
 use Rattle.machine_activations.specs.Calling.{LeadsTo}
 use Rattle.machine_activations.specs.Reaching.{Shown}
 use Rattle.machine_topmost.specs.declared.registers.Registers.{Registers}
@@ -183,7 +183,7 @@ module _ (image : Image) (bound : ℕ) (p : Prepared) (control : List ℕ) (turn
   }
 
   -- the sink failed at a piece, behind which the machine goes on
-  pub cut_off : HasValidCode image → length p.rows.items ≡ 8192 → length control ≤ reach image → (r : Registers) (holds' : Option (List ℕ)) (got output piece : List ℕ)
+  pub cut_off : HasValidCode image → length p.stack.rows.items ≡ 8192 → length control ≤ reach image → (r : Registers) (holds' : Option (List ℕ)) (got output piece : List ℕ)
       → AreBytes got → IsByteAhead ahead → IfSome told (Took told left ahead got) → IfSome held (λ bytes. holds ≡ Some (bytes ++ output)) → IfSome holds (λ bytes. AppendsPrefix bytes piece holds')
       → ((rest : List ℕ) (faulty : Bool) → Known ahead rest faulty → ComesTo (begins image (got ++ rest) faulty bound) p control turns begun (output ++ piece) rest faulty (At image p (GoesOn r)))
       → CutsOff image bound told left held holds'
@@ -191,8 +191,8 @@ module _ (image : Image) (bound : ℕ) (p : Prepared) (control : List ℕ) (turn
   cut_off valid long short r holds' got output piece bytes byte took wrote partly comes =
       let t = rest_of told left ahead got bytes byte took in
       let c = comes t.rest false t.known in
-      let shown : Shown image p.layout p.region.items p.rows.items r (begins image (got ++ t.rest) false bound) c.store = c.leads in
-      let g = goes_on image valid p.layout p.region.items p.rows.items r shown.procedure shown.top shown.rest shown.shows long c.store (subst (λ (l : List ℕ). length l ≤ reach image) (sym c.beside.its_control) short) in
+      let shown : Shown image p.stack.layout p.stack.region.items p.stack.rows.items r (begins image (got ++ t.rest) false bound) c.store = c.leads in
+      let g = goes_on image valid p.stack.layout p.stack.region.items p.stack.rows.items r shown.procedure shown.top shown.rest shown.shows long c.store (subst (λ (l : List ℕ). length l ≤ reach image) (sym c.beside.its_control) short) in
       let split : t.rest ≡ g.so.taken ++ g.last.input = sym c.beside.its_input ∙ g.so.input in
       record {
         input = got ++ t.rest;

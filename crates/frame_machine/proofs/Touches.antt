@@ -5,24 +5,22 @@ use Rattle.std.proofs.lemmas.Option.{none-some, same_Some}
 use Rattle.code_forms.specs.declared.instruction.Instruction.{Instruction}
 use Rattle.code_forms.specs.declared.instruction.Instruction.TheVariants.{Jump, JumpIf, JumpIfNot, JumpBack, Call, CallLink, Return, Raise, RaiseLink, RaiseHost, ArmEnd, Resume, Leave, LeaveReturn}
 use Rattle.code_forms.specs.declared.module_code.CodeEntry.{CodeEntry}
-use Rattle.code_forms.specs.declared.module_code.ModuleCode.{ModuleCode}
 use Rattle.object_files.specs.declared.image.Image.{Image}
 use Rattle.machine_rules.specs.State.{Active, Activations, Store, Runs, Stuck, Stepped, Stops}
 use Rattle.machine_rules.specs.Steps.{Ends, stops, goes, perform}
 use Rattle.machine_topmost.specs.declared.registers.Registers.{Registers}
 use Rattle.machine_topmost.specs.declared.registers.Why.TheVariants.{Touches}
-use Rattle.machine_activations.specs.declared.calling.Turn.{Turn}
-use Rattle.machine_activations.specs.declared.calling.Turn.TheVariants.{Goes as GoesOn, Empty, Pending, Ends as EndsSo}
+use Rattle.machine_activations.specs.declared.calling.Sequel.{Sequel}
+use Rattle.machine_activations.specs.declared.calling.Sequel.TheVariants.{Goes as GoesOn, Empty, Pending, Ends as EndsSo}
 use Rattle.machine_activations.specs.declared.row.Layout.{Layout}
 use Rattle.machine_activations.specs.declared.row.Row.{Row}
-use Rattle.machine_activations.specs.Calling.{IsCodeOf, IsAt, StandsIn, AddsFrame, GoesBelow, LeadsTo}
-use Rattle.machine_activations.specs.Frames.{row_at}
+use Rattle.machine_activations.specs.Calling.{StandsIn, AddsFrame, GoesBelow, LeadsTo}
 use Rattle.machine_activations.specs.Reaching.{IsUnstuck, pauses_so}
 use Rattle.machine_activations.specs.Shows.{IsPrepared, IsAmple}
 use Rattle.machine_activations.proofs.Placing.{fetched_here}
 use Rattle.machine_activations.proofs.Standing.{low}
-use Rattle.machine_calls.specs.declared.linking.LinkTurn.{LinkTurn}
-use Rattle.machine_calls.specs.declared.linking.LinkTurn.TheVariants.{Done, Host}
+use Rattle.machine_calls.specs.declared.linking.LinkSequel.{LinkSequel}
+use Rattle.machine_calls.specs.declared.linking.LinkSequel.TheVariants.{Done, Host}
 use Rattle.machine_calls.specs.Linking.{StandsAt, LinkLeads, LinkedTo, AddsFrameForLink}
 use Rattle.machine_calls.specs.Started.{ShowsStarted}
 use Rattle.machine_signals.specs.Raising.{ArmsHold, HoldsOn}
@@ -32,17 +30,16 @@ use Rattle.machine_ready.specs.declared.prepared.Prepared.{Prepared}
 use Rattle.frame_machine.specs.Happening.{CanPause, HoldsOnLink, is_call}
 use Rattle.frame_machine.specs.SoFar.{IsNoJump, PausesAt}
 use Rattle.frame_machine.proofs.Pauses.{touches_shown}
-use Rattle.frame_machine.proofs.Instructions.{at_here}
 use Rattle.machine_activations.proofs.Reach.{ends_alike}
 
 -- What is read of the topmost activation.
 
-pub can_stand : (image : Image) (p : Prepared) (r : Registers) → CanPause image p r Touches → StandsIn image p.layout p.region.items p.rows.items r
+pub can_stand : (image : Image) (p : Prepared) (r : Registers) → CanPause image p r Touches → StandsIn image p.stack.layout p.stack.region.items p.stack.rows.items r
 can_stand image p r c = record {
   start = c.start;
   unstuck = c.unstuck;
   store = c.store;
-  shown = touches_shown image p.layout p.region.items p.rows.items r c.start c.store c.pauses;
+  shown = touches_shown image p.stack.layout p.stack.region.items p.stack.rows.items r c.start c.store c.pauses;
 }
 
 pub top_there : (image : Image) (layout : Layout) → IsPrepared image layout → (region : List ℕ) (table : List Row) (r : Registers) → StandsIn image layout region table r
@@ -51,22 +48,11 @@ top_there image layout prepared region table r stands ample =
     let h = stands.shown in
     let l = low image layout prepared region table r h.procedure h.top h.rest h.shows ample in let k = ample.long in omega (arith, l, k)
 
--- the code that was read, of rows that are the same
-module _ (image : Image) (rows table read : List Row) (r : Registers) (code : ModuleCode) (is : IsCodeOf image code read r) (same_read : read ≡ rows) (same : table ≡ rows) where
-  is_code : IsCodeOf image code rows r
-  is_code = subst (λ (t : List Row). IsCodeOf image code t r) same_read is
-
-  pub code_given : IsCodeOf image code table r
-  code_given = subst (λ (t : List Row). IsCodeOf image code t r) (sym same) is_code
-
-  pub at_given : (i : Instruction) → StandsAt image rows r i → IsAt code table r i
-  at_given i at = subst (λ (t : List Row). IsAt code t r i) (sym same) (at_here image rows r i at (row_at rows r.top) refl code is_code)
-
 -- The rows of arms.
 
 -- a frame was added, or none
-pub arms_added : (image : Image) (layout : Layout) (table : List Row) (r : Registers) (table' : List Row) (turn : Turn) → r.top < length table → AddsFrame layout table r table' turn
-    → ArmsHold image table r.top → HoldsOn image table' turn
+pub arms_added : (image : Image) (layout : Layout) (table : List Row) (r : Registers) (table' : List Row) (sequel : Sequel) → r.top < length table → AddsFrame layout table r table' sequel
+    → ArmsHold image table r.top → HoldsOn image table' sequel
 arms_added image layout table r table' (GoesOn r') there adds holds =
     subst (λ q. ArmsHold image table' q) (sym (ap (λ (x : Registers). x.top) adds.3))
     (subst (λ (t : List Row). ArmsHold image t (r.top + 1)) (sym adds.4) (arms_framed image table r layout adds.0 adds.1 adds.2 there holds))
@@ -74,13 +60,13 @@ arms_added image layout table r table' Empty there adds holds = tt
 arms_added image layout table r table' (Pending r') there adds holds = absurd adds
 arms_added image layout table r table' (EndsSo end) there adds holds = tt
 
-pub arms_linked : (image : Image) (layout : Layout) (table : List Row) (r : Registers) (table' : List Row) (turn : LinkTurn) → r.top < length table
-    → AddsFrameForLink layout table r table' turn → ArmsHold image table r.top → HoldsOnLink image table' r turn
-arms_linked image layout table r table' (Done turn) there adds holds = arms_added image layout table r table' turn there adds holds
+pub arms_linked : (image : Image) (layout : Layout) (table : List Row) (r : Registers) (table' : List Row) (sequel : LinkSequel) → r.top < length table
+    → AddsFrameForLink layout table r table' sequel → ArmsHold image table r.top → HoldsOnLink image table' r sequel
+arms_linked image layout table r table' (Done sequel) there adds holds = arms_added image layout table r table' sequel there adds holds
 arms_linked image layout table r table' (Host h) there adds holds = subst (λ (t : List Row). ArmsHold image t r.top) (sym adds) holds
 
 -- the topmost activation was given up
-pub arms_below : (image : Image) (table : List Row) (r : Registers) (turn : Turn) → GoesBelow r turn → ArmsHold image table r.top → HoldsOn image table turn
+pub arms_below : (image : Image) (table : List Row) (r : Registers) (sequel : Sequel) → GoesBelow r sequel → ArmsHold image table r.top → HoldsOn image table sequel
 arms_below image table r (GoesOn r') below holds = arms_fewer image table r.top r'.top (omega (arith, below)) holds
 arms_below image table r Empty below holds = tt
 arms_below image table r (Pending r') below holds = arms_fewer image table r.top r'.top (omega (arith, below)) holds
@@ -88,11 +74,11 @@ arms_below image table r (EndsSo end) below holds = tt
 
 -- Where the machine comes to.
 
--- a turn that starts no instance
-pub linked_by : (image : Image) (layout : Layout) (region : List ℕ) (table : List Row) (r : Registers) (marks marks' : List Bool) (s : Stepped) (n : Store) (turn : Turn) → marks' ≡ marks
-    → ShowsStarted marks n.started → LeadsTo image layout region table s n turn → LinkedTo image layout region table r marks' s n (Done turn)
+-- a sequel that starts no instance
+pub linked_by : (image : Image) (layout : Layout) (region : List ℕ) (table : List Row) (r : Registers) (marks marks' : List Bool) (s : Stepped) (n : Store) (sequel : Sequel) → marks' ≡ marks
+    → ShowsStarted marks n.started → LeadsTo image layout region table s n sequel → LinkedTo image layout region table r marks' s n (Done sequel)
 unfolding LinkLeads
-linked_by image layout region table r marks marks' s n turn same shown leads =
+linked_by image layout region table r marks marks' s n sequel same shown leads =
     record { started = n.started; shown = subst (λ (l : List Bool). ShowsStarted l n.started) (sym same) shown; leads = leads }
 
 -- Instructions that touch more.

@@ -26,8 +26,8 @@ received_prefix None holds holds' output piece a b = tt
 received_prefix (Some bytes) holds holds' output piece a b = subst (λ h. IfSome h (λ bytes. AppendsPrefix bytes piece holds')) a b
 
 pub breaks_at_write : (image : Image) (bound : ℕ) (p : Prepared) (control : List ℕ) (turns begun : ℕ) (ahead : Option Coming) (told left held holds holds' : Option (List ℕ)) (r : Registers) (writing : Writing)
-    → IsPrepared image p.layout → IsAmple p.layout p.region.items p.rows.items r.top → text_written image p.region.items r writing ≢ []
-    → IfSome holds (λ bytes. AppendsPrefix bytes (text_written image p.region.items r writing) holds')
+    → IsPrepared image p.stack.layout → IsAmple p.stack.layout p.stack.region.items p.stack.rows.items r.top → text_written image p.stack.region.items r writing ≢ []
+    → IfSome holds (λ bytes. AppendsPrefix bytes (text_written image p.stack.region.items r writing) holds')
     → SoFar image bound p control turns begun ahead told left held holds (AtHost image p r (Write writing)) → BreaksAtOutput image bound begun told left held holds'
 unfolding LinkLeads
 breaks_at_write image bound p control turns begun ahead told left held holds holds' r writing prepared ample some partly so =
@@ -36,7 +36,7 @@ breaks_at_write image bound p control turns begun ahead told left held holds hol
     record {
       input = so.got ++ t.rest;
       output = so.output;
-      piece = text_written image p.region.items r writing;
+      piece = text_written image p.stack.region.items r writing;
       turns_left = turns;
       taken = length so.got;
       is_input = input_of told left ahead so.got t;
@@ -51,20 +51,20 @@ breaks_at_write image bound p control turns begun ahead told left held holds hol
         its_output = c.beside.its_output;
         its_input = c.beside.its_input ∙ sym (drop_past so.got t.rest);
         some = some;
-        writes = (_, writes image p.layout prepared p.region.items p.rows.items r ample writing c.leads.0 c.store);
+        writes = (_, writes image p.stack.layout prepared p.stack.region.items p.stack.rows.items r ample writing c.leads.0 c.store);
       };
       rest = has_rest told left so.got t.left_so;
-      appends = received_prefix held holds holds' so.output (text_written image p.region.items r writing) so.wrote partly;
+      appends = received_prefix held holds holds' so.output (text_written image p.stack.region.items r writing) so.wrote partly;
     }
 
 pub write_breaks : (image : Image) (can : CanRun image) (bound : ℕ) (p : Prepared) (control : List ℕ) (turns begun : ℕ) (ahead : Option Coming) (told left held holds holds' : Option (List ℕ)) (r : Registers)
-    (writing : Writing) → IsPrepared image p.layout → IsAmple p.layout p.region.items p.rows.items r.top → length control ≤ length image.control → text_written image p.region.items r writing ≢ []
-    → IfSome holds (λ bytes. AppendsPrefix bytes (text_written image p.region.items r writing) holds')
+    (writing : Writing) → IsPrepared image p.stack.layout → IsAmple p.stack.layout p.stack.region.items p.stack.rows.items r.top → length control ≤ length image.control → text_written image p.stack.region.items r writing ≢ []
+    → IfSome holds (λ bytes. AppendsPrefix bytes (text_written image p.stack.region.items r writing) holds')
     → SoFar image bound p control turns begun ahead told left held holds (AtHost image p r (Write writing)) → Then image bound p control turns begun ahead told left held holds' (Err WriteFault)
 write_breaks image can bound p control turns begun ahead told left held holds holds' r writing prepared ample short some partly so =
     let behind : Registers = behind_call (Write writing) r in
-    let piece : List ℕ = text_written image p.region.items r writing in (
+    let piece : List ℕ = text_written image p.stack.region.items r writing in (
       breaks_at_write image bound p control turns begun ahead told left held holds holds' r writing prepared ample some partly so,
       cut_off image bound p control turns begun ahead told left held holds prepared.valid ample.long (omega (arith, short)) behind holds' so.got so.output piece so.bytes so.byte so.took so.wrote partly
-          (wrote_on image can bound told left held holds ahead p control turns begun r behind writing piece prepared ample (writes_on image p.region.items r writing) so),
+          (wrote_on image can bound told left held holds ahead p control turns begun r behind writing piece prepared ample (writes_on image p.stack.region.items r writing) so),
     )

@@ -6,11 +6,12 @@ use Rattle.object_files.specs.declared.image.Image.{Image}
 use Rattle.machine_rules.specs.State.{Store, Stepped}
 use Rattle.machine_topmost.specs.declared.registers.Registers.{Registers}
 use Rattle.machine_topmost.specs.declared.registers.Why.{Why}
-use Rattle.machine_activations.specs.declared.calling.Turn.TheVariants.{Goes}
+use Rattle.machine_activations.specs.declared.calling.Sequel.TheVariants.{Goes}
 use Rattle.machine_activations.specs.declared.row.Row.{Row}
 use Rattle.machine_activations.specs.Reaching.{IsUnstuck}
-use Rattle.machine_calls.specs.declared.linking.LinkTurn.{LinkTurn}
-use Rattle.machine_calls.specs.declared.linking.LinkTurn.TheVariants.{Done, Host}
+use Rattle.machine_activations.specs.Stacks.{on}
+use Rattle.machine_calls.specs.declared.linking.LinkSequel.{LinkSequel}
+use Rattle.machine_calls.specs.declared.linking.LinkSequel.TheVariants.{Done, Host}
 use Rattle.machine_signals.specs.Raising.{ArmsHold, HoldsOn}
 use Rattle.machine_ready.specs.declared.prepared.Prepared.{Prepared}
 use Rattle.frame_machine.specs.SoFar.{PausesAt}
@@ -20,17 +21,17 @@ pub record CanPause (image : Image) (p : Prepared) (r : Registers) (why : Why) :
   pub start : Stepped
   pub unstuck : IsUnstuck image start
   pub store : Store
-  pub pauses : PausesAt image p.layout p.region.items p.rows.items r why start store
+  pub pauses : on p.stack (PausesAt image) r why start store
 
 -- the rows of running arms tell searches and jumps that can go on, where an activation goes on or calls the host
-abbrev pub HoldsOnLink : Image → List Row → Registers → LinkTurn → Type 0
-HoldsOnLink image rows r (Done turn) = HoldsOn image rows turn
+abbrev pub HoldsOnLink : Image → List Row → Registers → LinkSequel → Type 0
+HoldsOnLink image rows r (Done sequel) = HoldsOn image rows sequel
 HoldsOnLink image rows r (Host h) = ArmsHold image rows r.top
 
 -- where a call or an arm leads: to the activation that goes on with these registers, unless something else is told
-abbrev pub linked_or : Option LinkTurn → Registers → LinkTurn
+abbrev pub linked_or : Option LinkSequel → Registers → LinkSequel
 linked_or None r = Done (Goes r)
-linked_or (Some turn) r = turn
+linked_or (Some sequel) r = sequel
 
 -- an instruction that calls or returns
 abbrev pub is_call : Instruction → Bool

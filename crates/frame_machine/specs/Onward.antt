@@ -1,14 +1,15 @@
--- What a turn of the run's loop stands on, and what it leads to (rule of this project).
+-- What a round of the run's loop stands on, and what it leads to (rule of this project).
 use Rattle.std.specs.Prelude.{◌≡◌, ℕ, suc, ◌+◌, ◌-◌, ◌<◌, ◌≤◌, List, ◌∷◌, length, Option, Some, None, Result, Ok, Err, IfOk, IsErrOf}
 use Rattle.mesa_base.specs.Outside.{Rose}
 use Rattle.object_files.specs.declared.image.Image.{Image}
 use Rattle.machine_rules.specs.declared.end.End.{End}
 use Rattle.machine_rules.specs.State.{Store, Stepped}
 use Rattle.machine_topmost.specs.declared.registers.Registers.{Registers}
-use Rattle.machine_activations.specs.declared.calling.Turn.{Turn}
-use Rattle.machine_activations.specs.declared.calling.Turn.TheVariants.{Goes, Empty, Pending, Ends}
+use Rattle.machine_activations.specs.declared.calling.Sequel.{Sequel}
+use Rattle.machine_activations.specs.declared.calling.Sequel.TheVariants.{Goes, Empty, Pending, Ends}
+use Rattle.machine_activations.specs.Stacks.{on}
 use Rattle.machine_calls.specs.declared.ahead.Coming.{Coming}
-use Rattle.machine_calls.specs.declared.reading.ReadTurn.{ReadTurn}
+use Rattle.machine_calls.specs.declared.reading.ReadSequel.{ReadSequel}
 use Rattle.machine_calls.specs.Hosting.{ReadLeads, vain_by}
 use Rattle.machine_ready.specs.declared.prepared.Prepared.{Prepared}
 use Rattle.frame_machine.specs.declared.outcome.RunFault.{RunFault}
@@ -39,14 +40,14 @@ pub record CanStart (image : Image) (p : Prepared) (instance turns : ℕ) (ahead
   pub so : SoFar image bound p (instance ∷ control) turns begun ahead told left held holds (At image p Empty)
 
 -- some run comes to where a call has read, or raises NoInput
-pub record HasRead (image : Image) (p : Prepared) (r : Registers) (turn : ReadTurn) : Type 0 where
+pub record HasRead (image : Image) (p : Prepared) (r : Registers) (sequel : ReadSequel) : Type 0 where
   pub start : Stepped
   pub store : Store
-  pub reads : ReadLeads image p.layout p.region.items p.rows.items r start store turn
+  pub reads : on p.stack (ReadLeads image) r start store sequel
 
--- a run that comes to a place comes so many instructions later to where a turn leads, or breaks off
+-- a run that comes to a place comes so many instructions later to what comes next, or breaks off
 abbrev pub Follows : (image : Image) → (p p' : Prepared) → (turns turns' count : ℕ) → (ahead ahead' : Option Coming) → (left left' holds holds' : Option (List ℕ))
-    → (Stepped → Store → Type 0) → Result Turn RunFault → Type 0
+    → (Stepped → Store → Type 0) → Result Sequel RunFault → Type 0
 Follows image p p' turns turns' count ahead ahead' left left' holds holds' Place result =
     (bound : ℕ) (control : List ℕ) (begun begun' : ℕ) (told held : Option (List ℕ)) → length control ≤ length image.control → begun' ≡ begun + count
     → SoFar image bound p control turns begun ahead told left held holds Place → Then image bound p' control turns' begun' ahead' told left' held holds' result
@@ -58,29 +59,29 @@ BeginsFew image p turns count ahead left holds Place =
     → SoFar image bound p control turns begun ahead told left held holds Place → begun + count ≤ most image bound
 
 -- whether a call waits that a start was made for
-abbrev pub waits : Turn → ℕ
+abbrev pub waits : Sequel → ℕ
 waits (Goes r) = 0
 waits Empty = 0
 waits (Pending r) = 1
 waits (Ends end) = 0
 
 -- where the topmost activation goes on it begins an instruction; a call that waited is done, and does not wait again
-abbrev pub Advances : (image : Image) → Prepared → (turns : ℕ) → Option Coming → (left holds : Option (List ℕ)) → Turn → (steps steps' : ℕ) → Result Turn RunFault → Type 0
+abbrev pub Advances : (image : Image) → Prepared → (turns : ℕ) → Option Coming → (left holds : Option (List ℕ)) → Sequel → (steps steps' : ℕ) → Result Sequel RunFault → Type 0
 Advances image p turns ahead left holds (Goes r) steps steps' result = (steps < steps') × BeginsFew image p turns (steps' - steps) ahead left holds (At image p (Goes r))
-Advances image p turns ahead left holds (Pending r) steps steps' result = (steps' ≡ steps) × IfOk result (λ turn. waits turn ≡ 0)
+Advances image p turns ahead left holds (Pending r) steps steps' result = (steps' ≡ steps) × IfOk result (λ sequel. waits sequel ≡ 0)
 Advances image p turns ahead left holds Empty steps steps' result = Unit {0}
 Advances image p turns ahead left holds (Ends end) steps steps' result = Unit {0}
 
 -- the end of the run, or that no activation is left
-abbrev pub last_turn : Result (Option End) RunFault → Result Turn RunFault
-last_turn (Ok None) = Ok Empty
-last_turn (Ok (Some end)) = Ok (Ends end)
-last_turn (Err fault) = Err fault
+abbrev pub last_sequel : Result (Option End) RunFault → Result Sequel RunFault
+last_sequel (Ok None) = Ok Empty
+last_sequel (Ok (Some end)) = Ok (Ends end)
+last_sequel (Err fault) = Err fault
 
--- where a turn leads: to the activation that goes on with these registers, unless something else is told
-abbrev pub onward_or : Result (Option Turn) RunFault → Registers → Result Turn RunFault
+-- what comes next: the activation that goes on with these registers, unless something else is told
+abbrev pub onward_or : Result (Option Sequel) RunFault → Registers → Result Sequel RunFault
 onward_or (Ok None) r = Ok (Goes r)
-onward_or (Ok (Some turn)) r = Ok turn
+onward_or (Ok (Some sequel)) r = Ok sequel
 onward_or (Err fault) r = Err fault
 
 -- where a run breaks off, the source or the sink has failed once more; their counts of faults never fall

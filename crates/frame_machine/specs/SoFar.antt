@@ -11,16 +11,17 @@ use Rattle.machine_topmost.specs.declared.registers.Pause.{Pause}
 use Rattle.machine_topmost.specs.declared.registers.Registers.{Registers}
 use Rattle.machine_topmost.specs.declared.registers.Why.{Why}
 use Rattle.machine_topmost.specs.declared.registers.Why.TheVariants.{Touches}
-use Rattle.machine_activations.specs.declared.calling.Turn.{Turn}
+use Rattle.machine_activations.specs.declared.calling.Sequel.{Sequel}
 use Rattle.machine_activations.specs.declared.row.Layout.{Layout}
 use Rattle.machine_activations.specs.declared.row.Row.{Row}
 use Rattle.machine_activations.specs.Calling.{LeadsTo, IsAmpleFor}
 use Rattle.machine_activations.specs.Reaching.{Reaches, Later, pauses_so}
 use Rattle.machine_activations.specs.Shows.{Shows}
+use Rattle.machine_activations.specs.Stacks.{on}
 use Rattle.machine_calls.specs.declared.ahead.Coming.{Coming}
 use Rattle.machine_calls.specs.declared.ahead.Coming.TheVariants.{Byte, End}
 use Rattle.machine_calls.specs.declared.host.HostProcedure.{HostProcedure}
-use Rattle.machine_calls.specs.declared.linking.LinkTurn.TheVariants.{Host}
+use Rattle.machine_calls.specs.declared.linking.LinkSequel.TheVariants.{Host}
 use Rattle.machine_calls.specs.Hosting.{input_left, Comes}
 use Rattle.machine_calls.specs.Linking.{LinkLeads}
 use Rattle.machine_calls.specs.Started.{ShowsStarted}
@@ -52,13 +53,13 @@ pub record ComesTo (s : Stepped) (p : Prepared) (control : List ℕ) (turns begu
   pub beside : Beside p control turns begun output input faulty store
   pub leads : Place s store
 
--- to where a turn leads
-abbrev pub At : Image → Prepared → Turn → Stepped → Store → Type 0
-At image p turn s m = LeadsTo image p.layout p.region.items p.rows.items s m turn
+-- to what comes next
+abbrev pub At : Image → Prepared → Sequel → Stepped → Store → Type 0
+At image p sequel s m = on p.stack (LeadsTo image) s m sequel
 
 -- to the call of a procedure of the host
 abbrev pub AtHost : Image → Prepared → Registers → HostProcedure → Stepped → Store → Type 0
-AtHost image p r h s m = LinkLeads image p.layout p.region.items p.rows.items r s m (Host h)
+AtHost image p r h s m = on p.stack (LinkLeads image) r s m (Host h)
 
 -- the input that the program has not taken begins with what is known of it
 abbrev pub Known : Option Coming → (rest : List ℕ) → (faulty : Bool) → Type 0
@@ -85,15 +86,15 @@ pub record SoFar (image : Image) (bound : ℕ) (p : Prepared) (control : List �
       → ComesTo (begins image (got ++ rest) faulty bound) p control turns begun output rest faulty Place
 
 -- what is so of the region and the rows
-pub record Carries (image : Image) (p : Prepared) (turn : Turn) : Type 0 where
+pub record Carries (image : Image) (p : Prepared) (sequel : Sequel) : Type 0 where
   pub ready : IsReady image p
-  pub ample : IsAmpleFor p.layout p.region.items p.rows.items turn
-  pub arms : HoldsOn image p.rows.items turn
+  pub ample : on p.stack IsAmpleFor sequel
+  pub arms : HoldsOn image p.stack.rows.items sequel
 
 -- where a run comes to, or that it breaks off
 abbrev pub Then : Image → (bound : ℕ) → Prepared → (control : List ℕ) → (turns begun : ℕ) → Option Coming
-    → (told left held holds : Option (List ℕ)) → Result Turn RunFault → Type 0
-Then image bound p control turns begun ahead told left held holds (Ok turn) = SoFar image bound p control turns begun ahead told left held holds (At image p turn)
+    → (told left held holds : Option (List ℕ)) → Result Sequel RunFault → Type 0
+Then image bound p control turns begun ahead told left held holds (Ok sequel) = SoFar image bound p control turns begun ahead told left held holds (At image p sequel)
 Then image bound p control turns begun ahead told left held holds (Err ReadFault) = BreaksAtInput image bound begun told left held holds
 Then image bound p control turns begun ahead told left held holds (Err WriteFault) =
     BreaksAtOutput image bound begun told left held holds × CutsOff image bound told left held holds
@@ -139,4 +140,4 @@ pub record Paused (image : Image) (p : Prepared) (pause : Pause) (count : ℕ) (
   pub same_input : store.input ≡ m.input
   pub same_fault : store.faulty ≡ m.faulty
   pub same_output : store.output ≡ m.output
-  pub pauses : PausesAt image p.layout p.region.items p.rows.items pause.registers pause.why s store
+  pub pauses : on p.stack (PausesAt image) pause.registers pause.why s store

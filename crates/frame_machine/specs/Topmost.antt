@@ -1,32 +1,34 @@
 -- On what the run of the topmost activation stands, and what it writes (rule of this project).
 use Rattle.std.specs.Prelude.{◌≡◌, ◌≢◌, ℕ, ◌<◌, List, [], ◌++◌, Option, Some, IfSome, slice_get}
 use Rattle.mesa_base.specs.Outside.{AppendsPrefix}
-use Rattle.code_forms.specs.declared.module_code.CodeProcedure.{CodeProcedure}
-use Rattle.code_forms.specs.declared.module_code.ModuleCode.{ModuleCode}
 use Rattle.object_files.specs.declared.image.Image.{Image}
 use Rattle.machine_rules.specs.LookUps.{code_of, module_number}
 use Rattle.machine_rules.specs.State.{Store, Stepped}
 use Rattle.machine_topmost.specs.declared.registers.Pause.{Pause}
 use Rattle.machine_topmost.specs.declared.registers.Registers.{Registers}
+use Rattle.machine_topmost.specs.declared.routine.Routine.{Routine}
 use Rattle.machine_topmost.specs.Running.{HasTargets}
 use Rattle.machine_activations.specs.declared.row.Layout.{Layout}
 use Rattle.machine_activations.specs.declared.row.Row.{Row}
 use Rattle.machine_activations.specs.Frames.{row_at}
+use Rattle.machine_activations.specs.Placed.{floor_at}
 use Rattle.machine_activations.specs.Reaching.{IsUnstuck, Shown, Later}
+use Rattle.machine_activations.specs.Stacks.{on}
 use Rattle.machine_calls.specs.declared.host.Writing.{Writing}
 use Rattle.machine_calls.specs.Hosting.{text_written}
 use Rattle.machine_calls.specs.Linking.{CallsWriting}
 use Rattle.machine_ready.specs.declared.prepared.Prepared.{Prepared}
 use Rattle.frame_machine.specs.SoFar.{ShowsGlobals}
 
--- its code, where each of its entries jumps, its instance and the number of its module
-pub record RunsCode (image : Image) (table : List Row) (r : Registers) (code : ModuleCode) (procedure : CodeProcedure) (targets : List ℕ) (instance number : ℕ) : Type 0 where
-  pub is_code : code_of image (row_at table r.top).instance ≡ Some code
-  pub is_procedure : slice_get code.procedures (row_at table r.top).procedure ≡ Some procedure
-  pub leads : HasTargets procedure.code targets
-  pub own : instance ≡ (row_at table r.top).instance
-  pub numbered : module_number image (row_at table r.top).instance ≡ Some number
-  pub small : number < 65535
+-- a routine is that of the topmost activation: the code of its instance, its procedure, where each entry of that jumps, the number of its module,
+-- and where its operands begin
+pub record RunsRoutine (layout : Layout) (table : List Row) (r : Registers) (routine : Routine) : Type 0 where
+  pub is_code : code_of routine.image.now (row_at table r.top).instance ≡ Some routine.code.now
+  pub is_procedure : slice_get routine.code.now.procedures (row_at table r.top).procedure ≡ Some routine.procedure.now
+  pub leads : HasTargets routine.procedure.now.code routine.targets.now
+  pub numbered : module_number routine.image.now (row_at table r.top).instance ≡ Some routine.number
+  pub small : routine.number < 65535
+  pub floor : routine.floor ≡ floor_at layout r.top
 
 -- it goes on from there, with so many turns left and these globals of its instance
 pub record TopAt (image : Image) (layout : Layout) (region : List ℕ) (table : List Row) (r : Registers) (instance : ℕ) (globals : List ℕ) (turns : ℕ)
@@ -39,7 +41,7 @@ pub record TopAt (image : Image) (layout : Layout) (region : List ℕ) (table : 
 pub record GoesAt (image : Image) (p : Prepared) (r : Registers) (turns : ℕ) (s : Stepped) (m : Store) : Type 0 where
   pub its_turns : m.turns ≡ turns
   pub its_globals : ShowsGlobals p m.globals
-  pub shown : Shown image p.layout p.region.items p.rows.items r s m
+  pub shown : on p.stack (Shown image) r s m
 
 -- some state is so, on from which the machine does not get stuck
 pub record Somewhere (image : Image) (Place : Stepped → Store → Type 0) : Type 0 where

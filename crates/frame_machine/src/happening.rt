@@ -4,6 +4,7 @@ ghost use Rattle.std.specs.Prelude.{◌≡◌, suc, ◌≤◌};
 ghost use Rattle.machine_rules.specs.State.{Stepped, Store};
 ghost use Rattle.machine_activations.specs.Reaching.{IsUnstuck};
 ghost use Rattle.machine_activations.specs.Shows.{IsAmple};
+ghost use Rattle.machine_activations.specs.Stacks.{on};
 ghost use Rattle.machine_ready.specs.Ready.{IsReady};
 ghost use Rattle.machine_calls.specs.Linking.{IsAmpleForLink, LinkedTo, StandsAt};
 ghost use Rattle.machine_calls.specs.Started.{ShowsStarted};
@@ -11,13 +12,13 @@ ghost use Rattle.machine_signals.specs.Raising.{ArmsHold};
 ghost use Rattle.frame_machine.specs.Happening.{CanPause, HoldsOnLink, linked_or};
 ghost use Rattle.frame_machine.specs.SoFar.{PausesAt};
 
-use crate::signals::raise_signal;
 use crate::touching::{settle, touch};
 use code_forms::Instruction;
-use machine_activations::Turn;
-use machine_calls::LinkTurn;
+use machine_activations::Sequel;
+use machine_calls::LinkSequel;
 use machine_ready::Prepared;
 use machine_rules::End;
+use machine_signals::raise;
 use machine_topmost::{Registers, Why};
 use object_files::Image;
 use signaller::SignalId;
@@ -32,34 +33,34 @@ pub(crate) fn happen(
     why: Why,
     instruction: Instruction,
     turns: &mut u64,
-) -> Option<LinkTurn>
+) -> Option<LinkSequel>
     requires ready { IsReady image.now parts.old }
-    requires ample { IsAmple parts.old.layout parts.old.region.items parts.old.rows.items r.old.top }
-    requires arms { ArmsHold image.now parts.old.rows.items r.old.top }
+    requires ample { on parts.old.stack IsAmple r.old.top }
+    requires arms { ArmsHold image.now parts.old.stack.rows.items r.old.top }
     requires pauses { CanPause image.now parts.old r.old why }
-    requires at { StandsAt image.now parts.old.rows.items r.old instruction }
+    requires at { StandsAt image.now parts.old.stack.rows.items r.old instruction }
     ensures ready { IsReady image.now parts.new }
-    ensures ample { IsAmpleForLink parts.new.layout parts.new.region.items parts.new.rows.items r.old (linked_or result r.new) }
-    ensures arms { HoldsOnLink image.now parts.new.rows.items r.old (linked_or result r.new) }
+    ensures ample { on parts.new.stack IsAmpleForLink r.old (linked_or result r.new) }
+    ensures arms { HoldsOnLink image.now parts.new.stack.rows.items r.old (linked_or result r.new) }
     ensures globals { parts.new.globals.items ≡ parts.old.globals.items }
     ensures turns_fall { turns.new ≤ turns.old }
     ensures leads { (s : Stepped) (m : Store) → m.turns ≡ turns.old → ShowsStarted parts.old.started.items m.started → IsUnstuck image.now s
-        → PausesAt image.now parts.old.layout parts.old.region.items parts.old.rows.items r.old why s m
-        → LinkedTo image.now parts.new.layout parts.new.region.items parts.new.rows.items r.old parts.new.started.items s
+        → on parts.old.stack (PausesAt image.now) r.old why s m
+        → on parts.new.stack (LinkedTo image.now) r.old parts.new.started.items s
         (record m { turns = turns.new; begun = suc m.begun }) (linked_or result r.new) }
 {
     match why {
         Why::Touches => touch(image, parts, instruction, r, turns),
-        Why::Spent => Some(LinkTurn::Done(Turn::Ends(End::Spent))),
+        Why::Spent => Some(LinkSequel::Done(Sequel::Ends(End::Spent))),
         Why::BoundsFault => {
             let fault = SignalId::BoundsFault;
-            let turn = raise_signal(image, parts, fault, *r, turns);
-            settle(turn, r)
+            let sequel = raise(image, &parts.tables, fault, 0, &mut parts.stack, *r, turns);
+            settle(sequel, r)
         }
         Why::ZeroDivisor => {
             let fault = SignalId::ZeroDivisor;
-            let turn = raise_signal(image, parts, fault, *r, turns);
-            settle(turn, r)
+            let sequel = raise(image, &parts.tables, fault, 0, &mut parts.stack, *r, turns);
+            settle(sequel, r)
         }
     }
 }

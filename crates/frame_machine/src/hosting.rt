@@ -2,9 +2,10 @@
 
 ghost use Rattle.std.specs.Prelude.{◌≡◌, ℕ, ◌≤◌, List, Option, length, IfOk};
 ghost use Rattle.machine_rules.specs.State.{Stepped, Store};
-ghost use Rattle.machine_activations.specs.declared.calling.Turn.TheVariants.{Goes};
+ghost use Rattle.machine_activations.specs.declared.calling.Sequel.TheVariants.{Goes};
 ghost use Rattle.machine_activations.specs.Calling.{LeadsTo};
 ghost use Rattle.machine_activations.specs.Shows.{IsAmple};
+ghost use Rattle.machine_activations.specs.Stacks.{on};
 ghost use Rattle.machine_ready.specs.Ready.{IsReady};
 ghost use Rattle.machine_calls.specs.declared.ahead.Coming.{Coming};
 ghost use Rattle.machine_calls.specs.declared.host.HostProcedure.TheVariants.{Read, Write};
@@ -16,10 +17,11 @@ ghost use Rattle.frame_machine.specs.Onward.{CanGoOn, CountsFaults, Follows, Has
 ghost use Rattle.frame_machine.specs.SoFar.{AtHost, Carries, SoFar, Then};
 
 use crate::outcome::RunFault;
-use crate::signals::raise_signal;
-use machine_activations::Turn;
-use machine_calls::{Coming, HostProcedure, ReadTurn, Reading, Writing, read, write};
+use crate::remaining::Remaining;
+use machine_activations::Sequel;
+use machine_calls::{Coming, HostProcedure, ReadSequel, Reading, Writing, read, write};
 use machine_ready::Prepared;
+use machine_signals::raise;
 use machine_topmost::Registers;
 use mesa_base::{Sink, Source};
 use object_files::Image;
@@ -33,11 +35,11 @@ fn write_out<K: Sink>(
     parts: &Prepared,
     r: &mut Registers,
     out: &mut K,
-) -> Result<Option<Turn>, RunFault>
+) -> Result<Option<Sequel>, RunFault>
     requires ready { IsReady image.now parts.now }
-    requires ample { IsAmple parts.now.layout parts.now.region.items parts.now.rows.items r.old.top }
-    requires calls { CallsHost image.now parts.now.layout parts.now.region.items parts.now.rows.items r.old (host_is (Write writing)) }
-    ensures goes { IfOk (onward_or result r.new) (λ turn. turn ≡ Goes (behind_call (Write writing) r.old)) }
+    requires ample { on parts.now.stack IsAmple r.old.top }
+    requires calls { on parts.now.stack (CallsHost image.now) r.old (host_is (Write writing)) }
+    ensures goes { IfOk (onward_or result r.new) (λ sequel. sequel ≡ Goes (behind_call (Write writing) r.old)) }
     ensures follows { (bound : ℕ) (control : List ℕ) (turns begun : ℕ) (ahead : Option Coming) (told left held : Option (List ℕ))
         → length control ≤ length image.now.control
         → SoFar image.now bound parts.now control turns begun ahead told left held (K.written out.old) (AtHost image.now parts.now r.old (Write writing))
@@ -45,7 +47,7 @@ fn write_out<K: Sink>(
     ensures faults { (read : ℕ) → CountsFaults (onward_or result r.new) read read (K.faults out.old) (K.faults out.new) }
     ensures asks_not { (ahead : Option Coming) → vain_then (onward_or result r.new) ahead ≡ vain_by ahead }
 {
-    match write(writing, image, parts.region.as_slice(), *r, out) {
+    match write(writing, image, parts.stack.region.as_slice(), *r, out) {
         Ok(after) => {
             *r = after;
             Ok(None)
@@ -56,28 +58,31 @@ fn write_out<K: Sink>(
 
 // Goes on behind a call that has read, or raises NoInput.
 fn read_then(
-    turn: ReadTurn,
+    sequel: ReadSequel,
     image: &Image,
     parts: &mut Prepared,
     r: Registers,
     turns: &mut u64,
-) -> Turn
+) -> Sequel
     requires ready { IsReady image.now parts.old }
-    requires ample { IsAmple parts.old.layout parts.old.region.items parts.old.rows.items r.top }
-    requires arms { ArmsHold image.now parts.old.rows.items r.top }
-    requires behind { (reading : Reading) × GoesBehind r reading turn }
-    requires reads { HasRead image.now parts.old r turn }
+    requires ample { on parts.old.stack IsAmple r.top }
+    requires arms { ArmsHold image.now parts.old.stack.rows.items r.top }
+    requires behind { (reading : Reading) × GoesBehind r reading sequel }
+    requires reads { HasRead image.now parts.old r sequel }
     ensures carries { Carries image.now parts.new result }
     ensures globals { parts.new.globals.items ≡ parts.old.globals.items }
     ensures marks { parts.new.started.items ≡ parts.old.started.items }
     ensures waits_not { waits result ≡ 0 }
     ensures leads { (s : Stepped) (m : Store) → m.turns ≡ turns.old
-        → ReadLeads image.now parts.old.layout parts.old.region.items parts.old.rows.items r s m turn
-        → LeadsTo image.now parts.new.layout parts.new.region.items parts.new.rows.items s (record m { turns = turns.new }) result }
+        → on parts.old.stack (ReadLeads image.now) r s m sequel
+        → on parts.new.stack (LeadsTo image.now) s (record m { turns = turns.new }) result }
 {
-    match turn {
-        ReadTurn::Goes(after) => Turn::Goes(after),
-        ReadTurn::NoInput => { raise_signal(image, parts, SignalId::NoInput, r, turns) }
+    match sequel {
+        ReadSequel::Goes(after) => Sequel::Goes(after),
+        ReadSequel::NoInput => {
+            let signal = SignalId::NoInput;
+            raise(image, &parts.tables, signal, 0, &mut parts.stack, r, turns)
+        }
     }
 }
 
@@ -91,39 +96,42 @@ fn read_in<S: Source>(
     ahead: &mut Option<Coming>,
     turns: &mut u64,
     input: &mut S,
-) -> Result<Turn, RunFault>
+) -> Result<Sequel, RunFault>
     requires ready { IsReady image.now parts.old }
-    requires ample { IsAmple parts.old.layout parts.old.region.items parts.old.rows.items r.top }
-    requires arms { ArmsHold image.now parts.old.rows.items r.top }
+    requires ample { on parts.old.stack IsAmple r.top }
+    requires arms { ArmsHold image.now parts.old.stack.rows.items r.top }
     requires run { (holds : Option (List ℕ))
         × CanGoOn image.now parts.old turns.old ahead.old (S.left input.old) holds (AtHost image.now parts.old r (Read reading)) }
     ensures ready { IsReady image.now parts.new }
     ensures carries { IfOk result (Carries image.now parts.new) }
-    ensures waits_not { IfOk result (λ turn. waits turn ≡ 0) }
+    ensures waits_not { IfOk result (λ sequel. waits sequel ≡ 0) }
     ensures follows { (holds : Option (List ℕ))
         → Follows image.now parts.old parts.new turns.old turns.new 0 ahead.old ahead.new (S.left input.old) (S.left input.new) holds holds
         (AtHost image.now parts.old r (Read reading)) result }
     ensures faults { (written : ℕ) → CountsFaults result (S.faults input.old) (S.faults input.new) written written }
     ensures asks { AsksOn ahead.old (S.left input.old) (S.left input.new) (S.calls input.old) (S.calls input.new) (vain_then result ahead.new) }
 {
-    match read(reading, parts.region.as_mut_slice(), r, ahead, input) {
-        Ok(turn) => Ok(read_then(turn, image, parts, r, turns)),
+    match read(reading, parts.stack.region.as_mut_slice(), r, ahead, input) {
+        Ok(sequel) => Ok(read_then(sequel, image, parts, r, turns)),
         Err(_) => Err(RunFault::ReadFault),
     }
 }
 
 // Where an activation goes on, the registers are its; else what a call of the host leads to is given.
 #[inline(always)]
-fn settle_told(told: Result<Turn, RunFault>, r: &mut Registers) -> Result<Option<Turn>, RunFault>
+fn settle_told(
+    told: Result<Sequel, RunFault>,
+    r: &mut Registers,
+) -> Result<Option<Sequel>, RunFault>
     ensures { onward_or result r.new ≡ told }
 {
     match told {
-        Ok(turn) => match turn {
-            Turn::Goes(after) => {
+        Ok(sequel) => match sequel {
+            Sequel::Goes(after) => {
                 *r = after;
                 Ok(None)
             }
-            _ => Ok(Some(turn)),
+            _ => Ok(Some(sequel)),
         },
         Err(fault) => Err(fault),
     }
@@ -139,15 +147,15 @@ fn read_settled<S: Source>(
     ahead: &mut Option<Coming>,
     turns: &mut u64,
     input: &mut S,
-) -> Result<Option<Turn>, RunFault>
+) -> Result<Option<Sequel>, RunFault>
     requires ready { IsReady image.now parts.old }
-    requires ample { IsAmple parts.old.layout parts.old.region.items parts.old.rows.items r.old.top }
-    requires arms { ArmsHold image.now parts.old.rows.items r.old.top }
+    requires ample { on parts.old.stack IsAmple r.old.top }
+    requires arms { ArmsHold image.now parts.old.stack.rows.items r.old.top }
     requires run { (holds : Option (List ℕ))
         × CanGoOn image.now parts.old turns.old ahead.old (S.left input.old) holds (AtHost image.now parts.old r.old (Read reading)) }
     ensures ready { IsReady image.now parts.new }
     ensures carries { IfOk (onward_or result r.new) (Carries image.now parts.new) }
-    ensures waits_not { IfOk (onward_or result r.new) (λ turn. waits turn ≡ 0) }
+    ensures waits_not { IfOk (onward_or result r.new) (λ sequel. waits sequel ≡ 0) }
     ensures follows { (holds : Option (List ℕ))
         → Follows image.now parts.old parts.new turns.old turns.new 0 ahead.old ahead.new (S.left input.old) (S.left input.new) holds holds
         (AtHost image.now parts.old r.old (Read reading)) (onward_or result r.new) }
@@ -166,26 +174,27 @@ pub(crate) fn call_host<S: Source, K: Sink>(
     image: &Image,
     parts: &mut Prepared,
     r: &mut Registers,
-    ahead: &mut Option<Coming>,
-    turns: &mut u64,
+    remaining: &mut Remaining,
     input: &mut S,
     out: &mut K,
-) -> Result<Option<Turn>, RunFault>
+) -> Result<Option<Sequel>, RunFault>
     requires ready { IsReady image.now parts.old }
-    requires ample { IsAmple parts.old.layout parts.old.region.items parts.old.rows.items r.old.top }
-    requires arms { ArmsHold image.now parts.old.rows.items r.old.top }
-    requires run { CanGoOn image.now parts.old turns.old ahead.old (S.left input.old) (K.written out.old) (AtHost image.now parts.old r.old host) }
+    requires ample { on parts.old.stack IsAmple r.old.top }
+    requires arms { ArmsHold image.now parts.old.stack.rows.items r.old.top }
+    requires run { CanGoOn image.now parts.old remaining.old.turns remaining.old.ahead (S.left input.old) (K.written out.old) (AtHost image.now parts.old r.old host) }
     ensures ready { IsReady image.now parts.new }
     ensures carries { IfOk (onward_or result r.new) (Carries image.now parts.new) }
-    ensures waits_not { IfOk (onward_or result r.new) (λ turn. waits turn ≡ 0) }
-    ensures follows { Follows image.now parts.old parts.new turns.old turns.new 0 ahead.old ahead.new (S.left input.old) (S.left input.new)
+    ensures waits_not { IfOk (onward_or result r.new) (λ sequel. waits sequel ≡ 0) }
+    ensures follows { Follows image.now parts.old parts.new remaining.old.turns remaining.new.turns 0 remaining.old.ahead remaining.new.ahead (S.left input.old) (S.left input.new)
         (K.written out.old) (K.written out.new) (AtHost image.now parts.old r.old host) (onward_or result r.new) }
     ensures faults { CountsFaults (onward_or result r.new) (S.faults input.old) (S.faults input.new) (K.faults out.old) (K.faults out.new) }
-    ensures asks { AsksOn ahead.old (S.left input.old) (S.left input.new) (S.calls input.old) (S.calls input.new) (vain_then (onward_or result r.new) ahead.new) }
+    ensures asks { AsksOn remaining.old.ahead (S.left input.old) (S.left input.new) (S.calls input.old) (S.calls input.new) (vain_then (onward_or result r.new) remaining.new.ahead) }
 {
     match host {
         HostProcedure::Write(writing) => write_out(writing, image, parts, r, out),
         HostProcedure::Read(reading) => {
+            let ahead = &mut remaining.ahead;
+            let turns = &mut remaining.turns;
             read_settled(reading, image, parts, r, ahead, turns, input)
         }
     }

@@ -1,8 +1,6 @@
 //! The run of an image that is ready.
 #![tactic(auto)]
 
-mod arms;
-mod calls;
 mod clearing;
 mod happening;
 mod hosting;
@@ -10,8 +8,8 @@ mod look_ups;
 mod machine;
 mod onward;
 mod outcome;
+mod remaining;
 mod running;
-mod signals;
 mod standing;
 mod topmost;
 mod touching;

@@ -1,22 +1,10 @@
-//! What the code reads of an image and of the rows.
+//! What the code reads of an image.
 
-ghost use Rattle.std.specs.Prelude.{◌≡◌, ◌<◌, length, IsSome, Some, slice_get};
+ghost use Rattle.std.specs.Prelude.{◌≡◌, IsSome, Some, slice_get};
 ghost use Rattle.machine_rules.specs.LookUps.{code_of, module_number};
-ghost use Rattle.machine_activations.specs.Frames.{row_at};
 
 use code_forms::{CodeProcedure, ModuleCode};
-use machine_activations::Row;
 use object_files::Image;
-
-/// The row of a place.
-#[inline(always)]
-#[tactic(auto, using(machine_activations::proofs::Tables::row_at_place))]
-pub(crate) fn row_of(table: &[Row], place: usize) -> Row
-    requires there { place < length table.now }
-    ensures { result ≡ row_at table.now place }
-{
-    table[place]
-}
 
 /// The number of an instance's module.
 #[tactic(auto, unfolding(machine_rules::specs::LookUps::module_number))]

@@ -1,19 +1,19 @@
-//! One turn of the loop of a run.
+//! One round of the loop of a run.
 
 ghost use Rattle.std.specs.Prelude.{◌≡◌, ◌-◌, ◌<◌, ◌≤◌, IfOk};
-ghost use Rattle.machine_activations.specs.declared.calling.Turn.TheVariants.{Goes, Pending};
+ghost use Rattle.machine_activations.specs.declared.calling.Sequel.TheVariants.{Goes, Pending};
 ghost use Rattle.machine_ready.specs.Ready.{IsReady};
 ghost use Rattle.machine_calls.specs.Hosting.{AsksOn};
 ghost use Rattle.frame_machine.specs.Onward.{Advances, BeginsFew, CanGoOn, CountsFaults, Follows, onward_or, vain_then, waits};
 ghost use Rattle.frame_machine.specs.SoFar.{At, Carries};
 
-use crate::calls::call_pending;
 use crate::happening::happen;
 use crate::hosting::call_host;
 use crate::outcome::RunFault;
+use crate::remaining::Remaining;
 use crate::topmost::run_top;
-use machine_activations::Turn;
-use machine_calls::{Coming, LinkTurn};
+use machine_activations::Sequel;
+use machine_calls::{LinkSequel, call_again};
 use machine_ready::Prepared;
 use machine_topmost::Registers;
 use mesa_base::{Sink, Source, Steps};
@@ -21,13 +21,13 @@ use object_files::Image;
 use std::sync::ledger::Ledger;
 
 // What an activation that may go on in its registers leads to.
-fn told_of(other: Result<Option<Turn>, RunFault>, r: Registers) -> Result<Turn, RunFault>
+fn told_of(other: Result<Option<Sequel>, RunFault>, r: Registers) -> Result<Sequel, RunFault>
     ensures { result ≡ onward_or other r }
 {
     match other {
-        Ok(turn) => match turn {
-            None => Ok(Turn::Goes(r)),
-            Some(turn) => Ok(turn),
+        Ok(sequel) => match sequel {
+            None => Ok(Sequel::Goes(r)),
+            Some(sequel) => Ok(sequel),
         },
         Err(fault) => Err(fault),
     }
@@ -40,38 +40,44 @@ fn go_on<S: Source, K: Sink, L: Ledger>(
     r: &mut Registers,
     image: &Image,
     parts: &mut Prepared,
-    ahead: &mut Option<Coming>,
-    turns: &mut u64,
+    remaining: &mut Remaining,
     input: &mut S,
     out: &mut K,
     steps: &mut Steps<L>,
-) -> Result<Option<Turn>, RunFault>
+) -> Result<Option<Sequel>, RunFault>
     requires carries { Carries image.now parts.old (Goes r.old) }
-    requires run { CanGoOn image.now parts.old turns.old ahead.old (S.left input.old) (K.written out.old) (At image.now parts.old (Goes r.old)) }
+    requires run { CanGoOn image.now parts.old remaining.old.turns remaining.old.ahead (S.left input.old) (K.written out.old) (At image.now parts.old (Goes r.old)) }
     ensures ready { IsReady image.now parts.new }
     ensures carries { IfOk (onward_or result r.new) (Carries image.now parts.new) }
-    ensures follows { Follows image.now parts.old parts.new turns.old turns.new (steps.new - steps.old) ahead.old ahead.new
+    ensures follows { Follows image.now parts.old parts.new remaining.old.turns remaining.new.turns (steps.new - steps.old) remaining.old.ahead remaining.new.ahead
         (S.left input.old) (S.left input.new) (K.written out.old) (K.written out.new) (At image.now parts.old (Goes r.old)) (onward_or result r.new) }
     ensures counted { steps.old < steps.new }
-    ensures few { BeginsFew image.now parts.old turns.old (steps.new - steps.old) ahead.old (S.left input.old) (K.written out.old)
+    ensures few { BeginsFew image.now parts.old remaining.old.turns (steps.new - steps.old) remaining.old.ahead (S.left input.old) (K.written out.old)
         (At image.now parts.old (Goes r.old)) }
     ensures faults { CountsFaults result (S.faults input.old) (S.faults input.new) (K.faults out.old) (K.faults out.new) }
-    ensures asks { AsksOn ahead.old (S.left input.old) (S.left input.new) (S.calls input.old) (S.calls input.new) (vain_then result ahead.new) }
+    ensures asks { AsksOn remaining.old.ahead (S.left input.old) (S.left input.new) (S.calls input.old) (S.calls input.new) (vain_then result remaining.new.ahead) }
 {
-    let pause = match run_top(image, parts, *r, *turns, out, steps) {
+    let pause = match run_top(image, parts, *r, remaining.turns, out, steps) {
         Ok(pause) => pause,
         Err(_) => return Err(RunFault::WriteFault),
     };
     let at = pause.registers;
-    *turns = pause.turns;
+    remaining.turns = pause.turns;
     *r = at;
-    match happen(image, parts, r, pause.why, pause.instruction, turns) {
+    match happen(
+        image,
+        parts,
+        r,
+        pause.why,
+        pause.instruction,
+        &mut remaining.turns,
+    ) {
         None => Ok(None),
         Some(linked) => match linked {
-            LinkTurn::Done(turn) => Ok(Some(turn)),
-            LinkTurn::Host(host) => {
+            LinkSequel::Done(sequel) => Ok(Some(sequel)),
+            LinkSequel::Host(host) => {
                 *r = at;
-                call_host(host, image, parts, r, ahead, turns, input, out)
+                call_host(host, image, parts, r, remaining, input, out)
             }
         },
     }
@@ -82,37 +88,36 @@ fn run_frames<S: Source, K: Sink, L: Ledger>(
     first: Registers,
     image: &Image,
     parts: &mut Prepared,
-    ahead: &mut Option<Coming>,
-    turns: &mut u64,
+    remaining: &mut Remaining,
     input: &mut S,
     out: &mut K,
     steps: &mut Steps<L>,
-) -> Result<Turn, RunFault>
+) -> Result<Sequel, RunFault>
     requires carries { Carries image.now parts.old (Goes first) }
-    requires run { CanGoOn image.now parts.old turns.old ahead.old (S.left input.old) (K.written out.old) (At image.now parts.old (Goes first)) }
+    requires run { CanGoOn image.now parts.old remaining.old.turns remaining.old.ahead (S.left input.old) (K.written out.old) (At image.now parts.old (Goes first)) }
     ensures ready { IsReady image.now parts.new }
     ensures carries { IfOk result (Carries image.now parts.new) }
-    ensures follows { Follows image.now parts.old parts.new turns.old turns.new (steps.new - steps.old) ahead.old ahead.new
+    ensures follows { Follows image.now parts.old parts.new remaining.old.turns remaining.new.turns (steps.new - steps.old) remaining.old.ahead remaining.new.ahead
         (S.left input.old) (S.left input.new) (K.written out.old) (K.written out.new) (At image.now parts.old (Goes first)) result }
     ensures counted { steps.old < steps.new }
-    ensures few { BeginsFew image.now parts.old turns.old (steps.new - steps.old) ahead.old (S.left input.old) (K.written out.old)
+    ensures few { BeginsFew image.now parts.old remaining.old.turns (steps.new - steps.old) remaining.old.ahead (S.left input.old) (K.written out.old)
         (At image.now parts.old (Goes first)) }
     ensures faults { CountsFaults result (S.faults input.old) (S.faults input.new) (K.faults out.old) (K.faults out.new) }
-    ensures asks { AsksOn ahead.old (S.left input.old) (S.left input.new) (S.calls input.old) (S.calls input.new) (vain_then result ahead.new) }
+    ensures asks { AsksOn remaining.old.ahead (S.left input.old) (S.left input.new) (S.calls input.old) (S.calls input.new) (vain_then result remaining.new.ahead) }
 {
     let mut r = first;
-    let mut left = *turns;
+    let mut left = *remaining;
     'running: loop {
-        match go_on(&mut r, image, parts, ahead, &mut left, input, out, steps) {
+        match go_on(&mut r, image, parts, &mut left, input, out, steps) {
             Ok(other) => match other {
                 None => {}
-                Some(turn) => {
-                    *turns = left;
-                    return Ok(turn);
+                Some(sequel) => {
+                    *remaining = left;
+                    return Ok(sequel);
                 }
             },
             Err(fault) => {
-                *turns = left;
+                *remaining = left;
                 return Err(fault);
             }
         }
@@ -124,57 +129,57 @@ fn call_then<S: Source, K: Sink>(
     r: Registers,
     image: &Image,
     parts: &mut Prepared,
-    ahead: &mut Option<Coming>,
-    turns: &mut u64,
+    remaining: &mut Remaining,
     input: &mut S,
     out: &mut K,
-) -> Result<Turn, RunFault>
+) -> Result<Sequel, RunFault>
     requires carries { Carries image.now parts.old (Pending r) }
-    requires run { CanGoOn image.now parts.old turns.old ahead.old (S.left input.old) (K.written out.old) (At image.now parts.old (Pending r)) }
+    requires run { CanGoOn image.now parts.old remaining.old.turns remaining.old.ahead (S.left input.old) (K.written out.old) (At image.now parts.old (Pending r)) }
     ensures ready { IsReady image.now parts.new }
     ensures carries { IfOk result (Carries image.now parts.new) }
-    ensures follows { Follows image.now parts.old parts.new turns.old turns.new 0 ahead.old ahead.new (S.left input.old) (S.left input.new)
+    ensures follows { Follows image.now parts.old parts.new remaining.old.turns remaining.new.turns 0 remaining.old.ahead remaining.new.ahead (S.left input.old) (S.left input.new)
         (K.written out.old) (K.written out.new) (At image.now parts.old (Pending r)) result }
-    ensures waits_not { IfOk result (λ turn. waits turn ≡ 0) }
+    ensures waits_not { IfOk result (λ sequel. waits sequel ≡ 0) }
     ensures faults { CountsFaults result (S.faults input.old) (S.faults input.new) (K.faults out.old) (K.faults out.new) }
-    ensures asks { AsksOn ahead.old (S.left input.old) (S.left input.new) (S.calls input.old) (S.calls input.new) (vain_then result ahead.new) }
+    ensures asks { AsksOn remaining.old.ahead (S.left input.old) (S.left input.new) (S.calls input.old) (S.calls input.new) (vain_then result remaining.new.ahead) }
 {
-    match call_pending(image, parts, r, turns) {
-        LinkTurn::Done(turn) => Ok(turn),
-        LinkTurn::Host(host) => {
+    let started = parts.started.as_mut_slice();
+    let turns = &mut remaining.turns;
+    match call_again(image, started, &mut parts.stack, r, turns) {
+        LinkSequel::Done(sequel) => Ok(sequel),
+        LinkSequel::Host(host) => {
             let mut at = r;
-            let other = call_host(host, image, parts, &mut at, ahead, turns, input, out);
+            let other = call_host(host, image, parts, &mut at, remaining, input, out);
             told_of(other, at)
         }
     }
 }
 
-/// One turn of the loop. Where the run is at its end it stays there.
+/// One round of the loop. Where the run is at its end it stays there.
 pub(crate) fn advance<S: Source, K: Sink, L: Ledger>(
-    turn: Turn,
+    sequel: Sequel,
     image: &Image,
     parts: &mut Prepared,
-    ahead: &mut Option<Coming>,
-    turns: &mut u64,
+    remaining: &mut Remaining,
     input: &mut S,
     out: &mut K,
     steps: &mut Steps<L>,
-) -> Result<Turn, RunFault>
-    requires carries { Carries image.now parts.old turn }
-    requires run { CanGoOn image.now parts.old turns.old ahead.old (S.left input.old) (K.written out.old) (At image.now parts.old turn) }
+) -> Result<Sequel, RunFault>
+    requires carries { Carries image.now parts.old sequel }
+    requires run { CanGoOn image.now parts.old remaining.old.turns remaining.old.ahead (S.left input.old) (K.written out.old) (At image.now parts.old sequel) }
     ensures ready { IsReady image.now parts.new }
     ensures carries { IfOk result (Carries image.now parts.new) }
-    ensures follows { Follows image.now parts.old parts.new turns.old turns.new (steps.new - steps.old) ahead.old ahead.new
-        (S.left input.old) (S.left input.new) (K.written out.old) (K.written out.new) (At image.now parts.old turn) result }
+    ensures follows { Follows image.now parts.old parts.new remaining.old.turns remaining.new.turns (steps.new - steps.old) remaining.old.ahead remaining.new.ahead
+        (S.left input.old) (S.left input.new) (K.written out.old) (K.written out.new) (At image.now parts.old sequel) result }
     ensures counted { steps.old ≤ steps.new }
-    ensures advances { Advances image.now parts.old turns.old ahead.old (S.left input.old) (K.written out.old) turn steps.old steps.new result }
+    ensures advances { Advances image.now parts.old remaining.old.turns remaining.old.ahead (S.left input.old) (K.written out.old) sequel steps.old steps.new result }
     ensures faults { CountsFaults result (S.faults input.old) (S.faults input.new) (K.faults out.old) (K.faults out.new) }
-    ensures asks { AsksOn ahead.old (S.left input.old) (S.left input.new) (S.calls input.old) (S.calls input.new) (vain_then result ahead.new) }
+    ensures asks { AsksOn remaining.old.ahead (S.left input.old) (S.left input.new) (S.calls input.old) (S.calls input.new) (vain_then result remaining.new.ahead) }
 {
-    match turn {
-        Turn::Goes(r) => run_frames(r, image, parts, ahead, turns, input, out, steps),
-        Turn::Pending(r) => call_then(r, image, parts, ahead, turns, input, out),
-        Turn::Empty => Ok(Turn::Empty),
-        Turn::Ends(end) => Ok(Turn::Ends(end)),
+    match sequel {
+        Sequel::Goes(r) => run_frames(r, image, parts, remaining, input, out, steps),
+        Sequel::Pending(r) => call_then(r, image, parts, remaining, input, out),
+        Sequel::Empty => Ok(Sequel::Empty),
+        Sequel::Ends(end) => Ok(Sequel::Ends(end)),
     }
 }

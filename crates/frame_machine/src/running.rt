@@ -5,20 +5,20 @@ ghost use Rattle.mesa_base.specs.Asked.{AskedOnce};
 ghost use Rattle.machine_rules.specs.LookUps.{code_of};
 ghost use Rattle.machine_rules.specs.Steps.{globals_in};
 ghost use Rattle.machine_rules.specs.Words.{zeros};
-ghost use Rattle.machine_activations.specs.declared.calling.Turn.TheVariants.{Empty};
+ghost use Rattle.machine_activations.specs.declared.calling.Sequel.TheVariants.{Empty};
 ghost use Rattle.machine_calls.specs.declared.ahead.Coming.{Coming};
 ghost use Rattle.machine_calls.specs.Hosting.{AsksOn};
 ghost use Rattle.machine_calls.specs.Started.{ShowsStarted};
 ghost use Rattle.machine_ready.specs.Ready.{IsReady};
-ghost use Rattle.frame_machine.specs.Onward.{CanGoOn, CanStart, CountsFaults, Follows, last_turn, vain_then};
+ghost use Rattle.frame_machine.specs.Onward.{CanGoOn, CanStart, CountsFaults, Follows, last_sequel, vain_then};
 ghost use Rattle.frame_machine.specs.Running.{BreaksAtInput, BreaksAtOutput, Completes, CutsOff, EndIsInRange};
 ghost use Rattle.frame_machine.specs.SoFar.{At, Carries, ShowsGlobals, SoFar, Then};
 
 use crate::look_ups::code_of;
 use crate::onward::advance;
 use crate::outcome::{Outcome, RunFault};
-use machine_activations::{Turn, begin};
-use machine_calls::Coming;
+use crate::remaining::Remaining;
+use machine_activations::{Sequel, begin};
 use machine_ready::Prepared;
 use machine_rules::End;
 use mesa_base::{Sink, Source, Steps};
@@ -27,37 +27,36 @@ use std::sync::ledger::Ledger;
 
 // Runs on until no activation is left, which is no end, or to an end.
 fn run_on<S: Source, K: Sink, L: Ledger>(
-    first: Turn,
+    first: Sequel,
     image: &Image,
     parts: &mut Prepared,
-    ahead: &mut Option<Coming>,
-    turns: &mut u64,
+    remaining: &mut Remaining,
     input: &mut S,
     out: &mut K,
     steps: &mut Steps<L>,
 ) -> Result<Option<End>, RunFault>
     requires carries { Carries image.now parts.old first }
-    requires run { CanGoOn image.now parts.old turns.old ahead.old (S.left input.old) (K.written out.old) (At image.now parts.old first) }
+    requires run { CanGoOn image.now parts.old remaining.old.turns remaining.old.ahead (S.left input.old) (K.written out.old) (At image.now parts.old first) }
     ensures ready { IsReady image.now parts.new }
-    ensures follows { Follows image.now parts.old parts.new turns.old turns.new (steps.new - steps.old) ahead.old ahead.new
-        (S.left input.old) (S.left input.new) (K.written out.old) (K.written out.new) (At image.now parts.old first) (last_turn result) }
+    ensures follows { Follows image.now parts.old parts.new remaining.old.turns remaining.new.turns (steps.new - steps.old) remaining.old.ahead remaining.new.ahead
+        (S.left input.old) (S.left input.new) (K.written out.old) (K.written out.new) (At image.now parts.old first) (last_sequel result) }
     ensures counted { steps.old ≤ steps.new }
     ensures faults { CountsFaults result (S.faults input.old) (S.faults input.new) (K.faults out.old) (K.faults out.new) }
-    ensures asks { AsksOn ahead.old (S.left input.old) (S.left input.new) (S.calls input.old) (S.calls input.new) (vain_then result ahead.new) }
+    ensures asks { AsksOn remaining.old.ahead (S.left input.old) (S.left input.new) (S.calls input.old) (S.calls input.new) (vain_then result remaining.new.ahead) }
 {
-    let mut turn = first;
+    let mut sequel = first;
     'running: loop {
-        match turn {
-            Turn::Empty => return Ok(None),
-            Turn::Ends(end) => return Ok(Some(end)),
+        match sequel {
+            Sequel::Empty => return Ok(None),
+            Sequel::Ends(end) => return Ok(Some(end)),
             _ => {}
         }
-        turn = advance(turn, image, parts, ahead, turns, input, out, steps)?;
+        sequel = advance(sequel, image, parts, remaining, input, out, steps)?;
     }
 }
 
 // Marks an instance as started, and begins its body.
-fn start(image: &Image, parts: &mut Prepared, instance: u32, turns: &mut u64) -> Turn
+fn start(image: &Image, parts: &mut Prepared, instance: u32, turns: &mut u64) -> Sequel
     requires ready { IsReady image.now parts.old }
     requires there { instance < length image.now.instances }
     requires unmarked { slice_get parts.old.started.items instance ≡ Some false }
@@ -68,14 +67,7 @@ fn start(image: &Image, parts: &mut Prepared, instance: u32, turns: &mut u64) ->
 {
     parts.started[instance as usize] = true;
     let code = code_of(image, instance);
-    begin(
-        code,
-        instance,
-        &mut parts.region,
-        parts.rows.as_mut_slice(),
-        parts.layout,
-        turns,
-    )
+    begin(code, instance, &mut parts.stack, turns)
 }
 
 // Runs an instance of CONTROL where no activation stands, unless it was started.
@@ -83,30 +75,29 @@ fn run_instance<S: Source, K: Sink, L: Ledger>(
     instance: u32,
     image: &Image,
     parts: &mut Prepared,
-    ahead: &mut Option<Coming>,
-    turns: &mut u64,
+    remaining: &mut Remaining,
     input: &mut S,
     out: &mut K,
     steps: &mut Steps<L>,
 ) -> Result<Option<End>, RunFault>
     requires ready { IsReady image.now parts.old }
     requires there { instance < length image.now.instances }
-    requires run { CanStart image.now parts.old instance turns.old ahead.old (S.left input.old) (K.written out.old) }
+    requires run { CanStart image.now parts.old instance remaining.old.turns remaining.old.ahead (S.left input.old) (K.written out.old) }
     ensures ready { IsReady image.now parts.new }
     ensures follows { (bound : ℕ) (control : List ℕ) (begun begun' : ℕ) (told held : Option (List ℕ))
         → suc (length control) ≤ length image.now.control → begun' ≡ begun + (steps.new - steps.old)
-        → SoFar image.now bound parts.old (instance ∷ control) turns.old begun ahead.old told (S.left input.old) held (K.written out.old)
+        → SoFar image.now bound parts.old (instance ∷ control) remaining.old.turns begun remaining.old.ahead told (S.left input.old) held (K.written out.old)
         (At image.now parts.old Empty)
-        → Then image.now bound parts.new control turns.new begun' ahead.new told (S.left input.new) held (K.written out.new) (last_turn result) }
+        → Then image.now bound parts.new control remaining.new.turns begun' remaining.new.ahead told (S.left input.new) held (K.written out.new) (last_sequel result) }
     ensures counted { steps.old ≤ steps.new }
     ensures faults { CountsFaults result (S.faults input.old) (S.faults input.new) (K.faults out.old) (K.faults out.new) }
-    ensures asks { AsksOn ahead.old (S.left input.old) (S.left input.new) (S.calls input.old) (S.calls input.new) (vain_then result ahead.new) }
+    ensures asks { AsksOn remaining.old.ahead (S.left input.old) (S.left input.new) (S.calls input.old) (S.calls input.new) (vain_then result remaining.new.ahead) }
 {
     if parts.started[instance as usize] {
         return Ok(None);
     }
-    let first = start(image, parts, instance, turns);
-    run_on(first, image, parts, ahead, turns, input, out, steps)
+    let first = start(image, parts, instance, &mut remaining.turns);
+    run_on(first, image, parts, remaining, input, out, steps)
 }
 
 /// Runs the instances of CONTROL in their order, over globals that are zero, with nothing started yet.
@@ -134,18 +125,19 @@ pub(crate) fn run_control<S: Source, K: Sink, L: Ledger>(
     ensures faults { CountsFaults result (S.faults input.old) (S.faults input.new) (K.faults out.old) (K.faults out.new) }
     ensures asked { AskedOnce (S.left input.old) (S.left input.new) (S.calls input.old) (S.calls input.new) }
 {
-    let mut ahead = None;
-    let mut left = turns;
+    let ahead = None;
+    let mut remaining = Remaining { turns, ahead };
     for instance in image.control.as_slice() {
-        let last = run_instance(
-            *instance, image, parts, &mut ahead, &mut left, input, out, steps,
-        )?;
+        let last = run_instance(*instance, image, parts, &mut remaining, input, out, steps)?;
         if let Some(end) = last {
-            return Ok(Outcome { end, left });
+            return Ok(Outcome {
+                end,
+                left: remaining.turns,
+            });
         }
     }
     Ok(Outcome {
         end: End::Done,
-        left,
+        left: remaining.turns,
     })
 }

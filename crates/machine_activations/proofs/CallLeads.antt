@@ -13,7 +13,7 @@ use Rattle.machine_rules.specs.LookUps.{code_of, procedure_of}
 use Rattle.machine_rules.specs.Calls.{call}
 use Rattle.machine_rules.specs.Steps.{Ends, stops}
 use Rattle.machine_topmost.specs.declared.registers.Registers.{Registers}
-use Rattle.machine_activations.specs.declared.calling.Turn.{Turn}
+use Rattle.machine_activations.specs.declared.calling.Sequel.{Sequel}
 use Rattle.machine_activations.specs.declared.row.Layout.{Layout}
 use Rattle.machine_activations.specs.declared.row.Row.{Row}
 use Rattle.machine_activations.specs.Below.{Called, GoesOn, Waits}
@@ -74,19 +74,19 @@ module _ (image : Image) (layout : Layout) (prepared : IsPrepared image layout) 
     call_reaches left =
         two_ways image s _ _ reaches (one_step image (Runs (a ∷ S) m) _ (turn_step image layout prepared region table r p a S shows m at.entry fetched number at.at fits.some fits.called called_is left))
 
-    pub call_leads : (x : CodeProcedure) (instance turns : ℕ) (region' : List ℕ) (table' : List Row) (turn : Turn) → x ≡ fits.called → instance ≡ a.instance → m.turns ≡ turns → (turns ≡ 0 → ⊥)
-        → ((e : Enters image layout region table r x instance number) (s : Stepped) (n : Store) → Reaches image s (call instance number x e.top e.rest n) → LeadsTo image layout region' table' s n turn)
-        → LeadsTo image layout region' table' s (record m { turns = turns - 1; begun = suc m.begun }) turn
+    pub call_leads : (x : CodeProcedure) (instance turns : ℕ) (layout' : Layout) (region' : List ℕ) (table' : List Row) (sequel : Sequel) → x ≡ fits.called → instance ≡ a.instance → m.turns ≡ turns → (turns ≡ 0 → ⊥)
+        → ((e : Enters image layout region table r x instance number) (s : Stepped) (n : Store) → Reaches image s (call instance number x e.top e.rest n) → LeadsTo image layout' region' table' s n sequel)
+        → LeadsTo image layout' region' table' s (record m { turns = turns - 1; begun = suc m.begun }) sequel
     unfolding call_enters
-    call_leads x instance turns region' table' turn same_x same_i turns_are some leads =
+    call_leads x instance turns layout' region' table' sequel same_x same_i turns_are some leads =
         let left : nat_eq m.turns 0 ≡ false = ne_eqb m.turns 0 (λ none. some (sym turns_are ∙ none)) in
-        subst (λ t. LeadsTo image layout region' table' s (record m { turns = t - 1; begun = suc m.begun }) turn) turns_are
+        subst (λ t. LeadsTo image layout' region' table' s (record m { turns = t - 1; begun = suc m.begun }) sequel) turns_are
         (leads (call_enters x instance same_x same_i) s (record m { turns = m.turns - 1; begun = suc m.begun })
         (subst (λ j. Reaches image s (call j number x a S (record m { begun = suc m.begun; turns = m.turns - 1 }))) (sym same_i)
         (subst (λ (q : CodeProcedure). Reaches image s (call a.instance number q a S (record m { begun = suc m.begun; turns = m.turns - 1 }))) (sym same_x) (call_reaches left))))
 
 -- where some activations are shown
-module _ (layout : Layout) (code : ModuleCode) (region : List ℕ) (table : List Row) (r : Registers) (number : ℕ) (stands : Stands layout code region table r) (at : IsAt code table r (Call number)) where
+module _ (layout : Layout) (code : ModuleCode) (region : List ℕ) (table : List Row) (r : Registers) (number : ℕ) (stands : Stands code layout region table r) (at : IsAt code table r (Call number)) where
   pub fits_there : (called : CodeProcedure) × (slice_get code.procedures number ≡ Some called)
   fits_there =
       let h = stands.shown in

@@ -106,8 +106,8 @@ module _ (image : Image) (layout : Layout) (prepared : IsPrepared image layout) 
     reaches = shown.reaches;
   }
 
-pub stands_grown : (layout : Layout) (code : ModuleCode) (region : List ℕ) (table : List Row) (r : Registers) → IsAmple layout region table r.top → (q : ℕ) → Stands layout code region table r
-    → Stands layout code (with_places region layout q) table r
+pub stands_grown : (layout : Layout) (code : ModuleCode) (region : List ℕ) (table : List Row) (r : Registers) → IsAmple layout region table r.top → (q : ℕ) → Stands code layout region table r
+    → Stands code layout (with_places region layout q) table r
 stands_grown layout code region table r ample q stands = record {
   image = stands.image;
   prepared = stands.prepared;

@@ -3,15 +3,16 @@ use Rattle.std.proofs.Common.{◌≡◌, ⊎_elim, ℕ, ◌+◌, ◌-◌, ◌<�
 use Rattle.std.specs.Prelude.{slice_set}
 use Rattle.std.proofs.lemmas.Bool.{leb-true}
 use Rattle.std.proofs.Math.ListN.{length-set, length-replicate}
+use Rattle.object_files.specs.mesa_types.specs.Longs.{two_words}
 use Rattle.object_files.specs.mesa_types.specs.Operators.{Tried}
 use Rattle.code_forms.specs.declared.instruction.Instruction.{Instruction}
-use Rattle.code_forms.specs.declared.instruction.Instruction.TheVariants.{Lit, Str, LoadL, StoreL, LoadG, StoreG, LoadLX, StoreLX, LoadGX, StoreGX, Index, Add, Sub, Mul, Neg, DivI, ModI, DivC, ModC, Eq, LessI, LessC, Not, CheckI, CheckC, Jump, JumpIf, JumpIfNot, JumpBack, StrLen, StrAt, Pop, Roll, ZeroL, ZeroG}
+use Rattle.code_forms.specs.declared.instruction.Instruction.TheVariants.{Lit, Str, LoadL, StoreL, LoadG, StoreG, LoadLX, StoreLX, LoadGX, StoreGX, Index, Add, Sub, Mul, Neg, DivI, ModI, DivC, ModC, Eq, LessI, LessC, Not, CheckI, CheckC, Jump, JumpIf, JumpIfNot, JumpBack, StrLen, StrAt, Pop, Roll, ZeroL, ZeroG, AddD, SubD, MulD, NegD, DivDI, ModDI, DivDC, ModDC, EqD, LessDI, LessDC, WidenI, WidenC, NarrowI, NarrowC, CheckD}
 use Rattle.code_forms.specs.declared.region.Region.{Region}
 use Rattle.code_forms.specs.Operands.{OperandsFit}
 use Rattle.code_forms.specs.Routine.{Routine, moves}
-use Rattle.machine_topmost.specs.Flat.{Flat, Went, part, with_part, over, over_tried, operand, flat, operates}
+use Rattle.machine_topmost.specs.Flat.{Flat, Went, part, with_part, over, over_tried, over_long, over_long_tried, operand, flat, operates, operates_long}
 use Rattle.machine_topmost.proofs.Copied.{length-part}
-use Rattle.machine_topmost.proofs.Going.{went, paused_not, went_within, went_past, went_tried}
+use Rattle.machine_topmost.proofs.Going.{went, paused_not, went_within, went_past, went_tried, went_long_tried}
 use Rattle.machine_topmost.proofs.Parts.{part_before, part_past, set_is_replaced}
 use Rattle.machine_activations.proofs.Keeping.{SameBut}
 
@@ -47,6 +48,32 @@ module _ (texts : ℕ → ℕ → List ℕ) (number : ℕ) (routine : Routine) (
   tried_same : (u : Flat) (takes : ℕ) (tried : Tried) → 1 ≤ takes → floor + takes ≤ sp → over_tried takes tried s ≡ Went u → Same u
   tried_same u takes tried some there h = let w = went_tried takes tried s u h in over_same u takes w.0 some there w.1
 
+  over_long_same : (u : Flat) (takes n : ℕ) → floor + takes ≤ sp → over_long takes n s ≡ Went u → Same u
+  over_long_same u takes n there h = subst Same (went _ u h) (behind (sp - takes) (two_words n) (omega (arith, there)) (omega (arith, full)))
+
+  long_tried_same : (u : Flat) (takes : ℕ) (tried : Tried) → floor + takes ≤ sp → over_long_tried takes tried s ≡ Went u → Same u
+  long_tried_same u takes tried there h = let w = went_long_tried takes tried s u h in over_long_same u takes w.0 there w.1
+
+  long_same : (i : Instruction) (u : Flat) → (moves routine i).takes ≤ depth → operates_long i s ≡ Went u → Same u
+  unfolding operates_long
+  long_same AddD u enough h = over_long_same u 4 _ (omega (arith, deep, enough)) h
+  long_same SubD u enough h = over_long_same u 4 _ (omega (arith, deep, enough)) h
+  long_same MulD u enough h = over_long_same u 4 _ (omega (arith, deep, enough)) h
+  long_same NegD u enough h = over_long_same u 2 _ (omega (arith, deep, enough)) h
+  long_same DivDI u enough h = long_tried_same u 4 _ (omega (arith, deep, enough)) h
+  long_same ModDI u enough h = long_tried_same u 4 _ (omega (arith, deep, enough)) h
+  long_same DivDC u enough h = long_tried_same u 4 _ (omega (arith, deep, enough)) h
+  long_same ModDC u enough h = long_tried_same u 4 _ (omega (arith, deep, enough)) h
+  long_same EqD u enough h = over_same u 4 _ (omega arith) (omega (arith, deep, enough)) h
+  long_same LessDI u enough h = over_same u 4 _ (omega arith) (omega (arith, deep, enough)) h
+  long_same LessDC u enough h = over_same u 4 _ (omega arith) (omega (arith, deep, enough)) h
+  long_same WidenI u enough h = over_long_same u 1 _ (omega (arith, deep, enough)) h
+  long_same WidenC u enough h = over_long_same u 1 _ (omega (arith, deep, enough)) h
+  long_same NarrowI u enough h = over_same u 2 _ (omega arith) (omega (arith, deep, enough)) (went_within _ _ _ u h).1
+  long_same NarrowC u enough h = over_same u 2 _ (omega arith) (omega (arith, deep, enough)) (went_within _ _ _ u h).1
+  long_same CheckD u enough h = subst Same (went _ u (went_within _ _ _ u h).1) (unchanged s.region refl)
+  long_same _ u enough h = absurd (paused_not _ u h)
+
   operator_same : (i : Instruction) (u : Flat) → (moves routine i).takes ≤ depth → operates texts i s ≡ Went u → Same u
   unfolding operates
   operator_same (Index c z) u enough h = over_same u 2 _ (omega arith) (omega (arith, deep, enough)) (went_within _ _ _ u h).1
@@ -66,7 +93,7 @@ module _ (texts : ℕ → ℕ → List ℕ) (number : ℕ) (routine : Routine) (
   operator_same (CheckC a b) u enough h = subst Same (went _ u (went_within _ _ _ u h).1) (unchanged s.region refl)
   operator_same StrLen u enough h = over_same u 2 _ (omega arith) (omega (arith, deep, enough)) h
   operator_same StrAt u enough h = tried_same u 3 _ (omega arith) (omega (arith, deep, enough)) h
-  operator_same _ u enough h = absurd (paused_not _ u h)
+  operator_same i u enough h = long_same i u enough h
 
   pub same_outside : (i : Instruction) (target : ℕ) (u : Flat) → (moves routine i).takes ≤ depth → s.registers.sp + (moves routine i).puts ≤ length s.region + (moves routine i).takes → OperandsFit routine around i
       → flat texts number i target s ≡ Went u → Same u

@@ -18,7 +18,7 @@ use Rattle.machine_rules.specs.Working.{works}
 use Rattle.machine_rules.proofs.Onward.{touches, is_touch, no_touch}
 use Rattle.machine_topmost.specs.declared.registers.Why.{Why}
 use Rattle.machine_topmost.specs.declared.registers.Why.TheVariants.{Touches, Spent, BoundsFault, ZeroDivisor}
-use Rattle.machine_topmost.specs.Flat.{Flat, Went, Paused, flat, operates}
+use Rattle.machine_topmost.specs.Flat.{Flat, Went, Paused, flat, operates, operates_long}
 use Rattle.machine_topmost.specs.Running.{HasTargets, IsProcedureOf, Standing, flat_at}
 use Rattle.machine_topmost.specs.Shown.{pause_shown, worked_shown, jumps_within}
 use Rattle.machine_activations.specs.declared.row.Layout.{Layout}
@@ -33,7 +33,7 @@ went_not t why h = cc
 
 -- what pauses as if no turn were left is no instruction that touches more
 not_spent : (texts : ℕ → ℕ → List ℕ) (number : ℕ) (i : Instruction) (target : ℕ) (s : Flat) → touches i ≡ true → jumps_within i ≡ false → flat texts number i target s ≡ Paused Spent → ⊥
-unfolding flat operates
+unfolding flat operates operates_long
 not_spent texts number (Jump x) target s t j h = true≢false j
 not_spent texts number (JumpIf x) target s t j h = true≢false j
 not_spent texts number (JumpIfNot x) target s t j h = true≢false j

@@ -11,8 +11,8 @@ use Rattle.machine_rules.specs.Moves.{limit, with}
 use Rattle.machine_rules.specs.Calls.{pending}
 use Rattle.machine_rules.specs.Steps.{Ends}
 use Rattle.machine_topmost.specs.declared.registers.Registers.{Registers}
-use Rattle.machine_activations.specs.declared.calling.Turn.{Turn}
-use Rattle.machine_activations.specs.declared.calling.Turn.TheVariants.{Goes as GoesOn, Empty, Pending, Ends as EndsSo}
+use Rattle.machine_activations.specs.declared.calling.Sequel.{Sequel}
+use Rattle.machine_activations.specs.declared.calling.Sequel.TheVariants.{Goes as GoesOn, Empty, Pending, Ends as EndsSo}
 use Rattle.machine_activations.specs.declared.row.Layout.{Layout}
 use Rattle.machine_activations.specs.declared.row.Row.{Row}
 use Rattle.machine_activations.specs.Below.{Called, Waits}
@@ -25,7 +25,7 @@ abbrev pub IsCodeOf : Image → ModuleCode → List Row → Registers → Type 0
 IsCodeOf image code table r = code_of image (row_at table r.top).instance ≡ Some code
 
 -- some activations of an image are shown, from which it does not get stuck
-pub record Stands (layout : Layout) (code : ModuleCode) (region : List ℕ) (table : List Row) (r : Registers) : Type 0 where
+pub record Stands (code : ModuleCode) (layout : Layout) (region : List ℕ) (table : List Row) (r : Registers) : Type 0 where
   pub image : Image
   pub prepared : IsPrepared image layout
   pub is : IsCodeOf image code table r
@@ -75,14 +75,14 @@ pub record CallsThen (image : Image) (layout : Layout) (region : List ℕ) (tabl
   pub reaches : Reaches image s (with (instruction_under image top) m λ i. pending image i top rest m)
 
 -- the region has the parts of the activations that stand then
-abbrev pub IsAmpleFor : Layout → List ℕ → List Row → Turn → Type 0
+abbrev pub IsAmpleFor : Layout → List ℕ → List Row → Sequel → Type 0
 IsAmpleFor layout region table (GoesOn r) = IsAmple layout region table r.top
 IsAmpleFor layout region table Empty = length table ≡ limit
 IsAmpleFor layout region table (Pending r) = IsAmple layout region table r.top
 IsAmpleFor layout region table (EndsSo end) = length table ≡ limit
 
 -- a frame stands on top then, and the activation below waits; or the run ends, and the rows are as they were. A call leads to nothing else
-abbrev pub AddsFrame : Layout → (table : List Row) → Registers → (table' : List Row) → Turn → Type 0
+abbrev pub AddsFrame : Layout → (table : List Row) → Registers → (table' : List Row) → Sequel → Type 0
 AddsFrame layout table r table' (GoesOn r') =
     (args : ℕ) × (instance : ℕ) × (procedure : ℕ) × (r' ≡ frame_registers r layout) × (table' ≡ with_frame table r layout args instance procedure)
 AddsFrame layout table r table' Empty = ⊥
@@ -90,21 +90,21 @@ AddsFrame layout table r table' (Pending r') = ⊥
 AddsFrame layout table r table' (EndsSo end) = table' ≡ table
 
 -- the activation under the topmost one goes on or is to do its call again, or none is left
-abbrev pub GoesBelow : Registers → Turn → Type 0
+abbrev pub GoesBelow : Registers → Sequel → Type 0
 GoesBelow r (GoesOn r') = r'.top + 1 ≡ r.top
 GoesBelow r Empty = r.top ≡ 0
 GoesBelow r (Pending r') = r'.top + 1 ≡ r.top
 GoesBelow r (EndsSo end) = ⊥
 
 -- the first frame stands then, or the run ends and the rows are as they were
-abbrev pub AddsFirst : (table table' : List Row) → Turn → Type 0
+abbrev pub AddsFirst : (table table' : List Row) → Sequel → Type 0
 AddsFirst table table' (GoesOn r') = (instance : ℕ) × (r'.top ≡ 0) × (table' ≡ slice_set table 0 (frame_row instance 0))
 AddsFirst table table' Empty = ⊥
 AddsFirst table table' (Pending r') = ⊥
 AddsFirst table table' (EndsSo end) = table' ≡ table
 
 -- where the machine comes to, with this store
-unfoldable pub LeadsTo : Image → Layout → List ℕ → List Row → Stepped → Store → Turn → Type 0
+unfoldable pub LeadsTo : Image → Layout → List ℕ → List Row → Stepped → Store → Sequel → Type 0
 LeadsTo image layout region table s m (GoesOn r) = Shown image layout region table r s m
 LeadsTo image layout region table s m Empty = Reaches image s (Goes (Runs [] m))
 LeadsTo image layout region table s m (Pending r) = CallsThen image layout region table r s m

@@ -8,4 +8,5 @@ pub mod Frames
 pub mod Reaching
 pub mod Beginning
 pub mod Calling
+pub mod Stacks
 pub mod Laws

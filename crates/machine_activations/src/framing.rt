@@ -1,17 +1,18 @@
 //! A frame of a procedure on top of the activations.
 
-ghost use Rattle.std.specs.Prelude.{◌≡◌, ◌≤◌, vec_capacity};
+ghost use Rattle.std.specs.Prelude.{◌≡◌};
 ghost use Rattle.object_files.specs.declared.image.Image.{Image};
 ghost use Rattle.machine_rules.specs.Calls.{call as called_with};
 ghost use Rattle.machine_rules.specs.State.{Stepped, Store};
-ghost use Rattle.machine_activations.specs.Calling.{AddsFrame, Enters, EntersSome, IsAmpleFor, LeadsTo};
+ghost use Rattle.machine_activations.specs.Calling.{AddsFrame, Enters, EntersSome, LeadsTo};
 ghost use Rattle.machine_activations.specs.Reaching.{Reaches};
-ghost use Rattle.machine_activations.specs.Shows.{IsAmple, IsPrepared, IsReserved};
+ghost use Rattle.machine_activations.specs.Shows.{IsPrepared};
+ghost use Rattle.machine_activations.specs.Stacks.{HasRoom, KeepsRoom, on};
 
-use crate::calling::Turn;
-use crate::frames::enter;
+use crate::calling::Sequel;
+use crate::frames::{add_row, enter};
 use crate::growing::make_room;
-use crate::row::{Layout, Row};
+use crate::stack::Stack;
 use code_forms::CodeProcedure;
 use machine_rules::End;
 use machine_topmost::Registers;
@@ -24,27 +25,24 @@ pub fn add_frame(
     called: &CodeProcedure,
     instance: u32,
     number: u32,
-    region: &mut Vec<u16>,
-    table: &mut [Row],
+    stack: &mut Stack,
     r: Registers,
-    layout: Layout,
-) -> Turn
-    requires enters { EntersSome layout region.old.items table.old r called.now instance number }
-    requires ample { IsAmple layout region.old.items table.old r.top }
-    requires reserved { IsReserved layout (vec_capacity region.old) }
-    ensures ample { IsAmpleFor layout region.new.items table.new result }
-    ensures reserved { vec_capacity region.old ≤ vec_capacity region.new }
-    ensures adds { AddsFrame layout table.old r table.new result }
-    ensures leads { (image : Image) → IsPrepared image layout → (e : Enters image layout region.old.items table.old r called.now instance number)
+) -> Sequel
+    requires enters { on stack.old EntersSome r called.now instance number }
+    requires room { HasRoom stack.old r.top }
+    ensures room { KeepsRoom stack.old stack.new result }
+    ensures adds { AddsFrame stack.old.layout stack.old.rows.items r stack.new.rows.items result }
+    ensures leads { (image : Image) → IsPrepared image stack.old.layout → (e : on stack.old (Enters image) r called.now instance number)
         → (s : Stepped) (m : Store) → Reaches image s (called_with instance number called.now e.top e.rest m)
-        → LeadsTo image layout region.new.items table.new s m result }
+        → on stack.new (LeadsTo image) s m result }
 {
     if r.top + 1 >= ACTIVATIONS {
-        return Turn::Ends(End::FrameLimit);
+        return Sequel::Ends(End::FrameLimit);
     }
-    make_room(region, layout, r.top + 1);
+    let layout = stack.layout;
+    make_room(&mut stack.region, layout, r.top + 1);
     let args = usize::from(called.args);
     let frame = usize::from(called.frame);
-    let words = region.as_mut_slice();
-    Turn::Goes(enter(words, table, r, layout, args, frame, instance, number))
+    add_row(&mut stack.rows, r, layout, args, instance, number);
+    Sequel::Goes(enter(&mut stack.region, r, layout, args, frame))
 }

@@ -23,8 +23,8 @@ use Rattle.machine_calls.specs.declared.ahead.Coming.TheVariants.{Byte, End}
 use Rattle.machine_calls.specs.declared.host.HostProcedure.TheVariants.{Read}
 use Rattle.machine_calls.specs.declared.host.Reading.{Reading}
 use Rattle.machine_calls.specs.declared.host.Reading.TheVariants.{Next, AtEnd}
-use Rattle.machine_calls.specs.declared.reading.ReadTurn.{ReadTurn}
-use Rattle.machine_calls.specs.declared.reading.ReadTurn.TheVariants.{Goes as GoesOn, NoInput as RaisesNoInput}
+use Rattle.machine_calls.specs.declared.reading.ReadSequel.{ReadSequel}
+use Rattle.machine_calls.specs.declared.reading.ReadSequel.TheVariants.{Goes as GoesOn, NoInput as RaisesNoInput}
 use Rattle.machine_calls.specs.Hosts.{host_is, CallsHost}
 use Rattle.machine_calls.specs.Hosting.{CanCall, behind_call, input_after, Comes, Raises, ReadLeads, GoesBehind, ReadsOn, Breaks}
 use Rattle.machine_calls.proofs.Behind.{host_fits, call_there, room, gone_on, behind_shows}
@@ -161,13 +161,13 @@ pub pushed_behind : (r : Registers) (reading : Reading) → pushed_registers r �
 pushed_behind r Next = let e : r.sp + 1 ≡ r.sp - 0 + 1 = omega arith in ap (λ k. record { top = r.top; slots = r.slots; sp = k; entry = r.entry + 1 }) e
 pushed_behind r AtEnd = let e : r.sp + 1 ≡ r.sp - 0 + 1 = omega arith in ap (λ k. record { top = r.top; slots = r.slots; sp = k; entry = r.entry + 1 }) e
 
-pub goes_behind : (r : Registers) (reading : Reading) (turn : ReadTurn) → turn ≡ GoesOn (pushed_registers r) → GoesBehind r reading turn
-goes_behind r reading turn e = subst (GoesBehind r reading) (sym e) (pushed_behind r reading)
+pub goes_behind : (r : Registers) (reading : Reading) (sequel : ReadSequel) → sequel ≡ GoesOn (pushed_registers r) → GoesBehind r reading sequel
+goes_behind r reading sequel e = subst (GoesBehind r reading) (sym e) (pushed_behind r reading)
 
-pub reads_so : (region region' : List ℕ) (r : Registers) (reading reading' : Reading) (coming coming' : Coming) (turn turn' : ReadTurn) → reading ≡ reading' → coming ≡ coming' → turn ≡ turn'
-    → ReadsOn region region' r reading' coming' turn' → ReadsOn region region' r reading coming turn
-reads_so region region' r reading reading' coming coming' turn turn' a b d h =
-    subst (λ x. ReadsOn region region' r x coming turn) (sym a) (subst (λ x. ReadsOn region region' r reading' x turn) (sym b) (subst (λ x. ReadsOn region region' r reading' coming' x) (sym d) h))
+pub reads_so : (region region' : List ℕ) (r : Registers) (reading reading' : Reading) (coming coming' : Coming) (sequel sequel' : ReadSequel) → reading ≡ reading' → coming ≡ coming' → sequel ≡ sequel'
+    → ReadsOn region region' r reading' coming' sequel' → ReadsOn region region' r reading coming sequel
+reads_so region region' r reading reading' coming coming' sequel sequel' a b d h =
+    subst (λ x. ReadsOn region region' r x coming sequel) (sym a) (subst (λ x. ReadsOn region region' r reading' x sequel) (sym b) (subst (λ x. ReadsOn region region' r reading' coming' x) (sym d) h))
 
 -- what the code asks
 pub read_fits : (region : List ℕ) (r : Registers) (reading : Reading) → CanCall region r (Read reading) → (r.sp < length region) × (r.entry < 4294967296)

@@ -14,7 +14,7 @@ use Rattle.machine_rules.specs.Moves.{spend_of, spend}
 use Rattle.machine_rules.specs.Calls.{set_of, call, call_bound}
 use Rattle.machine_rules.specs.Steps.{Ends, stops}
 use Rattle.machine_topmost.specs.declared.registers.Registers.{Registers}
-use Rattle.machine_activations.specs.declared.calling.Turn.{Turn}
+use Rattle.machine_activations.specs.declared.calling.Sequel.{Sequel}
 use Rattle.machine_activations.specs.declared.row.Layout.{Layout}
 use Rattle.machine_activations.specs.declared.row.Row.{Row}
 use Rattle.machine_activations.specs.Below.{Called, Waits}
@@ -25,7 +25,7 @@ use Rattle.machine_activations.specs.Shows.{IsPrepared}
 use Rattle.machine_activations.proofs.Following.{spent_by}
 use Rattle.machine_activations.proofs.Tables.{row_there}
 use Rattle.machine_calls.specs.declared.host.HostProcedure.{HostProcedure}
-use Rattle.machine_calls.specs.declared.linking.LinkTurn.TheVariants.{Done, Host}
+use Rattle.machine_calls.specs.declared.linking.LinkSequel.TheVariants.{Done, Host}
 use Rattle.machine_calls.specs.Hosts.{host_is}
 use Rattle.machine_calls.specs.Linking.{CallsLink, EntersBody, LinkLeads, LinkedTo}
 use Rattle.machine_calls.specs.Started.{ShowsStarted}
@@ -135,13 +135,13 @@ module _ (image : Image) (layout : Layout) (prepared : IsPrepared image layout) 
             ap (λ b. nat_eq e.top.instance j || b) (shown j (get_or marks j false) (slice_get-get_or marks j false within)) ∙ ap (λ i. nat_eq i j || get_or marks j false) (sym own_is)
 
         pub call_linked : (marks : List Bool) → j < length marks → (nat_eq row.instance j || get_or marks j false) ≡ true → (x : CodeProcedure) → procedure_of image j n ≡ Some x
-            → (region' : List ℕ) (table' : List Row) (turn : Turn)
-            → ((e : Enters image layout region table r x j n) (s : Stepped) (m : Store) → Reaches image s (call j n x e.top e.rest m) → LeadsTo image layout region' table' s m turn)
+            → (layout' : Layout) (region' : List ℕ) (table' : List Row) (sequel : Sequel)
+            → ((e : Enters image layout region table r x j n) (s : Stepped) (m : Store) → Reaches image s (call j n x e.top e.rest m) → LeadsTo image layout' region' table' s m sequel)
             → (s : Stepped) (m : Store) (turns : ℕ) → m.turns ≡ turns → ShowsStarted marks m.started → Reaches image s (call_bound image e.bound e.top e.rest m)
-            → LinkedTo image layout region' table' r marks s (record m { turns = turns }) (Done turn)
+            → LinkedTo image layout' region' table' r marks s (record m { turns = turns }) (Done sequel)
         unfolding LinkLeads enters_called
-        call_linked marks within now x there region' table' turn leads s m turns turns_are shown reaches =
-            subst (λ t. LinkedTo image layout region' table' r marks s (record m { turns = t }) (Done turn)) turns_are
+        call_linked marks within now x there layout' region' table' sequel leads s m turns turns_are shown reaches =
+            subst (λ t. LinkedTo image layout' region' table' r marks s (record m { turns = t }) (Done sequel)) turns_are
             (record {
               started = m.started;
               shown = shown;
@@ -151,13 +151,13 @@ module _ (image : Image) (layout : Layout) (prepared : IsPrepared image layout) 
             })
 
         pub start_linked : (marks : List Bool) → j < length marks → (nat_eq row.instance j || get_or marks j false) ≡ false
-            → (region' : List ℕ) (table' : List Row) (turn : Turn) (turns turns' : ℕ)
+            → (layout' : Layout) (region' : List ℕ) (table' : List Row) (sequel : Sequel) (turns turns' : ℕ)
             → ((b : EntersBody image layout region table r j) (s : Stepped) (m : Store) → m.turns ≡ turns → Reaches image s (spend m (λ m1. call j 0 b.body b.enters.top b.enters.rest m1))
-            → LeadsTo image layout region' table' s (record m { turns = turns' }) turn)
+            → LeadsTo image layout' region' table' s (record m { turns = turns' }) sequel)
             → (s : Stepped) (m : Store) → m.turns ≡ turns → ShowsStarted marks m.started → Reaches image s (call_bound image e.bound e.top e.rest m)
-            → LinkedTo image layout region' table' r (slice_set marks j true) s (record m { turns = turns' }) (Done turn)
+            → LinkedTo image layout' region' table' r (slice_set marks j true) s (record m { turns = turns' }) (Done sequel)
         unfolding LinkLeads enters_body
-        start_linked marks within late region' table' turn turns turns' leads s m turns_are shown reaches =
+        start_linked marks within late layout' region' table' sequel turns turns' leads s m turns_are shown reaches =
             let q = called_there image layout prepared region table r k e j n (bound_is ∙ is) in
             let b = enters_body image layout prepared region table r k e j n (bound_is ∙ is) in
             record {

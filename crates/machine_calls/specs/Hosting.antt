@@ -28,8 +28,8 @@ use Rattle.machine_calls.specs.declared.host.Reading.{Reading}
 use Rattle.machine_calls.specs.declared.host.Reading.TheVariants.{Next, AtEnd}
 use Rattle.machine_calls.specs.declared.host.Writing.{Writing}
 use Rattle.machine_calls.specs.declared.host.Writing.TheVariants.{Char, Text, Decimal}
-use Rattle.machine_calls.specs.declared.reading.ReadTurn.{ReadTurn}
-use Rattle.machine_calls.specs.declared.reading.ReadTurn.TheVariants.{Goes, NoInput as RaisesNoInput}
+use Rattle.machine_calls.specs.declared.reading.ReadSequel.{ReadSequel}
+use Rattle.machine_calls.specs.declared.reading.ReadSequel.TheVariants.{Goes, NoInput as RaisesNoInput}
 use Rattle.machine_calls.specs.Hosts.{host_is, CallsHost}
 
 -- behind the call, with what it gives in the place of what it takes
@@ -105,17 +105,17 @@ pub record Raises (image : Image) (layout : Layout) (region : List ℕ) (table :
   pub shows : Shows image layout region table r procedure top rest
   pub reaches : Reaches image s (raise image NoInput [] top rest m)
 
-unfoldable pub ReadLeads : Image → Layout → List ℕ → List Row → Registers → Stepped → Store → ReadTurn → Type 0
+unfoldable pub ReadLeads : Image → Layout → List ℕ → List Row → Registers → Stepped → Store → ReadSequel → Type 0
 ReadLeads image layout region table r s m (Goes r') = Shown image layout region table r' s m
 ReadLeads image layout region table r s m RaisesNoInput = Raises image layout region table r s m
 
 -- the machine to whose input that comes has read, or raises NoInput
-abbrev pub ReadsOn : (region region' : List ℕ) → Registers → Reading → Coming → ReadTurn → Type 0
-ReadsOn region region' r reading coming turn = (image : Image) (layout : Layout) (table : List Row)
+abbrev pub ReadsOn : (region region' : List ℕ) → Registers → Reading → Coming → ReadSequel → Type 0
+ReadsOn region region' r reading coming sequel = (image : Image) (layout : Layout) (table : List Row)
     → IsPrepared image layout → IsAmple layout region table r.top
     → (e : CallsHost image layout region table r (host_is (Read reading)))
     → (s : Stepped) (m : Store) → Reaches image s (host image (host_is (Read reading)) e.top e.rest m) → Comes coming m.input m.faulty
-    → ReadLeads image layout region' table r s (record m { input = input_after reading m.input }) turn
+    → ReadLeads image layout region' table r s (record m { input = input_after reading m.input }) sequel
 
 -- the machine whose input is at an end that is a fault breaks there
 abbrev pub Breaks : (region : List ℕ) → Registers → Reading → Type 0
@@ -125,18 +125,18 @@ Breaks region r reading = (image : Image) (layout : Layout) (table : List Row)
     → Ends image s Broken m
 
 -- where it goes on, it does so behind the call
-abbrev pub GoesBehind : Registers → Reading → ReadTurn → Type 0
+abbrev pub GoesBehind : Registers → Reading → ReadSequel → Type 0
 GoesBehind r reading (Goes r') = r' ≡ behind_call (Read reading) r
 GoesBehind r reading RaisesNoInput = Unit {0}
 
 -- what a reading has read, and what is known then
 pub record Reads (reading : Reading) (ahead ahead' : Option Coming) (left left' : Option (List ℕ))
-    (region region' : List ℕ) (r : Registers) (turn : ReadTurn) : Type 0 where
+    (region region' : List ℕ) (r : Registers) (sequel : ReadSequel) : Type 0 where
   pub coming : Coming
   pub looks : Looks ahead coming left left'
   pub after : ahead' ≡ known_after reading coming
-  pub behind : GoesBehind r reading turn
-  pub leads : ReadsOn region region' r reading coming turn
+  pub behind : GoesBehind r reading sequel
+  pub leads : ReadsOn region region' r reading coming sequel
 
 -- How often the source was asked.
 

@@ -1,5 +1,5 @@
 -- What a call through a link stands on, and where it leads (rule of this project).
-use Rattle.std.specs.Prelude.{◌≡◌, ℕ, suc, ◌-◌, List, Bool, Some, slice_get}
+use Rattle.std.specs.Prelude.{◌≡◌, ℕ, suc, ◌-◌, ◌≤◌, List, Bool, Some, slice_get, vec_capacity}
 use Rattle.code_forms.specs.declared.instruction.Instruction.{Instruction}
 use Rattle.code_forms.specs.declared.instruction.Instruction.TheVariants.{CallLink}
 use Rattle.code_forms.specs.declared.module_code.CodeEntry.{CodeEntry}
@@ -13,13 +13,16 @@ use Rattle.machine_rules.specs.Calls.{host}
 use Rattle.machine_topmost.specs.declared.registers.Registers.{Registers}
 use Rattle.machine_activations.specs.declared.row.Layout.{Layout}
 use Rattle.machine_activations.specs.declared.row.Row.{Row}
-use Rattle.machine_activations.specs.Calling.{IsCodeOf, IsAt, IsAmpleFor, AddsFrame, Enters, CallsThen, LeadsTo}
+use Rattle.machine_activations.specs.declared.stack.Stack.{Stack}
+use Rattle.machine_activations.specs.Calling.{IsCodeOf, IsAt, IsAmpleFor, AddsFrame, Enters, CallsThen, LeadsTo, StandsIn}
+use Rattle.machine_activations.specs.Frames.{row_at}
 use Rattle.machine_activations.specs.Reaching.{Reaches, IsUnstuck, Shown}
-use Rattle.machine_activations.specs.Shows.{IsAmple, Shows}
+use Rattle.machine_activations.specs.Shows.{IsAmple, IsPrepared, Shows}
+use Rattle.machine_activations.specs.Stacks.{on}
 use Rattle.machine_calls.specs.declared.host.HostProcedure.TheVariants.{Write}
 use Rattle.machine_calls.specs.declared.host.Writing.{Writing}
-use Rattle.machine_calls.specs.declared.linking.LinkTurn.{LinkTurn}
-use Rattle.machine_calls.specs.declared.linking.LinkTurn.TheVariants.{Done, Host}
+use Rattle.machine_calls.specs.declared.linking.LinkSequel.{LinkSequel}
+use Rattle.machine_calls.specs.declared.linking.LinkSequel.TheVariants.{Done, Host}
 use Rattle.machine_calls.specs.Hosts.{host_is, CallsHost}
 use Rattle.machine_calls.specs.Started.{ShowsStarted}
 
@@ -55,27 +58,44 @@ pub record EntersBody (image : Image) (layout : Layout) (region : List ℕ) (tab
   pub enters : Enters image layout region table r body instance 0
 
 -- the region has the parts of the activations that stand then
-abbrev pub IsAmpleForLink : Layout → List ℕ → List Row → Registers → LinkTurn → Type 0
-IsAmpleForLink layout region table r (Done turn) = IsAmpleFor layout region table turn
+abbrev pub IsAmpleForLink : Layout → List ℕ → List Row → Registers → LinkSequel → Type 0
+IsAmpleForLink layout region table r (Done sequel) = IsAmpleFor layout region table sequel
 IsAmpleForLink layout region table r (Host h) = IsAmple layout region table r.top
 
+-- a stack has room so too, and its places lie where they did
+pub record KeepsRoomForLink (s s' : Stack) (r : Registers) (sequel : LinkSequel) : Type 0 where
+  pub ample : on s' IsAmpleForLink r sequel
+  pub same_layout : s'.layout ≡ s.layout
+  pub reserved : vec_capacity s.region ≤ vec_capacity s'.region
+
 -- a frame stands on top then; or the run ends or the host is called, and the rows are as they were
-abbrev pub AddsFrameForLink : Layout → (table : List Row) → Registers → (table' : List Row) → LinkTurn → Type 0
-AddsFrameForLink layout table r table' (Done turn) = AddsFrame layout table r table' turn
+abbrev pub AddsFrameForLink : Layout → (table : List Row) → Registers → (table' : List Row) → LinkSequel → Type 0
+AddsFrameForLink layout table r table' (Done sequel) = AddsFrame layout table r table' sequel
 AddsFrameForLink layout table r table' (Host h) = table' ≡ table
 
--- where the machine comes to: where a turn leads, or to the call of the host's procedure
-unfoldable pub LinkLeads : Image → Layout → List ℕ → List Row → Registers → Stepped → Store → LinkTurn → Type 0
-LinkLeads image layout region table r s m (Done turn) = LeadsTo image layout region table s m turn
+-- where the machine comes to: what comes next, or to the call of the host's procedure
+unfoldable pub LinkLeads : Image → Layout → List ℕ → List Row → Registers → Stepped → Store → LinkSequel → Type 0
+LinkLeads image layout region table r s m (Done sequel) = LeadsTo image layout region table s m sequel
 LinkLeads image layout region table r s m (Host h) =
     (e : CallsHost image layout region table r (host_is h)) × Reaches image s (host image (host_is h) e.top e.rest m)
 
 -- and some instances were started, as the marks show
 pub record LinkedTo (image : Image) (layout : Layout) (region : List ℕ) (table : List Row) (r : Registers) (marks : List Bool)
-    (s : Stepped) (m : Store) (turn : LinkTurn) : Type 0 where
+    (s : Stepped) (m : Store) (sequel : LinkSequel) : Type 0 where
   pub started : ℕ → Bool
   pub shown : ShowsStarted marks started
-  pub leads : LinkLeads image layout region table r s (record m { started = started }) turn
+  pub leads : LinkLeads image layout region table r s (record m { started = started }) sequel
+
+-- somewhere the topmost activation, of this instance, stands at an instruction, and the machine is not stuck
+pub record StandsSomewhere (image : Image) (instance : ℕ) (i : Instruction) : Type 0 where
+  pub layout : Layout
+  pub region : List ℕ
+  pub table : List Row
+  pub r : Registers
+  pub prepared : IsPrepared image layout
+  pub stands : StandsIn image layout region table r
+  pub at : StandsAt image table r i
+  pub own : instance ≡ (row_at table r.top).instance
 
 -- A procedure that writes is called at once: it is found, and a turn is left for it.
 abbrev pub CallsWriting : Image → Layout → List ℕ → List Row → Registers → (turns : ℕ) → Writing → Type 0

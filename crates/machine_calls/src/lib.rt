@@ -10,6 +10,6 @@ mod writing;
 
 pub use ahead::{Coming, look};
 pub use host::{HostProcedure, Reading, Writing};
-pub use linking::{LinkTurn, call_again, call_link, writing_called};
-pub use reading::{ReadTurn, read};
+pub use linking::{LinkSequel, call_again, call_link, writing_called};
+pub use reading::{ReadSequel, read};
 pub use writing::write;

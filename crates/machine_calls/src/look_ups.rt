@@ -1,25 +1,13 @@
-//! What the code reads of an image, of the rows and of the marks.
+//! What the code reads of an image and of the marks.
 
 ghost use Rattle.std.specs.Prelude.{◌≡◌, ℕ, ◌<◌, IsSome, Some, false, length, nat_eq, slice_get, slice_index_or, ◌||◌};
 ghost use Rattle.code_forms.specs.declared.instruction.Instruction.TheVariants.{CallLink};
 ghost use Rattle.code_forms.specs.declared.module_code.CodeEntry.{CodeEntry};
 ghost use Rattle.code_forms.specs.declared.module_code.CodeProcedure.{CodeProcedure};
 ghost use Rattle.machine_rules.specs.LookUps.{bound_to, procedure_of, text_of};
-ghost use Rattle.machine_activations.specs.Frames.{row_at};
 
 use code_forms::{CodeProcedure, Instruction};
-use machine_activations::Row;
 use object_files::{Image, Link};
-
-/// The row of a place.
-#[inline(always)]
-#[tactic(auto, using(machine_activations::proofs::Tables::row_at_place))]
-pub(crate) fn row_of(table: &[Row], place: usize) -> Row
-    requires there { place < length table.now }
-    ensures { result ≡ row_at table.now place }
-{
-    table[place]
-}
 
 /// Whether an instance needs no start for a call of its procedures: it is the caller's, or was started.
 #[inline(always)]

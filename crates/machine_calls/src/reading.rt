@@ -3,7 +3,7 @@
 ghost use Rattle.std.specs.Prelude.{◌≡◌, ◌+◌, ◌<◌, ◌≤◌, length, None, IfOk, OnOk, OnErr, slice_set};
 ghost use Rattle.mesa_base.specs.Outside.{Rose};
 ghost use Rattle.machine_calls.specs.declared.host.HostProcedure.TheVariants.{Read};
-ghost use Rattle.machine_calls.specs.declared.reading.ReadTurn.TheVariants.{Goes};
+ghost use Rattle.machine_calls.specs.declared.reading.ReadSequel.TheVariants.{Goes};
 ghost use Rattle.machine_calls.specs.Hosting.{AsksOn, Breaks, CanCall, GoesBehind, Reads, ReadsOn, vain_by};
 
 use crate::ahead::{Coming, look};
@@ -13,7 +13,7 @@ use mesa_base::{Failed, Source};
 
 /// What a reading leads to.
 #[derive(Clone, Copy)]
-pub enum ReadTurn {
+pub enum ReadSequel {
     /// The topmost activation goes on behind the call.
     Goes(Registers),
     /// None is left to read, and it raises NoInput.
@@ -21,14 +21,14 @@ pub enum ReadTurn {
 }
 
 // The word is pushed, and the topmost activation goes on behind the call.
-fn pushed(word: u16, region: &mut [u16], r: Registers) -> ReadTurn
+fn pushed(word: u16, region: &mut [u16], r: Registers) -> ReadSequel
     requires room { r.sp < length region.old }
     requires entry { r.entry < 4294967296 }
     ensures region { region.new ≡ slice_set region.old r.sp word }
     ensures registers { result ≡ Goes (record { top = r.top; slots = r.slots; sp = r.sp + 1; entry = r.entry + 1 }) }
 {
     region[r.sp] = word;
-    ReadTurn::Goes(Registers {
+    ReadSequel::Goes(Registers {
         top: r.top,
         slots: r.slots,
         sp: r.sp + 1,
@@ -37,7 +37,7 @@ fn pushed(word: u16, region: &mut [u16], r: Registers) -> ReadTurn
 }
 
 // Where it is known what comes.
-fn read_known(reading: Reading, coming: Coming, region: &mut [u16], r: Registers) -> ReadTurn
+fn read_known(reading: Reading, coming: Coming, region: &mut [u16], r: Registers) -> ReadSequel
     requires { CanCall region.old r (Read reading) }
     ensures leads { ReadsOn region.old region.new r reading coming result }
     ensures behind { GoesBehind r reading result }
@@ -48,7 +48,7 @@ fn read_known(reading: Reading, coming: Coming, region: &mut [u16], r: Registers
             Reading::AtEnd => pushed(0, region, r),
         },
         Coming::End => match reading {
-            Reading::Next => ReadTurn::NoInput,
+            Reading::Next => ReadSequel::NoInput,
             Reading::AtEnd => pushed(1, region, r),
         },
     }
@@ -62,9 +62,9 @@ pub fn read<S: Source>(
     r: Registers,
     ahead: &mut Option<Coming>,
     input: &mut S,
-) -> Result<ReadTurn, Failed>
+) -> Result<ReadSequel, Failed>
     requires can { CanCall region.old r (Read reading) }
-    ensures reads { IfOk result (λ turn. Reads reading ahead.old ahead.new (S.left input.old) (S.left input.new) region.old region.new r turn) }
+    ensures reads { IfOk result (λ sequel. Reads reading ahead.old ahead.new (S.left input.old) (S.left input.new) region.old region.new r sequel) }
     ensures kept { OnErr result (S.left input.new ≡ S.left input.old) }
     ensures unknown { OnErr result (ahead.old ≡ None) }
     ensures ahead_stays { OnErr result (ahead.new ≡ ahead.old) }

@@ -56,6 +56,6 @@ planned_depths (x ∷ modules) (y ∷ plans) h (suc n) o e = planned_depths modu
 
 pub plans_there : PlansAreThere
 plans_there image p r n k o q is there =
-    let h = MatchOption-at_some (Unit {0}) (λ x. IsSomeAnd (slice_get p.plans n) (IsPlanned x)) o is (AllZip-left IsPlanned image.modules p.plans r.plans n) in
-    let s = some_and (slice_get p.plans n) (IsPlanned o) h in
+    let h = MatchOption-at_some (Unit {0}) (λ x. IsSomeAnd (slice_get p.tables.plans n) (IsPlanned x)) o is (AllZip-left IsPlanned image.modules p.tables.plans r.plans n) in
+    let s = some_and (slice_get p.tables.plans n) (IsPlanned o) h in
     rw s.1 (MatchOption-at_some (Unit {0}) (λ x. IsSomeAnd (slice_get s.0 k) (IsPlan x)) q there (AllZip-left IsPlan o.code.procedures s.0 s.2.plans k))

@@ -41,8 +41,8 @@ module _ (image : Image) (hosts : All IsHostItem image.wanted) where
 
 pub ready_is_prepared : ReadyIsPrepared
 ready_is_prepared image p r = record {
-  valid = planned_valid image.modules p.plans r.plans;
-  depths = planned_depths image.modules p.plans r.plans;
+  valid = planned_valid image.modules p.tables.plans r.plans;
+  depths = planned_depths image.modules p.tables.plans r.plans;
   laid = parts_fit image p r;
   links = λ j k l is. some_like image r.host l (bound_to image j k)
       (MatchOption-at_some (bound_to image j k ≡ None) (λ x. IsSomeAnd (bound_to image j k) (IsBoundAlike image x)) l is (r.order.links j k));

@@ -68,7 +68,7 @@ ordered_can_run image o v hosts = record {
 }
 
 pub ready_can_run : ReadyCanRun
-ready_can_run image p r = ordered_can_run image r.order (planned_valid image.modules p.plans r.plans) r.host
+ready_can_run image p r = ordered_can_run image r.order (planned_valid image.modules p.tables.plans r.plans) r.host
 
 -- Sizes.
 

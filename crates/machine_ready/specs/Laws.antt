@@ -28,16 +28,16 @@ ReadyHasDepths = (image : Image) (p : Prepared) → IsReady image p → (n : ℕ
 
 abbrev pub PlansAreThere : Type 0
 PlansAreThere = (image : Image) (p : Prepared) → IsReady image p → (n k : ℕ) (o : Object) (q : CodeProcedure) → slice_get image.modules n ≡ Some o
-    → slice_get o.code.procedures k ≡ Some q → IsSomeAnd (slice_get p.plans n) (λ plans. IsSomeAnd (slice_get plans k) (IsPlan q))
+    → slice_get o.code.procedures k ≡ Some q → IsSomeAnd (slice_get p.tables.plans n) (λ plans. IsSomeAnd (slice_get plans k) (IsPlan q))
 
 -- in a part there is room for the frame of each procedure, and behind the largest frame for its operands
 abbrev pub PartsFit : Type 0
 PartsFit = (image : Image) (p : Prepared) → IsReady image p → (j n : ℕ) (q : CodeProcedure) → procedure_of image j n ≡ Some q
-    → (q.frame ≤ p.layout.frame) × (p.layout.frame + q.depth ≤ p.layout.part)
+    → (q.frame ≤ p.stack.layout.frame) × (p.stack.layout.frame + q.depth ≤ p.stack.layout.part)
 
 -- it is prepared for the run over its region: besides the above, what each link is bound to takes and gives as many words as the link
 abbrev pub ReadyIsPrepared : Type 0
-ReadyIsPrepared = (image : Image) (p : Prepared) → IsReady image p → IsPrepared image p.layout
+ReadyIsPrepared = (image : Image) (p : Prepared) → IsReady image p → IsPrepared image p.stack.layout
 
 -- there is one first wanted item at most that is none of the host's, and none where all are the host's
 abbrev pub OneUnresolved : Type 0

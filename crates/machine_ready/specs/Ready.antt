@@ -40,15 +40,15 @@ pub record IsPlanned (o : Object) (made : List Plan) : Type 0 where
 pub record IsReady (image : Image) (p : Prepared) : Type 0 where
   pub order : ImageInOrder image
   pub host : All IsHostItem image.wanted
-  pub plans : AllZip IsPlanned image.modules p.plans
+  pub plans : AllZip IsPlanned image.modules p.tables.plans
   -- how each instance reads the links of labels, its globals, and whether it was started
-  pub links : (j : ℕ) → j < length image.instances → slice_get p.links j ≡ Some (links_of image j)
+  pub links : (j : ℕ) → j < length image.instances → slice_get p.tables.links j ≡ Some (links_of image j)
   pub all_globals : length p.globals.items ≡ length image.instances
   pub globals : (j : ℕ) → j < length image.instances → IsSomeAnd (slice_get p.globals.items j) (λ words. length words.items ≡ globals_in (code_of image j))
   pub started : length p.started.items ≡ length image.instances
   -- a part has the largest frame, and behind it room for the operands of any procedure; there is memory for as many parts as there may be
   -- activations, and a row for each
-  pub frame : p.layout.frame ≡ largest (λ q. q.frame) image.modules
-  pub part : p.layout.part ≡ p.layout.frame + largest (λ q. q.depth) image.modules
-  pub region : ACTIVATIONS * p.layout.part ≤ vec_capacity p.region
-  pub rows : length p.rows.items ≡ ACTIVATIONS
+  pub frame : p.stack.layout.frame ≡ largest (λ q. q.frame) image.modules
+  pub part : p.stack.layout.part ≡ p.stack.layout.frame + largest (λ q. q.depth) image.modules
+  pub region : ACTIVATIONS * p.stack.layout.part ≤ vec_capacity p.stack.region
+  pub rows : length p.stack.rows.items ≡ ACTIVATIONS

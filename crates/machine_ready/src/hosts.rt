@@ -31,8 +31,8 @@ fn is_offered(items: &[Item], item: &Item) -> bool
     false
 }
 
-// Whether the wanted item is one of the built-in interface.
-fn is_host_item(face: &Face, wanted: &Wanted) -> bool
+/// Whether the wanted item is one of the built-in interface, which is this face.
+pub fn is_host_item(face: &Face, wanted: &Wanted) -> bool
     requires { face.now ≡ iodefs.face }
     ensures { IsTrue result ↔ IsHostItem wanted.now }
 {
@@ -41,8 +41,8 @@ fn is_host_item(face: &Face, wanted: &Wanted) -> bool
         && is_offered(face.items.as_slice(), &wanted.item)
 }
 
-// The item as a fault names it.
-fn named(alloc: Global, wanted: &Wanted) -> Result<WantedItem, OutOfMemory>
+/// The item as a fault names it.
+pub fn named_item(alloc: Global, wanted: &Wanted) -> Result<WantedItem, OutOfMemory>
     ensures { IfOk result (λ item. item ≡ named wanted.now) }
 {
     Ok(WantedItem {
@@ -56,7 +56,7 @@ fn named(alloc: Global, wanted: &Wanted) -> Result<WantedItem, OutOfMemory>
 fn refuse(alloc: Global, wanted: &Wanted) -> ReadyFault
     ensures { (item : WantedItem) → result ≡ Unresolved item → item ≡ named wanted.now }
 {
-    match named(alloc, wanted) {
+    match named_item(alloc, wanted) {
         Ok(item) => ReadyFault::Unresolved(item),
         Err(OutOfMemory) => ReadyFault::Memory,
     }

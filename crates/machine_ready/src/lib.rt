@@ -15,6 +15,7 @@ mod sizes;
 mod targets;
 
 pub use fault::ReadyFault;
+pub use hosts::{is_host_item, named_item};
 pub use law::{
     none_unresolved, one_unresolved, ordered_can_run, parts_fit, plans_are_there, ready_can_run,
     ready_has_depths, ready_is_prepared,
@@ -22,4 +23,4 @@ pub use law::{
 pub use machine::{Machine, ready};
 pub use openings::Opening;
 pub use plan::{Plan, Plans};
-pub use prepared::Prepared;
+pub use prepared::{Prepared, Tables};

@@ -9,27 +9,31 @@ use crate::globals::all_globals;
 use crate::links::all_links;
 use crate::plan::{Plans, all_plans};
 use crate::sizes::{largest_depth, largest_frame};
-use machine_activations::{Kind, Layout, Row};
+use machine_activations::{Kind, Layout, Row, Stack};
 use mesa_base::limits::ACTIVATIONS;
 use mesa_base::{List, OutOfMemory};
 use object_files::{Image, Object};
 use signaller::Links;
 use std::alloc::Global;
 
-/// All that a run needs beside its image. The words of the region are in memory that is kept for it and not yet written:
-/// the region grows as it is used, up to a part for each activation that may stand.
+/// What a run looks up beside its image, and never changes.
 #[derive(Drop)]
-pub struct Prepared {
+pub struct Tables {
     /// For each module the plans of its procedures.
     pub plans: List<Plans>,
-    /// For each instance how it reads the links of labels, the words of its globals, and whether it was started.
+    /// For each instance how it reads the links of labels.
     pub links: List<Links>,
+}
+
+/// All that a run needs beside its image.
+#[derive(Drop)]
+pub struct Prepared {
+    pub tables: Tables,
+    /// For each instance the words of its globals, and whether it was started.
     pub globals: Vec<Vec<u16>>,
     pub started: Vec<bool>,
-    /// Where the words of each activation stand in the region, the region, and the rows of the activations.
-    pub layout: Layout,
-    pub region: Vec<u16>,
-    pub rows: Vec<Row>,
+    /// The activations that stand, with memory for as many as may.
+    pub stack: Stack,
 }
 
 /// A part has the largest frame, and behind it room for the most operands.
@@ -66,12 +70,16 @@ pub fn prepare(alloc: Global, image: &Image) -> Result<Prepared, OutOfMemory>
     let modules = image.modules.as_slice();
     let layout = layout_of(modules);
     Ok(Prepared {
-        plans: all_plans(alloc, modules)?,
-        links: all_links(alloc, image)?,
+        tables: Tables {
+            plans: all_plans(alloc, modules)?,
+            links: all_links(alloc, image)?,
+        },
         globals: all_globals(alloc, image)?,
         started: vec![in alloc; false; image.instances.len()]?,
-        layout,
-        region: Vec::with_capacity(alloc, ACTIVATIONS * layout.part)?,
-        rows: all_rows(alloc)?,
+        stack: Stack {
+            layout,
+            region: Vec::with_capacity(alloc, ACTIVATIONS * layout.part)?,
+            rows: all_rows(alloc)?,
+        },
     })
 }

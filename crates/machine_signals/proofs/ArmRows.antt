@@ -5,8 +5,8 @@ use Rattle.object_files.specs.declared.image.Image.{Image}
 use Rattle.signaller.specs.declared.search.Search.{Search}
 use Rattle.machine_rules.specs.LookUps.{procedure_of}
 use Rattle.machine_topmost.specs.declared.registers.Registers.{Registers}
-use Rattle.machine_activations.specs.declared.calling.Turn.{Turn}
-use Rattle.machine_activations.specs.declared.calling.Turn.TheVariants.{Goes, Empty, Pending, Ends}
+use Rattle.machine_activations.specs.declared.calling.Sequel.{Sequel}
+use Rattle.machine_activations.specs.declared.calling.Sequel.TheVariants.{Goes, Empty, Pending, Ends}
 use Rattle.machine_activations.specs.declared.row.Kind.{Kind}
 use Rattle.machine_activations.specs.declared.row.Kind.TheVariants.{Frame as FrameRow, Arm as ArmRow}
 use Rattle.machine_activations.specs.declared.row.Layout.{Layout}
@@ -85,10 +85,10 @@ wait_alike table r layout args there k low = ⊎_elim
 
 module _ (image : Image) (table : List Row) where
   -- an arm is run
-  pub arms_entered : (table' : List Row) (top place n : ℕ) (reason : Reason) (turn : Turn) → AddsArm table top place n reason table' turn → ArmsHold image table top
+  pub arms_entered : (table' : List Row) (top place n : ℕ) (reason : Reason) (sequel : Sequel) → AddsArm table top place n reason table' sequel → ArmsHold image table top
       → ((row : Row) → row.instance ≡ (row_at table place).instance → row.procedure ≡ (row_at table place).procedure → (rows : List Row)
       → ((k : ℕ) → k ≤ top → Alike (row_at rows k) (row_at table k)) → row_at rows (top + 1) ≡ row → ReasonHolds image rows (top + 1) reason)
-      → HoldsOn image table' turn
+      → HoldsOn image table' sequel
   arms_entered table' top place n reason (Goes r) adds h new =
       let own = owner_place (row_at table place).kind place in
       let holder = row_at table place in

@@ -18,6 +18,7 @@ pub mod InImage
 pub mod ArmCalls
 pub mod Asks
 pub mod SeekLoop
+pub mod Roomy
 pub mod SeekArms
 pub mod RaiseCalls
 pub mod RaiserCalls

@@ -6,8 +6,8 @@ use Rattle.signaller.specs.declared.search.Search.{Search}
 use Rattle.signaller.specs.declared.signal_id.SignalId.{SignalId}
 use Rattle.machine_rules.specs.State.{Activations, Store, Seeks, Stepped, Goes}
 use Rattle.machine_rules.specs.LookUps.{procedure_of}
-use Rattle.machine_activations.specs.declared.calling.Turn.{Turn}
-use Rattle.machine_activations.specs.declared.calling.Turn.TheVariants.{Goes as GoesOn, Empty, Pending, Ends}
+use Rattle.machine_activations.specs.declared.calling.Sequel.{Sequel}
+use Rattle.machine_activations.specs.declared.calling.Sequel.TheVariants.{Goes as GoesOn, Empty, Pending, Ends}
 use Rattle.machine_activations.specs.declared.row.Layout.{Layout}
 use Rattle.machine_activations.specs.declared.row.Reason.{Reason}
 use Rattle.machine_activations.specs.declared.row.Reason.TheVariants.{Raise as RaiseRow}
@@ -23,7 +23,7 @@ use Rattle.machine_signals.specs.Seeking.{CanSeek, IsLanding, Lands, Seeking}
 use Rattle.machine_signals.proofs.ArmRows.{arms_entered}
 use Rattle.machine_signals.proofs.Landing.{landing_awaits}
 
-pub arm_runs : (table : List Row) (top place arm : ℕ) (reason : Reason) (table' : List Row) (turn : Turn) → AddsArm table top place arm reason table' turn → RunsArm turn
+pub arm_runs : (table : List Row) (top place arm : ℕ) (reason : Reason) (table' : List Row) (sequel : Sequel) → AddsArm table top place arm reason table' sequel → RunsArm sequel
 arm_runs table top place arm reason table' (GoesOn r) adds = tt
 arm_runs table top place arm reason table' Empty adds = adds
 arm_runs table top place arm reason table' (Pending r) adds = adds
@@ -46,10 +46,10 @@ module _ (image : Image) (layout : Layout) (region : List ℕ) (table : List Row
   can_enter can = record { start = can.start; store = can.store; awaits = lands_awaits can.start can.store can.seeking }
 
   -- the arm's row tells a search in its table
-  pub holds_then : (table' : List Row) (turn : Turn) → AddsArm table top landed.place landed.arm (RaiseRow signal count landed.beyond) table' turn → ArmsHold image table top
-      → HoldsOn image table' turn
-  holds_then table' turn adds holds =
-      arms_entered image table table' top landed.place landed.arm (RaiseRow signal count landed.beyond) turn adds holds
+  pub holds_then : (table' : List Row) (sequel : Sequel) → AddsArm table top landed.place landed.arm (RaiseRow signal count landed.beyond) table' sequel → ArmsHold image table top
+      → HoldsOn image table' sequel
+  holds_then table' sequel adds holds =
+      arms_entered image table table' top landed.place landed.arm (RaiseRow signal count landed.beyond) sequel adds holds
       (λ row instance procedure rows same is p is_p.
       let code : procedure_of image (row_at table landed.place).instance (row_at table landed.place).procedure ≡ Some p =
       ap (λ j. procedure_of image j (row_at table landed.place).procedure) (sym instance ∙ ap (λ (x : Row). x.instance) (sym is))

@@ -1,4 +1,4 @@
--- A turn of the search from table to table, with the values of the code.
+-- A round of the search from table to table, with the values of the code.
 use Rattle.std.proofs.Common.{◌≡◌, ◌≢◌, ℕ, suc, ◌-◌, ◌<◌, ◌≤◌, List, length, true, Some, sym, ap, subst, ◌∙◌, arith}
 use Rattle.code_forms.specs.declared.module_code.CodeProcedure.{CodeProcedure}
 use Rattle.object_files.specs.declared.image.Image.{Image}

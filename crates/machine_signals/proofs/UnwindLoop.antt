@@ -1,4 +1,4 @@
--- A turn of a jump that gives up activations, with the values of the code.
+-- A round of a jump that gives up activations, with the values of the code.
 use Rattle.std.proofs.Common.{◌≡◌, ◌≢◌, ◌⊎◌, inl, inr, ℕ, ◌+◌, ◌-◌, ◌<◌, ◌≤◌, List, Some, sym, ap, subst, ◌∙◌, arith}
 use Rattle.std.proofs.lemmas.Option.{same_Some}
 use Rattle.code_forms.specs.declared.module_code.CodeProcedure.{CodeProcedure}
@@ -9,7 +9,8 @@ use Rattle.signaller.specs.declared.search.Search.{Search}
 use Rattle.signaller.specs.Search.{unwind_next}
 use Rattle.machine_rules.specs.State.{Store, Stepped}
 use Rattle.machine_rules.specs.LookUps.{procedure_of}
-use Rattle.machine_activations.specs.declared.calling.Turn.{Turn}
+use Rattle.machine_activations.specs.declared.calling.Sequel.{Sequel}
+use Rattle.machine_activations.specs.declared.calling.Sequel.TheVariants.{Goes, Empty, Pending, Ends}
 use Rattle.machine_activations.specs.declared.row.Kind.{Kind}
 use Rattle.machine_activations.specs.declared.row.Kind.TheVariants.{Frame as FrameRow, Arm as ArmRow}
 use Rattle.machine_activations.specs.declared.row.Layout.{Layout}
@@ -20,7 +21,7 @@ use Rattle.machine_activations.specs.Frames.{row_at, owner_place}
 use Rattle.machine_signals.specs.declared.seeking.Landed.{Landed}
 use Rattle.machine_signals.specs.Arms.{AddsArm, Awaits}
 use Rattle.machine_signals.specs.Indexed.{AsksIn, AskedOf, IsAsked}
-use Rattle.machine_signals.specs.Leaving.{IsUnwinding, Leaving, LeftThere}
+use Rattle.machine_signals.specs.Leaving.{IsUnwinding, Leaving, LeftThere, StaysLow}
 use Rattle.machine_signals.specs.Raising.{ArmsHold, AsksLeft, HoldsOn, KindHolds, LeadsBelow}
 use Rattle.machine_signals.proofs.ArmRows.{arms_entered, arms_fewer, asked_alike, code_alike}
 use Rattle.machine_signals.proofs.Leaves.{leaving_drops, leaving_runs, after_within}
@@ -86,9 +87,9 @@ module _ (image : Image) (table : List Row) (place : ℕ) (row : Row) (row_is : 
 
 -- the row of an UNWIND arm that is run tells a search and a jump that can go on
 pub unwind_holds : (image : Image) (table : List Row) (top : ℕ) (target : Target) (landed : Landed) → IsUnwinding image table top target landed → LeadsBelow image table (top + 1) target
-    → ArmsHold image table top → (table' : List Row) (turn : Turn) → AddsArm table landed.place landed.place landed.arm (JumpRow target landed.beyond) table' turn → HoldsOn image table' turn
-unwind_holds image table top target landed found aims holds table' turn adds =
-    arms_entered image table table' landed.place landed.place landed.arm (JumpRow target landed.beyond) turn adds (arms_fewer image table top landed.place found.low holds)
+    → ArmsHold image table top → (table' : List Row) (sequel : Sequel) → AddsArm table landed.place landed.place landed.arm (JumpRow target landed.beyond) table' sequel → HoldsOn image table' sequel
+unwind_holds image table top target landed found aims holds table' sequel adds =
+    arms_entered image table table' landed.place landed.place landed.arm (JumpRow target landed.beyond) sequel adds (arms_fewer image table top landed.place found.low holds)
     (λ row instance procedure rows same is.
     let above = found.above in
     let here : landed.place ≡ landed.place + 1 - 1 = omega arith in (
@@ -99,3 +100,13 @@ unwind_holds image table top target landed found aims holds table' turn adds =
         goal = λ p is_p. aims.goal p (code_alike image (row_at rows target.place) (row_at table target.place) (same target.place (omega (arith, above))) ∙ is_p);
       },
     ))
+
+-- where a jump arrives, at a place no higher, the rows are as they were
+pub arrived_holds : (image : Image) (table : List Row) (top place : ℕ) → place ≤ top → ArmsHold image table top
+    → (table' : List Row) → table' ≡ table → (sequel : Sequel) → StaysLow place sequel → HoldsOn image table' sequel
+arrived_holds image table top place under holds table' same (Goes r) low =
+    subst (λ t. ArmsHold image t r.top) (sym same) (arms_fewer image table top r.top (omega (arith, under, low)) holds)
+arrived_holds image table top place under holds table' same Empty low = tt
+arrived_holds image table top place under holds table' same (Pending r) low =
+    subst (λ t. ArmsHold image t r.top) (sym same) (arms_fewer image table top r.top (omega (arith, under, low)) holds)
+arrived_holds image table top place under holds table' same (Ends end) low = tt

@@ -12,8 +12,8 @@ use Rattle.machine_rules.specs.Activations.{activation_at, owner}
 use Rattle.machine_rules.specs.Signals.{enter_arm}
 use Rattle.machine_topmost.specs.declared.registers.Registers.{Registers}
 use Rattle.machine_topmost.specs.Flat.{part, with_part}
-use Rattle.machine_activations.specs.declared.calling.Turn.{Turn}
-use Rattle.machine_activations.specs.declared.calling.Turn.TheVariants.{Goes, Empty, Pending, Ends}
+use Rattle.machine_activations.specs.declared.calling.Sequel.{Sequel}
+use Rattle.machine_activations.specs.declared.calling.Sequel.TheVariants.{Goes, Empty, Pending, Ends}
 use Rattle.machine_activations.specs.declared.row.Kind.TheVariants.{Arm as ArmRow}
 use Rattle.machine_activations.specs.declared.row.Layout.{Layout}
 use Rattle.machine_activations.specs.declared.row.Reason.{Reason}
@@ -90,7 +90,7 @@ pub record CanEnter (image : Image) (layout : Layout) (region : List ℕ) (table
   pub awaits : Awaits image layout region table top place arm reason from count start store
 
 -- the arm stands on top then; or the run ends, with the rows as they were
-abbrev pub AddsArm : List Row → (top place arm : ℕ) → Reason → (table' : List Row) → Turn → Type 0
+abbrev pub AddsArm : List Row → (top place arm : ℕ) → Reason → (table' : List Row) → Sequel → Type 0
 AddsArm table top place n reason table' (Goes r) = (r.top ≡ top + 1) × (top + 1 < length table)
     × (table' ≡ with_arm table (top + 1) (row_at table place) (owner_place (row_at table place).kind place) n reason)
 AddsArm table top place n reason table' Empty = ⊥

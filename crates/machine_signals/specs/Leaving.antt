@@ -7,8 +7,8 @@ use Rattle.machine_rules.specs.State.{Target as Aim, Active, Activations, Store,
 use Rattle.machine_rules.specs.Signals.{takes_back, reject}
 use Rattle.machine_rules.specs.Leaving.{arrived}
 use Rattle.machine_topmost.specs.declared.registers.Registers.{Registers}
-use Rattle.machine_activations.specs.declared.calling.Turn.{Turn}
-use Rattle.machine_activations.specs.declared.calling.Turn.TheVariants.{Goes as TurnGoes, Empty, Pending, Ends as TurnEnds}
+use Rattle.machine_activations.specs.declared.calling.Sequel.{Sequel}
+use Rattle.machine_activations.specs.declared.calling.Sequel.TheVariants.{Goes as GoesOn, Empty, Pending, Ends as EndsSo}
 use Rattle.machine_activations.specs.declared.row.Kind.{Kind}
 use Rattle.machine_activations.specs.declared.row.Kind.TheVariants.{Frame as FrameRow, Arm as ArmRow}
 use Rattle.machine_activations.specs.declared.row.Layout.{Layout}
@@ -81,11 +81,11 @@ pub record IsUnwinding (image : Image) (table : List Row) (top : ℕ) (target : 
   pub asks : AskedOf image (row_at table landed.place) landed.beyond
 
 -- where an activation goes on, it is no higher than a place
-abbrev pub StaysLow : (place : ℕ) → Turn → Type 0
-StaysLow place (TurnGoes r) = r.top ≤ place
+abbrev pub StaysLow : (place : ℕ) → Sequel → Type 0
+StaysLow place (GoesOn r) = r.top ≤ place
 StaysLow place Empty = Unit {0}
 StaysLow place (Pending r) = r.top ≤ place
-StaysLow place (TurnEnds end) = Unit {0}
+StaysLow place (EndsSo end) = Unit {0}
 
 -- what is asked of the activation under one of a kind that is dropped
 abbrev pub LeftThere : Image → Kind → Row → Search → Type 0

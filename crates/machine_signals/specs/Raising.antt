@@ -13,8 +13,8 @@ use Rattle.machine_rules.specs.LookUps.{procedure_of}
 use Rattle.machine_rules.specs.Signals.{takes_back}
 use Rattle.machine_rules.specs.Steps.{raise_with}
 use Rattle.machine_topmost.specs.declared.registers.Registers.{Registers}
-use Rattle.machine_activations.specs.declared.calling.Turn.{Turn}
-use Rattle.machine_activations.specs.declared.calling.Turn.TheVariants.{Goes, Empty, Pending, Ends}
+use Rattle.machine_activations.specs.declared.calling.Sequel.{Sequel}
+use Rattle.machine_activations.specs.declared.calling.Sequel.TheVariants.{Goes, Empty, Pending, Ends}
 use Rattle.machine_activations.specs.declared.row.Kind.{Kind}
 use Rattle.machine_activations.specs.declared.row.Kind.TheVariants.{Frame as FrameRow, Arm as ArmRow}
 use Rattle.machine_activations.specs.declared.row.Layout.{Layout}
@@ -85,14 +85,14 @@ abbrev pub ArmsHold : Image → List Row → (top : ℕ) → Type 0
 ArmsHold image table top = (q : ℕ) → q ≤ top → KindHolds image table q (row_at table q).kind
 
 -- and so they do where an activation goes on
-abbrev pub HoldsOn : Image → List Row → Turn → Type 0
+abbrev pub HoldsOn : Image → List Row → Sequel → Type 0
 HoldsOn image table (Goes r) = ArmsHold image table r.top
 HoldsOn image table Empty = Unit {0}
 HoldsOn image table (Pending r) = ArmsHold image table r.top
 HoldsOn image table (Ends end) = Unit {0}
 
 -- an arm goes on, or the run ends
-abbrev pub RunsArm : Turn → Type 0
+abbrev pub RunsArm : Sequel → Type 0
 RunsArm (Goes r) = Unit {0}
 RunsArm Empty = ⊥
 RunsArm (Pending r) = ⊥

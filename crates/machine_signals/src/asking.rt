@@ -1,24 +1,22 @@
 //! Which phrase a signal or a jump asks first where an activation waits, and what the table of one says.
 
 ghost use Rattle.std.specs.Prelude.{◌≡◌, ◌<◌, ◌^◌, length, false, true, Some, IsSome};
-ghost use Rattle.std.specs.List.{AllZip, list_any};
+ghost use Rattle.std.specs.List.{list_any};
 ghost use Rattle.code_forms.specs.Phrases.{PhrasesFill};
 ghost use Rattle.code_forms.specs.Routine.{code_end, spots};
 ghost use Rattle.code_forms.specs.declared.module_code.CodeProcedure.{CodeProcedure};
 ghost use Rattle.machine_rules.specs.LookUps.{links_of, procedure_of};
-ghost use Rattle.machine_ready.specs.Ready.{IsPlanned};
 ghost use Rattle.signaller.specs.Search.{around, covers, first_of, has, innermost_of, next_arm, search_at, unwind_next};
 ghost use Rattle.signaller.specs.Sought.{passed};
 ghost use Rattle.machine_activations.specs.Shows.{IsPrepared};
-ghost use Rattle.machine_signals.specs.Indexed.{AskedOf, BeginsThere, IsRead, ReadsLinks};
+ghost use Rattle.machine_signals.specs.Indexed.{AreTables, AskedOf, BeginsThere, IsRead};
 
 use crate::lookups::{plan_of, procedure_at};
 use code_forms::{Arm, CodeProcedure, Phrase};
 use machine_activations::{Layout, Row};
-use machine_ready::Plans;
-use mesa_base::List;
+use machine_ready::Tables;
 use object_files::Image;
-use signaller::{Found, Links, Search, SignalId, next_arm, unwind_next};
+use signaller::{Found, Search, SignalId, next_arm, unwind_next};
 
 fn covers(phrase: &Phrase, offset: u32) -> bool
     ensures { result ≡ covers phrase.now offset }
@@ -94,15 +92,14 @@ fn search_about(procedure: &CodeProcedure, innermost: Option<u32>, offset: u32) 
 
 /// The search of a signal that begins where the activation of a row waits.
 #[inline(always)]
-pub(crate) fn around(image: &Image, plans: &List<Plans>, row: Row, layout: Layout) -> Search
-    requires prepared { IsPrepared image.now layout }
-    requires planned { AllZip IsPlanned image.now.modules plans.now }
+pub(crate) fn around(image: &Image, tables: &Tables, row: Row, layout: Layout) -> Search
+    requires tables { AreTables image.now layout tables.now }
     requires read { IsRead image.now row }
     ensures begins { BeginsThere image.now true row result }
     ensures asks { AskedOf image.now row result }
 {
     let procedure = procedure_at(image, row.instance, row.procedure);
-    let plan = plan_of(image, plans, row.instance, row.procedure);
+    let plan = plan_of(image, &tables.plans, row.instance, row.procedure);
     let offset = procedure.code.as_slice()[row.entry].at;
     let innermost = plan.innermost.as_slice()[row.entry];
     search_about(procedure, innermost, offset)
@@ -110,14 +107,13 @@ pub(crate) fn around(image: &Image, plans: &List<Plans>, row: Row, layout: Layou
 
 /// The search of a jump that begins in the region where the activation of a row waits: with the innermost phrase, if one is
 /// enabled there.
-pub(crate) fn around_within(image: &Image, plans: &List<Plans>, row: Row, layout: Layout) -> Search
-    requires prepared { IsPrepared image.now layout }
-    requires planned { AllZip IsPlanned image.now.modules plans.now }
+pub(crate) fn around_within(image: &Image, tables: &Tables, row: Row, layout: Layout) -> Search
+    requires tables { AreTables image.now layout tables.now }
     requires read { IsRead image.now row }
     ensures begins { BeginsThere image.now false row result }
     ensures asks { AskedOf image.now row result }
 {
-    let plan = plan_of(image, plans, row.instance, row.procedure);
+    let plan = plan_of(image, &tables.plans, row.instance, row.procedure);
     Search {
         phrase: plan.innermost.as_slice()[row.entry],
     }
@@ -127,14 +123,13 @@ pub(crate) fn around_within(image: &Image, plans: &List<Plans>, row: Row, layout
 #[inline(always)]
 pub(crate) fn ask(
     image: &Image,
-    links: &List<Links>,
+    tables: &Tables,
     row: Row,
     layout: Layout,
     search: Search,
     signal: SignalId,
 ) -> Found
-    requires prepared { IsPrepared image.now layout }
-    requires links { ReadsLinks image.now links.now }
+    requires tables { AreTables image.now layout tables.now }
     requires read { IsRead image.now row }
     requires asks { AskedOf image.now row search }
     ensures { (p : CodeProcedure) → procedure_of image.now row.instance row.procedure ≡ Some p
@@ -144,7 +139,7 @@ pub(crate) fn ask(
         return Found::Beyond;
     }
     let procedure = procedure_at(image, row.instance, row.procedure);
-    let own = &links.as_slice()[row.instance as usize];
+    let own = &tables.links.as_slice()[row.instance as usize];
     next_arm(&procedure.phrases, search, own, &signal)
 }
 

@@ -1,120 +1,117 @@
 //! Arms that are run.
 
-ghost use Rattle.std.specs.Prelude.{◌≡◌, ℕ, ◌+◌, ◌*◌, ◌<◌, ◌≤◌, length, slice_set, vec_capacity};
-ghost use Rattle.std.specs.List.{AllZip};
+ghost use Rattle.std.specs.Prelude.{◌≡◌, ◌+◌, ◌*◌, ◌≤◌, length, vec_capacity};
 ghost use Rattle.machine_rules.specs.State.{Stepped, Store};
 ghost use Rattle.machine_topmost.specs.Flat.{part};
-ghost use Rattle.machine_ready.specs.Ready.{IsPlanned};
-ghost use Rattle.machine_activations.specs.Calling.{IsAmpleFor, LeadsTo};
-ghost use Rattle.machine_activations.specs.Shows.{IsAmple, IsPrepared, IsReserved};
-ghost use Rattle.machine_signals.specs.Arms.{arm_registers, with_params, AddsArm, Awaits, CanEnter};
+ghost use Rattle.machine_activations.specs.Calling.{LeadsTo};
+ghost use Rattle.machine_activations.specs.Stacks.{HasRoom, KeepsRoom, on};
+ghost use Rattle.machine_signals.specs.Arms.{AddsArm, Awaits, CanEnter, arm_registers, with_params};
+ghost use Rattle.machine_signals.specs.Indexed.{AreTables};
 
 use crate::arms::taken;
 use crate::lookups::plan_of;
-use crate::rows::{owner_of, row_of};
-use machine_activations::{Kind, Layout, Reason, Row, Turn, make_room};
-use machine_ready::Plans;
+use machine_activations::{
+    Kind, Layout, Reason, Row, Sequel, Stack, make_room, move_words, owner_of, row_of,
+};
+use machine_ready::Tables;
 use machine_rules::End;
 use machine_topmost::Registers;
-use mesa_base::List;
 use mesa_base::limits::ACTIVATIONS;
 use object_files::Image;
 
-/// Makes a running arm at a place: its parameters are put into the frame of its owner.
+/// An arm that is to be run: that of a number of the activation at a place, and why; so many words, which stand in the region
+/// from a place on, are given to it.
+#[derive(Clone, Copy)]
+pub struct ArmRun {
+    pub place: usize,
+    pub arm: u32,
+    pub reason: Reason,
+    pub from: usize,
+    pub count: usize,
+}
+
+/// The parameters of an arm are put into the frame of its owner.
 #[inline(always)]
-fn open(
-    region: &mut [u16],
-    table: &mut [Row],
+fn put_params(
+    region: &mut Vec<u16>,
     layout: Layout,
-    top: usize,
-    row: Row,
     owner: usize,
     slot: usize,
     from: usize,
     words: usize,
-    entry: usize,
-) -> Registers
-    requires rows { top < length table.old }
-    requires source { from + words ≤ length region.old }
-    requires params { owner * layout.part + slot + words ≤ length region.old }
-    requires room { top * layout.part + layout.frame ≤ length region.old }
-    ensures region { region.new ≡ with_params region.old layout owner slot (part region.old from words) }
-    ensures table { table.new ≡ slice_set table.old top row }
-    ensures registers { result ≡ arm_registers layout top owner entry }
+)
+    requires source { from + words ≤ length region.old.items }
+    requires params { owner * layout.part + slot + words ≤ length region.old.items }
+    ensures region { region.new.items ≡ with_params region.old.items layout owner slot (part region.old.items from words) }
+    ensures long { length region.new.items ≡ length region.old.items }
+    ensures reserved { vec_capacity region.new ≡ vec_capacity region.old }
 {
-    let slots = owner * layout.part;
-    region.copy_within(from..from + words, slots + slot);
-    table[top] = row;
+    move_words(region, from, words, owner * layout.part + slot);
+}
+
+/// A running arm at a place goes on at an entry without operands.
+#[inline(always)]
+fn opened(stack: &Stack, top: usize, owner: usize, entry: usize) -> Registers
+    requires owner { owner * stack.now.layout.part ≤ length stack.now.region.items }
+    requires room { top * stack.now.layout.part + stack.now.layout.frame ≤ length stack.now.region.items }
+    ensures { result ≡ arm_registers stack.now.layout top owner entry }
+{
+    let layout = stack.layout;
     Registers {
         top,
-        slots,
+        slots: owner * layout.part,
         sp: top * layout.part + layout.frame,
         entry,
     }
 }
 
-/// Runs an arm of the activation at a place over all activations, the topmost of which stands at `top`; its words stand in
-/// the region. A turn is spent, and the run ends where as many activations stand as may.
+/// Runs an arm over all activations, the topmost of which stands at `top`: its parameters are put into the frame of its
+/// owner. A turn is spent, and the run ends where as many activations stand as may.
 #[inline(always)]
 pub(crate) fn enter_arm(
     image: &Image,
-    plans: &List<Plans>,
-    place: usize,
-    arm: u32,
-    reason: Reason,
-    from: usize,
-    given: usize,
-    region: &mut Vec<u16>,
-    table: &mut [Row],
+    tables: &Tables,
+    run: ArmRun,
+    stack: &mut Stack,
     top: usize,
-    layout: Layout,
     turns: &mut u64,
-) -> Turn
-    requires prepared { IsPrepared image.now layout }
-    requires planned { AllZip IsPlanned image.now.modules plans.now }
-    requires ample { IsAmple layout region.old.items table.old top }
-    requires reserved { IsReserved layout (vec_capacity region.old) }
-    requires enters { CanEnter image.now layout region.old.items table.old top place arm reason from given }
-    ensures ample { IsAmpleFor layout region.new.items table.new result }
-    ensures reserved { vec_capacity region.old ≤ vec_capacity region.new }
+) -> Sequel
+    requires tables { AreTables image.now stack.old.layout tables.now }
+    requires room { HasRoom stack.old top }
+    requires enters { on stack.old (CanEnter image.now) top run.place run.arm run.reason run.from run.count }
+    ensures room { KeepsRoom stack.old stack.new result }
     ensures turns_fall { turns.new ≤ turns.old }
-    ensures adds { AddsArm table.old top place arm reason table.new result }
+    ensures adds { AddsArm stack.old.rows.items top run.place run.arm run.reason stack.new.rows.items result }
     ensures leads { (s : Stepped) (m : Store) → m.turns ≡ turns.old
-        → Awaits image.now layout region.old.items table.old top place arm reason from given s m
-        → LeadsTo image.now layout region.new.items table.new s (record m { turns = turns.new }) result }
+        → on stack.old (Awaits image.now) top run.place run.arm run.reason run.from run.count s m
+        → on stack.new (LeadsTo image.now) s (record m { turns = turns.new }) result }
 {
     if *turns == 0 {
-        return Turn::Ends(End::Spent);
+        return Sequel::Ends(End::Spent);
     }
     *turns -= 1;
     if top + 1 >= ACTIVATIONS {
-        return Turn::Ends(End::FrameLimit);
+        return Sequel::Ends(End::FrameLimit);
     }
-    make_room(region, layout, top + 1);
-    let holder = row_of(table, place);
-    let plan = plan_of(image, plans, holder.instance, holder.procedure);
-    let opening = plan.openings.as_slice()[arm as usize];
-    let owner = owner_of(holder.kind, place);
-    let row = Row {
+    let layout = stack.layout;
+    make_room(&mut stack.region, layout, top + 1);
+    let holder = row_of(stack, run.place);
+    let plan = plan_of(image, &tables.plans, holder.instance, holder.procedure);
+    let opening = plan.openings.as_slice()[run.arm as usize];
+    let owner = owner_of(holder.kind, run.place);
+    let words = taken(run.count, usize::from(opening.words));
+    let slot = usize::from(opening.slot);
+    put_params(&mut stack.region, layout, owner, slot, run.from, words);
+    stack.rows[top + 1] = Row {
         instance: holder.instance,
         procedure: holder.procedure,
         entry: 0,
         count: 0,
-        kind: Kind::Arm { owner, arm, reason },
+        kind: Kind::Arm {
+            owner,
+            arm: run.arm,
+            reason: run.reason,
+        },
     };
-    let words = taken(given, usize::from(opening.words));
-    let slot = usize::from(opening.slot);
-    let region_words = region.as_mut_slice();
-    Turn::Goes(open(
-        region_words,
-        table,
-        layout,
-        top + 1,
-        row,
-        owner,
-        slot,
-        from,
-        words,
-        opening.entry as usize,
-    ))
+    Sequel::Goes(opened(stack, top + 1, owner, opening.entry as usize))
 }

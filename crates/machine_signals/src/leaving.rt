@@ -1,25 +1,21 @@
 //! Jumps out of arms: activations are given up from the topmost one down, and UNWIND arms are run between.
 
-ghost use Rattle.std.specs.Prelude.{◌≡◌, ℕ, ◌+◌, ◌<◌, ◌≤◌, List, length, IfSome, vec_capacity};
-ghost use Rattle.std.specs.List.{AllZip};
+ghost use Rattle.std.specs.Prelude.{◌≡◌, ℕ, ◌+◌, ◌<◌, ◌≤◌, List, length, IfSome};
 ghost use Rattle.machine_rules.specs.State.{Stepped, Store};
-ghost use Rattle.machine_ready.specs.Ready.{IsPlanned};
-ghost use Rattle.machine_activations.specs.Calling.{IsAmpleFor, LeadsTo};
+ghost use Rattle.machine_activations.specs.Calling.{LeadsTo};
 ghost use Rattle.machine_activations.specs.Frames.{row_at};
 ghost use Rattle.machine_activations.specs.Reaching.{IsUnstuck};
-ghost use Rattle.machine_activations.specs.Shows.{IsAmple, IsPrepared, IsReserved};
-ghost use Rattle.machine_signals.specs.Indexed.{AskedOf, IsAsked, IsRead};
+ghost use Rattle.machine_activations.specs.Stacks.{HasRoom, KeepsRoom, on};
+ghost use Rattle.machine_signals.specs.Indexed.{AreTables, AskedOf, IsAsked, IsRead};
 ghost use Rattle.machine_signals.specs.Leaving.{CanLeave, IsUnwinding, Leaving, LeftThere, Unwound};
 ghost use Rattle.machine_signals.specs.Raising.{ArmsHold, AsksLeft, HoldsOn, LeadsBelow};
 
 use crate::arriving::arrive;
 use crate::asking::{around_within, ask_unwind};
-use crate::entering::enter_arm;
-use crate::rows::{owner_of, row_of};
+use crate::entering::{ArmRun, enter_arm};
 use crate::seeking::Landed;
-use machine_activations::{Kind, Layout, Reason, Row, Target, Turn};
-use machine_ready::Plans;
-use mesa_base::List;
+use machine_activations::{Kind, Layout, Reason, Row, Sequel, Stack, Target, owner_of, row_of};
+use machine_ready::Tables;
 use object_files::Image;
 use signaller::{Found, Search};
 
@@ -27,13 +23,12 @@ use signaller::{Found, Search};
 /// UNWIND arm, or where the one under it waits.
 pub(crate) fn left_to_ask(
     image: &Image,
-    plans: &List<Plans>,
+    tables: &Tables,
     kind: Kind,
     under: Row,
     layout: Layout,
 ) -> Search
-    requires prepared { IsPrepared image.now layout }
-    requires planned { AllZip IsPlanned image.now.modules plans.now }
+    requires tables { AreTables image.now layout tables.now }
     requires read { IsRead image.now under }
     requires asks { AsksLeft image.now kind under }
     ensures left { LeftThere image.now kind under result }
@@ -46,45 +41,43 @@ pub(crate) fn left_to_ask(
     {
         return beyond;
     }
-    around_within(image, plans, under, layout)
+    around_within(image, tables, under, layout)
 }
 
 /// A jump drops activations from the topmost one on, at `top`, and looks for UNWIND arms: the first one, or none before it
 /// has come to its target's activation.
 fn unwind(
     image: &Image,
-    plans: &List<Plans>,
+    tables: &Tables,
     target: Target,
     first: Search,
-    table: &[Row],
+    stack: &Stack,
     top: usize,
-    layout: Layout,
 ) -> Option<Landed>
-    requires prepared { IsPrepared image.now layout }
-    requires planned { AllZip IsPlanned image.now.modules plans.now }
-    requires rows { (q : ℕ) → q ≤ top → IsAsked image.now table.now q }
-    requires long { top < length table.now }
-    requires arms { ArmsHold image.now table.now top }
+    requires tables { AreTables image.now stack.now.layout tables.now }
+    requires rows { (q : ℕ) → q ≤ top → IsAsked image.now stack.now.rows.items q }
+    requires long { top < length stack.now.rows.items }
+    requires arms { ArmsHold image.now stack.now.rows.items top }
     requires low { target.place ≤ top }
-    requires first { AskedOf image.now (row_at table.now top) first }
-    ensures landing { IfSome result (IsUnwinding image.now table.now top target) }
+    requires first { AskedOf image.now (row_at stack.now.rows.items top) first }
+    ensures landing { IfSome result (IsUnwinding image.now stack.now.rows.items top target) }
     ensures unwinds { (region : List ℕ) → (s : Stepped) → (m : Store)
-        → Leaving image.now layout region table.now top target first s m
-        → Unwound image.now layout region table.now target s m result }
+        → Leaving image.now stack.now.layout region stack.now.rows.items top target first s m
+        → Unwound image.now stack.now.layout region stack.now.rows.items target s m result }
 {
     let mut place = top;
     let mut search = first;
     'leaving: while place != target.place {
-        let row = row_of(table, place);
+        let row = row_of(stack, place);
         if owner_of(row.kind, place) != target.owner {
-            match ask_unwind(image, row, layout, search) {
+            match ask_unwind(image, row, stack.layout, search) {
                 Found::Arm(arm, beyond) => return Some(Landed { place, arm, beyond }),
                 Found::Beyond => {}
             }
         }
         place -= 1;
-        let under = row_of(table, place);
-        search = left_to_ask(image, plans, row.kind, under, layout);
+        let under = row_of(stack, place);
+        search = left_to_ask(image, tables, row.kind, under, stack.layout);
     }
     None
 }
@@ -93,45 +86,42 @@ fn unwind(
 /// activations until it arrives, or runs the first UNWIND arm that it comes to.
 pub(crate) fn leave_on(
     image: &Image,
-    plans: &List<Plans>,
+    tables: &Tables,
     target: Target,
     first: Search,
-    region: &mut Vec<u16>,
-    table: &mut [Row],
+    stack: &mut Stack,
     top: usize,
-    layout: Layout,
     turns: &mut u64,
-) -> Turn
-    requires prepared { IsPrepared image.now layout }
-    requires planned { AllZip IsPlanned image.now.modules plans.now }
-    requires ample { IsAmple layout region.old.items table.old top }
-    requires reserved { IsReserved layout (vec_capacity region.old) }
-    requires arms { ArmsHold image.now table.old top }
-    requires aims { LeadsBelow image.now table.old (top + 1) target }
-    requires asks { AskedOf image.now (row_at table.old top) first }
-    requires leaves { CanLeave image.now layout region.old.items table.old top target first }
-    ensures ample { IsAmpleFor layout region.new.items table.new result }
-    ensures reserved { vec_capacity region.old ≤ vec_capacity region.new }
+) -> Sequel
+    requires tables { AreTables image.now stack.old.layout tables.now }
+    requires room { HasRoom stack.old top }
+    requires arms { ArmsHold image.now stack.old.rows.items top }
+    requires aims { LeadsBelow image.now stack.old.rows.items (top + 1) target }
+    requires asks { AskedOf image.now (row_at stack.old.rows.items top) first }
+    requires leaves { on stack.old (CanLeave image.now) top target first }
+    ensures room { KeepsRoom stack.old stack.new result }
     ensures turns_fall { turns.new ≤ turns.old }
-    ensures arms { HoldsOn image.now table.new result }
+    ensures arms { HoldsOn image.now stack.new.rows.items result }
     ensures leads { (s : Stepped) (m : Store) → IsUnstuck image.now s → m.turns ≡ turns.old
-        → Leaving image.now layout region.old.items table.old top target first s m
-        → LeadsTo image.now layout region.new.items table.new s (record m { turns = turns.new }) result }
+        → on stack.old (Leaving image.now) top target first s m
+        → on stack.new (LeadsTo image.now) s (record m { turns = turns.new }) result }
 {
-    match unwind(image, plans, target, first, table, top, layout) {
+    match unwind(image, tables, target, first, stack, top) {
         Some(landed) => {
             let reason = Reason::Jump {
                 target,
                 beyond: landed.beyond,
             };
             let place = landed.place;
-            enter_arm(
-                image, plans, place, landed.arm, reason, 0, 0, region, table, place, layout, turns,
-            )
+            let arm = ArmRun {
+                place,
+                arm: landed.arm,
+                reason,
+                from: 0,
+                count: 0,
+            };
+            enter_arm(image, tables, arm, stack, place, turns)
         }
-        None => {
-            let words = region.as_mut_slice();
-            arrive(image, target.goal, target.place, words, table, layout)
-        }
+        None => arrive(image, target.goal, target.place, stack),
     }
 }

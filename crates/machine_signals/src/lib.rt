@@ -12,12 +12,11 @@ mod lookups;
 mod raising;
 mod rejecting;
 mod resuming;
-mod rows;
 mod seeking;
 
-pub use jumping::{leave, leave_return};
+pub use jumping::leave;
 pub use laws::{faults_raise, frames_keep_arms, predeclared_raise};
 pub use lookups::plan_of;
 pub use raising::{raise, raise_host, raise_linked, raise_own};
-pub use rejecting::arm_end;
+pub use rejecting::reject;
 pub use resuming::resume;

@@ -1,31 +1,27 @@
 //! Arms that resume.
 
-ghost use Rattle.std.specs.Prelude.{◌≡◌, ◌≤◌, ◌+◌, ◌-◌, suc, length, true, vec_capacity};
-ghost use Rattle.std.specs.List.{AllZip};
+ghost use Rattle.std.specs.Prelude.{◌≡◌, ◌≤◌, ◌+◌, ◌-◌, suc, true};
 ghost use Rattle.std.specs.Option.{option_copied};
 ghost use Rattle.code_forms.specs.declared.instruction.Instruction.TheVariants.{Resume};
 ghost use Rattle.machine_rules.specs.LookUps.{signal_of};
 ghost use Rattle.machine_rules.specs.Signals.{takes_back, takes_of};
 ghost use Rattle.machine_rules.specs.State.{Stepped, Store};
-ghost use Rattle.machine_ready.specs.Ready.{IsPlanned};
-ghost use Rattle.machine_activations.specs.Calling.{IsAmpleFor, IsAt, IsCodeOf, LeadsTo, StandsIn};
+ghost use Rattle.machine_activations.specs.Calling.{IsAt, IsCodeOf, LeadsTo, StandsIn};
 ghost use Rattle.machine_activations.specs.Frames.{row_at};
 ghost use Rattle.machine_activations.specs.Reaching.{IsUnstuck, Shown};
-ghost use Rattle.machine_activations.specs.Shows.{IsAmple, IsPrepared, IsReserved};
-ghost use Rattle.machine_signals.specs.Indexed.{ReadsLinks};
+ghost use Rattle.machine_activations.specs.Shows.{IsPrepared};
+ghost use Rattle.machine_activations.specs.Stacks.{HasRoom, KeepsRoom, on};
+ghost use Rattle.machine_signals.specs.Indexed.{AreTables};
 ghost use Rattle.machine_signals.specs.Leaving.{resumes_with};
 ghost use Rattle.machine_signals.specs.Raising.{ArmsHold, HoldsOn};
 
-use crate::arriving::give;
 use crate::rejecting::reject;
-use crate::rows::row_of;
 use code_forms::{CodeKind, CodeSignal, ModuleCode};
-use machine_activations::{Kind, Layout, Reason, Row, Turn};
-use machine_ready::Plans;
+use machine_activations::{Kind, Reason, Sequel, Stack, give, row_of};
+use machine_ready::Tables;
 use machine_topmost::Registers;
-use mesa_base::List;
 use object_files::Image;
-use signaller::{Links, SignalId};
+use signaller::SignalId;
 
 // The signal or error of a number of an instance, where there is one.
 #[inline(always)]
@@ -92,26 +88,26 @@ fn give_words(
     code: &ModuleCode,
     image: &Image,
     count: usize,
-    region: &mut [u16],
-    table: &[Row],
+    stack: &mut Stack,
     r: Registers,
-    layout: Layout,
-) -> Turn
-    requires prepared { IsPrepared image.now layout }
-    requires ample { IsAmple layout region.old table.now r.top }
-    requires stands { StandsIn image.now layout region.old table.now r }
-    requires code { IsCodeOf image.now code.now table.now r }
-    requires at { IsAt code.now table.now r (Resume count) }
-    requires resumes { resumes_with image.now (row_at table.now r.top).kind count ≡ true }
-    requires arms { ArmsHold image.now table.now r.top }
-    ensures ample { IsAmpleFor layout region.new table.now result }
-    ensures arms { HoldsOn image.now table.now result }
-    ensures leads { (s : Stepped) (m : Store) → Shown image.now layout region.old table.now r s m
-        → LeadsTo image.now layout region.new table.now s (record m { begun = suc m.begun }) result }
+) -> Sequel
+    requires prepared { IsPrepared image.now stack.old.layout }
+    requires room { HasRoom stack.old r.top }
+    requires stands { on stack.old (StandsIn image.now) r }
+    requires code { IsCodeOf image.now code.now stack.old.rows.items r }
+    requires at { IsAt code.now stack.old.rows.items r (Resume count) }
+    requires resumes { resumes_with image.now (row_at stack.old.rows.items r.top).kind count ≡ true }
+    requires arms { ArmsHold image.now stack.old.rows.items r.top }
+    ensures room { KeepsRoom stack.old stack.new result }
+    ensures arms { HoldsOn image.now stack.new.rows.items result }
+    ensures leads { (s : Stepped) (m : Store) → on stack.old (Shown image.now) r s m
+        → on stack.new (LeadsTo image.now) s (record m { begun = suc m.begun }) result }
 {
     let under = r.top - 1;
-    let below = row_of(table, under);
-    Turn::Goes(give(
+    let below = row_of(stack, under);
+    let layout = stack.layout;
+    let region = &mut stack.region;
+    Sequel::Goes(give(
         region,
         below,
         under,
@@ -127,36 +123,29 @@ fn give_words(
 #[inline(always)]
 pub fn resume(
     image: &Image,
-    plans: &List<Plans>,
-    links: &List<Links>,
+    tables: &Tables,
     code: &ModuleCode,
     words: u16,
-    region: &mut Vec<u16>,
-    table: &mut [Row],
+    stack: &mut Stack,
     r: Registers,
-    layout: Layout,
     turns: &mut u64,
-) -> Turn
-    requires prepared { IsPrepared image.now layout }
-    requires planned { AllZip IsPlanned image.now.modules plans.now }
-    requires links { ReadsLinks image.now links.now }
-    requires ample { IsAmple layout region.old.items table.old r.top }
-    requires reserved { IsReserved layout (vec_capacity region.old) }
-    requires arms { ArmsHold image.now table.old r.top }
-    requires stands { StandsIn image.now layout region.old.items table.old r }
-    requires code { IsCodeOf image.now code.now table.old r }
-    requires at { IsAt code.now table.old r (Resume words) }
-    ensures ample { IsAmpleFor layout region.new.items table.new result }
-    ensures reserved { vec_capacity region.old ≤ vec_capacity region.new }
+) -> Sequel
+    requires tables { AreTables image.now stack.old.layout tables.now }
+    requires room { HasRoom stack.old r.top }
+    requires arms { ArmsHold image.now stack.old.rows.items r.top }
+    requires stands { on stack.old (StandsIn image.now) r }
+    requires code { IsCodeOf image.now code.now stack.old.rows.items r }
+    requires at { IsAt code.now stack.old.rows.items r (Resume words) }
+    ensures room { KeepsRoom stack.old stack.new result }
     ensures turns_fall { turns.new ≤ turns.old }
-    ensures arms { HoldsOn image.now table.new result }
+    ensures arms { HoldsOn image.now stack.new.rows.items result }
     ensures leads { (s : Stepped) (m : Store) → IsUnstuck image.now s → m.turns ≡ turns.old
-        → Shown image.now layout region.old.items table.old r s m
-        → LeadsTo image.now layout region.new.items table.new s (record m { turns = turns.new; begun = suc m.begun }) result }
+        → on stack.old (Shown image.now) r s m
+        → on stack.new (LeadsTo image.now) s (record m { turns = turns.new; begun = suc m.begun }) result }
 {
-    if resumes(image, row_of(table, r.top).kind, words) {
+    if resumes(image, row_of(stack, r.top).kind, words) {
         let count = usize::from(words);
-        return give_words(code, image, count, region.as_mut_slice(), table, r, layout);
+        return give_words(code, image, count, stack, r);
     }
-    reject(image, plans, links, region, table, r, layout, turns)
+    reject(image, tables, stack, r, turns)
 }

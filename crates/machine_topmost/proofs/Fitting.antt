@@ -1,7 +1,7 @@
 -- What an instruction of valid code needs is there.
 use Rattle.std.proofs.Common.{◌≡◌, ℕ, ◌+◌, ◌≤◌, arith}
 use Rattle.code_forms.specs.declared.instruction.Instruction.{Instruction}
-use Rattle.code_forms.specs.declared.instruction.Instruction.TheVariants.{Lit, Str, LoadL, StoreL, LoadG, StoreG, LoadLX, StoreLX, LoadGX, StoreGX, Index, Add, Sub, Mul, Neg, DivI, ModI, DivC, ModC, Eq, LessI, LessC, Not, CheckI, CheckC, JumpIf, JumpIfNot, StrLen, StrAt, Pop, Roll, ZeroL, ZeroG}
+use Rattle.code_forms.specs.declared.instruction.Instruction.TheVariants.{Lit, Str, LoadL, StoreL, LoadG, StoreG, LoadLX, StoreLX, LoadGX, StoreGX, Index, Add, Sub, Mul, Neg, DivI, ModI, DivC, ModC, Eq, LessI, LessC, Not, CheckI, CheckC, JumpIf, JumpIfNot, StrLen, StrAt, Pop, Roll, ZeroL, ZeroG, AddD, SubD, MulD, NegD, DivDI, ModDI, DivDC, ModDC, EqD, LessDI, LessDC, WidenI, WidenC, NarrowI, NarrowC, CheckD}
 use Rattle.code_forms.specs.declared.region.Region.{Region}
 use Rattle.code_forms.specs.Depths.{depth_after}
 use Rattle.code_forms.specs.Operands.{OperandsFit}
@@ -46,4 +46,20 @@ module _ (routine : Routine) (around : Region) (region globals floor depth : ℕ
   fits (Roll n k) enough room own = (omega arith, omega arith)
   fits (ZeroL x n) enough room own = (omega arith, omega arith)
   fits (ZeroG x n) enough room own = omega arith
+  fits AddD enough room own = (omega arith, omega arith)
+  fits SubD enough room own = (omega arith, omega arith)
+  fits MulD enough room own = (omega arith, omega arith)
+  fits NegD enough room own = (omega arith, omega arith)
+  fits DivDI enough room own = (omega arith, omega arith)
+  fits ModDI enough room own = (omega arith, omega arith)
+  fits DivDC enough room own = (omega arith, omega arith)
+  fits ModDC enough room own = (omega arith, omega arith)
+  fits EqD enough room own = (omega arith, omega arith)
+  fits LessDI enough room own = (omega arith, omega arith)
+  fits LessDC enough room own = (omega arith, omega arith)
+  fits WidenI enough room own = ((omega arith, omega arith), omega arith)
+  fits WidenC enough room own = ((omega arith, omega arith), omega arith)
+  fits NarrowI enough room own = (omega arith, omega arith)
+  fits NarrowC enough room own = (omega arith, omega arith)
+  fits CheckD enough room own = (omega arith, omega arith)
   fits _ enough room own = tt

@@ -4,14 +4,15 @@ use Rattle.std.specs.Prelude.{slice_set, if◌then◌else◌}
 use Rattle.std.proofs.lemmas.Bool.{eqb-false, leb-true}
 use Rattle.std.proofs.lemmas.List.{length-append}
 use Rattle.std.proofs.Math.ListN.{length-set, length-replicate}
+use Rattle.mesa_types.specs.Longs.{two_words}
 use Rattle.mesa_types.specs.Operators.{Tried, Fine, Faulty, OutOfBounds, DividedByZero}
 use Rattle.code_forms.specs.declared.instruction.Instruction.{Instruction}
-use Rattle.code_forms.specs.declared.instruction.Instruction.TheVariants.{Lit, Str, LoadL, StoreL, LoadG, StoreG, LoadLX, StoreLX, LoadGX, StoreGX, Index, Add, Sub, Mul, Neg, DivI, ModI, DivC, ModC, Eq, LessI, LessC, Not, CheckI, CheckC, Jump, JumpIf, JumpIfNot, JumpBack, StrLen, StrAt, Pop, Roll, ZeroL, ZeroG}
+use Rattle.code_forms.specs.declared.instruction.Instruction.TheVariants.{Lit, Str, LoadL, StoreL, LoadG, StoreG, LoadLX, StoreLX, LoadGX, StoreGX, Index, Add, Sub, Mul, Neg, DivI, ModI, DivC, ModC, Eq, LessI, LessC, Not, CheckI, CheckC, Jump, JumpIf, JumpIfNot, JumpBack, StrLen, StrAt, Pop, Roll, ZeroL, ZeroG, AddD, SubD, MulD, NegD, DivDI, ModDI, DivDC, ModDC, EqD, LessDI, LessDC, WidenI, WidenC, NarrowI, NarrowC, CheckD}
 use Rattle.code_forms.specs.Depths.{depth_after, forward_target, backward_target}
 use Rattle.code_forms.specs.Routine.{Routine, moves, goes_on}
 use Rattle.machine_topmost.specs.declared.registers.Why.{Why}
 use Rattle.machine_topmost.specs.declared.registers.Why.TheVariants.{BoundsFault, ZeroDivisor}
-use Rattle.machine_topmost.specs.Flat.{Flat, Flowed, Went, Paused, part, with_part, stepped_to, behind, over, over_tried, operand, place, jumps_back, flat, operates}
+use Rattle.machine_topmost.specs.Flat.{Flat, Flowed, Went, Paused, part, with_part, stepped_to, behind, over, over_tried, over_long, over_long_tried, operand, place, jumps_back, flat, operates, operates_long}
 use Rattle.machine_topmost.specs.Fits.{Fits, FitsOperator}
 use Rattle.machine_topmost.proofs.Copied.{length-part, length-with_part}
 
@@ -35,6 +36,12 @@ unfolding over_tried
 went_tried takes (Fine word) s u h = (word, h)
 went_tried takes (Faulty OutOfBounds) s u h = absurd (paused_not BoundsFault u h)
 went_tried takes (Faulty DividedByZero) s u h = absurd (paused_not ZeroDivisor u h)
+
+pub went_long_tried : (takes : ℕ) (tried : Tried) (s u : Flat) → over_long_tried takes tried s ≡ Went u → (n : ℕ) × (over_long takes n s ≡ Went u)
+unfolding over_long_tried
+went_long_tried takes (Fine n) s u h = (n, h)
+went_long_tried takes (Faulty OutOfBounds) s u h = absurd (paused_not BoundsFault u h)
+went_long_tried takes (Faulty DividedByZero) s u h = absurd (paused_not ZeroDivisor u h)
 
 length-brought : (region words : List ℕ) (at from count : ℕ) → at + count ≤ length region → from + count ≤ length words → length (with_part region at (part words from count)) ≡ length region
 length-brought region words at from count room source =
@@ -82,6 +89,14 @@ module _ (texts : ℕ → ℕ → List ℕ) (number : ℕ) (routine : Routine) (
   goes_tried : (i : Instruction) (u : Flat) (takes : ℕ) (tried : Tried) → IsTrue (goes_on routine i) → Deep i (s.registers.sp - takes + 1) → over_tried takes tried s ≡ Went u → Here i u
   goes_tried i u takes tried goes deep h = let w = went_tried takes tried s u h in goes_over i u takes w.0 goes deep w.1
 
+  goes_over_long : (i : Instruction) (u : Flat) (takes n : ℕ) → IsTrue (goes_on routine i) → Deep i (s.registers.sp - takes + 2) → s.registers.sp - takes + 2 ≤ length s.region → over_long takes n s ≡ Went u → Here i u
+  unfolding two_words
+  goes_over_long i u takes n goes deep room h = goes_behind i u _ _ _ (length-with_part s.region (place takes s) (two_words n) room) refl goes deep h
+
+  goes_long_tried : (i : Instruction) (u : Flat) (takes : ℕ) (tried : Tried) → IsTrue (goes_on routine i) → Deep i (s.registers.sp - takes + 2) → s.registers.sp - takes + 2 ≤ length s.region
+      → over_long_tried takes tried s ≡ Went u → Here i u
+  goes_long_tried i u takes tried goes deep room h = let w = went_long_tried takes tried s u h in goes_over_long i u takes w.0 goes deep room w.1
+
   -- a forward jump, which may be passed
   turned : (i : Instruction) (u : Flat) (offset sp entry : ℕ) → forward_target i ≡ Some offset → Deep i sp → ((IsTrue (goes_on routine i)) × (entry ≡ s.registers.entry + 1)) ⊎ (entry ≡ target)
       → Went (record { region = s.region; globals = s.globals; registers = stepped_to sp entry s.registers; turns = s.turns }) ≡ Went u → Here i u
@@ -124,6 +139,26 @@ module _ (texts : ℕ → ℕ → List ℕ) (number : ℕ) (routine : Routine) (
         way = back offset is refl some;
       })
 
+  long_goes : (i : Instruction) (u : Flat) → FitsOperator i (length s.region) s.registers → operates_long i s ≡ Went u → Here i u
+  unfolding operates_long FitsOperator
+  long_goes AddD u f h = goes_over_long AddD u 4 _ refl (λ floor depth at enough. omega arith) (omega (arith, f.0, f.1)) h
+  long_goes SubD u f h = goes_over_long SubD u 4 _ refl (λ floor depth at enough. omega arith) (omega (arith, f.0, f.1)) h
+  long_goes MulD u f h = goes_over_long MulD u 4 _ refl (λ floor depth at enough. omega arith) (omega (arith, f.0, f.1)) h
+  long_goes NegD u f h = goes_over_long NegD u 2 _ refl (λ floor depth at enough. omega arith) (omega (arith, f.0, f.1)) h
+  long_goes DivDI u f h = goes_long_tried DivDI u 4 _ refl (λ floor depth at enough. omega arith) (omega (arith, f.0, f.1)) h
+  long_goes ModDI u f h = goes_long_tried ModDI u 4 _ refl (λ floor depth at enough. omega arith) (omega (arith, f.0, f.1)) h
+  long_goes DivDC u f h = goes_long_tried DivDC u 4 _ refl (λ floor depth at enough. omega arith) (omega (arith, f.0, f.1)) h
+  long_goes ModDC u f h = goes_long_tried ModDC u 4 _ refl (λ floor depth at enough. omega arith) (omega (arith, f.0, f.1)) h
+  long_goes EqD u f h = goes_over EqD u 4 _ refl (λ floor depth at enough. omega arith) h
+  long_goes LessDI u f h = goes_over LessDI u 4 _ refl (λ floor depth at enough. omega arith) h
+  long_goes LessDC u f h = goes_over LessDC u 4 _ refl (λ floor depth at enough. omega arith) h
+  long_goes WidenI u f h = goes_over_long WidenI u 1 _ refl (λ floor depth at enough. omega arith) (omega (arith, f.0.0, f.1)) h
+  long_goes WidenC u f h = goes_over_long WidenC u 1 _ refl (λ floor depth at enough. omega arith) (omega (arith, f.0.0, f.1)) h
+  long_goes NarrowI u f h = goes_over NarrowI u 2 _ refl (λ floor depth at enough. omega arith) (went_within _ _ _ u h).1
+  long_goes NarrowC u f h = goes_over NarrowC u 2 _ refl (λ floor depth at enough. omega arith) (went_within _ _ _ u h).1
+  long_goes CheckD u f h = goes_behind CheckD u _ _ s.registers.sp refl refl refl (λ floor depth at enough. omega arith) (went_within _ _ _ u h).1
+  long_goes _ u f h = absurd (paused_not _ u h)
+
   operator_goes : (i : Instruction) (u : Flat) → FitsOperator i (length s.region) s.registers → operates texts i s ≡ Went u → Here i u
   unfolding operates FitsOperator
   operator_goes (Index c z) u f h = goes_over (Index c z) u 2 _ refl (λ floor depth at enough. omega arith) (went_within _ _ _ u h).1
@@ -143,7 +178,7 @@ module _ (texts : ℕ → ℕ → List ℕ) (number : ℕ) (routine : Routine) (
   operator_goes (CheckC a b) u f h = goes_behind (CheckC a b) u _ _ s.registers.sp refl refl refl (λ floor depth at enough. omega arith) (went_within _ _ _ u h).1
   operator_goes StrLen u f h = goes_over StrLen u 2 _ refl (λ floor depth at enough. omega arith) h
   operator_goes StrAt u f h = goes_tried StrAt u 3 _ refl (λ floor depth at enough. omega arith) h
-  operator_goes _ u f h = absurd (paused_not _ u h)
+  operator_goes i u f h = long_goes i u f h
 
   within : (o n e : ℕ) → nat_le (o + n) e ≡ true → o + n ≤ e
   within o n e h = leb-true (o + n) e h

@@ -1,7 +1,10 @@
 -- Parts of a region, of which another part is replaced; and operands, which a list has the other way round.
 use Rattle.std.proofs.Common.{◌≡◌, ℕ, suc, ◌+◌, ◌-◌, ◌<◌, ◌≤◌, List, [], ◌∷◌, ◌++◌, length, take, drop, reverse, get_or, set, refl, sym, ap, ◌∙◌, append_assoc, drop-cons, arith}
+use Rattle.std.specs.Prelude.{slice_set}
 use Rattle.std.proofs.lemmas.List.{length-append, length-take-le, length-drop, length-reverse, reverse-append, reverse-reverse, take-append-drop, take-append-le, drop-append-le, take_at, drop_at, take-take, drop-take, drop-drop, set_split}
+use Rattle.std.proofs.lemmas.List.Edits.{paste-paste}
 use Rattle.std.proofs.lemmas.Grind.{reverse_onto}
+use Rattle.std.proofs.Math.ListN.{length-set}
 use Rattle.machine_rules.specs.Words.{zeros, words_at, put_words, push}
 use Rattle.machine_topmost.specs.Flat.{part, with_part}
 use Rattle.machine_topmost.proofs.Copied.{length-part, part_end, part_front}
@@ -81,6 +84,14 @@ set_is_replaced region at word there =
     set_split region at word there
     ∙ ap (λ k. take at region ++ word ∷ drop k region) next
     ∙ sym (append_assoc (take at region) (word ∷ []) (drop (at + 1) region))
+
+-- two words that are set, one behind the other
+pub two_set : (region : List ℕ) (at a b : ℕ) → at + 2 ≤ length region → slice_set (slice_set region at a) (at + 1) b ≡ with_part region at (a ∷ b ∷ [])
+two_set region at a b room =
+    let size = length-set region at a in
+    set_is_replaced (slice_set region at a) (at + 1) b (omega (arith, size))
+    ∙ ap (λ r. with_part r (at + 1) (b ∷ [])) (set_is_replaced region at a (omega arith))
+    ∙ paste-paste region at (a ∷ []) (b ∷ []) 1 1 refl refl (omega arith)
 
 -- one word is a part
 pub one_word : (region : List ℕ) (at : ℕ) → at < length region → part region at 1 ≡ get_or region at 0 ∷ []

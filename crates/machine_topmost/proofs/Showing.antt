@@ -1,10 +1,11 @@
 -- What an instruction makes of the region is what the machine's definition makes of the operands, the variables and the globals that the
 -- region shows.
 use Rattle.std.proofs.Common.{◌≡◌, ℕ, ◌+◌, ◌-◌, ◌≤◌, List, [], ◌∷◌, ◌++◌, Bool, true, false, length, reverse, get_or, refl, sym, ap, ◌∙◌, arith}
+use Rattle.mesa_types.specs.Longs.{more_of, less_of, two_words}
 use Rattle.mesa_types.specs.Operators.{Tried, Fine, Faulty, OutOfBounds, DividedByZero}
 use Rattle.machine_rules.specs.Words.{put_words, push, popped, under}
-use Rattle.machine_rules.specs.Working.{Worked, Works, leaves as leaves_work, in_bounds as in_bounds_work, leaves_tried}
-use Rattle.machine_topmost.specs.Flat.{Flat, Flowed, part, with_part, leaves, over, over_tried, in_bounds, place}
+use Rattle.machine_rules.specs.Working.{Worked, Works, leaves as leaves_work, in_bounds as in_bounds_work, leaves_tried, leaves_long, leaves_long_tried}
+use Rattle.machine_topmost.specs.Flat.{Flat, Flowed, part, with_part, leaves, over, over_tried, over_long, over_long_tried, in_bounds, place}
 use Rattle.machine_topmost.specs.Shown.{work_shown, worked_shown}
 use Rattle.machine_topmost.proofs.Copied.{length-part}
 use Rattle.machine_topmost.proofs.Parts.{part_before, part_past, part_with_end, part_around, set_is_replaced, put_is_replaced, operands_at, pushed, under_is, popped_is, topmost_is}
@@ -38,6 +39,14 @@ pub two_shown : (region : List ℕ) (floor sp : ℕ) → floor + 2 ≤ sp → sp
 two_shown region floor sp there room =
     top_shown region floor sp (sp - 1) (omega arith) (omega arith) room
     ∙ ap (λ rest. get_or region (sp - 1) 0 ∷ rest) (top_shown region floor (sp - 1) (sp - 2) (omega arith) (omega arith) (omega arith))
+
+-- the four topmost ones
+pub four_shown : (region : List ℕ) (floor sp : ℕ) → floor + 4 ≤ sp → sp ≤ length region
+    → operands_to region floor sp ≡ get_or region (sp - 1) 0 ∷ get_or region (sp - 2) 0 ∷ get_or region (sp - 3) 0 ∷ get_or region (sp - 4) 0 ∷ operands_to region floor (sp - 4)
+four_shown region floor sp there room =
+    two_shown region floor sp (omega arith) room
+    ∙ ap (λ rest. get_or region (sp - 1) 0 ∷ get_or region (sp - 2) 0 ∷ rest) (top_shown region floor (sp - 2) (sp - 3) (omega arith) (omega arith) (omega arith))
+    ∙ ap (λ rest. get_or region (sp - 1) 0 ∷ get_or region (sp - 2) 0 ∷ get_or region (sp - 3) 0 ∷ rest) (top_shown region floor (sp - 3) (sp - 4) (omega arith) (omega arith) (omega arith))
 
 pub push_both : (a b operands : List ℕ) → push b (push a operands) ≡ push (a ++ b) operands
 push_both [] b operands = refl
@@ -95,3 +104,16 @@ module _ (frame floor : ℕ) where
     tried_shown takes (Fine word) some there = sym (over_shown takes word some there)
     tried_shown takes (Faulty OutOfBounds) some there = refl
     tried_shown takes (Faulty DividedByZero) some there = refl
+
+    -- the two words of a number are put in the place of some
+    pub over_long_shown : (takes n : ℕ) → floor + takes ≤ s.registers.sp
+        → worked_shown frame floor (over_long takes n s) ≡ shown (less_of n ∷ more_of n ∷ operands (s.registers.sp - takes)) variables s.globals
+    unfolding two_words
+    over_long_shown takes n there = behind_shown (place takes s) (two_words n) (place takes s + 2) (omega arith) (omega arith) refl
+
+    pub long_tried_shown : (takes : ℕ) (tried : Tried) → floor + takes ≤ s.registers.sp
+        → leaves_long_tried tried (operands (s.registers.sp - takes)) (work_shown frame floor s) ≡ worked_shown frame floor (over_long_tried takes tried s)
+    unfolding leaves_long_tried leaves_long leaves_work over_long_tried
+    long_tried_shown takes (Fine n) there = sym (over_long_shown takes n there)
+    long_tried_shown takes (Faulty OutOfBounds) there = refl
+    long_tried_shown takes (Faulty DividedByZero) there = refl

@@ -1,28 +1,27 @@
 -- Each instruction that works on one activation alone makes of the region what the machine's definition makes of the operands, the
 -- variables and the globals that the region shows.
 use Rattle.std.proofs.Common.{◌≡◌, ℕ, ◌+◌, ◌-◌, ◌*◌, ◌≤◌, List, [], ◌∷◌, ◌++◌, Bool, true, false, length, replicate, nat_eq, nat_lt, nat_le, refl, sym, ap, ◌∙◌, add-one, arith}
-use Rattle.std.specs.Prelude.{slice_set}
 use Rattle.std.proofs.lemmas.Bool.{leb-true}
 use Rattle.std.proofs.lemmas.List.{length-append}
-use Rattle.std.proofs.lemmas.List.Edits.{paste-paste}
-use Rattle.std.proofs.Math.ListN.{length-set, length-replicate}
+use Rattle.std.proofs.Math.ListN.{length-replicate}
 use Rattle.mesa_types.specs.declared.typed_parts.Base.TheVariants.{Signed, Unsigned}
 use Rattle.mesa_types.specs.declared.typed_parts.Range.TheVariants.{From}
 use Rattle.mesa_base.specs.declared.relation.Relation.TheVariants.{Less}
-use Rattle.mesa_types.specs.Operators.{wrap, opposite, quotient, remainder, related, truth, fits, by_divisor, byte_at}
+use Rattle.mesa_types.specs.Longs.{less_of, wrap_long, shifted_long, opposite_long, quotient_long, remainder_long, related_long, extended, is_in_common, is_word_of}
+use Rattle.mesa_types.specs.Operators.{Tried, wrap, opposite, quotient, remainder, related, truth, fits, by_divisor, byte_at}
 use Rattle.code_forms.specs.declared.instruction.Instruction.{Instruction}
-use Rattle.code_forms.specs.declared.instruction.Instruction.TheVariants.{Lit, Str, LoadL, StoreL, LoadG, StoreG, LoadLX, StoreLX, LoadGX, StoreGX, Index, Add, Sub, Mul, Neg, DivI, ModI, DivC, ModC, Eq, LessI, LessC, Not, CheckI, CheckC, Jump, JumpIf, JumpIfNot, JumpBack, StrLen, StrAt, Pop, Roll, ZeroL, ZeroG}
+use Rattle.code_forms.specs.declared.instruction.Instruction.TheVariants.{Lit, Str, LoadL, StoreL, LoadG, StoreG, LoadLX, StoreLX, LoadGX, StoreGX, Index, Add, Sub, Mul, Neg, DivI, ModI, DivC, ModC, Eq, LessI, LessC, Not, CheckI, CheckC, Jump, JumpIf, JumpIfNot, JumpBack, StrLen, StrAt, Pop, Roll, ZeroL, ZeroG, AddD, SubD, MulD, NegD, DivDI, ModDI, DivDC, ModDC, EqD, LessDI, LessDC, WidenI, WidenC, NarrowI, NarrowC, CheckD}
 use Rattle.code_forms.specs.declared.region.Region.{Region}
 use Rattle.code_forms.specs.Operands.{OperandsFit}
 use Rattle.code_forms.specs.Routine.{Routine, moves}
-use Rattle.machine_rules.specs.Words.{words_at, push, popped, under, on_top, on_two}
-use Rattle.machine_rules.specs.Working.{Work, leaves as leaves_work, stores_local, stores_global, in_bounds as in_bounds_work, leaves_tried, works}
-use Rattle.machine_topmost.specs.Flat.{Flat, Flowed, part, with_part, leaves, leaves_globals, over, in_bounds, operand, flat, operates}
+use Rattle.machine_rules.specs.Words.{words_at, push, popped, under, on_top, on_two, on_long, on_two_longs}
+use Rattle.machine_rules.specs.Working.{Work, leaves as leaves_work, stores_local, stores_global, in_bounds as in_bounds_work, leaves_tried, leaves_long, leaves_long_tried, works}
+use Rattle.machine_topmost.specs.Flat.{Flat, Flowed, part, with_part, leaves, leaves_globals, over, over_long, over_long_tried, in_bounds, operand, long_operand, flat, operates, operates_long}
 use Rattle.machine_topmost.specs.Fits.{Fits}
 use Rattle.machine_topmost.specs.Shown.{work_shown, worked_shown, jumps_within}
 use Rattle.machine_topmost.proofs.Copied.{length-part}
-use Rattle.machine_topmost.proofs.Parts.{part_inside, set_is_replaced, words_are_part, put_is_replaced}
-use Rattle.machine_topmost.proofs.Showing.{operands_to, under_shown, popped_shown, top_shown, two_shown, push_both, bounded, behind_shown, stored_shown, over_shown, tried_shown, shown, variables as variables_shown}
+use Rattle.machine_topmost.proofs.Parts.{part_inside, set_is_replaced, two_set, words_are_part, put_is_replaced}
+use Rattle.machine_topmost.proofs.Showing.{operands_to, under_shown, popped_shown, top_shown, two_shown, four_shown, push_both, bounded, behind_shown, stored_shown, over_shown, tried_shown, over_long_shown, long_tried_shown, shown, variables as variables_shown}
 
 module _ (texts : ℕ → ℕ → List ℕ) (number : ℕ) (routine : Routine) (around : Region) (floor depth : ℕ) (s : Flat) (deep : s.registers.sp ≡ floor + depth)
     (apart : s.registers.slots + routine.frame ≤ floor) (full : s.registers.sp ≤ length s.region) (all : length s.globals ≡ routine.globals) where
@@ -50,6 +49,51 @@ module _ (texts : ℕ → ℕ → List ℕ) (number : ℕ) (routine : Routine) (
   over_one f there =
       ap (λ o. on_top o (λ x rest. leaves_work (f x ∷ rest) now)) (top_shown s.region floor sp (sp - 1) (omega arith) (omega arith) full)
       ∙ sym (over_shown routine.frame floor s apart full 1 (f (operand 1 s)) (omega arith) there)
+
+  -- an operator over two LONG numbers, over the topmost one, and over the topmost word
+  over_longs : (f : ℕ → ℕ → ℕ) → floor + 4 ≤ sp → on_two_longs (operands sp) (λ x y rest. leaves_long (f x y) rest now) ≡ worked_shown routine.frame floor (over_long 4 (f (long_operand 3 s) (long_operand 1 s)) s)
+  unfolding leaves_work leaves_long
+  over_longs f there =
+      ap (λ o. on_two_longs o (λ x y rest. leaves_long (f x y) rest now)) (four_shown s.region floor sp there full)
+      ∙ sym (over_long_shown routine.frame floor s apart full 4 (f (long_operand 3 s) (long_operand 1 s)) there)
+
+  tried_longs : (f : ℕ → ℕ → Tried) → floor + 4 ≤ sp
+      → on_two_longs (operands sp) (λ x y rest. leaves_long_tried (f x y) rest now) ≡ worked_shown routine.frame floor (over_long_tried 4 (f (long_operand 3 s) (long_operand 1 s)) s)
+  tried_longs f there =
+      ap (λ o. on_two_longs o (λ x y rest. leaves_long_tried (f x y) rest now)) (four_shown s.region floor sp there full)
+      ∙ long_tried_shown routine.frame floor s apart full 4 (f (long_operand 3 s) (long_operand 1 s)) there
+
+  word_of_longs : (f : ℕ → ℕ → ℕ) → floor + 4 ≤ sp → on_two_longs (operands sp) (λ x y rest. leaves_work (f x y ∷ rest) now) ≡ worked_shown routine.frame floor (over 4 (f (long_operand 3 s) (long_operand 1 s)) s)
+  unfolding leaves_work
+  word_of_longs f there =
+      ap (λ o. on_two_longs o (λ x y rest. leaves_work (f x y ∷ rest) now)) (four_shown s.region floor sp there full)
+      ∙ sym (over_shown routine.frame floor s apart full 4 (f (long_operand 3 s) (long_operand 1 s)) (omega arith) there)
+
+  over_one_long : (f : ℕ → ℕ) → floor + 2 ≤ sp → on_long (operands sp) (λ x rest. leaves_long (f x) rest now) ≡ worked_shown routine.frame floor (over_long 2 (f (long_operand 1 s)) s)
+  unfolding leaves_work leaves_long
+  over_one_long f there =
+      ap (λ o. on_long o (λ x rest. leaves_long (f x) rest now)) (two_shown s.region floor sp there full)
+      ∙ sym (over_long_shown routine.frame floor s apart full 2 (f (long_operand 1 s)) there)
+
+  over_word_long : (f : ℕ → ℕ) → floor + 1 ≤ sp → on_top (operands sp) (λ x rest. leaves_long (f x) rest now) ≡ worked_shown routine.frame floor (over_long 1 (f (operand 1 s)) s)
+  unfolding leaves_work leaves_long
+  over_word_long f there =
+      ap (λ o. on_top o (λ x rest. leaves_long (f x) rest now)) (top_shown s.region floor sp (sp - 1) (omega arith) (omega arith) full)
+      ∙ sym (over_long_shown routine.frame floor s apart full 1 (f (operand 1 s)) there)
+
+  narrowed : (test : ℕ → Bool) (f : ℕ → ℕ) → floor + 2 ≤ sp
+      → on_long (operands sp) (λ x rest. in_bounds_work (test x) (leaves_work (f x ∷ rest) now)) ≡ worked_shown routine.frame floor (in_bounds (test (long_operand 1 s)) (over 2 (f (long_operand 1 s)) s))
+  unfolding leaves_work
+  narrowed test f there =
+      ap (λ o. on_long o (λ x rest. in_bounds_work (test x) (leaves_work (f x ∷ rest) now))) (two_shown s.region floor sp there full)
+      ∙ bounded routine.frame floor (test (long_operand 1 s)) _ (over 2 (f (long_operand 1 s)) s) (λ h. sym (over_shown routine.frame floor s apart full 2 (f (long_operand 1 s)) (omega arith) there))
+
+  looked_long : (test : ℕ → Bool) → floor + 2 ≤ sp
+      → on_long (operands sp) (λ x rest. in_bounds_work (test x) (leaves_work (operands sp) now)) ≡ worked_shown routine.frame floor (in_bounds (test (long_operand 1 s)) (leaves s.region sp s))
+  unfolding leaves_work
+  looked_long test there =
+      ap (λ o. on_long o (λ x rest. in_bounds_work (test x) (leaves_work (operands sp) now))) (two_shown s.region floor sp there full)
+      ∙ bounded routine.frame floor (test (long_operand 1 s)) (leaves_work (operands sp) now) (leaves s.region sp s) (λ h. refl)
 
   -- the topmost operand is looked at, and stays
   looked : (test : ℕ → Bool) → floor + 1 ≤ sp → on_top (operands sp) (λ x rest. in_bounds_work (test x) (leaves_work (x ∷ rest) now)) ≡ worked_shown routine.frame floor (in_bounds (test (operand 1 s)) (leaves s.region sp s))
@@ -109,15 +153,8 @@ module _ (texts : ℕ → ℕ → List ℕ) (number : ℕ) (routine : Routine) (
   within : (o n e : ℕ) → nat_le (o + n) e ≡ true → o + n ≤ e
   within o n e h = leb-true (o + n) e h
 
-  two_set : (region : List ℕ) (at a b : ℕ) → at + 2 ≤ length region → slice_set (slice_set region at a) (at + 1) b ≡ with_part region at (a ∷ b ∷ [])
-  two_set region at a b room =
-      let size = length-set region at a in
-      set_is_replaced (slice_set region at a) (at + 1) b (omega (arith, size))
-      ∙ ap (λ r. with_part r (at + 1) (b ∷ [])) (set_is_replaced region at a (omega arith))
-      ∙ paste-paste region at (a ∷ []) (b ∷ []) 1 1 refl refl (omega arith)
-
   pub works_so : (i : Instruction) → jumps_within i ≡ false → (moves routine i).takes ≤ depth → OperandsFit routine around i → Fits i (length s.region) (length s.globals) s.registers → (target : ℕ) → So i (flat texts number i target s)
-  unfolding works flat operates leaves_work stores_local stores_global Fits
+  unfolding works flat operates operates_long leaves_work stores_local stores_global Fits
   works_so (Lit w) j enough own f target =
       sym (ap (λ r. worked_shown routine.frame floor (leaves r (sp + 1) s)) (set_is_replaced s.region sp w (omega arith))
       ∙ behind_shown routine.frame floor s apart full sp (w ∷ []) (sp + 1) (omega arith) full refl)
@@ -204,6 +241,22 @@ module _ (texts : ℕ → ℕ → List ℕ) (number : ℕ) (routine : Routine) (
       ap (λ o. on_top o (λ i below. on_two below (λ m k rest. leaves_tried (byte_at (texts m k) i) rest now))) (top_shown s.region floor sp (sp - 1) (omega arith) (omega arith) full)
       ∙ ap (λ o. on_two o (λ m k rest. leaves_tried (byte_at (texts m k) (operand 1 s)) rest now)) (three_shown (omega arith))
       ∙ tried_shown routine.frame floor s apart full 3 (byte_at (texts (operand 3 s) (operand 2 s)) (operand 1 s)) (omega arith) (omega arith)
+  works_so AddD j enough own f target = over_longs (λ x y. wrap_long (x + y)) (omega arith)
+  works_so SubD j enough own f target = over_longs (λ x y. wrap_long (x + (4294967296 - y))) (omega arith)
+  works_so MulD j enough own f target = over_longs (λ x y. wrap_long (x * y)) (omega arith)
+  works_so NegD j enough own f target = over_one_long (λ x. opposite_long x) (omega arith)
+  works_so DivDI j enough own f target = tried_longs (λ x y. by_divisor y (quotient_long Signed x y)) (omega arith)
+  works_so ModDI j enough own f target = tried_longs (λ x y. by_divisor y (remainder_long Signed x y)) (omega arith)
+  works_so DivDC j enough own f target = tried_longs (λ x y. by_divisor y (quotient_long Unsigned x y)) (omega arith)
+  works_so ModDC j enough own f target = tried_longs (λ x y. by_divisor y (remainder_long Unsigned x y)) (omega arith)
+  works_so EqD j enough own f target = word_of_longs (λ x y. truth (nat_eq x y)) (omega arith)
+  works_so LessDI j enough own f target = word_of_longs (λ x y. truth (related_long Less Signed x y)) (omega arith)
+  works_so LessDC j enough own f target = word_of_longs (λ x y. truth (related_long Less Unsigned x y)) (omega arith)
+  works_so WidenI j enough own f target = over_word_long (λ x. extended Signed x) (omega arith)
+  works_so WidenC j enough own f target = over_word_long (λ x. extended Unsigned x) (omega arith)
+  works_so NarrowI j enough own f target = narrowed (λ x. is_word_of Signed (shifted_long Signed x)) (λ x. less_of x) (omega arith)
+  works_so NarrowC j enough own f target = narrowed (λ x. is_word_of Unsigned (shifted_long Signed x)) (λ x. less_of x) (omega arith)
+  works_so CheckD j enough own f target = looked_long (λ x. is_in_common x) (omega arith)
   works_so (Jump target') j enough own f target = cc
   works_so (JumpIf target') j enough own f target = cc
   works_so (JumpIfNot target') j enough own f target = cc

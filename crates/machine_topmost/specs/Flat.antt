@@ -5,8 +5,9 @@ use Rattle.mesa_types.specs.declared.typed_parts.Base.TheVariants.{Signed, Unsig
 use Rattle.mesa_types.specs.declared.typed_parts.Range.TheVariants.{From}
 use Rattle.mesa_base.specs.declared.relation.Relation.TheVariants.{Less}
 use Rattle.mesa_types.specs.Operators.{OutOfBounds, DividedByZero, Tried, Fine, Faulty, wrap, opposite, quotient, remainder, related, truth, fits, by_divisor, byte_at}
+use Rattle.mesa_types.specs.Longs.{two_words, less_of, long_of, wrap_long, shifted_long, opposite_long, quotient_long, remainder_long, related_long, extended, is_in_common, is_word_of}
 use Rattle.code_forms.specs.declared.instruction.Instruction.{Instruction}
-use Rattle.code_forms.specs.declared.instruction.Instruction.TheVariants.{Lit, Str, LoadL, StoreL, LoadG, StoreG, LoadLX, StoreLX, LoadGX, StoreGX, Index, Add, Sub, Mul, Neg, DivI, ModI, DivC, ModC, Eq, LessI, LessC, Not, CheckI, CheckC, Jump, JumpIf, JumpIfNot, JumpBack, StrLen, StrAt, Pop, Roll, ZeroL, ZeroG}
+use Rattle.code_forms.specs.declared.instruction.Instruction.TheVariants.{Lit, Str, LoadL, StoreL, LoadG, StoreG, LoadLX, StoreLX, LoadGX, StoreGX, Index, Add, Sub, Mul, Neg, DivI, ModI, DivC, ModC, Eq, LessI, LessC, Not, CheckI, CheckC, Jump, JumpIf, JumpIfNot, JumpBack, StrLen, StrAt, Pop, Roll, ZeroL, ZeroG, AddD, SubD, MulD, NegD, DivDI, ModDI, DivDC, ModDC, EqD, LessDI, LessDC, WidenI, WidenC, NarrowI, NarrowC, CheckD}
 use Rattle.machine_topmost.specs.declared.registers.Registers.{Registers}
 use Rattle.machine_topmost.specs.declared.registers.Why.{Why}
 use Rattle.machine_topmost.specs.declared.registers.Why.TheVariants.{Touches, Spent, BoundsFault, ZeroDivisor}
@@ -64,6 +65,39 @@ over_tried takes (Fine word) s = over takes word s
 over_tried takes (Faulty OutOfBounds) s = Paused BoundsFault
 over_tried takes (Faulty DividedByZero) s = Paused ZeroDivisor
 
+-- the LONG number whose less significant word is the operand of this number, and whose other word lies under it
+abbrev pub long_operand : ℕ → Flat → ℕ
+long_operand k s = long_of (operand (k + 1) s) (operand k s)
+
+-- the two words of the number stand in the place of so many operands
+abbrev pub over_long : ℕ → ℕ → Flat → Flowed
+over_long takes n s = leaves (with_part s.region (place takes s) (two_words n)) (place takes s + 2) s
+
+unfoldable pub over_long_tried : ℕ → Tried → Flat → Flowed
+over_long_tried takes (Fine n) s = over_long takes n s
+over_long_tried takes (Faulty OutOfBounds) s = Paused BoundsFault
+over_long_tried takes (Faulty DividedByZero) s = Paused ZeroDivisor
+
+-- an instruction over LONG numbers
+unfoldable pub operates_long : Instruction → Flat → Flowed
+operates_long AddD s = over_long 4 (wrap_long (long_operand 3 s + long_operand 1 s)) s
+operates_long SubD s = over_long 4 (wrap_long (long_operand 3 s + (4294967296 - long_operand 1 s))) s
+operates_long MulD s = over_long 4 (wrap_long (long_operand 3 s * long_operand 1 s)) s
+operates_long NegD s = over_long 2 (opposite_long (long_operand 1 s)) s
+operates_long DivDI s = over_long_tried 4 (by_divisor (long_operand 1 s) (quotient_long Signed (long_operand 3 s) (long_operand 1 s))) s
+operates_long ModDI s = over_long_tried 4 (by_divisor (long_operand 1 s) (remainder_long Signed (long_operand 3 s) (long_operand 1 s))) s
+operates_long DivDC s = over_long_tried 4 (by_divisor (long_operand 1 s) (quotient_long Unsigned (long_operand 3 s) (long_operand 1 s))) s
+operates_long ModDC s = over_long_tried 4 (by_divisor (long_operand 1 s) (remainder_long Unsigned (long_operand 3 s) (long_operand 1 s))) s
+operates_long EqD s = over 4 (truth (nat_eq (long_operand 3 s) (long_operand 1 s))) s
+operates_long LessDI s = over 4 (truth (related_long Less Signed (long_operand 3 s) (long_operand 1 s))) s
+operates_long LessDC s = over 4 (truth (related_long Less Unsigned (long_operand 3 s) (long_operand 1 s))) s
+operates_long WidenI s = over_long 1 (extended Signed (operand 1 s)) s
+operates_long WidenC s = over_long 1 (extended Unsigned (operand 1 s)) s
+operates_long NarrowI s = in_bounds (is_word_of Signed (shifted_long Signed (long_operand 1 s))) (over 2 (less_of (long_operand 1 s)) s)
+operates_long NarrowC s = in_bounds (is_word_of Unsigned (shifted_long Signed (long_operand 1 s))) (over 2 (less_of (long_operand 1 s)) s)
+operates_long CheckD s = in_bounds (is_in_common (long_operand 1 s)) (leaves s.region s.registers.sp s)
+operates_long _ s = Paused Touches
+
 -- the instruction at an entry, which operates on operands; with the bytes for which the two words of a string stand
 unfoldable pub operates : (texts : ℕ → ℕ → List ℕ) → Instruction → Flat → Flowed
 operates texts (Index c z) s = in_bounds (nat_lt (operand 1 s) c) (over 2 (wrap (operand 2 s + operand 1 s * z)) s)
@@ -83,7 +117,7 @@ operates texts (CheckI a b) s = in_bounds (fits (From Signed a b) (operand 1 s))
 operates texts (CheckC a b) s = in_bounds (fits (From Unsigned a b) (operand 1 s)) (leaves s.region s.registers.sp s)
 operates texts StrLen s = over 2 (length (texts (operand 2 s) (operand 1 s))) s
 operates texts StrAt s = over_tried 3 (byte_at (texts (operand 3 s) (operand 2 s)) (operand 1 s)) s
-operates texts _ s = Paused Touches
+operates texts i s = operates_long i s
 
 -- goes on at the entry of a number
 abbrev pub jumps : ℕ → ℕ → Flat → Flowed

@@ -7,11 +7,13 @@ ghost use Rattle.machine_topmost.specs.Fits.{Fits};
 
 use crate::indexed::{load_global_indexed, load_indexed, store_global_indexed, store_indexed};
 use crate::jumps::{jump_if, jump_if_not};
+use crate::long_operate::operate_long;
 use crate::operate::{
     add, check, divide, equal, index, less, modulo, multiply, negate, not, string_at,
     string_length, subtract,
 };
 use crate::registers::{Registers, Why};
+use crate::routine::Routine;
 use crate::variables::{
     literal, load, load_global, pop, roll, store, store_global, string, zero, zero_global,
 };
@@ -19,15 +21,14 @@ use code_forms::Instruction;
 use machine_rules::object_files::Image;
 use mesa_types::Base;
 
-/// Does the instruction, in a module of this number, where it touches the topmost activation alone; or gives why it is not
+/// Does the instruction of a routine where it touches the topmost activation alone; or gives why it is not
 /// done, and then all is as it was. `targets` has the number of the entry to which each entry jumps.
 #[inline(always)]
 #[tactic(auto, unfolding(crate::specs::Flat::flat, crate::specs::Flat::operates, crate::specs::Flat::Flows, crate::specs::Fits::Fits, crate::specs::Fits::FitsOperator))]
 pub(crate) fn perform(
     instruction: &Instruction,
     targets: &[u32],
-    image: &Image,
-    number: u16,
+    routine: &Routine,
     region: &mut [u16],
     globals: &mut [u16],
     r: &mut Registers,
@@ -35,15 +36,15 @@ pub(crate) fn perform(
 ) -> Option<Why>
     requires fits { Fits instruction.now (length region.old) (length globals.old) r.old }
     requires target { r.old.entry < length targets.now }
-    requires number { number < 65535 }
-    ensures { Flows (flat (text_of image.now) number instruction.now (slice_index targets.now r.old.entry)
+    requires number { routine.now.number < 65535 }
+    ensures { Flows (flat (text_of routine.now.image.now) routine.now.number instruction.now (slice_index targets.now r.old.entry)
         (record { region = region.old; globals = globals.old; registers = r.old; turns = turns.old })) result
         (record { region = region.old; globals = globals.old; registers = r.old; turns = turns.old })
         (record { region = region.new; globals = globals.new; registers = r.new; turns = turns.new }) }
 {
     match *instruction {
         Instruction::Lit { word } => literal(word, region, r),
-        Instruction::Str { literal } => string(number, literal, region, r),
+        Instruction::Str { literal } => string(routine.number, literal, region, r),
         Instruction::LoadL { slot, words } => load(slot, words, region, r),
         Instruction::StoreL { slot, words } => store(slot, words, region, r),
         Instruction::LoadG { slot, words } => load_global(slot, words, globals, region, r),
@@ -105,8 +106,24 @@ pub(crate) fn perform(
         Instruction::Not => not(region, r),
         Instruction::CheckI { least, most } => return check(Base::Signed, least, most, region, r),
         Instruction::CheckC { least, most } => return check(Base::Unsigned, least, most, region, r),
-        Instruction::StrLen => string_length(image, region, r),
-        Instruction::StrAt => return string_at(image, region, r),
+        Instruction::StrLen => string_length(routine.image, region, r),
+        Instruction::StrAt => return string_at(routine.image, region, r),
+        Instruction::AddD
+        | Instruction::SubD
+        | Instruction::MulD
+        | Instruction::NegD
+        | Instruction::DivDI
+        | Instruction::ModDI
+        | Instruction::DivDC
+        | Instruction::ModDC
+        | Instruction::EqD
+        | Instruction::LessDI
+        | Instruction::LessDC
+        | Instruction::WidenI
+        | Instruction::WidenC
+        | Instruction::NarrowI
+        | Instruction::NarrowC
+        | Instruction::CheckD => return operate_long(instruction, region, r),
         _ => return Some(Why::Touches),
     }
     None

@@ -8,43 +8,37 @@ ghost use Rattle.machine_topmost.specs.Running.{FlatPauses, HasTargets, IsProced
 
 use crate::perform::perform;
 use crate::registers::{Pause, Registers};
-use code_forms::{CodeProcedure, ModuleCode};
-use machine_rules::object_files::Image;
+use crate::routine::Routine;
 use mesa_base::Steps;
 use std::sync::ledger::Ledger;
 
-/// Runs the topmost activation, in a procedure of the module of this number, until an instruction that touches more than
-/// it or that cannot go on. `targets` has the number of the entry to which each entry jumps, and the activation's operands
-/// begin at the floor. One step is counted for each instruction begun, that one included; no memory is taken.
+/// Runs the topmost activation in its procedure until an instruction that touches more than it or that cannot go on. One
+/// step is counted for each instruction begun, that one included; no memory is taken.
 pub fn quiet<L: Ledger>(
-    code: &ModuleCode,
-    procedure: &CodeProcedure,
-    targets: &[u32],
-    image: &Image,
-    number: u16,
-    floor: usize,
+    routine: &Routine,
     region: &mut [u16],
     globals: &mut [u16],
     registers: Registers,
     bound: u64,
     steps: &mut Steps<L>,
 ) -> Pause
-    requires valid { Valid code.now }
-    requires depths { HasDepths code.now }
-    requires part { IsProcedureOf code.now procedure.now }
-    requires leads { HasTargets procedure.now.code targets.now }
-    requires number { number < 65535 }
-    requires standing { Standing code.now procedure.now (length region.old) (length globals.old) floor registers }
-    ensures pauses { FlatPauses (text_of image.now) number procedure.now.code targets.now
+    requires valid { Valid routine.now.code.now }
+    requires depths { HasDepths routine.now.code.now }
+    requires part { IsProcedureOf routine.now.code.now routine.now.procedure.now }
+    requires leads { HasTargets routine.now.procedure.now.code routine.now.targets.now }
+    requires number { routine.now.number < 65535 }
+    requires standing { Standing routine.now.code.now routine.now.procedure.now (length region.old) (length globals.old) routine.now.floor registers }
+    ensures pauses { FlatPauses (text_of routine.now.image.now) routine.now.number routine.now.procedure.now.code routine.now.targets.now
         (record { region = region.old; globals = globals.old; registers = registers; turns = bound }) (steps.new - steps.old) result.why
         (record { region = region.new; globals = globals.new; registers = result.registers; turns = result.turns }) }
-    ensures at { (e : CodeEntry) → slice_get procedure.now.code result.registers.entry ≡ Some e → e.instruction ≡ result.instruction }
+    ensures at { (e : CodeEntry) → slice_get routine.now.procedure.now.code result.registers.entry ≡ Some e → e.instruction ≡ result.instruction }
     ensures counted { steps.old ≤ steps.new }
     ensures turns_fall { result.turns ≤ bound }
     ensures stays { (result.registers.top ≡ registers.top) × (result.registers.slots ≡ registers.slots) }
-    ensures standing { Standing code.now procedure.now (length region.new) (length globals.new) floor result.registers }
+    ensures standing { Standing routine.now.code.now routine.now.procedure.now (length region.new) (length globals.new) routine.now.floor result.registers }
 {
-    let entries = procedure.code.as_slice();
+    let entries = routine.procedure.code.as_slice();
+    let targets = routine.targets;
     let mut r = registers;
     let mut turns = bound;
     'running: loop {
@@ -53,8 +47,7 @@ pub fn quiet<L: Ledger>(
         if let Some(why) = perform(
             &entry.instruction,
             targets,
-            image,
-            number,
+            routine,
             region,
             globals,
             &mut r,

@@ -12,8 +12,8 @@ loop-wanted-preserved c =
 
 pub returns-then-not-is_had : goal.returns-then-not-is_had
 returns-then-not-is_had c =
-    first_lacking c.args.wanteds.now c.loop-wanted.wanted-index c.wanted-item.result c.in_ok-named.field-0 c.loop-wanted-test.true c.wanted-item.is
-    (λ had. let e : false ≡ true = c.if-not-is_had.ensures.1 had in absurd cc) c.in_ok-named.ensures c.loop-wanted.invariant
+    first_lacking c.args.wanteds.now c.loop-wanted.wanted-index c.wanted-item.result c.in_ok-named_item.field-0 c.loop-wanted-test.true c.wanted-item.is
+    (λ had. let e : false ≡ true = c.if-not-is_had.ensures.1 had in absurd cc) c.in_ok-named_item.ensures c.loop-wanted.invariant
 
 pub returns : goal.returns
 returns c =

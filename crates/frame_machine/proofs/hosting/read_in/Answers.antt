@@ -7,7 +7,7 @@ use Rattle.machine_ready.proofs.Preparing.{ready_is_prepared}
 use Rattle.machine_ready.proofs.Running.{ready_can_run}
 use Rattle.frame_machine.specs.SoFar.{AtHost}
 use Rattle.frame_machine.proofs.Faults.{none_failed, source_failed}
-use Rattle.frame_machine.proofs.HostTurns.{can_read, read_moves, read_breaks, has_read, then_moves}
+use Rattle.frame_machine.proofs.HostSequels.{can_read, read_moves, read_breaks, has_read, then_moves}
 use Rattle.frame_machine.proofs.Onwards.{along, after}
 use Rattle.frame_machine.proofs.Pausing.{same_length, words_then}
 use Rattle.frame_machine.proofs.hosting.read_in.Goals as goal
@@ -15,13 +15,13 @@ use Rattle.frame_machine.proofs.hosting.read_in.Goals as goal
 pub read-requires : goal.read-requires
 read-requires g c = record {
   can = can_read c.args.image.now (ready_can_run c.args.image.now c.args.parts.now c.requires.ready) c.args.parts.now c.args.parts.now c.args.turns.now c.args.ahead.now c.args.ahead.now
-      (g.S.Source.left c.args.input.now) (g.S.Source.left c.args.input.now) c.requires.run.0 c.args.r c.args.reading c.as_mut_slice.result.now c.args.parts.now.region.items c.as_mut_slice.ensures.value refl
+      (g.S.Source.left c.args.input.now) (g.S.Source.left c.args.input.now) c.requires.run.0 c.args.r c.args.reading c.as_mut_slice.result.now c.args.parts.now.stack.region.items c.as_mut_slice.ensures.value refl
       c.requires.ready (ready_is_prepared c.args.image.now c.args.parts.now c.requires.ready) c.requires.ample c.requires.run.1;
 }
 
 pub read_then-requires-clause-ample : goal.read_then-requires-clause-ample
 read_then-requires-clause-ample g c = record {
-  wide = let w = c.requires.ample.wide in let l = same_length c.args.parts.now.region c.read.new.region in omega (arith, w, l);
+  wide = let w = c.requires.ample.wide in let l = same_length c.args.parts.now.stack.region c.read.new.region in omega (arith, w, l);
   long = c.requires.ample.long;
 }
 
@@ -31,25 +31,25 @@ read_then-requires-clause-behind g c = (c.args.reading, c.in-Ok.ensures.reads.be
 pub read_then-requires-clause-reads : goal.read_then-requires-clause-reads
 read_then-requires-clause-reads g c =
     let can = ready_can_run c.args.image.now c.args.parts.now c.requires.ready in
-    let p : Prepared = record c.args.parts.now { region = with_items c.args.parts.now.region c.read.new.region } in
-    let words = words_then c.args.parts.now.region c.read.new.region (let a = c.read.auto.region in let v = ap (λ (l : List ℕ). length l) c.as_mut_slice.ensures.value in omega (arith, a, v)) in
-    has_read c.args.image.now can p p c.args.turns.now c.args.turns.now c.read.new.ahead (g.S.Source.left c.read.new.input) c.requires.run.0 c.args.r c.in-Ok.turn
+    let p : Prepared = record c.args.parts.now { stack = record c.args.parts.now.stack { region = with_items c.args.parts.now.stack.region c.read.new.region } } in
+    let words = words_then c.args.parts.now.stack.region c.read.new.region (let a = c.read.auto.region in let v = ap (λ (l : List ℕ). length l) c.as_mut_slice.ensures.value in omega (arith, a, v)) in
+    has_read c.args.image.now can p p c.args.turns.now c.args.turns.now c.read.new.ahead (g.S.Source.left c.read.new.input) c.requires.run.0 c.args.r c.in-Ok.sequel
     (along c.args.image.now c.args.parts.now p c.args.turns.now c.args.turns.now c.args.ahead.now c.read.new.ahead (g.S.Source.left c.args.input.now) (g.S.Source.left c.read.new.input) c.requires.run.0 c.requires.run.0
-    (AtHost c.args.image.now c.args.parts.now c.args.r (Read c.args.reading)) (λ s m. ReadLeads c.args.image.now p.layout p.region.items p.rows.items c.args.r s m c.in-Ok.turn) 0 c.requires.run.1
+    (AtHost c.args.image.now c.args.parts.now c.args.r (Read c.args.reading)) (λ s m. ReadLeads c.args.image.now p.stack.layout p.stack.region.items p.stack.rows.items c.args.r s m c.in-Ok.sequel) 0 c.requires.run.1
     (read_moves c.args.image.now can c.args.parts.now p c.args.turns.now c.args.ahead.now c.read.new.ahead (g.S.Source.left c.args.input.now) (g.S.Source.left c.read.new.input) c.requires.run.0 c.args.r c.args.reading
-    c.as_mut_slice.result.now c.read.new.region c.as_mut_slice.ensures.value words (ready_is_prepared c.args.image.now c.args.parts.now c.requires.ready) c.requires.ample refl refl refl refl c.in-Ok.turn c.in-Ok.ensures.reads))
+    c.as_mut_slice.result.now c.read.new.region c.as_mut_slice.ensures.value words (ready_is_prepared c.args.image.now c.args.parts.now c.requires.ready) c.requires.ample refl refl refl refl c.in-Ok.sequel c.in-Ok.ensures.reads))
 
 pub returns-in-Ok-clause-follows : goal.returns-in-Ok-clause-follows
 returns-in-Ok-clause-follows g c holds =
     let can = ready_can_run c.args.image.now c.args.parts.now c.requires.ready in
-    let p : Prepared = record c.args.parts.now { region = with_items c.args.parts.now.region c.read.new.region } in
-    let words = words_then c.args.parts.now.region c.read.new.region (let a = c.read.auto.region in let v = ap (λ (l : List ℕ). length l) c.as_mut_slice.ensures.value in omega (arith, a, v)) in
+    let p : Prepared = record c.args.parts.now { stack = record c.args.parts.now.stack { region = with_items c.args.parts.now.stack.region c.read.new.region } } in
+    let words = words_then c.args.parts.now.stack.region c.read.new.region (let a = c.read.auto.region in let v = ap (λ (l : List ℕ). length l) c.as_mut_slice.ensures.value in omega (arith, a, v)) in
     after c.args.image.now c.args.parts.now p c.args.turns.now c.args.turns.now c.args.ahead.now c.read.new.ahead (g.S.Source.left c.args.input.now) (g.S.Source.left c.read.new.input) holds holds
     c.read_then.new.parts c.read_then.new.turns c.read.new.ahead (g.S.Source.left c.read.new.input) holds
-    (AtHost c.args.image.now c.args.parts.now c.args.r (Read c.args.reading)) (λ s m. ReadLeads c.args.image.now p.layout p.region.items p.rows.items c.args.r s m c.in-Ok.turn) (Ok c.read_then.result) 0 0 0
+    (AtHost c.args.image.now c.args.parts.now c.args.r (Read c.args.reading)) (λ s m. ReadLeads c.args.image.now p.stack.layout p.stack.region.items p.stack.rows.items c.args.r s m c.in-Ok.sequel) (Ok c.read_then.result) 0 0 0
     (read_moves c.args.image.now can c.args.parts.now p c.args.turns.now c.args.ahead.now c.read.new.ahead (g.S.Source.left c.args.input.now) (g.S.Source.left c.read.new.input) holds c.args.r c.args.reading
-    c.as_mut_slice.result.now c.read.new.region c.as_mut_slice.ensures.value words (ready_is_prepared c.args.image.now c.args.parts.now c.requires.ready) c.requires.ample refl refl refl refl c.in-Ok.turn c.in-Ok.ensures.reads)
-    (then_moves c.args.image.now can p c.read_then.new.parts c.args.turns.now c.read_then.new.turns c.read.new.ahead (g.S.Source.left c.read.new.input) holds c.args.r c.in-Ok.turn
+    c.as_mut_slice.result.now c.read.new.region c.as_mut_slice.ensures.value words (ready_is_prepared c.args.image.now c.args.parts.now c.requires.ready) c.requires.ample refl refl refl refl c.in-Ok.sequel c.in-Ok.ensures.reads)
+    (then_moves c.args.image.now can p c.read_then.new.parts c.args.turns.now c.read_then.new.turns c.read.new.ahead (g.S.Source.left c.read.new.input) holds c.args.r c.in-Ok.sequel
     c.read_then.ensures.globals c.read_then.ensures.marks c.read_then.result c.read_then.ensures.leads) refl
 
 pub returns-in-Ok-clause-faults : goal.returns-in-Ok-clause-faults
@@ -57,8 +57,8 @@ returns-in-Ok-clause-faults g c written = none_failed c.read_then.result _ _ wri
 
 pub returns-in-Err-clause-follows : goal.returns-in-Err-clause-follows
 returns-in-Err-clause-follows g c holds =
-    let p : Prepared = record c.args.parts.now { region = with_items c.args.parts.now.region c.read.new.region } in
-    let words = words_then c.args.parts.now.region c.read.new.region (let a = c.read.auto.region in let v = ap (λ (l : List ℕ). length l) c.as_mut_slice.ensures.value in omega (arith, a, v)) in
+    let p : Prepared = record c.args.parts.now { stack = record c.args.parts.now.stack { region = with_items c.args.parts.now.stack.region c.read.new.region } } in
+    let words = words_then c.args.parts.now.stack.region c.read.new.region (let a = c.read.auto.region in let v = ap (λ (l : List ℕ). length l) c.as_mut_slice.ensures.value in omega (arith, a, v)) in
     read_breaks c.args.image.now (ready_can_run c.args.image.now c.args.parts.now c.requires.ready) c.args.parts.now p c.args.turns.now c.args.ahead.now c.read.new.ahead
     (g.S.Source.left c.args.input.now) (g.S.Source.left c.read.new.input) holds c.args.r c.args.reading c.as_mut_slice.result.now c.read.new.region c.as_mut_slice.ensures.value words
     c.in-Err.ensures.kept c.in-Err.ensures.unknown c.read.ensures.breaks

@@ -15,8 +15,8 @@ pub write-requires : goal.write-requires
 write-requires g c = record {
   can = subst (λ (x : List ℕ). CanCall x c.args.r.now (Write c.args.writing)) (sym c.as_slice.ensures.value) (record {
     image = c.args.image.now;
-    layout = c.args.parts.now.layout;
-    table = c.args.parts.now.rows.items;
+    layout = c.args.parts.now.stack.layout;
+    table = c.args.parts.now.stack.rows.items;
     prepared = ready_is_prepared c.args.image.now c.args.parts.now c.requires.ready;
     ample = c.requires.ample;
     calls = c.requires.calls;
@@ -26,8 +26,8 @@ write-requires g c = record {
 pub returns-in-Ok-clause-follows : goal.returns-in-Ok-clause-follows
 returns-in-Ok-clause-follows g c bound control turns begun ahead told left held short so =
     let piece : List ℕ = text_written c.args.image.now c.as_slice.result.now c.args.r.now c.args.writing in
-    let leads : WritesOn c.args.image.now c.args.parts.now.region.items c.args.r.now c.args.writing piece c.in-Ok.after =
-    subst (λ (q : Registers). WritesOn c.args.image.now c.args.parts.now.region.items c.args.r.now c.args.writing piece q) (sym c.in-Ok.ensures.behind)
+    let leads : WritesOn c.args.image.now c.args.parts.now.stack.region.items c.args.r.now c.args.writing piece c.in-Ok.after =
+    subst (λ (q : Registers). WritesOn c.args.image.now c.args.parts.now.stack.region.items c.args.r.now c.args.writing piece q) (sym c.in-Ok.ensures.behind)
     (subst (λ (x : List ℕ). WritesOn c.args.image.now x c.args.r.now c.args.writing piece (behind_call (Write c.args.writing) c.args.r.now)) c.as_slice.ensures.value c.in-Ok.ensures.leads) in
     written c.args.image.now (ready_can_run c.args.image.now c.args.parts.now c.requires.ready) bound told left held (g.K.Sink.written c.args.out.now) ahead c.args.parts.now control turns begun
     c.args.r.now c.in-Ok.after c.args.writing piece (g.K.Sink.written c.write.new.out) (ready_is_prepared c.args.image.now c.args.parts.now c.requires.ready) c.requires.ample leads c.in-Ok.ensures.wrote so

@@ -1,5 +1,5 @@
 use Rattle.std.proofs.Common.{◌-◌, ◌≤◌, Ok}
-use Rattle.machine_activations.specs.declared.calling.Turn.TheVariants.{Goes}
+use Rattle.machine_activations.specs.declared.calling.Sequel.TheVariants.{Goes}
 use Rattle.machine_calls.specs.Hosting.{AsksOn, vain_by}
 use Rattle.frame_machine.specs.Onward.{Follows}
 use Rattle.frame_machine.specs.SoFar.{At, Carries}
@@ -10,9 +10,9 @@ abbrev pub invariant-running : goal.invariant-running
 invariant-running g l = record {
   counted : l.fn.steps ≤ l.steps;
   carries : Carries l.image l.parts (Goes l.r);
-  follows : Follows l.image l.fn.parts l.parts l.fn.turns l.left (l.steps - l.fn.steps) l.fn.ahead l.ahead (g.S.Source.left l.fn.input) (g.S.Source.left l.input)
+  follows : Follows l.image l.fn.parts l.parts l.fn.remaining.turns l.left.turns (l.steps - l.fn.steps) l.fn.remaining.ahead l.left.ahead (g.S.Source.left l.fn.input) (g.S.Source.left l.input)
       (g.K.Sink.written l.fn.out) (g.K.Sink.written l.out) (At l.image l.fn.parts (Goes l.fn.first)) (Ok (Goes l.r));
-  asks : AsksOn l.fn.ahead (g.S.Source.left l.fn.input) (g.S.Source.left l.input) (g.S.Source.calls l.fn.input) (g.S.Source.calls l.input) (vain_by l.ahead);
+  asks : AsksOn l.fn.remaining.ahead (g.S.Source.left l.fn.input) (g.S.Source.left l.input) (g.S.Source.calls l.fn.input) (g.S.Source.calls l.input) (vain_by l.left.ahead);
   source_stays : g.S.Source.faults l.fn.input ≤ g.S.Source.faults l.input;
   sink_stays : g.K.Sink.faults l.fn.out ≤ g.K.Sink.faults l.out;
 }

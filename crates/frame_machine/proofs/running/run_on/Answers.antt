@@ -1,10 +1,10 @@
 use Rattle.std.proofs.Common.{◌≡◌, ◌-◌, Result, Ok, Err, Option, refl, ap, sym, subst, ◌∙◌, arith}
 use Rattle.std.proofs.lemmas.Result.{err_from_is_err_and}
 use Rattle.machine_rules.specs.declared.end.End.{End}
-use Rattle.machine_activations.specs.declared.calling.Turn.{Turn}
+use Rattle.machine_activations.specs.declared.calling.Sequel.{Sequel}
 use Rattle.machine_calls.specs.Hosting.{AsksOn, vain_by}
 use Rattle.frame_machine.specs.declared.outcome.RunFault.{RunFault}
-use Rattle.frame_machine.specs.Onward.{CountsFaults, Follows, last_turn, vain_of, vain_then}
+use Rattle.frame_machine.specs.Onward.{CountsFaults, Follows, last_sequel, vain_of, vain_then}
 use Rattle.frame_machine.specs.SoFar.{At}
 use Rattle.frame_machine.proofs.Asks.{asks_not, asks_later}
 use Rattle.frame_machine.proofs.Faults.{none_failed, later_failed}
@@ -15,21 +15,21 @@ pub running-init : goal.running-init
 running-init g c = record {
   counted = omega arith;
   carries = c.requires.carries;
-  follows = stays c.args.image.now c.args.parts.now c.args.turns.now c.args.steps.now c.args.ahead.now (g.S.Source.left c.args.input.now) (g.K.Sink.written c.args.out.now) c.args.first c.args.first refl;
-  asks = asks_not c.args.ahead.now (g.S.Source.left c.args.input.now) (g.S.Source.calls c.args.input.now);
+  follows = stays c.args.image.now c.args.parts.now c.args.remaining.now.turns c.args.steps.now c.args.remaining.now.ahead (g.S.Source.left c.args.input.now) (g.K.Sink.written c.args.out.now) c.args.first c.args.first refl;
+  asks = asks_not c.args.remaining.now.ahead (g.S.Source.left c.args.input.now) (g.S.Source.calls c.args.input.now);
   source_stays = omega arith;
   sink_stays = omega arith;
 }
 
 pub advance-requires-clause-run : goal.advance-requires-clause-run
 advance-requires-clause-run g c =
-    along c.args.image.now c.args.parts.now c.running.parts c.args.turns.now c.running.turns c.args.ahead.now c.running.ahead (g.S.Source.left c.args.input.now) (g.S.Source.left c.running.input)
-    (g.K.Sink.written c.args.out.now) (g.K.Sink.written c.running.out) (At c.args.image.now c.args.parts.now c.args.first) (At c.args.image.now c.running.parts c.running.turn)
+    along c.args.image.now c.args.parts.now c.running.parts c.args.remaining.now.turns c.running.remaining.turns c.args.remaining.now.ahead c.running.remaining.ahead (g.S.Source.left c.args.input.now) (g.S.Source.left c.running.input)
+    (g.K.Sink.written c.args.out.now) (g.K.Sink.written c.running.out) (At c.args.image.now c.args.parts.now c.args.first) (At c.args.image.now c.running.parts c.running.sequel)
     (c.running.steps - c.args.steps.now) c.requires.run c.running.invariant.follows
 
 pub returns-in-Empty-clause-follows : goal.returns-in-Empty-clause-follows
 returns-in-Empty-clause-follows g c =
-    subst (λ (t : Turn). Follows c.args.image.now c.args.parts.now c.running.parts c.args.turns.now c.running.turns (c.running.steps - c.args.steps.now) c.args.ahead.now c.running.ahead
+    subst (λ (t : Sequel). Follows c.args.image.now c.args.parts.now c.running.parts c.args.remaining.now.turns c.running.remaining.turns (c.running.steps - c.args.steps.now) c.args.remaining.now.ahead c.running.remaining.ahead
     (g.S.Source.left c.args.input.now) (g.S.Source.left c.running.input) (g.K.Sink.written c.args.out.now) (g.K.Sink.written c.running.out) (At c.args.image.now c.args.parts.now c.args.first) (Ok t))
     c.in-Empty.is c.running.invariant.follows
 
@@ -38,55 +38,55 @@ returns-in-Empty-clause-faults g c = none_failed _ _ _ _ _ c.running.invariant.s
 
 pub returns-in-Ends-clause-follows : goal.returns-in-Ends-clause-follows
 returns-in-Ends-clause-follows g c =
-    subst (λ (t : Turn). Follows c.args.image.now c.args.parts.now c.running.parts c.args.turns.now c.running.turns (c.running.steps - c.args.steps.now) c.args.ahead.now c.running.ahead
+    subst (λ (t : Sequel). Follows c.args.image.now c.args.parts.now c.running.parts c.args.remaining.now.turns c.running.remaining.turns (c.running.steps - c.args.steps.now) c.args.remaining.now.ahead c.running.remaining.ahead
     (g.S.Source.left c.args.input.now) (g.S.Source.left c.running.input) (g.K.Sink.written c.args.out.now) (g.K.Sink.written c.running.out) (At c.args.image.now c.args.parts.now c.args.first) (Ok t))
     c.in-Ends.is c.running.invariant.follows
 
 pub returns-in-Ends-clause-faults : goal.returns-in-Ends-clause-faults
 returns-in-Ends-clause-faults g c = none_failed _ _ _ _ _ c.running.invariant.source_stays c.running.invariant.sink_stays
 
-pub returns-in_err-turn-clause-follows : goal.returns-in_err-turn-clause-follows
-returns-in_err-turn-clause-follows g c =
+pub returns-in_err-sequel-clause-follows : goal.returns-in_err-sequel-clause-follows
+returns-in_err-sequel-clause-follows g c =
     let p = err_from_is_err_and c.from_residual.result c.from_residual.ensures.1 in
-    let is : c.from_residual.result ≡ Err c.in_err-turn.field-0.0 = p.1 ∙ ap (λ (f : RunFault). Err f) p.2 in
-    subst (λ (r : Result (Option End) RunFault). Follows c.args.image.now c.args.parts.now c.advance.new.parts c.args.turns.now c.advance.new.turns (c.advance.new.steps - c.args.steps.now) c.args.ahead.now c.advance.new.ahead
-    (g.S.Source.left c.args.input.now) (g.S.Source.left c.advance.new.input) (g.K.Sink.written c.args.out.now) (g.K.Sink.written c.advance.new.out) (At c.args.image.now c.args.parts.now c.args.first) (last_turn r))
+    let is : c.from_residual.result ≡ Err c.in_err-sequel.field-0.0 = p.1 ∙ ap (λ (f : RunFault). Err f) p.2 in
+    subst (λ (r : Result (Option End) RunFault). Follows c.args.image.now c.args.parts.now c.advance.new.parts c.args.remaining.now.turns c.advance.new.remaining.turns (c.advance.new.steps - c.args.steps.now) c.args.remaining.now.ahead c.advance.new.remaining.ahead
+    (g.S.Source.left c.args.input.now) (g.S.Source.left c.advance.new.input) (g.K.Sink.written c.args.out.now) (g.K.Sink.written c.advance.new.out) (At c.args.image.now c.args.parts.now c.args.first) (last_sequel r))
     (sym is)
-    (after c.args.image.now c.args.parts.now c.running.parts c.args.turns.now c.running.turns c.args.ahead.now c.running.ahead (g.S.Source.left c.args.input.now) (g.S.Source.left c.running.input)
-    (g.K.Sink.written c.args.out.now) (g.K.Sink.written c.running.out) c.advance.new.parts c.advance.new.turns c.advance.new.ahead (g.S.Source.left c.advance.new.input) (g.K.Sink.written c.advance.new.out)
-    (At c.args.image.now c.args.parts.now c.args.first) (At c.args.image.now c.running.parts c.running.turn) (Err c.in_err-turn.field-0.0)
+    (after c.args.image.now c.args.parts.now c.running.parts c.args.remaining.now.turns c.running.remaining.turns c.args.remaining.now.ahead c.running.remaining.ahead (g.S.Source.left c.args.input.now) (g.S.Source.left c.running.input)
+    (g.K.Sink.written c.args.out.now) (g.K.Sink.written c.running.out) c.advance.new.parts c.advance.new.remaining.turns c.advance.new.remaining.ahead (g.S.Source.left c.advance.new.input) (g.K.Sink.written c.advance.new.out)
+    (At c.args.image.now c.args.parts.now c.args.first) (At c.args.image.now c.running.parts c.running.sequel) (Err c.in_err-sequel.field-0.0)
     (c.running.steps - c.args.steps.now) (c.advance.new.steps - c.running.steps) (c.advance.new.steps - c.args.steps.now)
-    c.running.invariant.follows c.in_err-turn.ensures.follows (let a = c.running.invariant.counted in let b = c.in_err-turn.ensures.counted in omega (arith, a, b)))
+    c.running.invariant.follows c.in_err-sequel.ensures.follows (let a = c.running.invariant.counted in let b = c.in_err-sequel.ensures.counted in omega (arith, a, b)))
 
-pub returns-in_err-turn-clause-faults : goal.returns-in_err-turn-clause-faults
-returns-in_err-turn-clause-faults g c =
+pub returns-in_err-sequel-clause-faults : goal.returns-in_err-sequel-clause-faults
+returns-in_err-sequel-clause-faults g c =
     let p = err_from_is_err_and c.from_residual.result c.from_residual.ensures.1 in
-    let is : c.from_residual.result ≡ Err c.in_err-turn.field-0.0 = p.1 ∙ ap (λ (f : RunFault). Err f) p.2 in
+    let is : c.from_residual.result ≡ Err c.in_err-sequel.field-0.0 = p.1 ∙ ap (λ (f : RunFault). Err f) p.2 in
     subst (λ (r : Result (Option End) RunFault). CountsFaults r (g.S.Source.faults c.args.input.now) (g.S.Source.faults c.advance.new.input) (g.K.Sink.faults c.args.out.now) (g.K.Sink.faults c.advance.new.out))
     (sym is)
-    (later_failed c.in_err-turn.field-0.0 _ _ _ _ _ _ c.running.invariant.source_stays c.running.invariant.sink_stays c.in_err-turn.ensures.faults)
+    (later_failed c.in_err-sequel.field-0.0 _ _ _ _ _ _ c.running.invariant.source_stays c.running.invariant.sink_stays c.in_err-sequel.ensures.faults)
 
 pub running-preserved : goal.running-preserved
 running-preserved g c = record {
-  counted = let a = c.running.invariant.counted in let b = c.in_ok-turn.ensures.counted in omega (arith, a, b);
-  carries = c.in_ok-turn.ensures.carries;
-  follows = after c.args.image.now c.args.parts.now c.running.parts c.args.turns.now c.running.turns c.args.ahead.now c.running.ahead (g.S.Source.left c.args.input.now) (g.S.Source.left c.running.input)
-      (g.K.Sink.written c.args.out.now) (g.K.Sink.written c.running.out) c.advance.new.parts c.advance.new.turns c.advance.new.ahead (g.S.Source.left c.advance.new.input) (g.K.Sink.written c.advance.new.out)
-      (At c.args.image.now c.args.parts.now c.args.first) (At c.args.image.now c.running.parts c.running.turn) (Ok c.in_ok-turn.turn)
+  counted = let a = c.running.invariant.counted in let b = c.in_ok-sequel.ensures.counted in omega (arith, a, b);
+  carries = c.in_ok-sequel.ensures.carries;
+  follows = after c.args.image.now c.args.parts.now c.running.parts c.args.remaining.now.turns c.running.remaining.turns c.args.remaining.now.ahead c.running.remaining.ahead (g.S.Source.left c.args.input.now) (g.S.Source.left c.running.input)
+      (g.K.Sink.written c.args.out.now) (g.K.Sink.written c.running.out) c.advance.new.parts c.advance.new.remaining.turns c.advance.new.remaining.ahead (g.S.Source.left c.advance.new.input) (g.K.Sink.written c.advance.new.out)
+      (At c.args.image.now c.args.parts.now c.args.first) (At c.args.image.now c.running.parts c.running.sequel) (Ok c.in_ok-sequel.sequel)
       (c.running.steps - c.args.steps.now) (c.advance.new.steps - c.running.steps) (c.advance.new.steps - c.args.steps.now)
-      c.running.invariant.follows c.in_ok-turn.ensures.follows (let a = c.running.invariant.counted in let b = c.in_ok-turn.ensures.counted in omega (arith, a, b));
-  asks = asks_later c.args.ahead.now c.running.ahead (g.S.Source.left c.args.input.now) (g.S.Source.left c.running.input) (g.S.Source.left c.advance.new.input)
-      (g.S.Source.calls c.args.input.now) (g.S.Source.calls c.running.input) (g.S.Source.calls c.advance.new.input) (vain_by c.advance.new.ahead) c.running.invariant.asks
-      c.in_ok-turn.ensures.asks;
-  source_stays = let a = c.running.invariant.source_stays in let b = c.in_ok-turn.ensures.faults.source_stays in omega (arith, a, b);
-  sink_stays = let a = c.running.invariant.sink_stays in let b = c.in_ok-turn.ensures.faults.sink_stays in omega (arith, a, b);
+      c.running.invariant.follows c.in_ok-sequel.ensures.follows (let a = c.running.invariant.counted in let b = c.in_ok-sequel.ensures.counted in omega (arith, a, b));
+  asks = asks_later c.args.remaining.now.ahead c.running.remaining.ahead (g.S.Source.left c.args.input.now) (g.S.Source.left c.running.input) (g.S.Source.left c.advance.new.input)
+      (g.S.Source.calls c.args.input.now) (g.S.Source.calls c.running.input) (g.S.Source.calls c.advance.new.input) (vain_by c.advance.new.remaining.ahead) c.running.invariant.asks
+      c.in_ok-sequel.ensures.asks;
+  source_stays = let a = c.running.invariant.source_stays in let b = c.in_ok-sequel.ensures.faults.source_stays in omega (arith, a, b);
+  sink_stays = let a = c.running.invariant.sink_stays in let b = c.in_ok-sequel.ensures.faults.sink_stays in omega (arith, a, b);
 }
 
 pub running-smaller : goal.running-smaller
 running-smaller g c =
-    falls c.args.image.now c.args.parts.now c.running.parts c.args.turns.now c.running.turns c.args.steps.now c.running.steps c.advance.new.steps c.args.ahead.now c.running.ahead
-    (g.S.Source.left c.args.input.now) (g.S.Source.left c.running.input) (g.K.Sink.written c.args.out.now) (g.K.Sink.written c.running.out) c.args.first c.running.turn c.in_ok-turn.turn
-    c.in_default.not-Empty c.in_default.not-Ends c.running.invariant.counted c.requires.run c.running.invariant.follows c.in_ok-turn.ensures.advances
+    falls c.args.image.now c.args.parts.now c.running.parts c.args.remaining.now.turns c.running.remaining.turns c.args.steps.now c.running.steps c.advance.new.steps c.args.remaining.now.ahead c.running.remaining.ahead
+    (g.S.Source.left c.args.input.now) (g.S.Source.left c.running.input) (g.K.Sink.written c.args.out.now) (g.K.Sink.written c.running.out) c.args.first c.running.sequel c.in_ok-sequel.sequel
+    c.in_default.not-Empty c.in_default.not-Ends c.running.invariant.counted c.requires.run c.running.invariant.follows c.in_ok-sequel.ensures.advances
 
 pub returns-in-Empty-clause-asks : goal.returns-in-Empty-clause-asks
 returns-in-Empty-clause-asks g c = c.running.invariant.asks
@@ -94,12 +94,12 @@ returns-in-Empty-clause-asks g c = c.running.invariant.asks
 pub returns-in-Ends-clause-asks : goal.returns-in-Ends-clause-asks
 returns-in-Ends-clause-asks g c = c.running.invariant.asks
 
-pub returns-in_err-turn-clause-asks : goal.returns-in_err-turn-clause-asks
-returns-in_err-turn-clause-asks g c =
+pub returns-in_err-sequel-clause-asks : goal.returns-in_err-sequel-clause-asks
+returns-in_err-sequel-clause-asks g c =
     let p = err_from_is_err_and c.from_residual.result c.from_residual.ensures.1 in
-    let is : c.from_residual.result ≡ Err c.in_err-turn.field-0.0 = p.1 ∙ ap (λ (f : RunFault). Err f) p.2 in
-    subst (λ (r : Result (Option End) RunFault). AsksOn c.args.ahead.now (g.S.Source.left c.args.input.now) (g.S.Source.left c.advance.new.input)
-    (g.S.Source.calls c.args.input.now) (g.S.Source.calls c.advance.new.input) (vain_then r c.advance.new.ahead)) (sym is)
-    (asks_later c.args.ahead.now c.running.ahead (g.S.Source.left c.args.input.now) (g.S.Source.left c.running.input) (g.S.Source.left c.advance.new.input)
-    (g.S.Source.calls c.args.input.now) (g.S.Source.calls c.running.input) (g.S.Source.calls c.advance.new.input) (vain_of c.in_err-turn.field-0.0 c.advance.new.ahead)
-    c.running.invariant.asks c.in_err-turn.ensures.asks)
+    let is : c.from_residual.result ≡ Err c.in_err-sequel.field-0.0 = p.1 ∙ ap (λ (f : RunFault). Err f) p.2 in
+    subst (λ (r : Result (Option End) RunFault). AsksOn c.args.remaining.now.ahead (g.S.Source.left c.args.input.now) (g.S.Source.left c.advance.new.input)
+    (g.S.Source.calls c.args.input.now) (g.S.Source.calls c.advance.new.input) (vain_then r c.advance.new.remaining.ahead)) (sym is)
+    (asks_later c.args.remaining.now.ahead c.running.remaining.ahead (g.S.Source.left c.args.input.now) (g.S.Source.left c.running.input) (g.S.Source.left c.advance.new.input)
+    (g.S.Source.calls c.args.input.now) (g.S.Source.calls c.running.input) (g.S.Source.calls c.advance.new.input) (vain_of c.in_err-sequel.field-0.0 c.advance.new.remaining.ahead)
+    c.running.invariant.asks c.in_err-sequel.ensures.asks)

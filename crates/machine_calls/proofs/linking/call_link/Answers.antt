@@ -13,18 +13,18 @@ returns-then-turns-eq0-clause-leads c s m turns marks shown = record {
   started = m.started;
   shown = marks;
   leads = subst (λ t. Ends c.args.image.now s (Ended Spent) (record m { turns = t; begun = suc m.begun })) turns
-      (link_spent c.args.image.now c.args.layout c.requires.prepared c.args.region.now.items c.args.table.now c.args.r shown.procedure shown.top shown.rest shown.shows c.args.number c.requires.at.at.entry
-      (fetched_there c.args.image.now c.args.layout c.requires.prepared c.args.region.now.items c.args.table.now c.args.r c.args.number c.requires.at s m shown) c.requires.at.at.at m s shown.reaches (turns ∙ c.if-turns-eq0.true));
+      (link_spent c.args.image.now c.args.stack.now.layout c.requires.prepared c.args.stack.now.region.items c.args.stack.now.rows.items c.args.r shown.procedure shown.top shown.rest shown.shows c.args.number c.requires.at.at.entry
+      (fetched_there c.args.image.now c.args.stack.now.layout c.requires.prepared c.args.stack.now.region.items c.args.stack.now.rows.items c.args.r c.args.number c.requires.at s m shown) c.requires.at.at.at m s shown.reaches (turns ∙ c.if-turns-eq0.true));
 }
 
 pub call_bound-requires-clause-calls : goal.call_bound-requires-clause-calls
 call_bound-requires-clause-calls c =
-    calls_link_there c.args.image.now c.args.layout c.requires.prepared c.args.region.now.items c.args.table.now c.args.r c.args.number c.requires.at c.requires.stands.start c.requires.stands.store c.requires.stands.shown
+    calls_link_there c.args.image.now c.args.stack.now.layout c.requires.prepared c.args.stack.now.region.items c.args.stack.now.rows.items c.args.r c.args.number c.requires.at c.requires.stands.start c.requires.stands.store c.requires.stands.shown
 
 pub returns-clause-leads : goal.returns-clause-leads
 unfolding calls_link_at
 returns-clause-leads c s m turns marks shown =
-    c.call_bound.ensures.leads (calls_link_at c.args.image.now c.args.layout c.requires.prepared c.args.region.now.items c.args.table.now c.args.r shown.procedure shown.top shown.rest shown.shows c.args.number c.requires.at.at.entry (fetched_there c.args.image.now c.args.layout c.requires.prepared c.args.region.now.items c.args.table.now c.args.r c.args.number c.requires.at s m shown) c.requires.at.at.at)
+    c.call_bound.ensures.leads (calls_link_at c.args.image.now c.args.stack.now.layout c.requires.prepared c.args.stack.now.region.items c.args.stack.now.rows.items c.args.r shown.procedure shown.top shown.rest shown.shows c.args.number c.requires.at.at.entry (fetched_there c.args.image.now c.args.stack.now.layout c.requires.prepared c.args.stack.now.region.items c.args.stack.now.rows.items c.args.r c.args.number c.requires.at s m shown) c.requires.at.at.at)
     s (record m { turns = c.args.turns.now - 1; begun = suc m.begun }) refl marks
-    (link_reaches c.args.image.now c.args.layout c.requires.prepared c.args.region.now.items c.args.table.now c.args.r shown.procedure shown.top shown.rest shown.shows c.args.number c.requires.at.at.entry
-    (fetched_there c.args.image.now c.args.layout c.requires.prepared c.args.region.now.items c.args.table.now c.args.r c.args.number c.requires.at s m shown) c.requires.at.at.at m s shown.reaches c.args.turns.now turns c.if-turns-eq0.false)
+    (link_reaches c.args.image.now c.args.stack.now.layout c.requires.prepared c.args.stack.now.region.items c.args.stack.now.rows.items c.args.r shown.procedure shown.top shown.rest shown.shows c.args.number c.requires.at.at.entry
+    (fetched_there c.args.image.now c.args.stack.now.layout c.requires.prepared c.args.stack.now.region.items c.args.stack.now.rows.items c.args.r c.args.number c.requires.at s m shown) c.requires.at.at.at m s shown.reaches c.args.turns.now turns c.if-turns-eq0.false)

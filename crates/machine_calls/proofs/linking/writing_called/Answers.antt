@@ -10,19 +10,19 @@ use Rattle.machine_calls.proofs.linking.writing_called.Goals as goal
 
 pub bound_to-requires : goal.bound_to-requires
 bound_to-requires c =
-    bound_some c.args.image.now c.args.layout c.requires.prepared c.args.region.now c.args.table.now c.args.r c.in-CallLink.link
-    (subst (λ (i : Instruction). StandsAt c.args.image.now c.args.table.now c.args.r i) c.in-CallLink.is c.requires.at) c.args.instance c.requires.instance c.requires.stands
+    bound_some c.args.image.now c.requires.layout c.requires.prepared c.requires.region c.requires.table c.requires.r c.in-CallLink.link
+    (subst (λ (i : Instruction). StandsAt c.args.image.now c.requires.table c.requires.r i) c.in-CallLink.is c.requires.at) c.args.instance c.requires.own c.requires.stands
 
 pub host_of-requires : goal.host_of-requires
 host_of-requires c =
-    writing_some c.args.image.now c.args.layout c.requires.prepared c.args.region.now c.args.table.now c.args.r c.in-CallLink.link
-    (subst (λ (i : Instruction). StandsAt c.args.image.now c.args.table.now c.args.r i) c.in-CallLink.is c.requires.at) c.args.instance c.requires.instance
+    writing_some c.args.image.now c.requires.layout c.requires.prepared c.requires.region c.requires.table c.requires.r c.in-CallLink.link
+    (subst (λ (i : Instruction). StandsAt c.args.image.now c.requires.table c.requires.r i) c.in-CallLink.is c.requires.at) c.args.instance c.requires.own
     c.bound_to.result c.bound_to.ensures c.requires.stands c.in-Wanted.wanted c.in-Wanted.is
 
 pub returns-in-Write-clause-calls : goal.returns-in-Write-clause-calls
-returns-in-Write-clause-calls c =
-    writes_at c.args.image.now c.args.layout c.requires.prepared c.args.region.now c.args.table.now c.args.r c.in-CallLink.link
-    (subst (λ (i : Instruction). StandsAt c.args.image.now c.args.table.now c.args.r i) c.in-CallLink.is c.requires.at) c.args.instance c.requires.instance
+returns-in-Write-clause-calls c there =
+    writes_at c.args.image.now there.layout there.prepared there.region there.table there.r c.in-CallLink.link
+    (subst (λ (i : Instruction). StandsAt c.args.image.now there.table there.r i) c.in-CallLink.is there.at) c.args.instance there.own
     c.bound_to.result c.bound_to.ensures c.in-Wanted.wanted c.in-Wanted.is
     c.in-Write.writing (subst (λ (h : HostProcedure). host_of c.args.image.now c.in-Wanted.wanted ≡ Some (host_is h)) c.in-Write.is c.host_of.ensures) c.args.turns c.if-turns-eq0.false
 

@@ -2,7 +2,7 @@ use Rattle.std.proofs.Common.{ap, ◌∙◌, refl}
 use Rattle.std.specs.Prelude.{slice_set}
 use Rattle.machine_calls.specs.declared.ahead.Coming.TheVariants.{Byte, End}
 use Rattle.machine_calls.specs.declared.host.Reading.TheVariants.{Next, AtEnd}
-use Rattle.machine_calls.specs.declared.reading.ReadTurn.TheVariants.{Goes, NoInput}
+use Rattle.machine_calls.specs.declared.reading.ReadSequel.TheVariants.{Goes, NoInput}
 use Rattle.machine_calls.proofs.HostReads.{reads_char, reads_none, tells_more, tells_end, pushed_registers, pushed_behind, goes_behind, reads_so, read_fits}
 use Rattle.machine_calls.proofs.reading.read_known.Goals as goal
 

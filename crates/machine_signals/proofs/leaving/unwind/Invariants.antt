@@ -9,9 +9,9 @@ abbrev pub invariant-leaving : goal.invariant-leaving
 invariant-leaving l = record {
   lower : l.place ≤ l.top;
   above : l.target.place ≤ l.place;
-  asks : AskedOf l.image (row_at l.table l.place) l.search;
-  leaves : (region : List ℕ) (s : Stepped) (m : Store) → Leaving l.image l.layout region l.table l.top l.target l.fn.first s m
-      → Leaving l.image l.layout region l.table l.place l.target l.search s m;
+  asks : AskedOf l.image (row_at l.stack.rows.items l.place) l.search;
+  leaves : (region : List ℕ) (s : Stepped) (m : Store) → Leaving l.image l.stack.layout region l.stack.rows.items l.top l.target l.fn.first s m
+      → Leaving l.image l.stack.layout region l.stack.rows.items l.place l.target l.search s m;
 }
 
 abbrev pub decreases-leaving : goal.decreases-leaving
