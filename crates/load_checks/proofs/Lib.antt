@@ -8,6 +8,7 @@ pub mod Linking
 pub mod Looping
 pub mod Noting
 pub mod Passing
+pub mod Placing
 pub mod Putting
 pub mod Turning
 pub mod Wanteds

@@ -14,9 +14,6 @@ module _ {A B : Type 0} (g : A → B) (xs : List A) (i : ℕ) where
   pub next_shown : (x d : A) → i < length xs → x ≡ get_or xs i d → drop i (map g xs) ≡ g x ∷ drop (i + 1) (map g xs)
   next_shown x d less is = drop-map g i xs ∙ ap (map g) (next xs i x d less is) ∙ ap (λ l. g x ∷ l) (sym (drop-map g (i + 1) xs))
 
-  pub none_shown : length xs ≤ i → drop i (map g xs) ≡ []
-  none_shown past = drop-map g i xs ∙ ap (map g) (none_left xs i past)
-
 -- by a look at the place
 pub next_got : {A : Type 0} (xs : List A) (i : ℕ) (x : A) → Some x ≡ slice_get xs i → drop i xs ≡ x ∷ drop (i + 1) xs
 next_got [] i x is = absurd (none-some x (sym is))

@@ -1,5 +1,5 @@
 -- One turn of a loop more: what is done so far, and then the rest, is all.
-use Rattle.std.proofs.Common.{◌≡◌, ℕ, suc, ◌+◌, ◌<◌, ◌≤◌, Bool, true, false, not, ◌&&◌, ◌||◌, List, [], ◌∷◌, ◌++◌, length, drop, map, get_or, nat_eq, Option, Some, None, slice_get, refl, sym, ap, ◌∙◌, append-nil, append_assoc, if◌then◌else◌, arith}
+use Rattle.std.proofs.Common.{◌≡◌, ℕ, ◌+◌, ◌<◌, ◌≤◌, Bool, true, false, ◌||◌, List, [], ◌∷◌, ◌++◌, length, drop, map, get_or, Option, Some, None, slice_get, refl, sym, ap, ◌∙◌, append-nil, append_assoc}
 use denote.Ref.{Bor}
 use Rattle.mesa_types.specs.Links.{items_used}
 use Rattle.mesa_types.specs.declared.faces.Face.{Face}
@@ -10,16 +10,12 @@ use Rattle.object_files.specs.declared.image.Image.{Image}
 use Rattle.object_files.specs.declared.image.Instance.{Instance}
 use Rattle.object_files.specs.declared.image.Link.{Link}
 use Rattle.config_rules.specs.Exporters.{is_named, is_given}
-use Rattle.config_rules.proofs.Members.{mapped_length}
 use Rattle.loader_rules.specs.Exporters.{module_at}
 use Rattle.loader_rules.specs.LoadFaults.{faces_linked}
-use Rattle.loader_rules.specs.Wanted.{is_built_in, same_entry, has_entry, entry_number}
 use Rattle.load_checks.specs.declared.exporters.Exporter.{Exporter}
 use Rattle.load_checks.specs.Choosing.{Choice, choice_shown, choices_shown, link_by, links_by}
 use Rattle.load_checks.specs.Faces.{faces_at, faces_shown, lowered, all_lowered, lowered_in}
-use Rattle.load_checks.specs.Wanting.{entries_shown, noted_one}
-use Rattle.load_checks.proofs.Looping.{next, next_shown, none_left, none_shown, next_got, none_got}
-use Rattle.load_checks.proofs.Wanteds.{this_one, not_this, no_one, is_new}
+use Rattle.load_checks.proofs.Looping.{next, next_shown, none_left, next_got, none_got}
 
 -- ---- the least item with another face
 
@@ -112,31 +108,6 @@ module _ (name : List ℕ) (f : Face) (ps : List Pair) (at : ℕ) (all : Bool) (
   pub given_none : length ps ≤ at → false ≡ all
   given_none past = sym (ap (is_given name f) (none_left ps at past) ∙ none_given) ∙ so_far
 
--- ---- the number of an item
-
-module _ (es : List (Bor Entry)) (e : Entry) (at all : ℕ) (so_far : at + entry_number (drop at (entries_shown es)) e ≡ all) where
-  shown_next : (x d : Bor Entry) → at < length es → x ≡ get_or es at d → drop at (entries_shown es) ≡ x.now ∷ drop (at + 1) (entries_shown es)
-  shown_next x d less is = next_shown (λ (y : Bor Entry). y.now) es at x d less is
-
-  pub number_here : (x d : Bor Entry) → at < length es → x ≡ get_or es at d → same_entry x.now e ≡ true → at ≡ all
-  number_here x d less is q =
-      let zero_here : entry_number (drop at (entries_shown es)) e ≡ 0 = ap (λ l. entry_number l e) (shown_next x d less is) ∙ this_one x.now (drop (at + 1) (entries_shown es)) e q in
-      omega (arith, zero_here, so_far)
-
-  pub number_more : (x d : Bor Entry) → at < length es → x ≡ get_or es at d → same_entry x.now e ≡ false → (at + 1) + entry_number (drop (at + 1) (entries_shown es)) e ≡ all
-  number_more x d less is q =
-      let later : entry_number (drop at (entries_shown es)) e ≡ suc (entry_number (drop (at + 1) (entries_shown es)) e) =
-      ap (λ l. entry_number l e) (shown_next x d less is) ∙ not_this x.now (drop (at + 1) (entries_shown es)) e q in
-      omega (arith, later, so_far)
-
-  pub number_none : length es ≤ at → at ≡ all
-  number_none past =
-      let none : entry_number (drop at (entries_shown es)) e ≡ 0 = ap (λ l. entry_number l e) (none_shown (λ (y : Bor Entry). y.now) es at past) ∙ no_one e in
-      omega (arith, none, so_far)
-
-  pub number_all : length es ≤ at → at ≤ length es → length es ≡ all
-  number_all past within = let here = number_none past in omega (arith, here, past, within)
-
 -- ---- links
 
 module _ (wanted es : List Entry) (xs : List (Option Exporter)) (at : ℕ) (links all : List Link) (so_far : links ++ links_by wanted (drop at es) (drop at (choices_shown xs)) ≡ all) where
@@ -148,28 +119,3 @@ module _ (wanted es : List Entry) (xs : List (Option Exporter)) (at : ℕ) (link
       ∙ append_assoc links (link_by wanted e (choice_shown x) ∷ []) rest
       ∙ (λ j. links ++ links_by wanted (sym (next es at e d less is) j) (sym (next_shown choice_shown xs at x b fewer its) j))
       ∙ so_far
-
--- ---- items that are noted
-
-pub has_by : (es : List (Bor Entry)) (e : Entry) (n m : ℕ) → n ≡ entry_number (entries_shown es) e → m ≡ length es → not (nat_eq n m) ≡ has_entry (entries_shown es) e
-has_by es e n m is long =
-    (λ j. not (nat_eq (is j) ((long ∙ sym (mapped_length (λ (y : Bor Entry). y.now) es)) j)))
-    ∙ ap not (is_new (entries_shown es) e)
-    ∙ twice (has_entry (entries_shown es) e)
-  where
-    twice : (b : Bool) → not (not b) ≡ b
-    twice true = refl
-    twice false = refl
-
-pub noted_new : (es : List Entry) (e : Entry) → is_built_in e.face ≡ true → has_entry es e ≡ false → noted_one es e ≡ es ++ e ∷ []
-noted_new es e its none = λ j. if its j && not (none j) then es ++ e ∷ [] else es
-
-pub noted_old : (es : List Entry) (e : Entry) → has_entry es e ≡ true → noted_one es e ≡ es
-noted_old es e there = ap (λ b. if is_built_in e.face && not b then es ++ e ∷ [] else es) there ∙ by (is_built_in e.face)
-  where
-    by : (b : Bool) → (if b && false then es ++ e ∷ [] else es) ≡ es
-    by true = refl
-    by false = refl
-
-pub noted_other : (es : List Entry) (e : Entry) → is_built_in e.face ≡ false → noted_one es e ≡ es
-noted_other es e its = ap (λ b. if b && not (has_entry es e) then es ++ e ∷ [] else es) its

@@ -66,20 +66,5 @@ pub all_are : (is : List Image) → all_noted [] is ≡ still_wanted is
 unfolding still_wanted
 all_are is = in_images [] is
 
--- ---- the number of an item
-
--- it is none of those before, and this one or not
-pub this_one : (x : Entry) (es : List Entry) (e : Entry) → same_entry x e ≡ true → entry_number (x ∷ es) e ≡ 0
-unfolding entry_number
-this_one x es e q = ap (λ b. if b then 0 else suc (entry_number es e)) q
-
-pub not_this : (x : Entry) (es : List Entry) (e : Entry) → same_entry x e ≡ false → entry_number (x ∷ es) e ≡ suc (entry_number es e)
-unfolding entry_number
-not_this x es e q = ap (λ b. if b then 0 else suc (entry_number es e)) q
-
-pub no_one : (e : Entry) → entry_number [] e ≡ 0
-unfolding entry_number
-no_one e = refl
-
 pub all_left : (es : List Entry) (is : List Image) (at : ℕ) (all : List Entry) → all_noted es (drop at is) ≡ all → length is ≤ at → es ≡ all
 all_left es is at all so_far past = sym (ap (all_noted es) (drop_all at is past)) ∙ so_far

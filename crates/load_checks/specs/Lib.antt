@@ -4,5 +4,6 @@ pub mod Givers
 pub mod Index
 pub mod Keys
 pub mod Links
+pub mod Places
 pub mod Turns
 pub mod Wanting

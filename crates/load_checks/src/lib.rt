@@ -9,6 +9,7 @@ mod faults;
 mod key;
 mod links;
 mod offering;
+mod places;
 mod resolving;
 mod turn;
 mod wanting;

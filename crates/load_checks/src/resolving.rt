@@ -7,13 +7,13 @@ ghost use Rattle.loader_rules.specs.LoadFaults.{HasLoadFault, faults_in, first_o
 ghost use Rattle.loader_rules.specs.Parts.{parts};
 ghost use Rattle.load_checks.specs.Links.{AreResolved, wanted_links};
 ghost use Rattle.load_checks.specs.Turns.{after, part_of, IsSeen};
-ghost use Rattle.load_checks.specs.Wanting.{entries_shown};
+ghost use Rattle.load_checks.specs.Wanting.{IsIndexed, entries_shown};
 
 use crate::checking::checked;
 use crate::links::links_of;
 use crate::turn::{Seen, Turn, nothing_seen, see};
-use crate::wanting::{copied, still_wanted};
-use interface_records::{Wanted, Wanteds};
+use crate::wanting::{Wanting, copied, still_wanted};
+use interface_records::Wanteds;
 use loader_rules::{Images, LoadFault};
 use mesa_base::List;
 use object_files::{Image, LinkTables};
@@ -30,29 +30,31 @@ pub struct Resolved {
 // The links of the image whose turn it is; then it is one of those before.
 fn take_turn<'a>(
     alloc: Global,
-    entries: &[&Wanted],
+    wanting: &Wanting,
     turn: &Turn<'a>,
     seen: &mut Seen<'a>,
     links: &mut LinkTables,
 ) -> Result<(), LoadFault>
+    requires indexed { IsIndexed wanting.now }
     requires seen { IsSeen turn.now.before.now seen.old }
     requires few { length turn.now.before.now ≤ 15 }
     ensures seen { OnOk result (IsSeen (after (part_of turn.now)) seen.new) }
     ensures none { OnOk result (faults_in (part_of turn.now) ≡ []) }
-    ensures links { OnOk result (links.new ≡ links.old ++ wanted_links (entries_shown entries.now) (part_of turn.now) ∷ []) }
+    ensures links { OnOk result (links.new ≡ links.old ++ wanted_links (entries_shown wanting.now.entries.items) (part_of turn.now) ∷ []) }
     ensures err { IfErr result (λ e. e ≢ LoadFault.Memory → first_of (faults_in (part_of turn.now)) ≡ Some e) }
 {
     let chosen = checked(alloc, turn, seen)?;
     let wanteds = turn.image.wanted.as_slice();
-    let table = links_of(alloc, entries, wanteds, chosen.as_slice())?;
+    let table = links_of(alloc, wanting, wanteds, chosen.as_slice())?;
     links.push(table)?;
     Ok(see(alloc, turn, seen)?)
 }
 
-fn tables_of(alloc: Global, entries: &[&Wanted], images: &[Image]) -> Result<LinkTables, LoadFault>
-    requires { length images.now ≤ MOST_IMAGES }
+fn tables_of(alloc: Global, wanting: &Wanting, images: &[Image]) -> Result<LinkTables, LoadFault>
+    requires indexed { IsIndexed wanting.now }
+    requires few { length images.now ≤ MOST_IMAGES }
     ensures none { OnOk result (load_faults images.now ≡ []) }
-    ensures links { IfOk result (λ links. links ≡ map (wanted_links (entries_shown entries.now)) (parts images.now)) }
+    ensures links { IfOk result (λ links. links ≡ map (wanted_links (entries_shown wanting.now.entries.items)) (parts images.now)) }
     ensures err { IfErr result (λ e. e ≢ LoadFault.Memory → HasLoadFault images.now e) }
 {
     let mut seen = nothing_seen(alloc);
@@ -62,7 +64,7 @@ fn tables_of(alloc: Global, entries: &[&Wanted], images: &[Image]) -> Result<Lin
             before: &images[..at],
             image,
         };
-        take_turn(alloc, entries, &turn, &mut seen, &mut links)?;
+        take_turn(alloc, wanting, &turn, &mut seen, &mut links)?;
     }
     Ok(links)
 }
@@ -72,9 +74,9 @@ fn found(alloc: Global, images: &Images) -> Result<Resolved, LoadFault>
     ensures found { IfOk result (AreResolved images.now.items) }
     ensures fault { IfErr result (λ e. e ≢ LoadFault.Memory → HasLoadFault images.now.items e) }
 {
-    let entries = still_wanted(alloc, images.as_slice())?;
-    let links = tables_of(alloc, entries.as_slice(), images.as_slice())?;
-    let wanted = copied(alloc, entries.as_slice())?;
+    let wanting = still_wanted(alloc, images.as_slice())?;
+    let links = tables_of(alloc, &wanting, images.as_slice())?;
+    let wanted = copied(alloc, wanting.entries.as_slice())?;
     Ok(Resolved { wanted, links })
 }
 

@@ -2,11 +2,15 @@
 
 ghost use Rattle.std.specs.Prelude.{◌≡◌, [], ◌∷◌, ◌++◌, IfOk, OnOk};
 ghost use Rattle.object_rules.specs.ImageForms.{same_signature};
-ghost use Rattle.loader_rules.specs.Wanted.{entry_number, has_entry, same_entry, still_wanted};
-ghost use Rattle.load_checks.specs.Wanting.{entries_shown, noted_in, noted_one};
+ghost use Rattle.loader_rules.specs.Wanted.{entry_number, still_wanted};
+ghost use Rattle.load_checks.specs.Places.{number_in, stands_shown};
+ghost use Rattle.load_checks.specs.Wanting.{IsIndexed, entries_shown, noted_in, noted_one, place_of};
 
 use crate::choosing::is_built_in;
+use crate::key::key_of;
+use crate::places::{Numbered, PlaceIndex, put_place};
 use held_trees::LetGo;
+use indexmap::IndexMap;
 use interface_records::{Wanted, Wanteds, same_signature};
 use mesa_base::{List, OutOfMemory};
 use mesa_types::Item;
@@ -14,67 +18,114 @@ use object_files::Image;
 use std::alloc::{AllocFailed, Global};
 use std::mem::drop;
 
+/// Items that are wanted, each once, and an index of them.
+#[derive(Drop)]
+pub struct Wanting<'a> {
+    pub entries: Vec<&'a Wanted>,
+    pub places: PlaceIndex<'a>,
+}
+
 fn is_like(a: &Item, b: &Item) -> bool
     ensures { result ≡ same_signature a.now b.now }
 {
     same_signature(a, b)
 }
 
-fn same_entry(a: &Wanted, b: &Wanted) -> bool
-    ensures { result ≡ same_entry a.now b.now }
+fn number_in(items: &[Numbered], wanted: &Wanted) -> Option<usize>
+    ensures { result ≡ number_in (stands_shown items.now) wanted.now }
 {
-    a.face.bytes() == b.face.bytes()
-        && a.stamp.number() == b.stamp.number()
-        && a.item.name.bytes() == b.item.name.bytes()
-        && is_like(&a.item, &b.item)
+    for item in items {
+        if is_like(&item.wanted.item, &wanted.item) {
+            return Some(item.number);
+        }
+    }
+    None
+}
+
+// The number of the item among those that are wanted, if it is one of them.
+fn place_of(alloc: Global, wanting: &Wanting, wanted: &Wanted) -> Result<Option<usize>, OutOfMemory>
+    requires { IsIndexed wanting.now }
+    ensures { IfOk result (λ place. place ≡ place_of (entries_shown wanting.now.entries.items) wanted.now) }
+{
+    let key = key_of(alloc, wanted)?;
+    match wanting.places.get(&key) {
+        Some(items) => Ok(number_in(items.as_slice(), wanted)),
+        None => Ok(None),
+    }
 }
 
 /// The number of the item among those that are wanted; where it is none of them, how many they are.
-pub fn entry_number(entries: &[&Wanted], wanted: &Wanted) -> usize
-    ensures { result ≡ entry_number (entries_shown entries.now) wanted.now }
+pub fn entry_number(alloc: Global, wanting: &Wanting, wanted: &Wanted) -> Result<usize, OutOfMemory>
+    requires { IsIndexed wanting.now }
+    ensures { IfOk result (λ number. number ≡ entry_number (entries_shown wanting.now.entries.items) wanted.now) }
 {
-    for (at, entry) in entries.iter().enumerate() {
-        if same_entry(entry, wanted) {
-            return at;
-        }
+    let place = place_of(alloc, wanting, wanted)?;
+    match place {
+        Some(number) => Ok(number),
+        None => Ok(wanting.entries.len()),
     }
-    entries.len()
 }
 
-fn is_noted(entries: &[&Wanted], wanted: &Wanted) -> bool
-    ensures { result ≡ has_entry (entries_shown entries.now) wanted.now }
+fn put_entry<'a>(
+    alloc: Global,
+    wanting: &mut Wanting<'a>,
+    wanted: &'a Wanted,
+) -> Result<(), OutOfMemory>
+    requires { IsIndexed wanting.old }
+    ensures put { OnOk result (entries_shown wanting.new.entries.items ≡ entries_shown wanting.old.entries.items ++ wanted.now ∷ []) }
+    ensures indexed { OnOk result (IsIndexed wanting.new) }
 {
-    entry_number(entries, wanted) != entries.len()
-}
-
-// An item of the built-in interface is put behind the others, unless it stands there already.
-fn note<'a>(entries: &mut Vec<&'a Wanted>, wanted: &'a Wanted) -> Result<(), OutOfMemory>
-    ensures { OnOk result (entries_shown entries.new.items ≡ noted_one (entries_shown entries.old.items) wanted.now) }
-{
-    if is_built_in(&wanted.face) && !is_noted(entries.as_slice(), wanted) {
-        entries.push(wanted)?;
-    }
+    let key = key_of(alloc, wanted)?;
+    let number = wanting.entries.len();
+    put_place(alloc, &mut wanting.places, key, Numbered { number, wanted })?;
+    wanting.entries.push(wanted)?;
     Ok(())
 }
 
-fn note_image<'a>(entries: &mut Vec<&'a Wanted>, image: &'a Image) -> Result<(), OutOfMemory>
-    ensures { OnOk result (entries_shown entries.new.items ≡ noted_in (entries_shown entries.old.items) image.now.wanted) }
+// An item of the built-in interface is put behind the others, unless it stands there already.
+fn note<'a>(alloc: Global, wanting: &mut Wanting<'a>, wanted: &'a Wanted) -> Result<(), OutOfMemory>
+    requires { IsIndexed wanting.old }
+    ensures noted { OnOk result (entries_shown wanting.new.entries.items ≡ noted_one (entries_shown wanting.old.entries.items) wanted.now) }
+    ensures indexed { OnOk result (IsIndexed wanting.new) }
+{
+    if !is_built_in(&wanted.face) {
+        return Ok(());
+    }
+    let place = place_of(alloc, wanting, wanted)?;
+    match place {
+        Some(_) => Ok(()),
+        None => put_entry(alloc, wanting, wanted),
+    }
+}
+
+fn note_image<'a>(
+    alloc: Global,
+    wanting: &mut Wanting<'a>,
+    image: &'a Image,
+) -> Result<(), OutOfMemory>
+    requires { IsIndexed wanting.old }
+    ensures noted { OnOk result (entries_shown wanting.new.entries.items ≡ noted_in (entries_shown wanting.old.entries.items) image.now.wanted) }
+    ensures indexed { OnOk result (IsIndexed wanting.new) }
 {
     for wanted in image.wanted.as_slice() {
-        note(entries, wanted)?;
+        note(alloc, wanting, wanted)?;
     }
     Ok(())
 }
 
 /// What images still want.
-pub fn still_wanted<'a>(alloc: Global, images: &'a [Image]) -> Result<Vec<&'a Wanted>, OutOfMemory>
-    ensures { IfOk result (λ entries. entries_shown entries.items ≡ still_wanted images.now) }
+pub fn still_wanted<'a>(alloc: Global, images: &'a [Image]) -> Result<Wanting<'a>, OutOfMemory>
+    ensures wanted { IfOk result (λ wanting. entries_shown wanting.entries.items ≡ still_wanted images.now) }
+    ensures indexed { IfOk result IsIndexed }
 {
-    let mut entries = Vec::new(alloc);
+    let mut wanting = Wanting {
+        entries: Vec::new(alloc),
+        places: IndexMap::new(alloc),
+    };
     for image in images {
-        note_image(&mut entries, image)?;
+        note_image(alloc, &mut wanting, image)?;
     }
-    Ok(entries)
+    Ok(wanting)
 }
 
 fn let_wanteds_go(wanteds: Wanteds) {

@@ -6,4 +6,4 @@ use Rattle.load_checks.proofs.links.links_of.Given as goal
 
 abbrev pub invariant-loop-at : goal.invariant-loop-at
 invariant-loop-at l =
-    l.links ++ links_by (entries_shown l.entries) (drop l.at l.wanteds) (drop l.at (choices_shown l.chosen)) ≡ links_by (entries_shown l.entries) l.wanteds (choices_shown l.chosen)
+    l.links ++ links_by (entries_shown l.wanting.entries.items) (drop l.at l.wanteds) (drop l.at (choices_shown l.chosen)) ≡ links_by (entries_shown l.wanting.entries.items) l.wanteds (choices_shown l.chosen)

@@ -9,9 +9,9 @@ use Rattle.load_checks.proofs.resolving.found.Goals as goal
 pub returns-clause-found : goal.returns-clause-found
 unfolding links_of_wanted
 returns-clause-found c =
-    let wanted = c.in_ok-entries.ensures ∙ ap still_wanted c.as_slice.ensures.value in
+    let wanted = c.in_ok-wanting.ensures.wanted ∙ ap still_wanted c.as_slice.ensures.value in
     record {
-      no_fault = ap load_faults (sym c.as_slice-3.ensures.value) ∙ c.in_ok-links.ensures.none;
-      wanted = c.in_ok-wanted.ensures ∙ (ap entries_shown c.as_slice-4.ensures.value ∙ wanted);
-      links = c.in_ok-links.ensures.links ∙ (λ j. map (wanted_links ((ap entries_shown c.as_slice-2.ensures.value ∙ wanted) j)) (parts (c.as_slice-3.ensures.value j)));
+      no_fault = ap load_faults (sym c.as_slice-2.ensures.value) ∙ c.in_ok-links.ensures.none;
+      wanted = c.in_ok-wanted.ensures ∙ (ap entries_shown c.as_slice-3.ensures.value ∙ wanted);
+      links = c.in_ok-links.ensures.links ∙ (λ j. map (wanted_links (wanted j)) (parts (c.as_slice-2.ensures.value j)));
     }

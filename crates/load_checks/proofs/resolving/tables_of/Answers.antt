@@ -14,7 +14,7 @@ loop-at-init c =
     record {
       none = no_faults;
       seen = c.nothing_seen-seen.ensures;
-      links = c.new-links.ensures ∙ sym (ap (map (wanted_links (entries_shown c.args.entries.now))) no_parts);
+      links = c.new-links.ensures ∙ sym (ap (map (wanted_links (entries_shown c.args.wanting.now.entries.items))) no_parts);
     }
 
 pub returns-in_err-take_turn-clause-err : goal.returns-in_err-take_turn-clause-err
@@ -36,6 +36,6 @@ loop-at-preserved c =
     record {
       none = none_then images at p x refl c.loop-at-test.true c.index-images-at.is c.loop-at.invariant.none c.in_ok-take_turn.ensures.none;
       seen = seen_then images at p x refl c.loop-at-test.true c.index-images-at.is c.take_turn.new.seen c.in_ok-take_turn.ensures.seen;
-      links = links_then images at p x refl c.loop-at-test.true c.index-images-at.is (wanted_links (entries_shown c.args.entries.now)) c.loop-at.links c.take_turn.new.links c.loop-at.invariant.links
+      links = links_then images at p x refl c.loop-at-test.true c.index-images-at.is (wanted_links (entries_shown c.args.wanting.now.entries.items)) c.loop-at.links c.take_turn.new.links c.loop-at.invariant.links
           c.in_ok-take_turn.ensures.links;
     }

@@ -11,5 +11,5 @@ abbrev pub invariant-loop-at : goal.invariant-loop-at
 invariant-loop-at l = record {
   none : load_faults (take l.at l.images) ≡ [];
   seen : IsSeen (take l.at l.images) l.seen;
-  links : l.links ≡ map (wanted_links (entries_shown l.entries)) (parts (take l.at l.images));
+  links : l.links ≡ map (wanted_links (entries_shown l.wanting.entries.items)) (parts (take l.at l.images));
 }

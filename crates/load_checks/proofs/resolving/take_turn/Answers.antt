@@ -8,7 +8,7 @@ use Rattle.load_checks.proofs.resolving.take_turn.Goals as goal
 
 pub returns-clause-links : goal.returns-clause-links
 returns-clause-links c =
-    let es = entries_shown c.args.entries.now in
+    let es = entries_shown c.args.wanting.now.entries.items in
     c.in_ok-push.ensures.ok
     ∙ ap (λ (t : List Link). c.args.links.now ++ t ∷ [])
     (c.in_ok-table.ensures ∙ ((λ j. links_by es (c.as_slice-wanteds.ensures j) (choices_shown (c.as_slice.ensures.value j)))
