@@ -7,7 +7,9 @@ TABLE = """
 12 DivC - 2 1; 13 ModC - 2 1; 14 Eq - 2 1; 15 LessI - 2 1; 16 LessC - 2 1; 17 Not - 1 1; 18 CheckI 22 1 1; 19 CheckC 22 1 1; 1A Jump 4 0 0
 1B JumpIf 4 1 0; 1C JumpIfNot 4 1 0; 1D JumpBack 4 0 0; 1E StrLen - 2 1; 1F StrAt - 3 1; 20 Call 4 * *; 21 CallLink 4 * *; 22 Return - 0 0
 23 Raise 4 * *; 24 RaiseLink 4 * *; 25 RaiseHost 1 0 0; 26 ArmEnd - 0 0; 27 Resume 2 a 0; 28 Leave 24 0 0; 29 LeaveReturn 2 0 0; 2A Pop 2 a 0
-2B Roll 22 ab ab; 2C ZeroL 22 0 0; 2D ZeroG 22 0 0
+2B Roll 22 ab ab; 2C ZeroL 22 0 0; 2D ZeroG 22 0 0; 2E AddD - 4 2; 2F SubD - 4 2; 30 MulD - 4 2; 31 NegD - 2 2; 32 DivDI - 4 2; 33 ModDI - 4 2
+34 DivDC - 4 2; 35 ModDC - 4 2; 36 EqD - 4 1; 37 LessDI - 4 1; 38 LessDC - 4 1; 39 WidenI - 1 2; 3A WidenC - 1 2; 3B NarrowI - 2 1; 3C NarrowC - 2 1
+3D CheckD - 2 2
 """
 ROWS = {int(row[0], 16): row[1:] for row in (line.split() for line in TABLE.replace("\n", ";").split(";")) if row}
 NAMES = {number: row[0] for number, row in ROWS.items()}

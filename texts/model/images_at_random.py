@@ -16,6 +16,11 @@ CALLS = ["Call 1", "Call 2", f"CallLink {PASS}", f"CallLink {PASS}"]
 RAISES = ["Raise 0", "Raise 0", "Raise 1|Pop 1", "RaiseLink 4", "RaiseLink 5|Pop 1"]
 FAULTS = ["Raise 2", "RaiseLink 6", "RaiseLink 2", "RaiseHost 0", "RaiseHost 1", "RaiseHost 2"]
 ALONE = ["Lit 9|CheckC 0 3|Pop 1", "Lit 1|Lit 0|DivI|Pop 1", "Lit 0|Pop 1"]
+# The same over LONG numbers: those that raise, and one with each of the others.
+LONGS = ["Lit 1|Lit 0|NarrowI|Pop 1", "Lit 65535|WidenI|NarrowC|Pop 1", "Lit 32768|Lit 0|CheckD|Pop 2", "Lit 7|WidenC|Lit 0|WidenI|DivDI|Pop 2",
+         "Lit 7|WidenI|Lit 0|WidenC|ModDC|Pop 2", "Lit 40000|WidenC|Lit 9|WidenI|MulD|Lit 3|WidenI|SubD|NegD|CheckD|Pop 2",
+         "Lit 65535|WidenI|Lit 9|WidenC|AddD|NarrowI|Pop 1", "Lit 65535|WidenI|Lit 5|WidenI|LessDI|Pop 1", "Lit 65535|WidenI|Lit 5|WidenI|LessDC|WidenC|NarrowC|Pop 1",
+         "Lit 65535|WidenI|Lit 65535|WidenC|EqD|Pop 1", "Lit 99|WidenI|Lit 7|WidenI|DivDC|Lit 4|WidenI|ModDI|Pop 2"]
 
 
 class Routine:
@@ -59,6 +64,8 @@ class Routine:
             return self.chance.choice(RAISES)
         if kind < 0.57:
             return self.chance.choice(ALONE)
+        if kind < 0.6:
+            return self.chance.choice(LONGS)
         behind = f"r{number}u{self.chance.randint(at + 1, self.units[number] - 1)}"
         condition = f"CallLink {END}|JumpIf {behind}|CallLink {READ}|JumpIf {behind}"
         if kind < 0.65:

@@ -6,8 +6,8 @@ from model.signals import NO_INPUT, UNNAMED, bound_signal, fits
 from model.words import BOUNDS_FAULT, ZERO_DIVISOR
 
 PREDECLARED = [BOUNDS_FAULT, ZERO_DIVISOR, NO_INPUT, UNNAMED]
-BOUNDED = {"LoadLX", "StoreLX", "LoadGX", "StoreGX", "Index", "CheckI", "CheckC", "StrAt"}
-DIVIDING = {"DivI", "ModI", "DivC", "ModC"}
+BOUNDED = {"LoadLX", "StoreLX", "LoadGX", "StoreGX", "Index", "CheckI", "CheckC", "StrAt", "NarrowI", "NarrowC", "CheckD"}
+DIVIDING = {"DivI", "ModI", "DivC", "ModC", "DivDI", "ModDI", "DivDC", "ModDC"}
 # A position is the number of a phrase, or OUT.
 OUT = -1
 

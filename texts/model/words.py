@@ -10,6 +10,15 @@ def quotient(left, right):
     return whole if (left < 0) == (right < 0) else -whole
 
 
+def remainder(left, right):
+    return left - right * quotient(left, right)
+
+
+def signed_long(number):
+    """A LONG number with its sign."""
+    return number - 2**32 if number >= 2**31 else number
+
+
 class Words:
     """A machine has `operands`, `variables` and `words_of_globals` of its topmost activation, and `text` and `module_number`."""
 
@@ -110,7 +119,7 @@ class Words:
         return self.divided(lambda left, right: quotient(signed(left), signed(right)))
 
     def do_ModI(self):
-        return self.divided(lambda left, right: signed(left) - signed(right) * quotient(signed(left), signed(right)))
+        return self.divided(lambda left, right: remainder(signed(left), signed(right)))
 
     def do_DivC(self):
         return self.divided(lambda left, right: left // right)
@@ -135,6 +144,90 @@ class Words:
 
     def do_CheckC(self, least, most):
         return None if least <= self.operands[-1] <= most else BOUNDS_FAULT
+
+    # ---- LONG numbers, of two words each: the more significant lies under the other
+
+    def long_at(self, place):
+        """The number on top, or that which lies so many numbers below it; its words stay."""
+        more, less = self.operands[len(self.operands) - 2 * place - 2 :][:2]
+        return more * 65_536 + less
+
+    def push_long(self, number):
+        self.push(number >> 16, number)
+
+    def popped_longs(self):
+        """The two numbers on top, the lower one first."""
+        numbers = self.long_at(1), self.long_at(0)
+        self.popped(4)
+        return numbers
+
+    def long_binary(self, work):
+        self.push_long(work(*self.popped_longs()))
+
+    def long_divided(self, work):
+        if self.long_at(0) == 0:
+            return ZERO_DIVISOR
+        self.long_binary(work)
+
+    def long_related(self, test):
+        self.push(int(test(*self.popped_longs())))
+
+    def narrowed(self, least, most):
+        number = signed_long(self.long_at(0))
+        if not least <= number <= most:
+            return BOUNDS_FAULT
+        self.popped(2)
+        self.push(number)
+
+    def do_AddD(self):
+        self.long_binary(lambda left, right: left + right)
+
+    def do_SubD(self):
+        self.long_binary(lambda left, right: left - right)
+
+    def do_MulD(self):
+        self.long_binary(lambda left, right: left * right)
+
+    def do_NegD(self):
+        number = self.long_at(0)
+        self.popped(2)
+        self.push_long(-number)
+
+    def do_DivDI(self):
+        return self.long_divided(lambda left, right: quotient(signed_long(left), signed_long(right)))
+
+    def do_ModDI(self):
+        return self.long_divided(lambda left, right: remainder(signed_long(left), signed_long(right)))
+
+    def do_DivDC(self):
+        return self.long_divided(lambda left, right: left // right)
+
+    def do_ModDC(self):
+        return self.long_divided(lambda left, right: left % right)
+
+    def do_EqD(self):
+        self.long_related(lambda left, right: left == right)
+
+    def do_LessDI(self):
+        self.long_related(lambda left, right: signed_long(left) < signed_long(right))
+
+    def do_LessDC(self):
+        self.long_related(lambda left, right: left < right)
+
+    def do_WidenI(self):
+        self.push_long(signed(self.popped(1)[0]))
+
+    def do_WidenC(self):
+        self.push_long(self.popped(1)[0])
+
+    def do_NarrowI(self):
+        return self.narrowed(-32_768, 32_767)
+
+    def do_NarrowC(self):
+        return self.narrowed(0, 65_535)
+
+    def do_CheckD(self):
+        return BOUNDS_FAULT if self.long_at(0) >= 2**31 else None
 
     # ---- strings and words
 
