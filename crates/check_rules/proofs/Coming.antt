@@ -19,13 +19,14 @@ use Rattle.check_rules.specs.Scopes.{Scope, find}
 use Rattle.check_rules.specs.Meanings.{Meaning, Constant, TypeName, Procedure, Signal, Interface, Later, Headless, NotImported}
 use Rattle.check_rules.specs.Steps.{State, Check, Checked, and_then, ◌>>=◌, pure, fail, lift, only, ensure, spend, in_scope, back, or_refuse}
 use Rattle.check_rules.specs.Around.{Around, ArmLabel, in_constant, in_arm}
-use Rattle.check_rules.specs.Parts.{first, first_of_type, last_of, names_of, distinct, field_named, kinds, kind_by, places_of, count, keys, complete, and_operation}
+use Rattle.check_rules.specs.Parts.{first, first_of_type, last_of, names_of, distinct, field_named, kinds, kind_by, places_of, count, keys, complete}
 use Rattle.check_rules.specs.Ranges.{Aim, Free, Into, Several, finish}
 use Rattle.check_rules.specs.Names.{seen, named, before_head, of_interface, or_nothing, in_meaning, by_parts, qualified, type_by, type_named, ordinal_type, word_base, signal_by, signals, arm_labels, is_declared, element_in, mark}
-use Rattle.check_rules.specs.Values.{has_parts, number, letter, truth, string, is_truth, not_of, signed, compared, within, by_level, Level, Bare, Sums, Alls, Somes, level_of, step, truth_operand, no_phrase, in_order, by_shape, by_aim, in_fields, by_keys, bound_aim, made, Raises, raises_by, raised}
+use Rattle.check_rules.specs.Values.{Sum, Begun, bound_of, has_parts, number, letter, truth, string, is_truth, not_of, signed, compared, within, by_level, Level, Bare, Sums, Alls, Somes, level_of, step, truth_operand, no_phrase, in_order, by_shape, by_aim, in_fields, by_keys, made, Raises, raises_by, raised}
 use Rattle.check_rules.specs.Reached.{Reached, Named, Value, Variable, Results, Use, Read, reached, settled, value, results, field, field_in, field_of_variable, field_of_value, indexed, text_at, at_index, may_apply, Shape, OfFields, OfElements, NoShape, shape_of}
 use Rattle.check_rules.specs.TypeRules.{origin, limited, elements, few, is_index, bound, subrange, interval_base}
-use Rattle.check_rules.specs.Statements.{enter_arm}
+use Rattle.check_rules.specs.Statements.{longer_number, longer_bounds, enter_arm}
+use Rattle.check_rules.specs.Operators.{sort_of, longer}
 use Rattle.check_rules.specs.Checking.{check, sums, truths, interval, walk, apply, one, construct, arguments, values, alike, keyed, raise, with_brackets, phrase, arms, type_exp, fields_of, named_fields, unnamed_fields, of_interval, statement}
 use Rattle.check_rules.specs.declared.fault.Cause.{Cause}
 use Rattle.check_rules.specs.declared.fault.Cause.TheVariants.{TypeMismatch, WrongCount, TwiceDeclared}
@@ -224,15 +225,17 @@ mutual
 
   check_grows : (a : Around) (aim : Aim) (e : s.Expr) → Grows (check a aim e)
   check_grows a aim (s.Run e ss) = bind (check_grows a (Free (first e)) e)
-      (λ x. bind (levels (level_of ss) done (bind (sums_grow a t.NoOperation x.kind x.literal ss) (λ r. done))
+      (λ x. bind (levels (level_of ss) done (bind (sums_grow a (first e) (Begun x.value) x.kind x.literal ss) (λ r. done))
       (bind (truths_grow a (is_truth x.kind) ss) (λ es. done)) (bind (truths_grow a (is_truth x.kind) ss) (λ es. done))) (λ r. lifted (finish aim r)))
   check_grows a aim (s.Not p e) = bind (check_grows a (Free (first e)) e) (λ x. bind (lifted (not_of p x)) (λ r. lifted (finish aim r)))
   check_grows a aim (s.Compare d b o p e) =
-      bind (check_grows a (Free (first d)) d) (λ x. bind (check_grows a (Free (first e)) e) (λ y. bind (lifted (compared b o p x y)) (λ r. lifted (finish aim r))))
+      bind (check_grows a (Free (first d)) d) (λ x. bind (check_grows a (Free (first e)) e) (λ y. bind (lifted (compared b o p (first d) x (first e) y))
+      (λ r. spending (longer (sort_of x.kind) x.literal (sort_of y.kind) y.literal) (λ u. lift (finish aim r)) (lifted (finish aim r)))))
   check_grows a aim (s.Within e b p i) = bind (check_grows a (Free (first e)) e)
-      (λ x. bind (interval_grows a i) (λ ends. bind (lifted (within b p x ends)) (λ r. lifted (finish aim r))))
+      (λ x. bind (interval_grows a i) (λ ends. bind (lifted (within b p (first e) x ends))
+      (λ r. spending (longer_number x ends + longer_bounds x ends) (λ u. lift (finish aim r)) (lifted (finish aim r)))))
   check_grows a aim (s.Signed sign p e) = bind (check_grows a (Free (first e)) e) (λ x. bind (lifted (signed sign p x)) (λ r. lifted (finish aim r)))
-  check_grows a aim (s.NumberLiteral p n) = spending 1 (λ u. lift (finish aim (number n))) (lifted (finish aim (number n)))
+  check_grows a aim (s.NumberLiteral p n) = spending (words_of (number n).kind) (λ u. lift (finish aim (number n))) (lifted (finish aim (number n)))
   check_grows a aim (s.CharacterLiteral p n) = spending 1 (λ u. lift (finish aim (letter n))) (lifted (finish aim (letter n)))
   check_grows a aim (s.StringLiteral p bytes) =
       bind (lifted (string a.known.strings p bytes)) (λ x. spending 2 (λ u. lift (finish aim x)) (lifted (finish aim x)))
@@ -244,10 +247,11 @@ mutual
   check_grows a aim (s.Constructor p items) = aims aim (λ q. wrong) (λ k q. construct_grows a k q p items)
   check_grows a aim (s.Raised r) = bind (raise_grows a r) (λ x. bind (value_grows aim x.0 x.1) (λ y. lifted (finish aim y)))
 
-  sums_grow : (a : Around) (os : t.Operations) (k : PlainType) (literal : Bool) (ss : s.Operations) → Grows (sums a os k literal ss)
-  sums_grow a os k literal s.NoOperation = done
-  sums_grow a os k literal (s.AndOperation o p e ss) = bind (check_grows a (Free (first e)) e) (λ r. bind (lifted (step o p k literal r)) (λ x.
-      sums_grow a (and_operation os (t.Then x.left x.operator x.right)) x.kind false ss))
+  sums_grow : (a : Around) (l : Place) (d : Sum) (k : PlainType) (literal : Bool) (ss : s.Operations) → Grows (sums a l d k literal ss)
+  sums_grow a l d k literal s.NoOperation = done
+  sums_grow a l d k literal (s.AndOperation o p e ss) =
+      bind (check_grows a (Free (first e)) e) (λ r. bind (lifted (step o p l d k literal (first e) r)) (λ x.
+      spending (longer (sort_of k) literal (sort_of r.kind) r.literal) (λ u. sums a l x.done x.kind false ss) (sums_grow a l x.done x.kind false ss)))
 
   truths_grow : (a : Around) (fits : Bool) (ss : s.Operations) → Grows (truths a fits ss)
   truths_grow a fits s.NoOperation = done
@@ -333,6 +337,8 @@ mutual
   pub type_exp_grows : (a : Around) (e : s.TypeExp) → Grows (type_exp a e)
   type_exp_grows a (s.Integer p) = done
   type_exp_grows a (s.Cardinal p) = done
+  type_exp_grows a (s.LongInteger p) = done
+  type_exp_grows a (s.LongCardinal p) = done
   type_exp_grows a (s.Boolean p) = done
   type_exp_grows a (s.Character p) = done
   type_exp_grows a (s.String p) = done
@@ -359,6 +365,8 @@ mutual
 
   of_interval_grows : (a : Around) (base : Option PlainType) (i : s.Interval) → Grows (of_interval a base i)
   of_interval_grows a base (s.Between p l low high h) =
-      bind (check_grows (in_constant (first low) a) (bound_aim base (first low)) low) (λ x. bind (lifted (bound (first low) x)) (λ m.
-      bind (check_grows (in_constant (first high) a) (bound_aim base (first high)) high) (λ y. bind (lifted (bound (first high) y)) (λ n.
-      bind (lifted (or_refuse (interval_base base x.kind m y.kind n) TypeMismatch p)) (λ k. lifted (subrange p k l m n h))))))
+      bind (check_grows (in_constant (first low) a) (Free (first low)) low) (λ i.
+      bind (lifted (bound_of base (first low) i)) (λ x. bind (lifted (bound (first low) x)) (λ m.
+      bind (check_grows (in_constant (first high) a) (Free (first high)) high) (λ j.
+      bind (lifted (bound_of base (first high) j)) (λ y. bind (lifted (bound (first high) y)) (λ n.
+      bind (lifted (or_refuse (interval_base base x.kind m y.kind n) TypeMismatch p)) (λ k. lifted (subrange p k l m n h))))))))

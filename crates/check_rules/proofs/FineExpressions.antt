@@ -1,5 +1,5 @@
 -- Expressions and types keep a law on types: one induction over both, a line for each form.
-use Rattle.std.specs.Prelude.{ℕ, Bool, true, false, Option, Some, None, List, [], ◌∷◌, ◌++◌, length, nat_eq}
+use Rattle.std.specs.Prelude.{ℕ, ◌≡◌, ◌+◌, Bool, true, false, Option, Some, None, List, [], ◌∷◌, ◌++◌, length, nat_eq}
 use Rattle.std.proofs.Common.{sym, subst}
 use Rattle.mesa_base.specs.declared.place.Place.{Place}
 use Rattle.syntax_trees.specs.Syntax as s
@@ -7,13 +7,14 @@ use Rattle.mesa_types.specs.Operators as words
 use Rattle.mesa_types.specs.Constants.{constant}
 use Rattle.mesa_types.specs.declared.faces.ItemKind.TheVariants as item
 use Rattle.check_rules.specs.Typed as t
-use Rattle.interface_records.specs.PlainTypes.{PlainType, PlainField, words_of_fields}
+use Rattle.interface_records.specs.PlainTypes.{PlainType, PlainField, is_ordinal, words_of, words_of_fields}
 use Rattle.check_rules.specs.Meanings as m
 use Rattle.check_rules.specs.Steps.{◌>>=◌, pure, lift, or_refuse}
 use Rattle.check_rules.specs.Around.{Around, in_constant, in_arm}
-use Rattle.check_rules.specs.Parts.{field_named, first, first_of_type, last_of, names_of, distinct, kinds, kind_by, count, keys, complete, and_operation}
+use Rattle.check_rules.specs.Parts.{field_named, first, first_of_type, last_of, names_of, distinct, kinds, kind_by, count, keys, complete}
 use Rattle.check_rules.specs.Ranges.{Aim, Free, Into, finish}
-use Rattle.check_rules.specs.Values.{has_parts, number, letter, truth, string, is_truth, not_of, signed, compared, within, level_of, step, truth_operand, no_phrase, in_order, bound_aim, Raises, raises_by, raised}
+use Rattle.check_rules.specs.Values.{Sum, Begun, closed, bound_of, has_parts, number, letter, truth, string, is_truth, not_of, signed, compared, within, level_of, step, truth_operand, no_phrase, in_order, Raises, raises_by, raised}
+use Rattle.check_rules.specs.Statements.{longer_number, longer_bounds}
 use Rattle.check_rules.specs.Reached.{Reached, Named, Value, Variable, Results, Use, Read, reached, settled, indexed, text_at, at_index, may_apply, shape_of}
 use Rattle.check_rules.specs.TypeRules.{is_index, bound, subrange, interval_base}
 use Rattle.check_rules.specs.Checking.{check, sums, truths, interval, walk, apply, one, construct, arguments, values, alike, keyed, raise, with_brackets, phrase, arms, type_exp, fields_of, named_fields, unnamed_fields, of_interval}
@@ -27,10 +28,11 @@ use Rattle.check_rules.proofs.KeptNames.{ConstantStands}
 use Rattle.check_rules.proofs.Kept as kept
 use Rattle.check_rules.proofs.TypeLaws.{TypeLaw, FieldsHave, Text, less_text}
 use Rattle.check_rules.proofs.FineTypes.{ItemFine, MeaningFine, Fine, AroundFine, Good, bind, done, wrong, weaker, lifted, any_lifted, ensured, held, spending, named_fine, qualified_fine, type_named_fine, word_base_fine, arm_labels_fine}
-use Rattle.check_rules.proofs.FineConstants.{RunFine, TypedFine, run_none, run_more, all_worth, some_worth}
+use Rattle.check_rules.proofs.FineConstants.{TypedFine, all_worth, some_worth}
+use Rattle.check_rules.specs.Operators.{sort_of, longer}
 use Rattle.check_rules.proofs.FineFields.{Apart, distinct_apart, NamedFine, UnnamedFine, ListFine, no_named, more_named, no_unnamed, more_unnamed, named_list, unnamed_list}
 use Rattle.check_rules.proofs.FineTypeRules.{WorthAt, BoundsFine, enumerated_fine, bound_fine, interval_base_fine, subrange_fine, array_fine, record_fine}
-use Rattle.check_rules.proofs.FineValues.{AimFine, OfAim, CheckedFine, ReachedFine, BracketedFine, KindsFine, DoneFine, EndsFine, or_ok, found_fine, kind_by_fine, kinds_fine, finished, truth_fine, literal_truth, not_fine, signed_fine, compared_fine, within_fine, number_fine, letter_fine, string_fine, step_fine, reached_fine, settled_fine, value_fine, field_fine, text_fine, indexed_fine, at_index_fine, shape_of_fine, shapes, in_fields_fine, by_keys_fine, raises_fine, levels, aims, scoped, constant_around, entered, bound_aim_fine, bound_kinds, into_fine, free_fine, call_none, raise_none, summed_fine}
+use Rattle.check_rules.proofs.FineValues.{AimFine, OfAim, CheckedFine, ReachedFine, BracketedFine, KindsFine, DoneFine, EndsFine, or_ok, found_fine, kind_by_fine, kinds_fine, finished, truth_fine, literal_truth, not_fine, signed_fine, compared_fine, within_fine, number_fine, letter_fine, string_fine, step_fine, reached_fine, settled_fine, value_fine, field_fine, text_fine, indexed_fine, at_index_fine, shape_of_fine, shapes, in_fields_fine, by_keys_fine, raises_fine, levels, aims, scoped, constant_around, entered, BoundFine, bound_of_fine, bound_kinds, into_fine, free_fine, call_none, raise_none, summed_fine}
 
 pub const_any : (o : Option Place) → ConstantStands Anything o
 const_any None = tt
@@ -42,7 +44,7 @@ module _ (L : TypeLaw) where
 
     pub check_fine : (a : Around) → AroundFine L a → (aim : Aim) → AimFine L aim → (e : s.Expr) → Fine L (CheckedFine L aim) (check a aim e)
     check_fine a g aim i (s.Run e ss) = bind (check_fine a g (Free (first e)) (free_fine L (first e)) e) (λ x h. bind {P = TypedFine L} (levels L (level_of ss) (done h.value)
-        (bind (sums_fine a g x.kind t.NoOperation x.kind h.value.kind (run_none L x.kind) x.literal ss) (λ r q. done (summed_fine L x h.value r q)))
+        (bind (sums_fine a g (first e) (Begun x.value) x.kind h.value.kind h.value.worth x.literal ss) (λ r q. done (summed_fine L r q)))
         (bind (truths_fine a g (is_truth x.kind) ss) (λ es w. done (truth_fine L (t.AllOf (t.AndExpr x.value es)) (all_worth L (t.AndExpr x.value es)))))
         (bind (truths_fine a g (is_truth x.kind) ss) (λ es w. done (truth_fine L (t.SomeOf (t.AndExpr x.value es)) (some_worth L (t.AndExpr x.value es))))))
         (λ r q. finished L aim i r q))
@@ -50,13 +52,15 @@ module _ (L : TypeLaw) where
         (λ x h. bind (lifted (TypedFine L) (not_of p x) (not_fine L p x)) (λ r q. finished L aim i r q))
     check_fine a g aim i (s.Compare d b o p e) =
         bind (check_fine a g (Free (first d)) (free_fine L (first d)) d) (λ x h. bind (check_fine a g (Free (first e)) (free_fine L (first e)) e)
-        (λ y k. bind (lifted (TypedFine L) (compared b o p x y) (compared_fine L b o p x y)) (λ r q. finished L aim i r q)))
+        (λ y k. bind (lifted (TypedFine L) (compared b o p (first d) x (first e) y) (compared_fine L b o p (first d) x (first e) y)) (λ r q.
+        spending (longer (sort_of x.kind) x.literal (sort_of y.kind) y.literal) (λ u. lift (finish aim r)) (finished L aim i r q))))
     check_fine a g aim i (s.Within e b p j) =
         bind (check_fine a g (Free (first e)) (free_fine L (first e)) e) (λ x h. bind (interval_fine a g j)
-        (λ ends k. bind (lifted (TypedFine L) (within b p x ends) (within_fine L b p x ends)) (λ r q. finished L aim i r q)))
+        (λ ends k. bind (lifted (TypedFine L) (within b p (first e) x ends) (within_fine L b p (first e) x ends)) (λ r q.
+        spending (longer_number x ends + longer_bounds x ends) (λ u. lift (finish aim r)) (finished L aim i r q))))
     check_fine a g aim i (s.Signed sign p e) =
         bind (check_fine a g (Free (first e)) (free_fine L (first e)) e) (λ x h. bind (lifted (TypedFine L) (signed sign p x) (signed_fine L sign p x h.value)) (λ r q. finished L aim i r q))
-    check_fine a g aim i (s.NumberLiteral p n) = spending 1 (λ u. lift (finish aim (number n))) (finished L aim i (number n) (number_fine L n))
+    check_fine a g aim i (s.NumberLiteral p n) = spending (words_of (number n).kind) (λ u. lift (finish aim (number n))) (finished L aim i (number n) (number_fine L n))
     check_fine a g aim i (s.CharacterLiteral p n) = spending 1 (λ u. lift (finish aim (letter n))) (finished L aim i (letter n) (letter_fine L n))
     check_fine a g aim i (s.StringLiteral p bytes) =
         bind (lifted (TypedFine L) (string a.known.strings p bytes) (string_fine L a.known.strings p bytes))
@@ -71,13 +75,14 @@ module _ (L : TypeLaw) where
         (construct_fine a g k h q p items))
     check_fine a g aim i (s.Raised r) = bind (raise_fine a g r) (λ x q. bind (value_fine L aim x.0 x.1 q) (λ z k. finished L aim i z k))
 
-    sums_fine : (a : Around) → AroundFine L a → (j : PlainType) (os : t.Operations) (k : PlainType) → L.Kept k → RunFine L j os k → (literal : Bool)
-        (ss : s.Operations) → Fine L (λ (r : t.Operations × PlainType). L.Kept r.1 × RunFine L j r.0 r.1) (sums a os k literal ss)
-    sums_fine a g j os k h f literal s.NoOperation = done (h, f)
-    sums_fine a g j os k h f literal (s.AndOperation o p e ss) =
-        bind (check_fine a g (Free (first e)) (free_fine L (first e)) e) (λ r q. bind (lifted (DoneFine L) (step o p k literal r) (step_fine L o p k literal r)) (λ x i.
-        sums_fine a g j (and_operation os (t.Then x.left x.operator x.right)) x.kind i.kind (run_more L j k x.kind h os x.left x.operator x.right i.gives f) false
-        ss))
+    sums_fine : (a : Around) → AroundFine L a → (l : Place) (d : Sum) (k : PlainType) → L.Kept k → OfSome (L.Worth k) (constant (closed d)) → (literal : Bool)
+        (ss : s.Operations) → Fine L (λ (r : t.Expr × PlainType). L.Kept r.1 × OfSome (L.Worth r.1) (constant r.0)) (sums a l d k literal ss)
+    sums_fine a g l d k h w literal s.NoOperation = done (h, w)
+    sums_fine a g l d k h w literal (s.AndOperation o p e ss) =
+        bind (check_fine a g (Free (first e)) (free_fine L (first e)) e) (λ r q.
+        bind (lifted (DoneFine L) (step o p l d k literal (first e) r) (step_fine L o p l d k h w literal (first e) r q.value)) (λ x i.
+        spending (longer (sort_of k) literal (sort_of r.kind) r.literal) (λ u. sums a l x.done x.kind false ss)
+        (sums_fine a g l x.done x.kind i.kind i.worth false ss)))
 
     truths_fine : (a : Around) → AroundFine L a → (fits : Bool) (ss : s.Operations) → Fine L Good (truths a fits ss)
     truths_fine a g fits s.NoOperation = done tt
@@ -187,6 +192,8 @@ module _ (L : TypeLaw) where
     pub type_exp_fine : (a : Around) → AroundFine L a → (e : s.TypeExp) → Text L (TypeWritten e) (TypeNamed e) → Fine L L.Kept (type_exp a e)
     type_exp_fine a g (s.Integer p) x = done L.integer
     type_exp_fine a g (s.Cardinal p) x = done L.cardinal
+    type_exp_fine a g (s.LongInteger p) x = done L.long_integer
+    type_exp_fine a g (s.LongCardinal p) x = done L.long_cardinal
     type_exp_fine a g (s.Boolean p) x = done L.boolean
     type_exp_fine a g (s.Character p) x = done L.character
     type_exp_fine a g (s.String p) x = done L.string
@@ -220,14 +227,16 @@ module _ (L : TypeLaw) where
         bind (type_exp_fine a g e (less_text x (λ w. w.0) (λ n. n.0))) (λ k h.
         bind (unnamed_fields_fine a g es (less_text x (λ w. w.1) (λ n. n.1))) (λ fs i. done (more_unnamed L e es k h fs i)))
 
-    of_interval_fine : (a : Around) → AroundFine L a → (base : Option PlainType) → OfSome L.Kept base → (i : s.Interval)
+    of_interval_fine : (a : Around) → AroundFine L a → (base : Option PlainType) → OfSome (λ k. L.Kept k × (is_ordinal k ≡ true)) base → (i : s.Interval)
         → Fine L L.Kept (of_interval a base i)
     of_interval_fine a g base f (s.Between p l low high r) =
-        bind (check_fine (in_constant (first low) a) (constant_around L a g (first low)) (bound_aim base (first low)) (bound_aim_fine L base f (first low)) low)
-        (λ x h. bind (lifted (WorthAt L x.kind) (bound (first low) x) (bound_fine L (first low) x h.value.worth)) (λ n d.
-        bind (check_fine (in_constant (first high) a) (constant_around L a g (first high)) (bound_aim base (first high)) (bound_aim_fine L base f (first high)) high)
-        (λ y i. bind (lifted (WorthAt L y.kind) (bound (first high) y) (bound_fine L (first high) y i.value.worth)) (λ o e.
+        bind (check_fine (in_constant (first low) a) (constant_around L a g (first low)) (Free (first low)) (free_fine L (first low)) low) (λ i h.
+        bind (lifted (BoundFine L base) (bound_of base (first low) i) (bound_of_fine L base f (first low) i h.value)) (λ x h.
+        bind (lifted (WorthAt L x.kind) (bound (first low) x) (bound_fine L (first low) x h.value.worth)) (λ n d.
+        bind (check_fine (in_constant (first high) a) (constant_around L a g (first high)) (Free (first high)) (free_fine L (first high)) high) (λ j k.
+        bind (lifted (BoundFine L base) (bound_of base (first high) j) (bound_of_fine L base f (first high) j k.value)) (λ y i.
+        bind (lifted (WorthAt L y.kind) (bound (first high) y) (bound_fine L (first high) y i.value.worth)) (λ o e.
         bind (lifted (BoundsFine L n o) (or_refuse (interval_base base x.kind n y.kind o) TypeMismatch p)
         (or_ok (BoundsFine L n o) (interval_base base x.kind n y.kind o) TypeMismatch p
-        (interval_base_fine L base f x.kind y.kind h.value.kind (bound_kinds L base (first low) (first high) x y h i) n o d e))) (λ k q.
-        lifted L.Kept (subrange p k l n o r) (subrange_fine L p k n o q l r))))))
+        (interval_base_fine L base f x.kind y.kind h.value.kind h.short (bound_kinds L base x y h i) n o d e))) (λ k q.
+        lifted L.Kept (subrange p k l n o r) (subrange_fine L p k n o q l r))))))))

@@ -84,6 +84,8 @@ module _ (L : TypeLaw) where
     elements_in_fine : (face : PlainInterface) (k : PlainType) → L.Kept k → EntriesFine L (elements_in face k)
     elements_in_fine face v.Integer h = tt
     elements_in_fine face v.Cardinal h = tt
+    elements_in_fine face v.LongInteger h = tt
+    elements_in_fine face v.LongCardinal h = tt
     elements_in_fine face v.Boolean h = tt
     elements_in_fine face v.Character h = tt
     elements_in_fine face v.String h = tt

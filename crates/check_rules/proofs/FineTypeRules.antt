@@ -11,14 +11,14 @@ use Rattle.mesa_types.specs.Operators.{shifted, truth}
 use Rattle.check_rules.specs.Typed as t
 use Rattle.check_rules.specs.Typed.{Base, Signed, Unsigned}
 use Rattle.interface_records.specs.PlainTypes as v
-use Rattle.interface_records.specs.PlainTypes.{PlainType, PlainField, base_of, depth_of, is_text, parts_of, same, sign_of, words_of}
+use Rattle.interface_records.specs.PlainTypes.{PlainType, PlainField, base_of, depth_of, is_text, parts_of, same, sign_of, words_of, is_long, is_ordinal}
 use Rattle.check_rules.specs.Scopes.{Scope, innermost, outer}
 use Rattle.check_rules.specs.Meanings as m
 use Rattle.check_rules.specs.Meanings.{Meaning}
 use Rattle.check_rules.specs.Steps.{State, Checked, and_then, ◌>>=◌, pure, lift, only, or_refuse}
 use Rattle.check_rules.specs.Around.{Around}
 use Rattle.check_rules.specs.Parts.{names_of}
-use Rattle.check_rules.specs.Operators.{Sort, Number, Letter, Truth, Other, sort_of, sort_of_base}
+use Rattle.check_rules.specs.Operators.{Sort, Number, Letter, Truth, Other, sort_of, sort_of_base, LongNumber}
 use Rattle.check_rules.specs.Names.{is_declared, element_in}
 use Rattle.check_rules.specs.Ranges.{Typed}
 use Rattle.check_rules.specs.TreeNames.{TypeNamed}
@@ -30,7 +30,7 @@ use Rattle.check_rules.proofs.Distinct.{times, same_name, turned_false, bit_smal
 use Rattle.check_rules.proofs.Keeping.{OfSome}
 use Rattle.check_rules.proofs.Outcomes.{length_of_map, ok_only, ok_as}
 use Rattle.check_rules.proofs.SoundSame.{types_same}
-use Rattle.check_rules.proofs.SoundTypes.{both_left, both_right, no_truth, none_is_no}
+use Rattle.check_rules.proofs.SoundTypes.{both_left, both_right, no_truth, no_lie, none_is_no, ordinal_not_long}
 use Rattle.check_rules.proofs.TypeLaws.{TypeLaw, FieldsHave, FieldsMade, Text}
 use Rattle.check_rules.proofs.FineTypes.{MeaningFine, ScopeFine, ScopesFine, StateFine, Fine, AroundFine, lifted, then_fine}
 
@@ -106,6 +106,7 @@ elements_once a k xs σ = ok_as (λ _. (n : List ℕ) → times n (names_of xs) 
 pub record BaseFine (L : TypeLaw) (k : PlainType) : Type 0 where
   pub kind : L.Kept k
   pub itself : base_of k ≡ Some k
+  pub ordinal : is_ordinal k ≡ true
 
 pub record BoundsFine (L : TypeLaw) (x y : ℕ) (k : PlainType) : Type 0 where
   pub base : BaseFine L k
@@ -178,17 +179,19 @@ module _ (L : TypeLaw) where
       (λ h n l. L.enumerated (origin a.known p) (names_of xs) n h (omega (arith, l, length_of_map (λ (x : Identifier). x.name) xs)))
 
   -- ---- bases and bounds
-  pub base_fine : (k : PlainType) → L.Kept k → OfSome (BaseFine L) (base_of k)
-  unfolding base_of
-  base_fine v.Integer h = record { kind = h; itself = refl }
-  base_fine v.Cardinal h = record { kind = h; itself = refl }
-  base_fine v.Boolean h = record { kind = h; itself = refl }
-  base_fine v.Character h = record { kind = h; itself = refl }
-  base_fine v.String h = tt
-  base_fine (v.Enumeration o xs) h = record { kind = h; itself = refl }
-  base_fine (v.Subrange k x y) h = base_fine k (L.base k x y h)
-  base_fine (v.Array i e) h = tt
-  base_fine (v.Record o ps) h = tt
+  pub base_fine : (k : PlainType) → L.Kept k → is_long k ≡ false → OfSome (BaseFine L) (base_of k)
+  unfolding base_of is_ordinal
+  base_fine v.Integer h f = record { kind = h; itself = refl; ordinal = refl }
+  base_fine v.Cardinal h f = record { kind = h; itself = refl; ordinal = refl }
+  base_fine v.LongInteger h f = no_lie f
+  base_fine v.LongCardinal h f = no_lie f
+  base_fine v.Boolean h f = record { kind = h; itself = refl; ordinal = refl }
+  base_fine v.Character h f = record { kind = h; itself = refl; ordinal = refl }
+  base_fine v.String h f = tt
+  base_fine (v.Enumeration o xs) h f = record { kind = h; itself = refl; ordinal = refl }
+  base_fine (v.Subrange k x y) h f = base_fine k (L.base k x y h) (ordinal_not_long k (L.ordinal_base k x y h))
+  base_fine (v.Array i e) h f = tt
+  base_fine (v.Record o ps) h f = tt
 
   pub bound_fine : (p : Place) (x : Typed) → OfSome (L.Worth x.kind) (constant x.value) → IfOk (bound p x) (WorthAt L x.kind)
   unfolding bound base_of
@@ -206,6 +209,8 @@ module _ (L : TypeLaw) where
       by v.String e h = no_worth (literal_word true e)
       by v.Integer e h = is_worth v.Integer (constant e) h
       by v.Cardinal e h = is_worth v.Cardinal (constant e) h
+      by v.LongInteger e h = is_worth v.LongInteger (constant e) h
+      by v.LongCardinal e h = is_worth v.LongCardinal (constant e) h
       by v.Boolean e h = is_worth v.Boolean (constant e) h
       by v.Character e h = is_worth v.Character (constant e) h
       by (v.Enumeration o xs) e h = is_worth (v.Enumeration o xs) (constant e) h
@@ -214,8 +219,8 @@ module _ (L : TypeLaw) where
       by (v.Record o ps) e h = is_worth (v.Record o ps) (constant e) h
 
   -- the base that a word or a name says
-  said_base : (k : PlainType) → L.Kept k → (x y : ℕ) → WorthAt L k x → WorthAt L k y → OfSome (BoundsFine L x y) (base_of k)
-  said_base k h x y i j = by (base_of k) refl (base_fine k h)
+  said_base : (k : PlainType) → L.Kept k → is_long k ≡ false → (x y : ℕ) → WorthAt L k x → WorthAt L k y → OfSome (BoundsFine L x y) (base_of k)
+  said_base k h s x y i j = by (base_of k) refl (base_fine k h s)
     where
       by : (o : Option PlainType) → base_of k ≡ o → OfSome (BaseFine L) o → OfSome (BoundsFine L x y) o
       by None e f = tt
@@ -232,9 +237,17 @@ module _ (L : TypeLaw) where
           no : Other ≡ Number a → ⊥
           no e = cc
 
+      long_sort : {A : Type 0} (b : Base) → LongNumber b ≡ Number a → A
+      long_sort b e = absurd (no e)
+        where
+          no : LongNumber b ≡ Number a → ⊥
+          no e = cc
+
       by : (o : Option PlainType) → base_of k ≡ o → sort_of_base o ≡ Number a → L.Word x
-      by (Some v.Integer) d e = L.word v.Integer x L.integer (h v.Integer d)
-      by (Some v.Cardinal) d e = L.word v.Cardinal x L.cardinal (h v.Cardinal d)
+      by (Some v.Integer) d e = L.word v.Integer x L.integer refl (h v.Integer d)
+      by (Some v.Cardinal) d e = L.word v.Cardinal x L.cardinal refl (h v.Cardinal d)
+      by (Some v.LongInteger) d e = long_sort Signed e
+      by (Some v.LongCardinal) d e = long_sort Unsigned e
       by (Some v.Character) d e = absurd (no e)
         where
           no : Letter ≡ Number a → ⊥
@@ -251,12 +264,12 @@ module _ (L : TypeLaw) where
       by None d e = other_sort e
 
   integers : (x y : ℕ) → L.Word x → L.Word y → BoundsFine L x y v.Integer
-  unfolding base_of
-  integers x y h i = record { base = record { kind = L.integer; itself = refl }; first = L.number Signed x h; last = L.number Signed y i }
+  unfolding base_of is_ordinal
+  integers x y h i = record { base = record { kind = L.integer; itself = refl; ordinal = refl }; first = L.number Signed x h; last = L.number Signed y i }
 
   cardinals : (x y : ℕ) → L.Word x → L.Word y → BoundsFine L x y v.Cardinal
-  unfolding base_of
-  cardinals x y h i = record { base = record { kind = L.cardinal; itself = refl }; first = L.number Unsigned x h; last = L.number Unsigned y i }
+  unfolding base_of is_ordinal
+  cardinals x y h i = record { base = record { kind = L.cardinal; itself = refl; ordinal = refl }; first = L.number Unsigned x h; last = L.number Unsigned y i }
 
   numbers : (a b : Bool) (x y : ℕ) → L.Word x → L.Word y → OfSome (BoundsFine L x y) (number_base a b)
   numbers true b x y h i = integers x y h i
@@ -269,16 +282,18 @@ module _ (L : TypeLaw) where
       → OfSome (BoundsFine L x y) (bounds_base a x b y other)
   bounds_fine i j x y h k (Number a) d (Number b) e other f = numbers (fits_integer a x && fits_integer b y) (fits_cardinal a x && fits_cardinal b y) x y
       (number_word i x h a d) (number_word j y k b e)
+  bounds_fine i j x y h k (Number a) d (LongNumber b) e other f = f
   bounds_fine i j x y h k (Number a) d Letter e other f = f
   bounds_fine i j x y h k (Number a) d Truth e other f = f
   bounds_fine i j x y h k (Number a) d Other e other f = f
+  bounds_fine i j x y h k (LongNumber a) d b e other f = f
   bounds_fine i j x y h k Letter d b e other f = f
   bounds_fine i j x y h k Truth d b e other f = f
   bounds_fine i j x y h k Other d b e other f = f
 
-  one_base_fine : (i j : PlainType) → L.Kept i → (x y : ℕ) → WorthAt L i x → WorthAt L j y
+  one_base_fine : (i j : PlainType) → L.Kept i → is_long i ≡ false → (x y : ℕ) → WorthAt L i x → WorthAt L j y
       → OfSome (BoundsFine L x y) (same_base (base_of i) (base_of j))
-  one_base_fine i j g x y h k = by (base_of i) refl (base_fine i g) (base_of j) refl
+  one_base_fine i j g s x y h k = by (base_of i) refl (base_fine i g s) (base_of j) refl
     where
       if_same : (a b : PlainType) → BaseFine L a → L.Worth a x → L.Worth b y → (c : Bool) → same a b ≡ c
           → OfSome (BoundsFine L x y) (if c then Some a else None)
@@ -292,14 +307,14 @@ module _ (L : TypeLaw) where
       by (Some a) d f None e = tt
 
   -- of an interval: where its base is said, its bounds are of that type
-  pub interval_base_fine : (base : Option PlainType) → OfSome L.Kept base → (i j : PlainType) → L.Kept i
+  pub interval_base_fine : (base : Option PlainType) → OfSome (λ k. L.Kept k × (is_ordinal k ≡ true)) base → (i j : PlainType) → L.Kept i → is_long i ≡ false
       → OfSome (λ k. (i ≡ k) × (j ≡ k)) base → (x y : ℕ) → WorthAt L i x → WorthAt L j y
       → OfSome (BoundsFine L x y) (interval_base base i x j y)
   unfolding base_of_bounds
-  interval_base_fine (Some k) f i j g e x y h l =
-      said_base k f x y (subst (λ z. WorthAt L z x) e.0 h) (subst (λ z. WorthAt L z y) e.1 l)
-  interval_base_fine None f i j g e x y h l =
-      bounds_fine i j x y h l (sort_of i) refl (sort_of j) refl (same_base (base_of i) (base_of j)) (one_base_fine i j g x y h l)
+  interval_base_fine (Some k) f i j g s e x y h l =
+      said_base k f.0 (ordinal_not_long k f.1) x y (subst (λ z. WorthAt L z x) e.0 h) (subst (λ z. WorthAt L z y) e.1 l)
+  interval_base_fine None f i j g s e x y h l =
+      bounds_fine i j x y h l (sort_of i) refl (sort_of j) refl (same_base (base_of i) (base_of j)) (one_base_fine i j g s x y h l)
 
   pub subrange_fine : (p : Place) (k : PlainType) (x y : ℕ) → BoundsFine L x y k → (open_low open_high : Bool)
       → IfOk (subrange p k open_low x y open_high) L.Kept
@@ -308,7 +323,7 @@ module _ (L : TypeLaw) where
     where
       by : (b : Bool) → nat_le (shifted (sign_of k) x + truth open_low + truth open_high) (shifted (sign_of k) y) ≡ b
           → IfOk (subrange_if b p k open_low x y open_high) L.Kept
-      by true e = L.subrange k open_low open_high x y h.base.kind h.base.itself h.first h.last e
+      by true e = L.subrange k open_low open_high x y h.base.kind h.base.itself h.base.ordinal h.first h.last e
       by false e = tt
 
   -- ---- arrays and records

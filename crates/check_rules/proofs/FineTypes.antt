@@ -10,7 +10,7 @@ use Rattle.syntax_trees.specs.declared.syntax.Labels.TheVariants.{Any, Unwind, S
 use Rattle.syntax_trees.specs.declared.syntax.TypeBase.{TypeBase}
 use Rattle.syntax_trees.specs.declared.syntax.TypeBase.TheVariants.{Unsaid, OfInteger, OfCardinal, OfCharacter, OfName}
 use Rattle.check_rules.specs.Typed as t
-use Rattle.interface_records.specs.PlainTypes.{PlainType, PlainItem, base_of}
+use Rattle.interface_records.specs.PlainTypes.{PlainType, PlainItem, base_of, is_ordinal}
 use Rattle.check_rules.specs.Scopes.{Scope, find}
 use Rattle.check_rules.specs.Meanings as m
 use Rattle.check_rules.specs.Meanings.{Meaning}
@@ -175,17 +175,21 @@ module _ {L : TypeLaw} (a : Around) (g : AroundFine L a) where
   unfolding type_named
   type_named_fine q = bind (qualified_fine q) (λ x h. lifted L.Kept (type_by (last_of q).place x) (type_by_fine (last_of q).place x h))
 
-  pub word_base_fine : (b : TypeBase) → Fine L (OfSome L.Kept) (word_base a b)
-  unfolding word_base
+  -- a base that is said is ordinal
+  pub word_base_fine : (b : TypeBase) → Fine L (OfSome (λ k. L.Kept k × (is_ordinal k ≡ true))) (word_base a b)
+  unfolding word_base is_ordinal base_of
   word_base_fine Unsaid = done tt
-  word_base_fine (OfInteger p) = done L.integer
-  word_base_fine (OfCardinal p) = done L.cardinal
-  word_base_fine (OfCharacter p) = done L.character
-  word_base_fine (OfName q) = bind (type_named_fine q) (λ k h. bind (lifted L.Kept (ordinal_type (last_of q).place k) (ordinal k h)) (λ k h. done h))
+  word_base_fine (OfInteger p) = done (L.integer, refl)
+  word_base_fine (OfCardinal p) = done (L.cardinal, refl)
+  word_base_fine (OfCharacter p) = done (L.character, refl)
+  word_base_fine (OfName q) = bind (type_named_fine q) (λ k h. bind (lifted (λ k. L.Kept k × (is_ordinal k ≡ true)) (ordinal_type (last_of q).place k) (ordinal k h)) (λ k h. done h))
     where
-      ordinal : (k : PlainType) → L.Kept k → IfOk (ordinal_type (last_of q).place k) L.Kept
-      ordinal k h = then_fine Good L.Kept (only (is_some (base_of k)) TypeMismatch (last_of q).place) (λ _. Ok k)
-          (any_ok (only (is_some (base_of k)) TypeMismatch (last_of q).place)) (λ u w. h)
+      ordinal : (k : PlainType) → L.Kept k → IfOk (ordinal_type (last_of q).place k) (λ j. L.Kept j × (is_ordinal j ≡ true))
+      ordinal k h = by (is_ordinal k) refl
+        where
+          by : (b : Bool) → is_ordinal k ≡ b → IfOk (and_then (only b TypeMismatch (last_of q).place) (λ _. Ok k)) (λ j. L.Kept j × (is_ordinal j ≡ true))
+          by true e = (h, e)
+          by false e = tt
 
   signals_fine : (qs : List QualifiedName) → Fine L Good (signals a qs)
   unfolding signals

@@ -1,5 +1,5 @@
 -- Values keep a law on types: rules that look at no part of the text again, and what a name leads to.
-use Rattle.std.specs.Prelude.{ℕ, ◌≡◌, ◌+◌, ◌≤◌, Bool, true, false, Option, Some, None, Ok, Err, List, [], ◌∷◌, IfOk, nat_eq, nat_le, min, if◌then◌else◌}
+use Rattle.std.specs.Prelude.{ℕ, ◌≡◌, ◌+◌, ◌≤◌, ◌<◌, Bool, true, false, not, Option, Some, None, Ok, Err, List, [], ◌∷◌, IfOk, nat_eq, nat_le, min, if◌then◌else◌}
 use Rattle.std.proofs.Common.{refl, sym, subst, arith, ◌∙◌}
 use Rattle.std.proofs.lemmas.Bool.{leb-true}
 use Rattle.mesa_base.specs.declared.place.Place.{Place}
@@ -12,26 +12,28 @@ use Rattle.syntax_trees.specs.declared.syntax.Operator.{Operator}
 use Rattle.syntax_trees.specs.declared.syntax.Sign.{Sign}
 use Rattle.syntax_trees.specs.declared.syntax.Sign.TheVariants.{Positive, Negative}
 use Rattle.check_rules.specs.Typed as t
-use Rattle.check_rules.specs.Typed.{Signed, Unsigned, Relation, Home}
+use Rattle.check_rules.specs.Typed.{Base, Signed, Unsigned, Every, Relation, Home}
 use Rattle.interface_records.specs.PlainTypes as v
-use Rattle.interface_records.specs.PlainTypes.{PlainType, PlainField, base_of, conforms, fields, array_parts, is_text, one_base, words_of}
+use Rattle.interface_records.specs.PlainTypes.{PlainType, PlainField, base_of, conforms, fields, array_parts, is_long, is_ordinal, is_text, one_ordinal_base, words_of}
 use Rattle.check_rules.specs.Scopes.{Scope, nothing, outer}
 use Rattle.check_rules.specs.Meanings as m
 use Rattle.check_rules.specs.Meanings.{Meaning}
 use Rattle.check_rules.specs.Steps.{State, Check, Checked, and_then, ◌>>=◌, pure, lift, only, in_scope, back, or_refuse, refuse}
 use Rattle.check_rules.specs.Around.{Around, ArmLabel, in_constant}
 use Rattle.check_rules.specs.Parts.{Found, found, has_name, field_named, kinds, kind_by, places_of, complete}
-use Rattle.check_rules.specs.Operators.{Sort, Number, Letter, Truth, Other, sort_of, operation, related, turned}
-use Rattle.check_rules.specs.Ranges.{Typed, typed, Aim, Free, Into, Several, Arguments, finish, fitted_if, range_for, checked}
-use Rattle.check_rules.specs.Values.{number, letter, truth, string, number_in, is_truth, not_of, signed, signed_by, compared, negated_by, within, by_level, Level, Bare, Sums, Alls, Somes, Done, step, summed, in_order, by_shape, by_aim, in_fields, by_keys, bound_aim, made, Raises, is_kind, raises_by}
-use Rattle.check_rules.specs.Reached.{Reached, Named, Value, Variable, Results, reached, settled, results, value, is_length, length_of, field_of_fields, field, field_in, field_of_variable, field_of_value, part_of, Bracketed, InArray, InText, indexed_by, indexed, text_at, at_index, Shape, OfFields, OfElements, NoShape, shape_by, shape_of}
-use Rattle.check_rules.specs.Statements.{Ends, bases, between, lies_in, enter_arm}
+use Rattle.check_rules.specs.Operators.{Sort, Number, LongNumber, Letter, Truth, Other, Application, OfWords, OfLongs, Relating, Longs, Words, sort_of, operation, relating, number_type, long_type, fitted, beside, turned}
+use Rattle.check_rules.specs.Ranges.{Typed, typed, Aim, Free, Into, Several, Arguments, finish, fitted_if, checked}
+use Rattle.check_rules.specs.Values.{literal_of, number, letter, truth, string, number_in, is_truth, not_of, signed, signed_by, related_value, compared, negated_by, within_by, within, by_level, Level, Bare, Sums, Alls, Somes, Sum, closed, Done, done_by, step, summed, in_order, by_shape, by_aim, in_fields, by_keys, bound_aim, bound_of, made, Raises, is_kind, raises_by}
+use Rattle.check_rules.specs.Reached.{Reached, Named, Value, Variable, Results, constant_value, reached, settled, results, value, is_length, length_of, field_of_fields, field, field_in, field_of_variable, field_of_value, part_of, Bracketed, InArray, InText, indexed_by, indexed, text_at, at_index, Shape, OfFields, OfElements, NoShape, shape_by, shape_of}
+use Rattle.check_rules.specs.Statements.{Ends, bases, not_long, meets_bounds, is_long_interval, by_itself_of, enter_arm}
 use Rattle.check_rules.specs.declared.fault.Cause.{Cause}
 use Rattle.check_rules.specs.declared.fault.Cause.TheVariants.{GlobalsTooLarge, UnknownName, TypeMismatch, WrongCount}
 use Rattle.check_rules.proofs.Keeping.{OfSome, Keeps, Anything, Kept, From}
 use Rattle.check_rules.proofs.TypeLaws.{TypeLaw, FieldsHave}
 use Rattle.check_rules.proofs.FineTypes.{ItemFine, MeaningFine, ScopesFine, StateFine, Fine, AroundFine, Good, bind, done, wrong, lifted, any_ok, ensured, spending, then_fine, of_interface_fine}
-use Rattle.check_rules.proofs.FineConstants.{OperatorFine, AppliedFine, RunFine, TypedFine, checked_worth, part_worth, none_of, relate_worth, within_worth, not_worth, negated_worth, number_worth, number_type_fine, operation_fine, operate_worth}
+use Rattle.check_rules.proofs.FineConstants.{ApplicationFine, TypedFine, part_worth, none_of, relate_worth, relate_long_worth, within_worth, within_long_worth, not_worth, negated_worth, negated_long_worth, number_worth, long_worth, number_type_fine, long_type_fine, weaken, word_by_sort, fitted_long, operation_fine, word_step_worth, long_step_worth, given_worth}
+use Rattle.check_rules.proofs.SoundTypes.{ordinal_not_long}
+use Rattle.check_rules.proofs.SoundOperators.{IsWord, GoodFor, operation_in}
 
 -- ---- values
 unfoldable pub AimFine : TypeLaw → Aim → Type 0
@@ -71,7 +73,13 @@ KindsFine L (k ∷ ks) = L.Kept k × KindsFine L ks
 
 pub record DoneFine (L : TypeLaw) (d : Done) : Type 0 where
   pub kind : L.Kept d.kind
-  pub gives : OperatorFine L d.operator d.kind
+  pub worth : OfSome (L.Worth d.kind) (constant (closed d.done))
+
+-- a bound of a type, which is not LONG
+pub record BoundFine (L : TypeLaw) (base : Option PlainType) (x : Typed) : Type 0 where
+  pub value : TypedFine L x
+  pub short : is_long x.kind ≡ false
+  pub said : OfSome (λ k. x.kind ≡ k) base
 
 pub record EndsFine (L : TypeLaw) (i : Ends) : Type 0 where
   pub low : L.Kept i.low.kind
@@ -126,7 +134,7 @@ module _ (L : TypeLaw) where
       fit true e = record {
         value = record {
           kind = a;
-          worth = checked_worth (L.Worth x.kind) (L.Worth k) (range_for x.kind k) x.value h.worth (λ n w f. L.fitted x.kind k n h.kind a e f w);
+          worth = given_worth L x.kind k x.value h.kind a e h.worth;
         };
         aimed = refl;
       }
@@ -146,45 +154,66 @@ module _ (L : TypeLaw) where
   unfolding not_of
   not_fine p x = by_if (TypedFine L) (is_truth x.kind) (Ok (truth (t.Not x.value))) (refuse TypeMismatch p) (truth_fine (t.Not x.value) (not_worth L x.value)) tt
 
-  pub signed_by_fine : (sign : Sign) (p : Place) (k : PlainType) → L.Kept k → (e : t.Expr) → OfSome (L.Worth k) (constant e) → (a : Sort)
+  pub signed_by_fine : (sign : Sign) (p : Place) (k : PlainType) → L.Kept k → (e : t.Expr) → OfSome (L.Worth k) (constant e) → (a : Sort) → sort_of k ≡ a
       → IfOk (signed_by sign p e a) (TypedFine L)
-  signed_by_fine Positive p k h e w (Number b) = record { kind = number_type_fine L b; worth = number_worth L k h b e w }
-  signed_by_fine Negative p k h e w (Number b) = record { kind = number_type_fine L b; worth = negated_worth L b e }
-  signed_by_fine Positive p k h e w Letter = tt
-  signed_by_fine Positive p k h e w Truth = tt
-  signed_by_fine Positive p k h e w Other = tt
-  signed_by_fine Negative p k h e w Letter = tt
-  signed_by_fine Negative p k h e w Truth = tt
-  signed_by_fine Negative p k h e w Other = tt
+  signed_by_fine Positive p k h e w (Number b) d = record { kind = number_type_fine L b; worth = number_worth L k h (subst IsWord (sym d) tt) b e w }
+  signed_by_fine Negative p k h e w (Number b) d = record { kind = number_type_fine L b; worth = negated_worth L b e }
+  signed_by_fine Positive p k h e w (LongNumber b) d = record { kind = long_type_fine L b; worth = long_worth L k b d b e w }
+  signed_by_fine Negative p k h e w (LongNumber b) d = record { kind = long_type_fine L b; worth = negated_long_worth L b e }
+  signed_by_fine Positive p k h e w Letter d = tt
+  signed_by_fine Positive p k h e w Truth d = tt
+  signed_by_fine Positive p k h e w Other d = tt
+  signed_by_fine Negative p k h e w Letter d = tt
+  signed_by_fine Negative p k h e w Truth d = tt
+  signed_by_fine Negative p k h e w Other d = tt
 
   pub signed_fine : (sign : Sign) (p : Place) (x : Typed) → TypedFine L x → IfOk (signed sign p x) (TypedFine L)
   unfolding signed
-  signed_fine sign p x h = signed_by_fine sign p x.kind h.kind x.value h.worth (sort_of x.kind)
+  signed_fine sign p x h = signed_by_fine sign p x.kind h.kind x.value h.worth (sort_of x.kind) refl
 
-  pub compared_fine : (b : Bool) (o : Relation) (p : Place) (x y : Typed) → IfOk (compared b o p x y) (TypedFine L)
+  related_fine : (o : Relation) (d e : t.Expr) (m : Relating) → TypedFine L (related_value o d e m)
+  related_fine o d e (Words m) = truth_fine _ (relate_worth L m.base o (checked m.left d) (checked m.right e))
+  related_fine o d e (Longs m) = truth_fine _ (relate_long_worth L m.base o (fitted m.left d) (fitted m.right e))
+
+  pub compared_fine : (b : Bool) (o : Relation) (p l : Place) (x : Typed) (r : Place) (y : Typed) → IfOk (compared b o p l x r y) (TypedFine L)
   unfolding compared
-  compared_fine b o p x y = then_fine Good (TypedFine L) (or_refuse (related x.kind x.literal y.kind y.literal) TypeMismatch p) _
-      (any_ok (or_refuse (related x.kind x.literal y.kind y.literal) TypeMismatch p))
-      (λ m u. truth_fine _ (relate_worth L m.base (turned b o) (checked m.left x.value) (checked m.right y.value)))
+  compared_fine b o p l x r y =
+      then_fine Good (TypedFine L) (or_refuse (relating x.kind x.literal y.kind y.literal) TypeMismatch (beside p l (sort_of x.kind) r (sort_of y.kind))) _
+      (any_ok (or_refuse (relating x.kind x.literal y.kind y.literal) TypeMismatch (beside p l (sort_of x.kind) r (sort_of y.kind))))
+      (λ m u. related_fine (turned b o) x.value y.value m)
 
-  pub within_fine : (b : Bool) (p : Place) (x : Typed) (i : Ends) → IfOk (within b p x i) (TypedFine L)
+  pub within_fine : (b : Bool) (p l : Place) (x : Typed) (i : Ends) → IfOk (within b p l x i) (TypedFine L)
   unfolding within
-  within_fine b p x i = then_fine Good (TypedFine L) (only (lies_in x i) TypeMismatch p) _ (any_ok (only (lies_in x i) TypeMismatch p)) (λ m u.
-      truth_fine _ (turn b))
+  within_fine b p l x i = then_fine Good (TypedFine L) (meets_bounds p l x i) _ (any_ok (meets_bounds p l x i)) (λ m u. truth_fine _ (turn b (is_long_interval x i)))
     where
-      turn : (b : Bool) → OfSome (L.Worth v.Boolean) (constant (negated_by b (t.Within (bases x.kind i) x.value (between i))))
-      turn true = not_worth L (t.Within (bases x.kind i) x.value (between i))
-      turn false = within_worth L (bases x.kind i) x.value i.low.value i.high.value i.open_low i.open_high
+      lies : (l : Bool) → OfSome (L.Worth v.Boolean) (constant (within_by l x i))
+      lies false = within_worth L (bases x.kind i) x.value i.low.value i.high.value i.open_low i.open_high
+      lies true = within_long_worth L (bases x.kind i) (by_itself_of x) (by_itself_of i.low) (by_itself_of i.high) i.open_low i.open_high
+
+      turn : (b l : Bool) → OfSome (L.Worth v.Boolean) (constant (negated_by b (within_by l x i)))
+      turn true l = not_worth L (within_by l x i)
+      turn false l = lies l
+
+  word_literal_fine : (b : Base) (n : ℕ) → n < 65536 → TypedFine L (literal_of (number_type b) (t.Number n))
+  unfolding constant
+  word_literal_fine b n h = record { kind = number_type_fine L b; worth = L.number b n (L.small n h) }
+
+  long_literal_fine : (b : Base) (n : ℕ) → n < 4294967296 → L.Kept (long_type b) × OfSome (L.Worth (long_type b)) (constant (t.LongNumber n))
+  unfolding constant
+  long_literal_fine b n h = (long_type_fine L b, L.long b n (L.long_small n h))
 
   pub number_fine : (n : ℕ) → TypedFine L (number n)
-  unfolding number constant
-  number_fine n = go (nat_le n 32767) refl
+  unfolding number
+  number_fine n = go (nat_le n 32767) (nat_le n 65535) (nat_le n 2147483647) refl refl refl
     where
-      go : (b : Bool) → nat_le n 32767 ≡ b → TypedFine L (if b then record { value = t.Number n; kind = v.Integer; literal = true; gave = None } else typed
-          v.Cardinal (t.Number (min n GREATEST_NUMBER)))
-      go true e =
-          let few : n ≤ 32767 = leb-true n 32767 e in record { kind = L.integer; worth = L.number Signed n (L.small n (omega (arith, few))) }
-      go false e = record { kind = L.cardinal; worth = L.number Unsigned (min n 65535) (L.small (min n 65535) (omega arith)) }
+      go : (a b c : Bool) → nat_le n 32767 ≡ a → nat_le n 65535 ≡ b → nat_le n 2147483647 ≡ c
+          → TypedFine L (if a then literal_of v.Integer (t.Number n) else (if b then literal_of v.Cardinal (t.Number n)
+          else (if c then literal_of v.LongInteger (t.LongNumber n) else typed v.LongCardinal (t.LongNumber (min n GREATEST_NUMBER)))))
+      go true b c e f g = let few : n ≤ 32767 = leb-true n 32767 e in word_literal_fine Signed n (omega (arith, few))
+      go false true c e f g = let few : n ≤ 65535 = leb-true n 65535 f in word_literal_fine Unsigned n (omega (arith, few))
+      go false false true e f g =
+          let few : n ≤ 2147483647 = leb-true n 2147483647 g in let h = long_literal_fine Signed n (omega (arith, few)) in record { kind = h.0; worth = h.1 }
+      go false false false e f g = let h = long_literal_fine Unsigned (min n 4294967295) (omega arith) in record { kind = h.0; worth = h.1 }
 
   pub letter_fine : (n : ℕ) → TypedFine L (letter n)
   unfolding letter constant
@@ -195,18 +224,45 @@ module _ (L : TypeLaw) where
   string_fine known p bytes = then_fine Good (TypedFine L) (or_refuse (number_in bytes 0 known) GlobalsTooLarge p) _
       (any_ok (or_refuse (number_in bytes 0 known) GlobalsTooLarge p)) (λ n u. record { kind = L.string; worth = tt })
 
-  pub step_fine : (o : Operator) (p : Place) (k : PlainType) (literal : Bool) (r : Typed) → IfOk (step o p k literal r) (DoneFine L)
+  pub step_fine : (o : Operator) (p l : Place) (done : Sum) (k : PlainType) → L.Kept k → OfSome (L.Worth k) (constant (closed done)) → (literal : Bool) (q : Place)
+      (r : Typed) → TypedFine L r
+      → IfOk (step o p l done k literal q r) (DoneFine L)
   unfolding step
-  step_fine o p k literal r = then_fine (AppliedFine L) (DoneFine L)
-      (or_refuse (operation o (sort_of k) literal (sort_of r.kind) r.literal) TypeMismatch p) _
-      (or_ok (AppliedFine L) (operation o (sort_of k) literal (sort_of r.kind) r.literal) TypeMismatch p
-      (operation_fine L o (sort_of k) literal (sort_of r.kind) r.literal)) (λ x h. record { kind = h.kind; gives = h.gives })
+  step_fine o p l done k h w literal q r g =
+      then_fine Both (DoneFine L) (or_refuse (operation o (sort_of k) literal (sort_of r.kind) r.literal) TypeMismatch (beside p l (sort_of k) q (sort_of r.kind))) _
+      (or_ok Both (operation o (sort_of k) literal (sort_of r.kind) r.literal) TypeMismatch (beside p l (sort_of k) q (sort_of r.kind))
+      (shown (operation o (sort_of k) literal (sort_of r.kind) r.literal) refl (operation_fine L o (sort_of k) literal (sort_of r.kind) r.literal))) by
+    where
+      Both : Application → Type 0
+      Both x = ApplicationFine L x × GoodFor (sort_of k) literal (sort_of r.kind) r.literal x
+
+      shown : (x : Option Application) → operation o (sort_of k) literal (sort_of r.kind) r.literal ≡ x → OfSome (ApplicationFine L) x → OfSome Both x
+      shown None e h = tt
+      shown (Some x) e h = (h, operation_in o (sort_of k) literal (sort_of r.kind) r.literal x e)
+
+      word_before : IsWord (sort_of k) → OfSome L.Word (constant (closed done))
+      word_before s = weaken L (L.Worth k) L.Word (constant (closed done)) w (λ n i. word_by_sort L k n h s i)
+
+      by : (x : Application) → Both x → IfOk (Ok (done_by done r.value x)) (DoneFine L)
+      by (OfWords x) b = record {
+        kind = b.0.kind;
+        worth = word_step_worth L done x.kind x.left x.operator (checked x.right r.value) b.0.gives (word_before b.1.left);
+      }
+      by (OfLongs x) b = record {
+        kind = b.0.kind;
+        worth = long_step_worth L done x.left x.kind Every x.operator (fitted x.right r.value) b.0.gives
+            (fitted_long L x.left k literal (closed done) h (b.1.met).left_number (b.1.met).left w);
+      }
 
   -- ---- what a name leads to
   pub reached_fine : (x : Meaning) → MeaningFine L x → ReachedFine L (reached x)
   unfolding reached ReachedFine MeaningFine constant
   reached_fine (m.Variable h k) f = f
-  reached_fine (m.Constant k n) f = f
+  reached_fine (m.Constant k n) f = (f.0, by (is_long k))
+    where
+      by : (l : Bool) → OfSome (L.Worth k) (constant (constant_value l n))
+      by true = f.1
+      by false = f.1
   reached_fine (m.TextConstant n) f = (L.string, tt)
   reached_fine (m.TypeName k) f = f
   reached_fine (m.Procedure c i) f = f
@@ -292,10 +348,10 @@ module _ (L : TypeLaw) where
   pub at_index_fine : (b : Bracketed) → BracketedFine L b → (start : Place) (i : Typed) → IfOk (at_index b start i) (ReachedFine L)
   unfolding at_index BracketedFine ReachedFine constant
   at_index_fine (InArray h ss index element) f start i =
-      then_fine Good (ReachedFine L) (only (one_base (base_of i.kind) (base_of index)) TypeMismatch start) _
-      (any_ok (only (one_base (base_of i.kind) (base_of index)) TypeMismatch start)) (λ u w. f)
-  at_index_fine (InText n e) f start i = then_fine Good (ReachedFine L) (only (one_base (base_of i.kind) (Some v.Integer)) TypeMismatch start) _
-      (any_ok (only (one_base (base_of i.kind) (Some v.Integer)) TypeMismatch start)) (λ u w. (L.character, tt))
+      then_fine Good (ReachedFine L) (only (one_ordinal_base (base_of i.kind) (base_of index)) TypeMismatch start) _
+      (any_ok (only (one_ordinal_base (base_of i.kind) (base_of index)) TypeMismatch start)) (λ u w. f)
+  at_index_fine (InText n e) f start i = then_fine Good (ReachedFine L) (only (one_ordinal_base (base_of i.kind) (Some v.Integer)) TypeMismatch start) _
+      (any_ok (only (one_ordinal_base (base_of i.kind) (Some v.Integer)) TypeMismatch start)) (λ u w. (L.character, tt))
 
   pub shape_by_fine : (o : Option (List PlainField)) (p : Option (PlainType × PlainType)) → OfSome (FieldsHave L.Kept) o → OfSome (PairFine L) p
       → ShapeFine L (shape_by o p)
@@ -377,12 +433,29 @@ module _ (L : TypeLaw) where
   bound_aim_fine (Some k) h p = h
   bound_aim_fine None h p = tt
 
-  -- a bound is of the type that is said before its interval
-  pub bound_kinds : (base : Option PlainType) (p q : Place) (x y : Typed) → CheckedFine L (bound_aim base p) x → CheckedFine L (bound_aim base q) y
-      → OfSome (λ k. (x.kind ≡ k) × (y.kind ≡ k)) base
-  unfolding OfAim
-  bound_kinds (Some k) p q x y h i = (h.aimed, i.aimed)
-  bound_kinds None p q x y h i = tt
+  -- a bound is not LONG, and of the type that is said before its interval
+  pub bound_of_fine : (base : Option PlainType) → OfSome (λ k. L.Kept k × (is_ordinal k ≡ true)) base → (p : Place) (x : Typed) → TypedFine L x
+      → IfOk (bound_of base p x) (BoundFine L base)
+  unfolding bound_of not_long finish
+  bound_of_fine base f p x h = by (is_long x.kind) refl base f
+    where
+      by : (l : Bool) → is_long x.kind ≡ l → (base : Option PlainType) → OfSome (λ k. L.Kept k × (is_ordinal k ≡ true)) base
+          → IfOk (and_then (only (not l) TypeMismatch p) (λ _. finish (bound_aim base p) x)) (BoundFine L base)
+      by true e base f = tt
+      by false e None f = record { value = h; short = e; said = tt }
+      by false e (Some k) f = fit (conforms x.kind k) refl
+        where
+          fit : (b : Bool) → conforms x.kind k ≡ b → IfOk (fitted_if b k p x) (BoundFine L (Some k))
+          fit true c = record {
+            value = record { kind = f.0; worth = given_worth L x.kind k x.value h.kind f.0 c h.worth };
+            short = ordinal_not_long k f.1;
+            said = refl;
+          }
+          fit false c = tt
+
+  pub bound_kinds : (base : Option PlainType) (x y : Typed) → BoundFine L base x → BoundFine L base y → OfSome (λ k. (x.kind ≡ k) × (y.kind ≡ k)) base
+  bound_kinds (Some k) x y h i = (h.said, i.said)
+  bound_kinds None x y h i = tt
 
   pub into_fine : (k : PlainType) → L.Kept k → (p : Place) → AimFine L (Into k p)
   unfolding AimFine
@@ -401,5 +474,5 @@ module _ (L : TypeLaw) where
   raise_none r ns es n ph = refl
 
   -- a run of sums, and the operands of AND and OR
-  pub summed_fine : (x : Typed) → TypedFine L x → (r : t.Operations × PlainType) → L.Kept r.1 × RunFine L x.kind r.0 r.1 → TypedFine L (summed x r)
-  summed_fine x h r q = record { kind = q.0; worth = operate_worth L x.kind r.1 x.value r.0 q.1 h.worth }
+  pub summed_fine : (r : t.Expr × PlainType) → L.Kept r.1 × OfSome (L.Worth r.1) (constant r.0) → TypedFine L (summed r)
+  summed_fine r q = record { kind = q.0; worth = q.1 }

@@ -34,6 +34,8 @@ has_node : (e : s.TypeExp) → 1 ≤ type_nodes e
 unfolding type_nodes
 has_node (s.Integer p) = omega arith
 has_node (s.Cardinal p) = omega arith
+has_node (s.LongInteger p) = omega arith
+has_node (s.LongCardinal p) = omega arith
 has_node (s.Boolean p) = omega arith
 has_node (s.Character p) = omega arith
 has_node (s.String p) = omega arith

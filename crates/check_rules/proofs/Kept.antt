@@ -15,20 +15,21 @@ use Rattle.check_rules.specs.Scopes.{nothing, has}
 use Rattle.check_rules.specs.Meanings.{TypeName, Procedure}
 use Rattle.check_rules.specs.Steps.{refuse, Checked, Check, ◌>>=◌, pure, lift}
 use Rattle.check_rules.specs.Around.{Around, ArmLabel, inside, in_constant, with_labels, in_round, in_arm, label_of}
-use Rattle.check_rules.specs.Parts.{first, first_of_interval, first_of_type, first_name, last_of, names_of, field_named, kinds, kind_by, count, keys, count_lefts, keys_of_lefts, are_fields, complete, and_operation}
+use Rattle.check_rules.specs.Parts.{first, first_of_interval, first_of_type, first_name, last_of, names_of, field_named, kinds, kind_by, count, keys, count_lefts, keys_of_lefts, are_fields, complete}
 use Rattle.check_rules.specs.Ranges.{Typed, Aim, Free, Into, Several, Arguments, finish}
-use Rattle.check_rules.specs.Values.{has_parts, by_shape, number, letter, truth, is_truth, by_level, Level, Bare, Sums, Alls, Somes, level_of, in_order, by_aim, bound_aim, Raises, raised}
+use Rattle.check_rules.specs.Values.{Sum, Begun, closed, has_parts, by_shape, number, letter, truth, is_truth, by_level, Level, Bare, Sums, Alls, Somes, level_of, in_order, by_aim, Raises, raised}
+use Rattle.check_rules.specs.Operators.{sort_of, longer}
 use Rattle.check_rules.specs.Reached.{Shape, OfFields, OfElements, NoShape, Reached, Named, Value, Variable, Results, Use, Read, Store, Perform, reached, settled, shape_of, Target, may_apply}
 use Rattle.check_rules.specs.TypeRules.{origin, interval_base, is_index}
-use Rattle.check_rules.specs.Statements.{Ends, Headed, Variables, Counted, NotCounted, By, Controlled, Left, looped, held, labels_of_exits, labels_of_repeats, labels_of, Held, is_finished}
+use Rattle.check_rules.specs.Statements.{Ends, longer_number, longer_bounds, held_words, selected, Headed, Variables, Counted, NotCounted, By, Controlled, Left, looped, held, labels_of_exits, labels_of_repeats, labels_of, Held, is_finished}
 use Rattle.check_rules.specs.Phrases.{holds, in_left, in_raise, in_targets, in_cases, in_items, is_catch}
 use Rattle.check_rules.specs.Checking.{check, sums, truths, interval, walk, apply, one, construct, arguments, values, alike, keyed, raise, with_brackets, phrase, arms, type_exp, fields_of, named_fields, unnamed_fields, of_interval, statement, otherwise, statements, target, targets, targets_in_order, targets_by_key, cases, tests, control, counted, condition, repeats, exits, block, heads, head, initials, initial}
 use Rattle.check_rules.specs.declared.fault.Cause.TheVariants.{TypeMismatch, WrongCount, TwiceDeclared}
 use Rattle.check_rules.specs.Places as places
 use Rattle.check_rules.proofs.Keeping.{Gives, all_right, refused, Keeps, Anything, Have, bind, give, refusing, lifting, weaker, ensured, after_spending, after_hiding, within, inside_scope, seen_from, measuring, first_part as before, last_part as behind}
 use Rattle.check_rules.proofs.KeptNames.{ConstantStands, last_stands, names_are_new, announced, has_settled, elements_kept, named_kept, qualified_kept, type_named_kept, word_base_kept, arm_labels_kept}
-use Rattle.check_rules.proofs.KeptValues.{Fits, UpTo, number_size, AimStands, spare, size, finished, not_kept, signed_kept, compared_kept, within_kept, step_kept, operand_kept, string_kept, no_phrase_kept, value_kept, field_kept, indexed_kept, text_kept, at_index_kept, shape_kept, in_fields_kept, by_keys_kept, raises_kept, stored_kept, performed_kept, reached_size, settled_size}
-use Rattle.check_rules.proofs.KeptStatements.{Counts, HomesFit, first_stands, left_stands, raise_stands, interval_stands, type_stands, first_name_stands, names_stand, control_stands, limited_kept, few_kept, some_or_refused, bound_kept, subrange_kept, numbered_kept, whole_kept, initial_kept, exit_kept, next_kept, go_to_kept, return_kept, retry_kept, continue_kept, reject_kept, resumed_kept, returned_size, tested_kept, inside_kept, rounds_kept, counter_kept, given_kept, source_kept, extracted_kept, declared_kept, constant_kept, entered, numbers_length, new_labels_kept, left_size, join_size}
+use Rattle.check_rules.proofs.KeptValues.{Fits, UpTo, number_size, AimStands, spare, size, finished, not_kept, signed_kept, compared_kept, within_kept, step_kept, operand_kept, string_kept, no_phrase_kept, value_kept, bound_of_kept, field_kept, indexed_kept, text_kept, at_index_kept, shape_kept, in_fields_kept, by_keys_kept, raises_kept, stored_kept, performed_kept, reached_size, settled_size}
+use Rattle.check_rules.proofs.KeptStatements.{Counts, HomesFit, first_stands, left_stands, raise_stands, interval_stands, type_stands, first_name_stands, names_stand, control_stands, selected_size, limited_kept, few_kept, some_or_refused, bound_kept, subrange_kept, numbered_kept, whole_kept, initial_kept, exit_kept, next_kept, go_to_kept, return_kept, retry_kept, continue_kept, reject_kept, resumed_kept, returned_size, tested_kept, inside_kept, rounds_kept, counter_kept, given_kept, source_kept, extracted_kept, declared_kept, constant_kept, entered, numbers_length, new_labels_kept, left_size, join_size}
 
 -- the nodes of the bounds of a loop
 abbrev pub counted_nodes : Counted → ℕ
@@ -48,13 +49,9 @@ Unnamed (f ∷ fs) = (f.name ≡ None) × Unnamed fs
 abbrev pub EndsFit : ℕ → Ends → Type 0
 EndsFit n x = tn.expr_nodes x.low.value + tn.expr_nodes x.high.value + 4 ≤ 2 * n
 
--- operations done, and more behind them
-operations_more : (os : t.Operations) (r : t.Range) (o : t.Operator) (e : t.Expr)
-    → tn.operations_nodes (and_operation os (t.Then r o e)) ≡ tn.operations_nodes os + 1 + tn.check_nodes r + tn.expr_nodes e
-unfolding and_operation tn.operations_nodes
-operations_more t.NoOperation r o e = omega arith
-operations_more (t.Then q p d os) r o e = let h : tn.operations_nodes (and_operation os (t.Then r o e))
-    ≡ tn.operations_nodes os + 1 + tn.check_nodes r + tn.expr_nodes e = operations_more os r o e in omega arith
+-- and its bounds begin where a place stands
+abbrev pub EndsKept : (Place → Type 0) → ℕ → Ends → Type 0
+EndsKept Stands n x = EndsFit n x × Stands x.low_place × Stands x.high_place
 
 labels_length : (ls : List ArmLabel) → length (map label_of ls) ≡ length ls
 labels_length [] = refl
@@ -72,10 +69,6 @@ aims : {Stands : Place → Type 0} {A : Type 0} {P : A → Type 0} (aim : Aim) {
 aims (Free p) g h k = h p g
 aims (Several p) g h k = h p g
 aims (Into j p) g h k = k j p g
-
-bound_aim_stands : (Stands : Place → Type 0) (k : Option PlainType) (p : Place) → Stands p → AimStands Stands (bound_aim k p)
-bound_aim_stands Stands (Some k) p h = h
-bound_aim_stands Stands None p h = h
 
 spare_size : (aim : Aim) → spare aim ≤ 1
 spare_size (Free p) = omega arith
@@ -104,7 +97,7 @@ module _ (Stands : Place → Type 0) where
     check_kept a c aim g (s.Run e ss) h =
         bind (check_kept a c (Free (first e)) (first_stands Stands e (before Stands _ _ h)) e (before Stands _ _ h)) (λ x q.
         bind {P = λ (r : Typed). tn.expr_nodes r.value + 1 ≤ 2 * (sn.expr_nodes e + sn.operations_nodes ss)} (levels (level_of ss) (give (omega arith))
-        (bind (sums_kept a c t.NoOperation x.kind x.literal ss (behind Stands _ _ h)) (λ r w. give (omega arith)))
+        (bind (sums_kept a c (first e) (first_stands Stands e (before Stands _ _ h)) (Begun x.value) x.kind x.literal ss (behind Stands _ _ h)) (λ r w. give (omega arith)))
         (bind (truths_kept a c (is_truth x.kind) ss (behind Stands _ _ h)) (λ es w. give (omega arith)))
         (bind (truths_kept a c (is_truth x.kind) ss (behind Stands _ _ h)) (λ es w. give (omega arith)))) (λ r w.
         finished Stands aim g (sn.expr_nodes (s.Run e ss)) r w))
@@ -115,18 +108,22 @@ module _ (Stands : Place → Type 0) where
     check_kept a c aim g (s.Compare d b o p e) h =
         bind (check_kept a c (Free (first d)) (first_stands Stands d (before Stands _ _ h)) d (before Stands _ _ h)) (λ x q.
         bind (check_kept a c (Free (first e)) (first_stands Stands e (behind Stands (places.of_expr d) (p ∷ places.of_expr e) h).1) e (behind Stands (places.of_expr d) (p ∷ places.of_expr e) h).1) (λ y r.
-        bind (lifting (compared_kept Stands b o p (behind Stands (places.of_expr d) (p ∷ places.of_expr e) h).0 x y)) (λ z w.
-        finished Stands aim g (sn.expr_nodes (s.Compare d b o p e)) z (omega arith))))
+        bind (lifting (compared_kept Stands b o p (first d) (first e) (behind Stands (places.of_expr d) (p ∷ places.of_expr e) h).0
+        (first_stands Stands d (before Stands _ _ h)) (first_stands Stands e (behind Stands (places.of_expr d) (p ∷ places.of_expr e) h).1) x y)) (λ z w.
+        after_spending (longer (sort_of x.kind) x.literal (sort_of y.kind) y.literal) (λ u. lift (finish aim z))
+        (finished Stands aim g (sn.expr_nodes (s.Compare d b o p e)) z (omega arith)))))
     check_kept a c aim g (s.Within e b p i) h =
         bind (check_kept a c (Free (first e)) (first_stands Stands e (before Stands _ _ h)) e (before Stands _ _ h)) (λ x q.
         bind (interval_kept a c i (behind Stands (places.of_expr e) (p ∷ places.of_interval i) h).1) (λ ends r.
-        bind (lifting (within_kept Stands b p (behind Stands (places.of_expr e) (p ∷ places.of_interval i) h).0 x ends)) (λ z w.
-        finished Stands aim g (sn.expr_nodes (s.Within e b p i)) z (omega arith))))
+        bind (lifting (within_kept Stands b p (first e) (behind Stands (places.of_expr e) (p ∷ places.of_interval i) h).0
+        (first_stands Stands e (before Stands _ _ h)) x ends r.1 r.2)) (λ z w.
+        after_spending (longer_number x ends + longer_bounds x ends) (λ u. lift (finish aim z))
+        (finished Stands aim g (sn.expr_nodes (s.Within e b p i)) z (omega (arith, r.0))))))
     check_kept a c aim g (s.Signed sign p e) h =
         bind (check_kept a c (Free (first e)) (first_stands Stands e h.1) e h.1) (λ x q.
         bind (lifting (signed_kept Stands sign p h.0 x)) (λ r w.
         finished Stands aim g (sn.expr_nodes (s.Signed sign p e)) r (omega arith)))
-    check_kept a c aim g (s.NumberLiteral p n) h = after_spending 1 (λ u. lift (finish aim (number n))) (finished Stands aim g 1 (number n) (number_size n))
+    check_kept a c aim g (s.NumberLiteral p n) h = after_spending (words_of (number n).kind) (λ u. lift (finish aim (number n))) (finished Stands aim g 1 (number n) (number_size n))
     check_kept a c aim g (s.CharacterLiteral p n) h = after_spending 1 (λ u. lift (finish aim (letter n))) (finished Stands aim g 1 (letter n) (omega arith))
     check_kept a c aim g (s.StringLiteral p bytes) h =
         bind (lifting (string_kept Stands a.known.strings p h.0 bytes))
@@ -146,16 +143,16 @@ module _ (Stands : Place → Type 0) where
         bind (value_kept Stands aim g x.0 q.0 x.1) (λ y z.
         finished Stands aim g (sn.raise_nodes r) y (omega (arith, q.1))))
 
-    pub sums_kept : (a : Around) → ConstantStands Stands a.constant → (done : t.Operations) (kind : PlainType) (literal : Bool) (ss : s.Operations)
+    pub sums_kept : (a : Around) → ConstantStands Stands a.constant → (l : Place) → Stands l → (d : Sum) (kind : PlainType) (literal : Bool) (ss : s.Operations)
         → Have Stands (places.of_steps ss)
-        → Keeps Stands (λ (r : t.Operations × PlainType). tn.operations_nodes r.0 ≤ tn.operations_nodes done + 2 * sn.operations_nodes ss)
-        (sums a done kind literal ss)
-    sums_kept a c done kind literal s.NoOperation h = give (omega arith)
-    sums_kept a c done kind literal (s.AndOperation o p e ss) h =
+        → Keeps Stands (λ (r : t.Expr × PlainType). tn.expr_nodes r.0 ≤ tn.expr_nodes (closed d) + 2 * sn.operations_nodes ss)
+        (sums a l d kind literal ss)
+    sums_kept a c l at d kind literal s.NoOperation h = give (omega arith)
+    sums_kept a c l at d kind literal (s.AndOperation o p e ss) h =
         bind (check_kept a c (Free (first e)) (first_stands Stands e (before Stands _ _ h.1)) e (before Stands _ _ h.1)) (λ r q.
-        bind (lifting (step_kept Stands o p h.0 kind literal r)) (λ x w.
-        weaker (sums_kept a c (and_operation done (t.Then x.left x.operator x.right)) x.kind false ss (behind Stands _ _ h.1)) (λ z y.
-        omega (arith, operations_more done x.left x.operator x.right))))
+        bind (lifting (step_kept Stands o p l (first e) h.0 at (first_stands Stands e (before Stands _ _ h.1)) d kind literal r)) (λ x w.
+        after_spending (longer (sort_of kind) literal (sort_of r.kind) r.literal) (λ u. sums a l x.done x.kind false ss)
+        (weaker (sums_kept a c l at x.done x.kind false ss (behind Stands _ _ h.1)) (λ z y. omega arith))))
 
     pub truths_kept : (a : Around) → ConstantStands Stands a.constant → (fits : Bool) (ss : s.Operations) → Have Stands (places.of_steps ss)
         → Keeps Stands (λ (es : t.Exprs). tn.count_of es + tn.exprs_nodes es ≤ 2 * sn.operations_nodes ss) (truths a fits ss)
@@ -167,11 +164,11 @@ module _ (Stands : Place → Type 0) where
         give (omega (arith, ap tn.expr_nodes w)))))
 
     pub interval_kept : (a : Around) → ConstantStands Stands a.constant → (i : s.Interval) → Have Stands (places.of_interval i)
-        → Keeps Stands (EndsFit (sn.interval_nodes i)) (interval a i)
+        → Keeps Stands (EndsKept Stands (sn.interval_nodes i)) (interval a i)
     interval_kept a c (s.Between p open_low low high open_high) h =
         bind (check_kept a c (Free (first low)) (first_stands Stands low (before Stands _ _ h.1)) low (before Stands _ _ h.1)) (λ x q.
         bind (check_kept a c (Free (first high)) (first_stands Stands high (behind Stands _ _ h.1)) high (behind Stands _ _ h.1)) (λ y r.
-        give (omega arith)))
+        give (omega arith, first_stands Stands low (before Stands _ _ h.1), first_stands Stands high (behind Stands _ _ h.1))))
 
     pub walk_kept : (a : Around) → ConstantStands Stands a.constant → (way : Use) (last : Place) → Stands last → (r : Reached) (ss : s.Suffixes)
         → Have Stands (places.of_suffixes ss)
@@ -315,6 +312,8 @@ module _ (Stands : Place → Type 0) where
         → Keeps Stands Anything (type_exp a e)
     type_exp_kept a c (s.Integer p) h = give tt
     type_exp_kept a c (s.Cardinal p) h = give tt
+    type_exp_kept a c (s.LongInteger p) h = give tt
+    type_exp_kept a c (s.LongCardinal p) h = give tt
     type_exp_kept a c (s.Boolean p) h = give tt
     type_exp_kept a c (s.Character p) h = give tt
     type_exp_kept a c (s.String p) h = give tt
@@ -361,14 +360,16 @@ module _ (Stands : Place → Type 0) where
     pub of_interval_kept : (a : Around) → ConstantStands Stands a.constant → (base : Option PlainType) (i : s.Interval) → Have Stands (places.of_interval i)
         → Keeps Stands Anything (of_interval a base i)
     of_interval_kept a c base (s.Between p open_low low high open_high) h =
-        bind (check_kept (in_constant (first low) a) (first_stands Stands low (before Stands _ _ h.1)) (bound_aim base (first low))
-        (bound_aim_stands Stands base (first low) (first_stands Stands low (before Stands _ _ h.1))) low (before Stands _ _ h.1)) (λ x q.
+        bind (check_kept (in_constant (first low) a) (first_stands Stands low (before Stands _ _ h.1)) (Free (first low))
+        (first_stands Stands low (before Stands _ _ h.1)) low (before Stands _ _ h.1)) (λ i q.
+        bind (lifting (bound_of_kept Stands base (first low) (first_stands Stands low (before Stands _ _ h.1)) i)) (λ x w.
         bind (lifting (bound_kept Stands (first low) (first_stands Stands low (before Stands _ _ h.1)) x)) (λ m w.
-        bind (check_kept (in_constant (first high) a) (first_stands Stands high (behind Stands _ _ h.1)) (bound_aim base (first high))
-        (bound_aim_stands Stands base (first high) (first_stands Stands high (behind Stands _ _ h.1))) high (behind Stands _ _ h.1)) (λ y r.
+        bind (check_kept (in_constant (first high) a) (first_stands Stands high (behind Stands _ _ h.1)) (Free (first high))
+        (first_stands Stands high (behind Stands _ _ h.1)) high (behind Stands _ _ h.1)) (λ j r.
+        bind (lifting (bound_of_kept Stands base (first high) (first_stands Stands high (behind Stands _ _ h.1)) j)) (λ y w.
         bind (lifting (bound_kept Stands (first high) (first_stands Stands high (behind Stands _ _ h.1)) y)) (λ n w.
         bind (lifting (some_or_refused Stands (interval_base base x.kind m y.kind n) TypeMismatch p h.0)) (λ k w.
-        lifting (subrange_kept Stands p h.0 k open_low m n open_high))))))
+        lifting (subrange_kept Stands p h.0 k open_low m n open_high))))))))
 
     -- statements
     pub statement_kept : (a : Around) → ConstantStands Stands a.constant → (x : s.Statement) → Have Stands (places.of_stmt x)
@@ -400,10 +401,10 @@ module _ (Stands : Place → Type 0) where
         give (omega arith)))))
     statement_kept a c (s.Select p e cs other) h = whole_kept Stands a c p h.0 (holds e || in_cases cs) _ (λ a c.
         bind (check_kept a c (Free (first e)) (first_stands Stands e (before Stands _ _ h.1)) e (before Stands _ _ h.1)) (λ x q.
-        after_hiding 1 (λ u. cases a x cs >>= (λ f. otherwise a other >>= (λ o. pure (t.Select x.value (f (t.Otherwise o)))))) (
-        bind (cases_kept a c x cs (before Stands _ _ (behind Stands (places.of_expr e) (places.of_cases cs ++ places.of_other other) h.1))) (λ f w.
+        after_hiding (held_words x) (λ u. cases a (first e) x cs >>= (λ f. otherwise a other >>= (λ o. pure (selected x (f (t.Otherwise o)))))) (
+        bind (cases_kept a c (first e) (first_stands Stands e (before Stands _ _ h.1)) x cs (before Stands _ _ (behind Stands (places.of_expr e) (places.of_cases cs ++ places.of_other other) h.1))) (λ f w.
         bind (otherwise_kept a c other (behind Stands _ _ (behind Stands (places.of_expr e) (places.of_cases cs ++ places.of_other other) h.1))) (λ o z.
-        give (omega (arith, w (t.Otherwise o))))))))
+        give (omega (arith, w (t.Otherwise o), selected_size x (f (t.Otherwise o)))))))))
     statement_kept a c (s.Loop n p ph ss rs) h =
         let after : Have Stands (p ∷ (places.of_phrase ph ++ (places.of_stmts ss ++ places.of_repeats rs))) =
         behind Stands (places.of_control n) (p ∷ (places.of_phrase ph ++ (places.of_stmts ss ++ places.of_repeats rs))) h in
@@ -493,33 +494,36 @@ module _ (Stands : Place → Type 0) where
         bind (targets_by_key_kept a c q there fs (key.name ∷ taken) ls (behind Stands _ _ h.1)) (λ ts z.
         give (omega (arith, y ts)))))))
 
-    pub cases_kept : (a : Around) → ConstantStands Stands a.constant → (x : Typed) (xs : s.Cases) → Have Stands (places.of_cases xs)
-        → Keeps Stands (λ (f : t.Cases → t.Cases). (cs : t.Cases) → tn.cases_nodes (f cs) ≤ 2 * sn.cases_nodes xs + tn.cases_nodes cs) (cases a x xs)
-    cases_kept a c x s.NoCases h = give (λ cs. omega arith)
-    cases_kept a c x (s.AndCase ts body rest) h =
-        bind (tests_kept a c x ts (before Stands (places.of_tests ts) (places.of_stmt body ++ places.of_cases rest) h)) (λ us q.
+    pub cases_kept : (a : Around) → ConstantStands Stands a.constant → (l : Place) → Stands l → (x : Typed) (xs : s.Cases) → Have Stands (places.of_cases xs)
+        → Keeps Stands (λ (f : t.Cases → t.Cases). (cs : t.Cases) → tn.cases_nodes (f cs) ≤ 2 * sn.cases_nodes xs + tn.cases_nodes cs) (cases a l x xs)
+    cases_kept a c l at x s.NoCases h = give (λ cs. omega arith)
+    cases_kept a c l at x (s.AndCase ts body rest) h =
+        bind (tests_kept a c l at x ts (before Stands (places.of_tests ts) (places.of_stmt body ++ places.of_cases rest) h)) (λ us q.
         bind (statement_kept a c body (before Stands _ _ (behind Stands (places.of_tests ts) (places.of_stmt body ++ places.of_cases rest) h))) (λ b w.
-        bind (cases_kept a c x rest (behind Stands _ _ (behind Stands (places.of_tests ts) (places.of_stmt body ++ places.of_cases rest) h))) (λ more z.
+        bind (cases_kept a c l at x rest (behind Stands _ _ (behind Stands (places.of_tests ts) (places.of_stmt body ++ places.of_cases rest) h))) (λ more z.
         give (λ cs. omega (arith, z cs)))))
 
-    pub tests_kept : (a : Around) → ConstantStands Stands a.constant → (x : Typed) (xs : s.Tests) → Have Stands (places.of_tests xs)
-        → Keeps Stands (λ (ts : t.Tests). tn.tests_nodes ts ≤ 2 * sn.tests_nodes xs) (tests a x xs)
-    tests_kept a c x s.NoTests h = give (omega arith)
-    tests_kept a c x (s.Value e ts) h =
+    pub tests_kept : (a : Around) → ConstantStands Stands a.constant → (l : Place) → Stands l → (x : Typed) (xs : s.Tests) → Have Stands (places.of_tests xs)
+        → Keeps Stands (λ (ts : t.Tests). tn.tests_nodes ts ≤ 2 * sn.tests_nodes xs) (tests a l x xs)
+    tests_kept a c l at x s.NoTests h = give (omega arith)
+    tests_kept a c l at x (s.Value e ts) h =
         bind (check_kept a c (Free (first e)) (first_stands Stands e (before Stands _ _ h)) e (before Stands _ _ h)) (λ y q.
-        bind (lifting (tested_kept Stands false t.Equal (first e) (first_stands Stands e (before Stands _ _ h)) x y)) (λ put w.
-        bind (tests_kept a c x ts (behind Stands _ _ h)) (λ ts z.
-        give (omega (arith, w ts)))))
-    tests_kept a c x (s.Compared b o p e ts) h =
+        bind (lifting (tested_kept Stands false t.Equal (first e) l (first e) (first_stands Stands e (before Stands _ _ h)) at (first_stands Stands e (before Stands _ _ h)) x y)) (λ put w.
+        after_spending (longer (sort_of x.kind) false (sort_of y.kind) y.literal) (λ u. tests a l x ts >>= (λ ts. pure (put ts)))
+        (bind (tests_kept a c l at x ts (behind Stands _ _ h)) (λ ts z.
+        give (omega (arith, w ts))))))
+    tests_kept a c l at x (s.Compared b o p e ts) h =
         bind (check_kept a c (Free (first e)) (first_stands Stands e (before Stands _ _ h.1)) e (before Stands _ _ h.1)) (λ y q.
-        bind (lifting (tested_kept Stands b o p h.0 x y)) (λ put w.
-        bind (tests_kept a c x ts (behind Stands _ _ h.1)) (λ ts z.
-        give (omega (arith, w ts)))))
-    tests_kept a c x (s.Inside b p i ts) h =
+        bind (lifting (tested_kept Stands b o p l (first e) h.0 at (first_stands Stands e (before Stands _ _ h.1)) x y)) (λ put w.
+        after_spending (longer (sort_of x.kind) false (sort_of y.kind) y.literal) (λ u. tests a l x ts >>= (λ ts. pure (put ts)))
+        (bind (tests_kept a c l at x ts (behind Stands _ _ h.1)) (λ ts z.
+        give (omega (arith, w ts))))))
+    tests_kept a c l at x (s.Inside b p i ts) h =
         bind (interval_kept a c i (before Stands _ _ h.1)) (λ ends q.
-        bind (lifting (inside_kept Stands b p h.0 x ends)) (λ put w.
-        bind (tests_kept a c x ts (behind Stands _ _ h.1)) (λ ts z.
-        give (omega (arith, w ts)))))
+        bind (lifting (inside_kept Stands b p l h.0 at x ends q.1 q.2)) (λ put w.
+        after_spending (longer_bounds x ends) (λ u. tests a l x ts >>= (λ ts. pure (put ts)))
+        (bind (tests_kept a c l at x ts (behind Stands _ _ h.1)) (λ ts z.
+        give (omega (arith, w ts, q.0))))))
 
     -- loops
     pub control_kept : (a : Around) → ConstantStands Stands a.constant → (x : s.Control) → Have Stands (places.of_control x)
@@ -536,13 +540,13 @@ module _ (Stands : Place → Type 0) where
         bind (named_kept Stands a c x h.1.0) (λ m w.
         bind (lifting (counter_kept Stands x.place h.1.0 m)) (λ k w.
         bind (interval_kept a c i h.1.1) (λ ends q.
-        bind (lifting (rounds_kept Stands (first_of_interval i) (interval_stands Stands i h.1.1) ends)) (λ r y.
+        bind (lifting (rounds_kept Stands (first_of_interval i) (interval_stands Stands i h.1.1) ends q.1 q.2)) (λ r y.
         bind (lifting (given_kept Stands (first_of_interval i) (interval_stands Stands i h.1.1) k r)) (λ g z.
-        after_hiding 3 (λ u. pure (By g down r)) (give (omega arith)))))))
+        after_hiding 3 (λ u. pure (By g down r)) (give (omega (arith, q.0))))))))
     counted_kept a c (s.Through p i) h =
         bind (interval_kept a c i h.1) (λ ends q.
-        bind (lifting (rounds_kept Stands (first_of_interval i) (interval_stands Stands i h.1) ends)) (λ r y.
-        after_hiding 3 (λ u. pure (By t.NoVariable false r)) (give (omega arith))))
+        bind (lifting (rounds_kept Stands (first_of_interval i) (interval_stands Stands i h.1) ends q.1 q.2)) (λ r y.
+        after_hiding 3 (λ u. pure (By t.NoVariable false r)) (give (omega (arith, q.0)))))
 
     pub condition_kept : (a : Around) → ConstantStands Stands a.constant → (x : s.Condition) → Have Stands (places.of_condition x)
         → Keeps Stands (λ (y : t.Condition). tn.condition_nodes y ≤ 2 * sn.condition_nodes x) (condition a x)

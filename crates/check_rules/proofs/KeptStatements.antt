@@ -13,26 +13,26 @@ use Rattle.syntax_trees.specs.declared.syntax.TypeBase.{TypeBase}
 use Rattle.syntax_trees.specs.declared.syntax.TypeBase.TheVariants.{Unsaid, OfInteger, OfCardinal, OfCharacter, OfName}
 use Rattle.check_rules.specs.Typed as t
 use Rattle.check_rules.specs.Typed.{Relation, Home, Given}
-use Rattle.interface_records.specs.PlainTypes.{kind_of, PlainType, PlainField, base_of, conforms, is_text, words_of, depth_of, sign_of}
+use Rattle.interface_records.specs.PlainTypes.{kind_of, PlainType, PlainField, base_of, conforms, is_long, is_ordinal, is_text, words_of, depth_of, sign_of}
 use Rattle.check_rules.specs.Meanings.{Meaning, Variable}
 use Rattle.check_rules.specs.Steps.{Check, ◌>>=◌, pure, or_refuse}
 use Rattle.check_rules.specs.Around.{parameters_of, Around, ArmHere, NoArm, InArm, ArmLabel, Seen, in_statement, is_unwinding, jump, leave_loop, exit_loop, next_round, go_to_seen, go_to, return, arm_for_raises, retry, continue, reject, all_resumable, all_give, results_of, resumed}
 use Rattle.check_rules.specs.Parts.{first, first_of_interval, first_of_base, first_of_type, first_name, Found, join_stmts}
-use Rattle.check_rules.specs.Operators.{related}
-use Rattle.check_rules.specs.Ranges.{Typed, range_for, Arguments}
+use Rattle.check_rules.specs.Operators.{Relating, Longs, Words, sort_of, related, relating, by_itself, selecting, selecting_itself, beside, turned}
+use Rattle.check_rules.specs.Ranges.{Typed, range_for, conversion_for, Arguments}
 use Rattle.check_rules.specs.Reached.{Target}
 use Rattle.mesa_types.specs.Shapes.{words_in_all, join, one}
 use Rattle.check_rules.specs.Names.{settle}
 use Rattle.mesa_types.specs.Constants.{constant}
 use Rattle.mesa_types.specs.Operators.{shifted, truth}
 use Rattle.check_rules.specs.TypeRules.{limited, few, bound, literal_word, subrange, subrange_if}
-use Rattle.check_rules.specs.Statements.{with_variable, with_variables, numbered, whole, returned, returned_by, Ends, lies_in, tested, tested_inside, Rounds, rounds, Counter, counter, given, Source, source, source_by, record_fields, is_one, extracted, variables, local, global, few_globals, meaning_of, enter_arm, Headed, Nothing, Variables, declare, given_initial, is_text_literal, text_constant, constant_by, constant_meaning, numbers_from, Left, also_left, new_labels}
+use Rattle.check_rules.specs.Statements.{with_variable, with_variables, numbered, whole, returned, returned_by, Ends, not_long, is_long_interval, by_itself_of, test_by, tested, test_inside_by, tested_inside, selected_by, selected, target_by, Rounds, rounds, Counter, counter, given, Source, source, source_by, record_fields, is_one, extracted, variables, local, global, few_globals, meaning_of, enter_arm, Headed, Nothing, Variables, declare, given_initial, is_text_literal, text_constant, constant_by, constant_meaning, numbers_from, Left, also_left, new_labels}
 use Rattle.check_rules.specs.declared.fault.Cause.{Cause}
 use Rattle.check_rules.specs.declared.fault.Cause.TheVariants.{TypeMismatch, NotResumable, TwiceDeclared, NotConstant, GlobalsTooLarge, TypeTooLarge}
 use Rattle.check_rules.specs.Places as places
 use Rattle.check_rules.proofs.Keeping.{From, same_scopes, by_if, or_refused, Gives, Keeps, Anything, Have, bind, give, and_gives, all_right, refused, only_if, after_top, within, first_part, last_part}
 use Rattle.check_rules.proofs.KeptNames.{ConstantStands, names_are_new, has_settled}
-use Rattle.check_rules.proofs.KeptValues.{anything, Once, related_once, a_check, with_check}
+use Rattle.check_rules.proofs.KeptValues.{anything, Once, related_once, RelatingOnce, relating_once, a_check, a_conversion, with_check, fitted_size, beside_stands, bounds_kept}
 
 -- a statement of so many nodes
 abbrev pub Counts : ℕ → t.Stmt → Type 0
@@ -86,6 +86,8 @@ module _ (Stands : Place → Type 0) where
   unfolding places.of_type
   type_stands (s.Integer p) h = h.0
   type_stands (s.Cardinal p) h = h.0
+  type_stands (s.LongInteger p) h = h.0
+  type_stands (s.LongCardinal p) h = h.0
   type_stands (s.Boolean p) h = h.0
   type_stands (s.Character p) h = h.0
   type_stands (s.String p) h = h.0
@@ -216,29 +218,53 @@ module _ (Stands : Place → Type 0) where
   returned_size a j x h = returned_by_size a.gives a j x h
 
   -- tests
-  pub tested_kept : (b : Bool) (o : Relation) (p : Place) → Stands p → (x e : Typed)
-      → Gives Stands (λ (put : t.Tests → t.Tests). (ts : t.Tests) → tn.tests_nodes (put ts) ≤ 2 + tn.expr_nodes e.value + tn.tests_nodes ts) (tested b o p x e)
+  pub tested_kept : (b : Bool) (o : Relation) (p l q : Place) → Stands p → Stands l → Stands q → (x e : Typed)
+      → Gives Stands (λ (put : t.Tests → t.Tests). (ts : t.Tests) → tn.tests_nodes (put ts) ≤ 3 + tn.expr_nodes e.value + tn.tests_nodes ts) (tested b o p l x q e)
   unfolding tested tn.tests_nodes
-  tested_kept b o p h x e = and_gives (or_refused {P = Once} (related x.kind x.literal e.kind e.literal) TypeMismatch p h
-      (related_once x.kind x.literal e.kind e.literal)) (λ q one.
-      all_right (λ ts. omega (arith, one, with_check q.right e.value)))
+  tested_kept b o p l q h i j x e = and_gives (or_refused {P = RelatingOnce} (relating x.kind x.literal e.kind e.literal) TypeMismatch
+      (beside p l (sort_of x.kind) q (sort_of e.kind)) (beside_stands Stands p l q (sort_of x.kind) (sort_of e.kind) h i j)
+      (relating_once x.kind x.literal e.kind e.literal)) (λ m one. all_right (λ ts. by m one ts))
+    where
+      by : (m : Relating) → RelatingOnce m → (ts : t.Tests) → tn.tests_nodes (test_by (turned b o) x e m ts) ≤ 3 + tn.expr_nodes e.value + tn.tests_nodes ts
+      by (Words m) one ts = omega (arith, one, with_check m.right e.value)
+      by (Longs m) one ts = omega (arith, fitted_size m.right e.value, a_conversion (selecting m.base (sort_of x.kind) x.literal))
 
-  pub inside_kept : (b : Bool) (p : Place) → Stands p → (x : Typed) (i : Ends)
+  pub inside_kept : (b : Bool) (p l : Place) → Stands p → Stands l → (x : Typed) (i : Ends) → Stands i.low_place → Stands i.high_place
       → Gives Stands (λ (put : t.Tests → t.Tests). (ts : t.Tests)
-      → tn.tests_nodes (put ts) ≤ 2 + tn.expr_nodes i.low.value + tn.expr_nodes i.high.value + tn.tests_nodes ts) (tested_inside b p x i)
-  unfolding tested_inside tn.tests_nodes tn.interval_nodes
-  inside_kept b p h x i = and_gives (only_if (lies_in x i) TypeMismatch p h) (λ u w. all_right (λ ts. omega arith))
+      → tn.tests_nodes (put ts) ≤ 5 + tn.expr_nodes i.low.value + tn.expr_nodes i.high.value + tn.tests_nodes ts) (tested_inside b p l x i)
+  unfolding tested_inside tn.tests_nodes tn.interval_nodes by_itself_of
+  inside_kept b p l h k x i m n = and_gives (bounds_kept Stands p l h k x i m n) (λ u w. all_right (λ ts. by (is_long_interval x i) ts))
+    where
+      by : (long : Bool) (ts : t.Tests) → tn.tests_nodes (test_inside_by long b x i ts) ≤ 5 + tn.expr_nodes i.low.value + tn.expr_nodes i.high.value + tn.tests_nodes ts
+      by false ts = omega arith
+      by true ts = omega (
+        arith,
+        a_conversion (selecting_itself (sort_of x.kind)),
+        fitted_size (by_itself (sort_of i.low.kind) i.low.literal) i.low.value,
+        fitted_size (by_itself (sort_of i.high.kind) i.high.literal) i.high.value,
+      )
+
+  pub selected_size : (x : Typed) (cs : t.Cases) → tn.stmt_nodes (selected x cs) ≡ 1 + tn.expr_nodes x.value + tn.cases_nodes cs
+  unfolding selected tn.stmt_nodes
+  selected_size x cs = by (is_long x.kind)
+    where
+      by : (l : Bool) → tn.stmt_nodes (selected_by l x.value cs) ≡ 1 + tn.expr_nodes x.value + tn.cases_nodes cs
+      by true = refl
+      by false = refl
 
   -- loops
-  pub rounds_kept : (p : Place) → Stands p → (i : Ends)
+  pub rounds_kept : (p : Place) → Stands p → (i : Ends) → Stands i.low_place → Stands i.high_place
       → Gives Stands (λ (r : Rounds). tn.interval_nodes r.interval ≤ 2 + tn.expr_nodes i.low.value + tn.expr_nodes i.high.value) (rounds p i)
-  unfolding rounds tn.interval_nodes
-  rounds_kept p h i = and_gives (or_refused {P = Once} (related i.low.kind i.low.literal i.high.kind i.high.literal) TypeMismatch p h
+  unfolding rounds not_long tn.interval_nodes
+  rounds_kept p h i l k =
+      and_gives (only_if (not (is_long i.low.kind)) TypeMismatch i.low_place l) (λ u w.
+      and_gives (only_if (not (is_long i.high.kind)) TypeMismatch i.high_place k) (λ u w.
+      and_gives (or_refused {P = Once} (related i.low.kind i.low.literal i.high.kind i.high.literal) TypeMismatch p h
       (related_once i.low.kind i.low.literal i.high.kind i.high.literal)) (λ q one.
-      all_right (omega (arith, one, with_check q.left i.low.value, with_check q.right i.high.value)))
+      all_right (omega (arith, one, with_check q.left i.low.value, with_check q.right i.high.value)))))
 
   pub counter_kept : (p : Place) → Stands p → (x : Meaning) → Gives Stands Anything (counter p x)
-  counter_kept p h (Variable y k) = and_gives (only_if (is_some (base_of k)) TypeMismatch p h) (λ u w. all_right tt)
+  counter_kept p h (Variable y k) = and_gives (only_if (is_ordinal k) TypeMismatch p h) (λ u w. all_right tt)
   counter_kept p h _ = refused h
 
   pub given_kept : (p : Place) → Stands p → (c : Counter) (r : Rounds) → Gives Stands (λ (g : Given). tn.given_nodes g ≤ 2) (given p c r)
@@ -261,7 +287,13 @@ module _ (Stands : Place → Type 0) where
       (extracted p f x)
   unfolding extracted tn.targets_nodes
   extracted_kept p h f x = and_gives (only_if (conforms f.kind x.kind) TypeMismatch p h)
-      (λ u w. all_right (λ ts. omega (arith, a_check (range_for f.kind x.kind))))
+      (λ u w. all_right (λ ts. by (conversion_for f.kind x.kind) (range_for f.kind x.kind) ts))
+    where
+      by : (c : t.Conversion) (r : t.Range) (ts : t.Targets) → tn.targets_nodes (target_by c r f x ts) ≤ 2 + tn.suffixes_nodes x.suffixes + tn.targets_nodes ts
+      by t.Kept r ts = omega (arith, a_check r)
+      by (t.Widened from to) r ts = omega (arith, a_conversion (t.Widened from to))
+      by (t.Narrowed from to q) r ts = omega (arith, a_conversion (t.Narrowed from to q))
+      by t.InCommon r ts = omega (arith, a_conversion t.InCommon)
 
   -- variables and constants
   variable_kept : (a : Around) (b : Bool) (k : PlainType) → Keeps Stands Anything (if b then global k else local a k)

@@ -1,5 +1,5 @@
 -- Rules of values: how many nodes they give, and where their faults stand.
-use Rattle.std.specs.Prelude.{ℕ, ◌≡◌, ◌+◌, ◌*◌, ◌≤◌, Bool, true, false, ◌&&◌, Option, Some, None, List, [], ◌∷◌, length, if◌then◌else◌, nat_eq, nat_le, min}
+use Rattle.std.specs.Prelude.{ℕ, ◌≡◌, ◌+◌, ◌*◌, ◌≤◌, Bool, true, false, not, ◌&&◌, Option, Some, None, List, [], ◌∷◌, length, if◌then◌else◌, nat_eq, nat_le, min}
 use Rattle.std.proofs.Common.{refl, arith}
 use Rattle.mesa_base.specs.declared.limits.TheConstants.{GREATEST_NUMBER}
 use Rattle.mesa_base.specs.declared.place.Place.{Place}
@@ -14,17 +14,17 @@ use Rattle.syntax_trees.specs.declared.syntax.Sign.TheVariants.{Positive, Negati
 use Rattle.check_rules.specs.Typed as t
 use Rattle.check_rules.specs.Typed.{Base, Signed, Unsigned, Range, Every, From, Relation, Home}
 use Rattle.interface_records.specs.PlainTypes as v
-use Rattle.interface_records.specs.PlainTypes.{PlainType, PlainField, words_of_fields, elements_of, base_of, bounds, conforms, fields, is_text, array_parts, words_of, one_base, same}
+use Rattle.interface_records.specs.PlainTypes.{PlainType, PlainField, words_of_fields, elements_of, base_of, bounds, conforms, fields, is_text, array_parts, words_of, is_long, one_ordinal_base, same}
 use Rattle.check_rules.specs.Meanings as m
 use Rattle.check_rules.specs.Meanings.{Meaning}
 use Rattle.check_rules.specs.Steps.{Check, Checked, ◌>>=◌, pure, lift}
 use Rattle.check_rules.specs.Around.{Around}
-use Rattle.check_rules.specs.Parts.{Found, field_named, and_suffix, and_part, complete, places_of}
-use Rattle.check_rules.specs.Operators.{Sort, Number, Letter, Truth, Other, Meeting, Applied, sort_of, meet, arithmetic, on_letter, operation, of_one_base, related_by, related}
-use Rattle.check_rules.specs.Ranges.{Typed, typed, Aim, Free, Into, Several, Arguments, checked, range_for, fitted_if, finish}
-use Rattle.check_rules.specs.Values.{number, string, number_in, is_truth, not_of, signed, signed_by, compared, within, negated_by, Done, step, truth_operand, no_phrase, in_order, by_shape, made, in_fields, by_keys, Raises, is_kind, raises_by, raised}
-use Rattle.check_rules.specs.Reached.{Reached, Results, Value, Variable, Named, reached, settled, results, value, is_length, length_of, field_of_fields, field_in, field_of_variable, part_of, field_of_value, field, Bracketed, InArray, InText, text_at, indexed_by, indexed, index_range, first_word, at_index, Shape, OfFields, OfElements, NoShape, Target, stored, performed}
-use Rattle.check_rules.specs.Statements.{Ends, between, bases, lies_in}
+use Rattle.check_rules.specs.Parts.{Found, field_named, and_operation, and_suffix, and_part, complete, places_of}
+use Rattle.check_rules.specs.Operators.{Sort, Number, LongNumber, Letter, Truth, Other, Meeting, LongMeeting, Fit, AsLiteral, By, Applied, LongApplied, Application, OfWords, OfLongs, Relating, Longs, Words, sort_of, meet, meet_long, arithmetic, long_arithmetic, on_letter, word_operation, by_length, operation, of_one_base, related_by, related, relating_by, relating, lengthened, made_by, fitted, by_itself, beside, turned}
+use Rattle.check_rules.specs.Ranges.{Typed, typed, Aim, Free, Into, Several, Arguments, checked, range_for, conversion_for, converted, given_as, fitted_if, finish}
+use Rattle.check_rules.specs.Values.{literal_of, number, string, number_in, is_truth, not_of, signed, signed_by, related_value, compared, within_by, within, negated_by, Sum, Begun, InWords, InLongs, closed, then_word, then_long, Done, done_by, step, bound_aim, bound_of, truth_operand, no_phrase, in_order, by_shape, made, in_fields, by_keys, Raises, is_kind, raises_by, raised}
+use Rattle.check_rules.specs.Reached.{Reached, Results, Value, Variable, Named, constant_value, reached, settled, results, value, is_length, length_of, field_of_fields, field_in, field_of_variable, part_of, field_of_value, field, Bracketed, InArray, InText, text_at, indexed_by, indexed, index_range, first_word, at_index, Shape, OfFields, OfElements, NoShape, Target, stored, performed}
+use Rattle.check_rules.specs.Statements.{Ends, not_long, are_related, meets_bounds, is_long_interval, by_itself_of}
 use Rattle.check_rules.specs.declared.fault.Cause.TheVariants.{UnknownName, TypeMismatch, WrongCount, GlobalsTooLarge}
 use Rattle.check_rules.specs.Places as places
 use Rattle.check_rules.proofs.Keeping.{OfSome, by_if, or_refused, Gives, Keeps, Anything, Have, bind, give, refusing, lifting, and_gives, all_right, refused, only_if, ensured, after_spending}
@@ -102,12 +102,26 @@ one_base_once (Some a) None = tt
 
 related_by_once : (x : Sort) (la : Bool) (y : Sort) (lb : Bool) (other : Option Meeting) → OneCheck other → OneCheck (related_by x la y lb other)
 related_by_once (Number a) la (Number b) lb other h = meet_once a la b lb
+related_by_once (Number a) la (LongNumber b) lb other h = tt
 related_by_once (Number a) la Letter lb other h = h
 related_by_once (Number a) la Truth lb other h = h
 related_by_once (Number a) la Other lb other h = h
-related_by_once Letter la y lb other h = h
-related_by_once Truth la y lb other h = h
-related_by_once Other la y lb other h = h
+related_by_once (LongNumber a) la y lb other h = tt
+related_by_once Letter la (LongNumber b) lb other h = tt
+related_by_once Letter la (Number b) lb other h = h
+related_by_once Letter la Letter lb other h = h
+related_by_once Letter la Truth lb other h = h
+related_by_once Letter la Other lb other h = h
+related_by_once Truth la (LongNumber b) lb other h = tt
+related_by_once Truth la (Number b) lb other h = h
+related_by_once Truth la Letter lb other h = h
+related_by_once Truth la Truth lb other h = h
+related_by_once Truth la Other lb other h = h
+related_by_once Other la (LongNumber b) lb other h = tt
+related_by_once Other la (Number b) lb other h = h
+related_by_once Other la Letter lb other h = h
+related_by_once Other la Truth lb other h = h
+related_by_once Other la Other lb other h = h
 
 pub related_once : (a : PlainType) (la : Bool) (b : PlainType) (lb : Bool) → OneCheck (related a la b lb)
 unfolding related
@@ -127,6 +141,8 @@ unfolding tn.check_nodes
 letter_once Add (Number b) = omega arith
 letter_once Subtract (Number b) = omega arith
 letter_once Subtract Letter = omega arith
+letter_once Add (LongNumber b) = tt
+letter_once Subtract (LongNumber b) = tt
 letter_once Add Letter = tt
 letter_once Add Truth = tt
 letter_once Add Other = tt
@@ -138,15 +154,103 @@ letter_once Modulo b = tt
 letter_once Or b = tt
 letter_once And b = tt
 
-operation_once : (o : Operator) (a : Sort) (la : Bool) (b : Sort) (lb : Bool) → OneCheckApplied (operation o a la b lb)
+words_once : (o : Operator) (a : Sort) (la : Bool) (b : Sort) (lb : Bool) → OneCheckApplied (word_operation o a la b lb)
+unfolding word_operation
+words_once o (Number a) la (Number b) lb = arithmetic_once o (meet a la b lb) (meet_once a la b lb)
+words_once o (Number a) la (LongNumber b) lb = tt
+words_once o (Number a) la Letter lb = tt
+words_once o (Number a) la Truth lb = tt
+words_once o (Number a) la Other lb = tt
+words_once o (LongNumber a) la b lb = tt
+words_once o Letter la b lb = letter_once o b
+words_once o Truth la b lb = tt
+words_once o Other la b lb = tt
+
+abbrev pub ApplicationOnce : Application → Type 0
+ApplicationOnce (OfWords x) = AppliedOnce x
+ApplicationOnce (OfLongs x) = Unit {0}
+
+lengths_once : (p : Option LongApplied) (q : Option Applied) → OneCheckApplied q → OfSome ApplicationOnce (by_length p q)
+lengths_once (Some x) q h = tt
+lengths_once None (Some x) h = h
+lengths_once None None h = tt
+
+operation_once : (o : Operator) (a : Sort) (la : Bool) (b : Sort) (lb : Bool) → OfSome ApplicationOnce (operation o a la b lb)
 unfolding operation
-operation_once o (Number a) la (Number b) lb = arithmetic_once o (meet a la b lb) (meet_once a la b lb)
-operation_once o Letter la b lb = letter_once o b
-operation_once o (Number a) la Letter lb = tt
-operation_once o (Number a) la Truth lb = tt
-operation_once o (Number a) la Other lb = tt
-operation_once o Truth la b lb = tt
-operation_once o Other la b lb = tt
+operation_once o a la b lb = lengths_once (long_arithmetic o (meet_long a la b lb)) (word_operation o a la b lb) (words_once o a la b lb)
+
+abbrev pub RelatingOnce : Relating → Type 0
+RelatingOnce (Words m) = Once m
+RelatingOnce (Longs m) = Unit {0}
+
+pub relating_once : (a : PlainType) (la : Bool) (b : PlainType) (lb : Bool) → OfSome RelatingOnce (relating a la b lb)
+unfolding relating
+relating_once a la b lb = by (meet_long (sort_of a) la (sort_of b) lb) (related a la b lb) (related_once a la b lb)
+  where
+    by : (p : Option LongMeeting) (q : Option Meeting) → OneCheck q → OfSome RelatingOnce (relating_by p q)
+    by (Some m) q h = tt
+    by None (Some m) h = h
+    by None None h = tt
+
+-- an operand that is made LONG has one node more
+lengthened_size : (e : t.Expr) → tn.expr_nodes (lengthened e) ≡ tn.expr_nodes e
+unfolding tn.expr_nodes
+lengthened_size (t.Number n) = refl
+lengthened_size e = refl
+
+made_size : (c : t.Conversion) (e : t.Expr) → tn.expr_nodes (made_by c e) ≤ 1 + tn.expr_nodes e
+unfolding tn.expr_nodes
+made_size t.Kept e = omega arith
+made_size (t.Widened from to) e = omega arith
+made_size (t.Narrowed from to r) e = omega arith
+made_size t.InCommon e = omega arith
+
+pub fitted_size : (f : Fit) (e : t.Expr) → tn.expr_nodes (fitted f e) ≤ 1 + tn.expr_nodes e
+unfolding fitted
+fitted_size AsLiteral e = omega (arith, lengthened_size e)
+fitted_size (By c) e = made_size c e
+
+pub given_size : (j k : PlainType) (e : t.Expr) → tn.expr_nodes (given_as j k e) ≤ 1 + tn.expr_nodes e
+unfolding given_as tn.expr_nodes
+given_size j k e = by (conversion_for j k) (range_for j k)
+  where
+    by : (c : t.Conversion) (r : Range) → tn.expr_nodes (converted c r e) ≤ 1 + tn.expr_nodes e
+    by t.Kept r = omega (arith, with_check r e, a_check r)
+    by (t.Widened from to) r = omega arith
+    by (t.Narrowed from to q) r = omega arith
+    by t.InCommon r = omega arith
+
+pub a_conversion : (c : t.Conversion) → tn.conversion_nodes c ≤ 1
+unfolding tn.conversion_nodes
+a_conversion t.Kept = omega arith
+a_conversion (t.Widened from to) = omega arith
+a_conversion (t.Narrowed from to r) = omega arith
+a_conversion t.InCommon = omega arith
+
+-- a run with one operator more
+run_more : (os : t.Operations) (r : Range) (o : t.Operator) (e : t.Expr)
+    → tn.operations_nodes (and_operation os (t.Then r o e)) ≡ tn.operations_nodes os + (1 + tn.check_nodes r + tn.expr_nodes e)
+unfolding and_operation tn.operations_nodes
+run_more t.NoOperation r o e = omega arith
+run_more (t.Then q p d os) r o e = omega (arith, run_more os r o e)
+
+word_step_size : (done : Sum) (r : Range) (o : t.Operator) (e : t.Expr)
+    → tn.expr_nodes (closed (then_word done (t.Then r o e))) ≤ tn.expr_nodes (closed done) + (1 + tn.check_nodes r + tn.expr_nodes e)
+unfolding tn.expr_nodes tn.operations_nodes
+word_step_size (Begun d) r o e = omega arith
+word_step_size (InWords d os) r o e = omega (arith, run_more os r o e)
+word_step_size (InLongs d os) r o e = omega arith
+
+long_step_size : (done : Sum) (f : Fit) (o : t.Operator) (e : t.Expr)
+    → tn.expr_nodes (closed (then_long done f (t.Then Every o e))) ≤ tn.expr_nodes (closed done) + (2 + tn.expr_nodes e)
+unfolding tn.expr_nodes tn.operations_nodes tn.check_nodes
+long_step_size (Begun d) f o e = omega (arith, fitted_size f d)
+long_step_size (InWords d os) f o e = omega (arith, fitted_size f (t.Operate d os))
+long_step_size (InLongs d os) AsLiteral o e = omega (arith, fitted_size AsLiteral (t.OperateLong d os))
+long_step_size (InLongs d os) (By t.Kept) o e = omega (arith, run_more os Every o e)
+long_step_size (InLongs d os) (By (t.Widened from to)) o e = omega (arith, fitted_size (By (t.Widened from to)) (t.OperateLong d os))
+long_step_size (InLongs d os) (By (t.Narrowed from to r)) o e = omega (arith, fitted_size (By (t.Narrowed from to r)) (t.OperateLong d os))
+long_step_size (InLongs d os) (By t.InCommon) o e = omega (arith, fitted_size (By t.InCommon) (t.OperateLong d os))
 
 suffix_more : (ss : t.Suffixes) (n o : ℕ) → tn.suffixes_nodes (and_suffix ss (t.Field n o)) ≡ tn.suffixes_nodes ss
 unfolding and_suffix tn.suffixes_nodes
@@ -167,23 +271,27 @@ unfolding tn.expr_nodes
 part_more (t.FieldOf e ps) p = omega arith
 part_more _ p = omega arith
 
-abbrev number_if : Bool → ℕ → Typed
-number_if true n = record { value = t.Number n; kind = v.Integer; literal = true; gave = None }
-number_if false n = typed v.Cardinal (t.Number (min n GREATEST_NUMBER))
-
-number_if_size : (b : Bool) (n : ℕ) → tn.expr_nodes (if b then number_if true n else number_if false n).value + 1 ≤ 2 * 1
+number_if_size : (a b c : Bool) (n : ℕ) → tn.expr_nodes (if a then literal_of v.Integer (t.Number n) else (if b then literal_of v.Cardinal (t.Number n)
+    else (if c then literal_of v.LongInteger (t.LongNumber n) else typed v.LongCardinal (t.LongNumber (min n GREATEST_NUMBER))))).value + 1 ≤ 2 * 1
 unfolding tn.expr_nodes
-number_if_size true n = omega arith
-number_if_size false n = omega arith
+number_if_size true b c n = omega arith
+number_if_size false true c n = omega arith
+number_if_size false false true n = omega arith
+number_if_size false false false n = omega arith
 
 pub number_size : (n : ℕ) → tn.expr_nodes (number n).value + 1 ≤ 2 * 1
 unfolding number
-number_size n = number_if_size (nat_le n 32767) n
+number_size n = number_if_size (nat_le n 32767) (nat_le n 65535) (nat_le n 2147483647) n
+
+constant_size : (l : Bool) (n : ℕ) → tn.expr_nodes (constant_value l n) ≡ 1
+unfolding tn.expr_nodes
+constant_size true n = refl
+constant_size false n = refl
 
 pub reached_size : (x : Meaning) → size (reached x) ≡ 1
 unfolding reached tn.expr_nodes tn.suffixes_nodes
 reached_size (m.Variable h k) = refl
-reached_size (m.Constant k n) = refl
+reached_size (m.Constant k n) = constant_size (is_long k) n
 reached_size (m.TextConstant n) = refl
 reached_size _ = refl
 
@@ -203,7 +311,7 @@ anything (Some a) = tt
 module _ (Stands : Place → Type 0) where
   fitted_kept : (b : Bool) (k : PlainType) (p : Place) → Stands p → (n : ℕ) (x : Typed) → tn.expr_nodes x.value + 1 ≤ 2 * n
       → Gives Stands (Fits (Into k p) n) (fitted_if b k p x)
-  fitted_kept true k p a n x h = all_right (omega (arith, with_check (range_for x.kind k) x.value, a_check (range_for x.kind k)))
+  fitted_kept true k p a n x h = all_right (omega (arith, given_size x.kind k x.value))
   fitted_kept false k p a n x h = refused a
 
   pub finished : (aim : Aim) → AimStands Stands aim → (n : ℕ) (x : Typed) → tn.expr_nodes x.value + 1 ≤ 2 * n → Keeps Stands (Fits aim n) (lift (finish aim x))
@@ -220,6 +328,8 @@ module _ (Stands : Place → Type 0) where
   unfolding tn.expr_nodes
   signed_by_kept Positive p h e (Number b) = all_right (omega arith)
   signed_by_kept Negative p h e (Number b) = all_right (omega arith)
+  signed_by_kept Positive p h e (LongNumber b) = all_right (omega arith)
+  signed_by_kept Negative p h e (LongNumber b) = all_right (omega arith)
   signed_by_kept Positive p h e Letter = refused h
   signed_by_kept Positive p h e Truth = refused h
   signed_by_kept Positive p h e Other = refused h
@@ -231,36 +341,88 @@ module _ (Stands : Place → Type 0) where
   unfolding signed
   signed_kept sign p h x = signed_by_kept sign p h x.value (sort_of x.kind)
 
-  pub compared_kept : (b : Bool) (o : Relation) (p : Place) → Stands p → (x y : Typed)
-      → Gives Stands (UpTo (2 + tn.expr_nodes x.value + tn.expr_nodes y.value)) (compared b o p x y)
+  pub beside_stands : (p l q : Place) (a b : Sort) → Stands p → Stands l → Stands q → Stands (beside p l a q b)
+  unfolding beside
+  beside_stands p l q (LongNumber a) Letter h i j = i
+  beside_stands p l q (LongNumber a) (Number b) h i j = h
+  beside_stands p l q (LongNumber a) (LongNumber b) h i j = h
+  beside_stands p l q (LongNumber a) Truth h i j = h
+  beside_stands p l q (LongNumber a) Other h i j = h
+  beside_stands p l q Letter (LongNumber b) h i j = j
+  beside_stands p l q Letter (Number b) h i j = h
+  beside_stands p l q Letter Letter h i j = h
+  beside_stands p l q Letter Truth h i j = h
+  beside_stands p l q Letter Other h i j = h
+  beside_stands p l q (Number a) b h i j = h
+  beside_stands p l q Truth b h i j = h
+  beside_stands p l q Other b h i j = h
+
+  pub compared_kept : (b : Bool) (o : Relation) (p l q : Place) → Stands p → Stands l → Stands q → (x y : Typed)
+      → Gives Stands (UpTo (3 + tn.expr_nodes x.value + tn.expr_nodes y.value)) (compared b o p l x q y)
   unfolding compared tn.expr_nodes
-  compared_kept b o p h x y = and_gives (or_refused {P = Once} (related x.kind x.literal y.kind y.literal) TypeMismatch p h
-      (related_once x.kind x.literal y.kind y.literal)) (λ q one.
-      all_right (omega (arith, one, with_check q.left x.value, with_check q.right y.value)))
+  compared_kept b o p l q h i j x y = and_gives (or_refused {P = RelatingOnce} (relating x.kind x.literal y.kind y.literal) TypeMismatch
+      (beside p l (sort_of x.kind) q (sort_of y.kind)) (beside_stands p l q (sort_of x.kind) (sort_of y.kind) h i j)
+      (relating_once x.kind x.literal y.kind y.literal)) (λ m one. all_right (related_size (turned b o) x.value y.value m one))
+    where
+      related_size : (o : Relation) (d e : t.Expr) (m : Relating) → RelatingOnce m
+          → tn.expr_nodes (related_value o d e m).value ≤ 3 + tn.expr_nodes d + tn.expr_nodes e
+      related_size o d e (Words m) one = omega (arith, one, with_check m.left d, with_check m.right e)
+      related_size o d e (Longs m) one = omega (arith, fitted_size m.left d, fitted_size m.right e)
 
   negated_size : (b : Bool) (e : t.Expr) → tn.expr_nodes (negated_by b e) ≤ 1 + tn.expr_nodes e
   unfolding tn.expr_nodes
   negated_size true e = omega arith
   negated_size false e = omega arith
 
-  within_size : (b : t.Bases) (e : t.Expr) (i : Ends)
-      → tn.expr_nodes (t.Within b e (between i)) ≡ 2 + tn.expr_nodes e + tn.expr_nodes i.low.value + tn.expr_nodes i.high.value
-  unfolding tn.expr_nodes tn.interval_nodes
-  within_size b e i = omega arith
+  within_size : (l : Bool) (x : Typed) (i : Ends) → tn.expr_nodes (within_by l x i) ≤ 5 + tn.expr_nodes x.value + tn.expr_nodes i.low.value + tn.expr_nodes i.high.value
+  unfolding tn.expr_nodes tn.interval_nodes by_itself_of
+  within_size false x i = omega arith
+  within_size true x i = omega (
+    arith,
+    fitted_size (by_itself (sort_of x.kind) x.literal) x.value,
+    fitted_size (by_itself (sort_of i.low.kind) i.low.literal) i.low.value,
+    fitted_size (by_itself (sort_of i.high.kind) i.high.literal) i.high.value,
+  )
 
-  pub within_kept : (b : Bool) (p : Place) → Stands p → (x : Typed) (i : Ends)
-      → Gives Stands (UpTo (3 + tn.expr_nodes x.value + tn.expr_nodes i.low.value + tn.expr_nodes i.high.value)) (within b p x i)
+  -- two bounds beside a number
+  pub bounds_kept : (p l : Place) → Stands p → Stands l → (x : Typed) (i : Ends) → Stands i.low_place → Stands i.high_place → Gives Stands Anything (meets_bounds p l x i)
+  unfolding meets_bounds
+  bounds_kept p l h k x i m n =
+      and_gives (only_if (are_related x i.low) TypeMismatch (beside p l (sort_of x.kind) i.low_place (sort_of i.low.kind))
+      (beside_stands p l i.low_place (sort_of x.kind) (sort_of i.low.kind) h k m)) (λ u w.
+      only_if (are_related x i.high) TypeMismatch (beside p l (sort_of x.kind) i.high_place (sort_of i.high.kind))
+      (beside_stands p l i.high_place (sort_of x.kind) (sort_of i.high.kind) h k n))
+
+  pub within_kept : (b : Bool) (p l : Place) → Stands p → Stands l → (x : Typed) (i : Ends) → Stands i.low_place → Stands i.high_place
+      → Gives Stands (UpTo (6 + tn.expr_nodes x.value + tn.expr_nodes i.low.value + tn.expr_nodes i.high.value)) (within b p l x i)
   unfolding within
-  within_kept b p h x i = and_gives (only_if (lies_in x i) TypeMismatch p h) (λ u w.
-      all_right (omega (arith, negated_size b (t.Within (bases x.kind i) x.value (between i)), within_size (bases x.kind i) x.value i)))
+  within_kept b p l h k x i m n = and_gives (bounds_kept p l h k x i m n) (λ u w.
+      all_right (omega (arith, negated_size b (within_by (is_long_interval x i) x i), within_size (is_long_interval x i) x i)))
 
-  pub step_kept : (o : Operator) (p : Place) → Stands p → (k : PlainType) (literal : Bool) (r : Typed)
-      → Gives Stands (λ (d : Done). tn.check_nodes d.left + tn.expr_nodes d.right ≤ 1 + tn.expr_nodes r.value) (step o p k literal r)
+  pub step_kept : (o : Operator) (p l q : Place) → Stands p → Stands l → Stands q → (done : Sum) (k : PlainType) (literal : Bool) (r : Typed)
+      → Gives Stands (λ (d : Done). tn.expr_nodes (closed d.done) ≤ tn.expr_nodes (closed done) + (3 + tn.expr_nodes r.value)) (step o p l done k literal q r)
   unfolding step
-  step_kept o p h k literal r = and_gives
-      (or_refused {P = AppliedOnce} (operation o (sort_of k) literal (sort_of r.kind) r.literal) TypeMismatch p h
-      (operation_once o (sort_of k) literal (sort_of r.kind) r.literal)) (λ q one.
-      all_right (omega (arith, one, with_check q.right r.value)))
+  step_kept o p l q h i j done k literal r = and_gives
+      (or_refused {P = ApplicationOnce} (operation o (sort_of k) literal (sort_of r.kind) r.literal) TypeMismatch (beside p l (sort_of k) q (sort_of r.kind))
+      (beside_stands p l q (sort_of k) (sort_of r.kind) h i j)
+      (operation_once o (sort_of k) literal (sort_of r.kind) r.literal)) (λ x one. all_right (by x one))
+    where
+      by : (x : Application) → ApplicationOnce x → tn.expr_nodes (closed (done_by done r.value x).done) ≤ tn.expr_nodes (closed done) + (3 + tn.expr_nodes r.value)
+      by (OfWords x) one = omega (arith, one, word_step_size done x.left x.operator (checked x.right r.value), with_check x.right r.value)
+      by (OfLongs x) one = omega (arith, long_step_size done x.left x.operator (fitted x.right r.value), fitted_size x.right r.value)
+
+  -- a bound of a type
+  pub bound_of_kept : (base : Option PlainType) (p : Place) → Stands p → (x : Typed) → Gives Stands Anything (bound_of base p x)
+  unfolding bound_of not_long finish
+  bound_of_kept base p h x = and_gives (only_if (not (is_long x.kind)) TypeMismatch p h) (λ u w. by base)
+    where
+      fit : (b : Bool) (k : PlainType) → Gives Stands Anything (fitted_if b k p x)
+      fit true k = all_right tt
+      fit false k = refused h
+
+      by : (base : Option PlainType) → Gives Stands Anything (finish (bound_aim base p) x)
+      by None = all_right tt
+      by (Some k) = fit (conforms x.kind k) k
 
   pub operand_kept : (fits : Bool) (p : Place) → Stands p → (r : Typed) → Gives Stands (λ (e : t.Expr). e ≡ r.value) (truth_operand fits p r)
   operand_kept fits p h r = by_if (fits && is_truth r.kind) (all_right refl) (refused h)
@@ -342,14 +504,14 @@ module _ (Stands : Place → Type 0) where
   pub at_index_kept : (b : Bracketed) (start : Place) → Stands start → (i : Typed)
       → Gives Stands (λ r. size r ≤ 1 + size_of_bracketed b + tn.expr_nodes i.value) (at_index b start i)
   unfolding at_index tn.expr_nodes
-  at_index_kept (InArray h ss index element) start l i = and_gives (only_if (one_base (base_of i.kind) (base_of index)) TypeMismatch start l) (λ u w.
+  at_index_kept (InArray h ss index element) start l i = and_gives (only_if (one_ordinal_base (base_of i.kind) (base_of index)) TypeMismatch start l) (λ u w.
       all_right (omega (
         arith,
         index_more ss (index_range i.kind index) (first_word (bounds index)) (elements_of index) (words_of element) i.value,
         a_check
             (index_range i.kind index),
       )))
-  at_index_kept (InText n e) start l i = and_gives (only_if (one_base (base_of i.kind) (Some v.Integer)) TypeMismatch start l) (λ u w. all_right (omega arith))
+  at_index_kept (InText n e) start l i = and_gives (only_if (one_ordinal_base (base_of i.kind) (Some v.Integer)) TypeMismatch start l) (λ u w. all_right (omega arith))
 
   -- constructors
   pub shape_kept : {A : Type 0} {P : A → Type 0} (sh : Shape) {x : List PlainField → Check A} {y : ℕ → PlainType → Check A} {z : Check A}

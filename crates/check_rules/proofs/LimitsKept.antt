@@ -1,13 +1,14 @@
 -- The types of an interface keep their limits where those of the interfaces given do.
-use Rattle.std.specs.Prelude.{ℕ, ◌≡◌, ◌≤◌, Some, List, [], ◌∷◌, length, map}
+use Rattle.std.specs.Prelude.{ℕ, ◌≡◌, ◌≤◌, true, Some, List, [], ◌∷◌, length, map}
 use Rattle.std.proofs.Common.{arith}
 use Rattle.mesa_base.specs.declared.limits.TheConstants.{TYPE_WORDS, TYPE_DEPTH, ENUMERATION_ELEMENTS}
 use Rattle.mesa_base.specs.declared.identifier.Identifier.{Identifier}
 use Rattle.mesa_types.specs.declared.types.Origin.{Origin}
 use Rattle.mesa_types.specs.Operators.{Tried, Fine, Faulty, tried}
+use Rattle.mesa_types.specs.Longs.{tried_long, widened}
 use Rattle.interface_records.specs.declared.interface.Interface.{Interface}
 use Rattle.interface_records.specs.PlainTypes as v
-use Rattle.interface_records.specs.PlainTypes.{PlainType, PlainField, PlainItem, PlainConstant, PlainName, PlainInterface, base_of, depth_of, fields_of_parts, parts_of, plain_interface, words_of}
+use Rattle.interface_records.specs.PlainTypes.{PlainType, PlainField, PlainItem, PlainConstant, PlainName, PlainInterface, base_of, is_ordinal, depth_of, fields_of_parts, parts_of, plain_interface, words_of}
 use Rattle.check_rules.specs.Parts.{names_of}
 use Rattle.check_rules.specs.Limits.{KeepsLimits, PartsKeepLimits, FieldsKeepLimits, ItemsKeepLimits, ConstantsKeepLimits, NamesKeepLimits, InterfaceKeepsLimits, InterfacesKeepLimits}
 use Rattle.check_rules.specs.CheckedModule.{checked_definitions}
@@ -19,17 +20,18 @@ use Rattle.check_rules.proofs.FineDefinitions.{ItemsFine, ConstantsFine, TypesFi
 use Rattle.check_rules.proofs.FineInterfaces.{InterfacesFine, InterfaceMade, checked_fine}
 
 -- ---- the law
-plain_limits : KeepsLimits v.Integer × KeepsLimits v.Cardinal × KeepsLimits v.Boolean × KeepsLimits v.Character × KeepsLimits v.String
+plain_limits : KeepsLimits v.Integer × KeepsLimits v.Cardinal × KeepsLimits v.Boolean × KeepsLimits v.Character × KeepsLimits v.String × KeepsLimits v.LongInteger × KeepsLimits
+    v.LongCardinal
 unfolding KeepsLimits
-plain_limits = (tt, tt, tt, tt, tt)
+plain_limits = (tt, tt, tt, tt, tt, tt, tt)
 
 enumeration_limits : (o : Origin) (xs : List Identifier) → length xs ≤ ENUMERATION_ELEMENTS → KeepsLimits (v.Enumeration o (names_of xs))
 unfolding KeepsLimits
 enumeration_limits o xs h = omega (arith, h, length_of_map (λ (x : Identifier). x.name) xs)
 
-subrange_limits : (k : PlainType) (x y : ℕ) → KeepsLimits k → base_of k ≡ Some k → KeepsLimits (v.Subrange k x y)
+subrange_limits : (k : PlainType) (x y : ℕ) → KeepsLimits k → base_of k ≡ Some k → is_ordinal k ≡ true → KeepsLimits (v.Subrange k x y)
 unfolding KeepsLimits
-subrange_limits k x y h e = (h, e)
+subrange_limits k x y h e o = (h, e, o)
 
 array_limits : (i e : PlainType) → KeepsLimits i → KeepsLimits e → words_of (v.Array i e) ≤ TYPE_WORDS → depth_of (v.Array i e) ≤ TYPE_DEPTH
     → KeepsLimits (v.Array i e)
@@ -49,6 +51,10 @@ record_limits o fs h w d = (parts_of_fields fs h, w, d)
 base_limits : (k : PlainType) (x y : ℕ) → KeepsLimits (v.Subrange k x y) → KeepsLimits k
 unfolding KeepsLimits
 base_limits k x y h = h.0
+
+ordinal_base : (k : PlainType) (x y : ℕ) → KeepsLimits (v.Subrange k x y) → is_ordinal k ≡ true
+unfolding KeepsLimits
+ordinal_base k x y h = h.2
 
 index_limits : (i e : PlainType) → KeepsLimits (v.Array i e) → KeepsLimits i
 unfolding KeepsLimits
@@ -75,32 +81,41 @@ abbrev limits : TypeLaw
 limits = record {
   Kept = KeepsLimits;
   Word = λ n. Unit {0};
+  Long = λ n. Unit {0};
   Worth = λ k n. Unit {0};
   Made = λ o. Unit {0};
   Written = ⊥;
   Named = ⊥;
   integer = plain_limits.0;
   cardinal = plain_limits.1;
+  long_integer = plain_limits.5;
+  long_cardinal = plain_limits.6;
   boolean = plain_limits.2;
   character = plain_limits.3;
   string = plain_limits.4;
   enumeration = λ o xs g w n once few. enumeration_limits o xs few;
-  subrange = λ k l h x y f e i j d. subrange_limits k _ _ f e;
+  subrange = λ k l h x y f e o i j d. subrange_limits k _ _ f e o;
   array = λ i e h k x w d. array_limits i e h k w d;
   fields = λ o fs g h m w d. record_limits o fs h w d;
   base = base_limits;
+  ordinal_base = ordinal_base;
   index = index_limits;
   element = element_limits;
   parts = parts_limits;
   small = λ n l. tt;
   operated = λ o x y h. any_tried (tried o x y);
-  word = λ k n h w. tt;
+  word = λ k n h s w. tt;
   number = λ b n w. tt;
   letter = λ n l. tt;
   truths = λ b. tt;
   enumerated = λ o xs n h l. tt;
   based = λ k b n e w. tt;
-  fitted = λ j k n h i e f w. tt;
+  fitted = λ j k n h i e s t f w. tt;
+  long_small = λ n l. tt;
+  long_operated = λ o x y h. any_tried (tried_long o x y);
+  widened = λ from to n w. any_tried (widened from to n);
+  long = λ b n w. tt;
+  long_word = λ b n w. tt;
 }
 
 -- ---- interfaces

@@ -1,7 +1,7 @@
 -- An interface that checking gives is in order, where its tree is written as a text and the interfaces given are in order.
-use Rattle.std.specs.Prelude.{ℕ, ◌≡◌, ◌≢◌, ◌≤◌, ◌<◌, true, Some, List, [], ◌∷◌, length, map}
+use Rattle.std.specs.Prelude.{ℕ, ◌≡◌, ◌≢◌, ◌≤◌, ◌<◌, Bool, true, false, Some, List, [], ◌∷◌, length, map}
 use Rattle.std.specs.List.{All}
-use Rattle.std.proofs.Common.{refl, subst, ap, arith}
+use Rattle.std.proofs.Common.{refl, sym, subst, ap, ◌∙◌, arith}
 use Rattle.std.proofs.lemmas.List.Elements.{All-head, All-tail}
 use Rattle.mesa_base.specs.declared.limits.TheConstants.{TYPE_WORDS, TYPE_DEPTH, ENUMERATION_ELEMENTS}
 use Rattle.mesa_base.specs.declared.identifier.Identifier.{Identifier}
@@ -10,31 +10,38 @@ use Rattle.mesa_types.specs.declared.faces.ItemKind.{ItemKind}
 use Rattle.mesa_types.specs.declared.faces.ItemKind.TheVariants as item
 use Rattle.mesa_types.specs.declared.types.FieldType.{FieldType}
 use Rattle.mesa_types.specs.declared.types.Origin.{Origin}
-use Rattle.mesa_types.specs.Operators.{Tried, Fine, Faulty, tried}
+use Rattle.mesa_types.specs.Operators.{Tried, Fine, Faulty, tried, truth}
+use Rattle.mesa_types.specs.Longs.{tried_long, widened}
+use Rattle.mesa_types.proofs.LongLaws.{FineBelow, tried_long_small}
+use Rattle.check_rules.specs.Typed as t
+use Rattle.check_rules.specs.Operators.{number_type, long_type}
 use Rattle.interface_records.specs.declared.interface.Interface.{Interface}
 use Rattle.interface_records.specs.PlainTypes as v
-use Rattle.interface_records.specs.PlainTypes.{PlainType, PlainField, PlainItem, PlainConstant, PlainName, PlainInterface, base_of, depth_of, fields_of_parts, parts_of, plain_field, plain_interface, plain_item, words_of}
+use Rattle.interface_records.specs.PlainTypes.{PlainType, PlainField, PlainItem, PlainConstant, PlainName, PlainInterface, base_of, depth_of, kind_of, is_long, is_ordinal, fields_of_parts, parts_of, plain_field, plain_interface, plain_item, words_of}
 use Rattle.check_rules.specs.Parts.{names_of}
 use Rattle.interface_records.specs.PlainTypes.{HasPart}
-use Rattle.check_rules.specs.Interfaces.{TypeInOrder, PartsInOrder, FieldsInOrder, ItemsInOrder, ConstantsInOrder, NamesInOrder, InterfaceInOrder, InterfacesInOrder}
+use Rattle.check_rules.specs.Interfaces.{TypeInOrder, PartsInOrder, FieldsInOrder, ItemsInOrder, ConstantsInOrder, NamesInOrder, InterfaceInOrder, InterfacesInOrder, ConstantFits}
 use Rattle.check_rules.specs.CheckedModule.{checked_definitions}
 use Rattle.check_rules.specs.Laws.{GivesNothing, HeadIsInForm, CheckedInterfacesAreInOrder}
 use Rattle.check_rules.specs.TypeRules.{is_index}
 use Rattle.check_rules.proofs.HeadForms.{heads_in_form}
 use Rattle.check_rules.proofs.Outcomes.{length_of_map, both_ok}
-use Rattle.check_rules.proofs.SoundConstants.{IsFineWord, wrapped, truth_word, tried_word}
+use Rattle.check_rules.proofs.SoundConstants.{IsFineWord, wrapped, truth_word, tried_word, constant_kind, value_is_word, value_is_long, widened_small}
+use Rattle.check_rules.proofs.SoundSame.{conforming_kind}
+use Rattle.check_rules.proofs.SoundOperators.{number_word, long_type_kind}
 use Rattle.check_rules.proofs.SoundLaw.{type_in}
 use Rattle.check_rules.proofs.SoundTypeRules.{index_elements}
-use Rattle.check_rules.proofs.SoundTypes.{none_is_no, some_base}
+use Rattle.check_rules.proofs.SoundTypes.{none_is_no, long_cases}
 use Rattle.check_rules.proofs.TypeLaws.{TypeLaw, FieldsHave, OfTried}
 use Rattle.check_rules.proofs.FineTypes.{ItemFine}
 use Rattle.check_rules.proofs.FineDefinitions.{ItemsFine, ConstantsFine, ConstantsOrdinal, TypesFine}
 use Rattle.check_rules.proofs.FineInterfaces.{InterfacesFine, InterfaceMade, checked_fine}
 
 -- ---- the law
-plain_order : TypeInOrder v.Integer × TypeInOrder v.Cardinal × TypeInOrder v.Boolean × TypeInOrder v.Character × TypeInOrder v.String
+plain_order : TypeInOrder v.Integer × TypeInOrder v.Cardinal × TypeInOrder v.Boolean × TypeInOrder v.Character × TypeInOrder v.String × TypeInOrder v.LongInteger × TypeInOrder
+    v.LongCardinal
 unfolding TypeInOrder
-plain_order = (tt, tt, tt, tt, tt)
+plain_order = (tt, tt, tt, tt, tt, tt, tt)
 
 pub some_name : (xs : List Identifier) → xs ≢ [] → 0 < length (names_of xs)
 some_name [] h = absurd (h refl)
@@ -58,6 +65,8 @@ base_is_flat j b e = by j b e
     by : (j b : PlainType) → base_of j ≡ Some b → depth_of b ≡ 1
     by v.Integer b e = as_one v.Integer b refl e
     by v.Cardinal b e = as_one v.Cardinal b refl e
+    by v.LongInteger b e = as_one v.LongInteger b refl e
+    by v.LongCardinal b e = as_one v.LongCardinal b refl e
     by v.Boolean b e = as_one v.Boolean b refl e
     by v.Character b e = as_one v.Character b refl e
     by v.String b e = none_is_no b e
@@ -66,9 +75,10 @@ base_is_flat j b e = by j b e
     by (v.Array i k) b e = none_is_no b e
     by (v.Record o ps) b e = none_is_no b e
 
-pub subrange_order : (k : PlainType) (x y : ℕ) → TypeInOrder k → base_of k ≡ Some k → x < 65536 → y < 65536 → TypeInOrder (v.Subrange k x y)
+pub subrange_order : (k : PlainType) (x y : ℕ) → TypeInOrder k → base_of k ≡ Some k → is_ordinal k ≡ true → x < 65536 → y < 65536
+    → TypeInOrder (v.Subrange k x y)
 unfolding TypeInOrder depth_of
-subrange_order k x y h e m n = (h, m, n, omega (arith, base_is_flat k k e))
+subrange_order k x y h e o m n = (h, o, m, n, omega (arith, base_is_flat k k e))
 
 array_order : (i e : PlainType) → TypeInOrder i → TypeInOrder e → is_index i ≡ true → words_of (v.Array i e) ≤ TYPE_WORDS
     → depth_of (v.Array i e) ≤ TYPE_DEPTH → TypeInOrder (v.Array i e)
@@ -93,6 +103,10 @@ record_order o fs h s w d = (parts_order fs h, has_part fs s, w, d)
 base_order : (k : PlainType) (x y : ℕ) → TypeInOrder (v.Subrange k x y) → TypeInOrder k
 unfolding TypeInOrder
 base_order k x y h = h.0
+
+base_ordinal : (k : PlainType) (x y : ℕ) → TypeInOrder (v.Subrange k x y) → is_ordinal k ≡ true
+unfolding TypeInOrder
+base_ordinal k x y h = h.1
 
 index_order : (i e : PlainType) → TypeInOrder (v.Array i e) → TypeInOrder i
 unfolding TypeInOrder
@@ -119,36 +133,113 @@ element_word : (o : Origin) (xs : List (List ℕ)) (n : ℕ) → TypeInOrder (v.
 unfolding TypeInOrder
 element_word o xs n h l = let few : length xs ≤ 65536 = h.1 in omega (arith, l, few)
 
+-- ---- values of a type
+
+word_value : (k : PlainType) (n : ℕ) → kind_of k ≡ t.Ordinal → n < 65536 → ConstantFits (kind_of k) n
+unfolding ConstantFits
+word_value k n e h = subst (λ j. ConstantFits j n) (sym e) h
+
+long_value : (k : PlainType) (n : ℕ) → kind_of k ≡ t.Longs → n < 4294967296 → ConstantFits (kind_of k) n
+unfolding ConstantFits
+long_value k n e h = subst (λ j. ConstantFits j n) (sym e) h
+
+plain_kinds : (kind_of v.Character ≡ t.Ordinal) × (kind_of v.Boolean ≡ t.Ordinal)
+unfolding kind_of
+plain_kinds = (refl, refl)
+
+element_value : (o : Origin) (xs : List (List ℕ)) (n : ℕ) → n < 65536 → ConstantFits (kind_of (v.Enumeration o xs)) n
+unfolding ConstantFits kind_of
+element_value o xs n h = h
+
+-- a word is a value of each base
+base_takes : (k b : PlainType) (n : ℕ) → base_of k ≡ Some b → n < 65536 → ConstantFits (kind_of b) n
+unfolding base_of ConstantFits kind_of
+base_takes k b n e h = by k b e
+  where
+    at : (a b : PlainType) → Some a ≡ Some b → ConstantFits (kind_of a) n → ConstantFits (kind_of b) n
+    at a b e w = subst (λ j. ConstantFits (kind_of j) n) (same_one a b e) w
+      where
+        same_one : (a b : PlainType) → Some a ≡ Some b → a ≡ b
+        same_one a b e = cc
+
+    by : (k b : PlainType) → base_of k ≡ Some b → ConstantFits (kind_of b) n
+    by v.Integer b e = at v.Integer b e h
+    by v.Cardinal b e = at v.Cardinal b e h
+    by v.LongInteger b e = at v.LongInteger b e (omega (arith, h))
+    by v.LongCardinal b e = at v.LongCardinal b e (omega (arith, h))
+    by v.Boolean b e = at v.Boolean b e h
+    by v.Character b e = at v.Character b e h
+    by v.String b e = none_is_no b e
+    by (v.Enumeration o xs) b e = at (v.Enumeration o xs) b e h
+    by (v.Subrange k x y) b e = by k b e
+    by (v.Array i k) b e = none_is_no b e
+    by (v.Record o ps) b e = none_is_no b e
+
+based_value : (k b : PlainType) (n : ℕ) → base_of k ≡ Some b → ConstantFits (kind_of k) n → ConstantFits (kind_of b) n
+unfolding base_of
+based_value k b n e w = by (is_long k) refl
+  where
+    by : (l : Bool) → is_long k ≡ l → ConstantFits (kind_of b) n
+    by true d = long_cases (λ k. base_of k ≡ Some b → ConstantFits (kind_of k) n → ConstantFits (kind_of b) n) (of_itself v.LongInteger integer_base)
+        (of_itself v.LongCardinal cardinal_base) k d e w
+      where
+        integer_base : base_of v.LongInteger ≡ Some v.LongInteger
+        integer_base = refl
+
+        cardinal_base : base_of v.LongCardinal ≡ Some v.LongCardinal
+        cardinal_base = refl
+
+        same_one : (a b : PlainType) → Some a ≡ Some b → a ≡ b
+        same_one a b e = cc
+
+        of_itself : (a : PlainType) → base_of a ≡ Some a → base_of a ≡ Some b → ConstantFits (kind_of a) n → ConstantFits (kind_of b) n
+        of_itself a d e w = subst (λ j. ConstantFits (kind_of j) n) (same_one a b (sym d ∙ e)) w
+    by false d = base_takes k b n e (value_is_word (kind_of k) n (constant_kind k n w d) w)
+
+pub fine_below_long : (x : Tried) → FineBelow 4294967296 x → OfTried (λ n. n < 4294967296) x
+unfolding FineBelow
+fine_below_long (Fine n) h = h
+fine_below_long (Faulty f) h = tt
+
 abbrev order : TypeLaw
 order = record {
   Kept = TypeInOrder;
   Word = λ n. n < 65536;
-  Worth = λ k n. n < 65536;
+  Long = λ n. n < 4294967296;
+  Worth = λ k n. ConstantFits (kind_of k) n;
   Made = λ o. Unit {0};
   Written = Unit {0};
   Named = ⊥;
   integer = plain_order.0;
   cardinal = plain_order.1;
+  long_integer = plain_order.5;
+  long_cardinal = plain_order.6;
   boolean = plain_order.2;
   character = plain_order.3;
   string = plain_order.4;
   enumeration = λ o xs g w n once few. enumeration_order o xs (w tt) few;
-  subrange = λ k l h x y f e i j d. subrange_order k _ _ f e (wrapped _) (wrapped _);
+  subrange = λ k l h x y f e o i j d. subrange_order k _ _ f e o (wrapped _) (wrapped _);
   array = array_order;
   fields = λ o fs g h m w d. record_order o fs h (m.some tt) w d;
   base = base_order;
+  ordinal_base = base_ordinal;
   index = index_order;
   element = element_order;
   parts = record_parts;
   small = λ n l. l;
   operated = λ o x y h. as_tried (tried o x y) (tried_word o x y h);
-  word = λ k n h w. w;
-  number = λ b n w. w;
-  letter = λ n l. omega (arith, l);
-  truths = truth_word;
-  enumerated = element_word;
-  based = λ k b n e w. w;
-  fitted = λ j k n h i e f w. w;
+  word = λ k n h s w. value_is_word (kind_of k) n (constant_kind k n w s) w;
+  number = λ b n w. word_value (number_type b) n (number_word b) w;
+  letter = λ n l. word_value v.Character n plain_kinds.0 (omega (arith, l));
+  truths = λ b. word_value v.Boolean (truth b) plain_kinds.1 (truth_word b);
+  enumerated = λ o xs n h l. element_value o xs n (element_word o xs n h l);
+  based = based_value;
+  fitted = λ j k n h i e s d f w. subst (λ l. ConstantFits l n) (conforming_kind j k e s d) w;
+  long_small = λ n l. l;
+  long_operated = λ o x y h. fine_below_long (tried_long o x y) (tried_long_small o x y h);
+  widened = λ from to n w. fine_below_long (widened from to n) (widened_small from to n w);
+  long = λ b n w. long_value (long_type b) n (long_type_kind b) w;
+  long_word = λ b n w. value_is_long (kind_of (long_type b)) n (long_type_kind b) w;
 }
 
 -- ---- interfaces that are given
@@ -165,7 +256,7 @@ items_fine (i ∷ is) h = ((fields_fine i.takes h.0.takes, fields_fine i.gives h
 constants_fine : (cs : List PlainConstant) → ConstantsInOrder cs → ConstantsFine order cs
 unfolding ConstantsInOrder ConstantsFine
 constants_fine [] h = tt
-constants_fine (c ∷ cs) h = (h.0.kind, h.0.word, constants_fine cs h.1)
+constants_fine (c ∷ cs) h = (h.0.kind, h.0.value, constants_fine cs h.1)
 
 types_fine : (xs : List PlainName) → NamesInOrder xs → TypesFine order xs
 unfolding NamesInOrder TypesFine
@@ -221,7 +312,7 @@ items_order (i ∷ is) h e = (
 constants_order : (cs : List PlainConstant) → ConstantsFine order cs → ConstantsOrdinal cs → ConstantsInOrder cs
 unfolding ConstantsInOrder ConstantsFine ConstantsOrdinal
 constants_order [] h k = tt
-constants_order (c ∷ cs) h k = (record { word = h.1; ordinal = some_base c.kind k.0; kind = h.0 }, constants_order cs h.2 k.1)
+constants_order (c ∷ cs) h k = (record { value = h.1; kind = h.0 }, constants_order cs h.2 k.1)
 
 types_order : (xs : List PlainName) → TypesFine order xs → NamesInOrder xs
 unfolding NamesInOrder TypesFine

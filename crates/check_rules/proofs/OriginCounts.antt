@@ -20,6 +20,8 @@ mutual
   type_many : (x : s.TypeExp) → many (of_type x) ≤ type_nodes x
   type_many (s.Integer p) = omega arith
   type_many (s.Cardinal p) = omega arith
+  type_many (s.LongInteger p) = omega arith
+  type_many (s.LongCardinal p) = omega arith
   type_many (s.Boolean p) = omega arith
   type_many (s.Character p) = omega arith
   type_many (s.String p) = omega arith

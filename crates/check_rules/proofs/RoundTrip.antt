@@ -38,6 +38,8 @@ here_type : (y : TypeTree-F Such-Type Such-Field) → Type-law (roll-TypeTree (m
 unfolding tree_of
 here_type TypeTree-F.Integer = simp fold-roll-TypeTree (sym tree.rolls-Integer)
 here_type TypeTree-F.Cardinal = simp fold-roll-TypeTree (sym tree.rolls-Cardinal)
+here_type TypeTree-F.LongInteger = simp fold-roll-TypeTree (sym tree.rolls-LongInteger)
+here_type TypeTree-F.LongCardinal = simp fold-roll-TypeTree (sym tree.rolls-LongCardinal)
 here_type TypeTree-F.Boolean = simp fold-roll-TypeTree (sym tree.rolls-Boolean)
 here_type TypeTree-F.Character = simp fold-roll-TypeTree (sym tree.rolls-Character)
 here_type TypeTree-F.String = simp fold-roll-TypeTree (sym tree.rolls-String)
@@ -90,6 +92,8 @@ mutual
   plain_again : (k : PlainType) → plain_tree (tree_of k) ≡ k
   plain_again v.Integer = ap plain_tree (sym tree.rolls-Integer) ∙ fold-roll-TypeTree PlainType PlainField plain_step plain_field_step TypeTree-F.Integer
   plain_again v.Cardinal = ap plain_tree (sym tree.rolls-Cardinal) ∙ fold-roll-TypeTree PlainType PlainField plain_step plain_field_step TypeTree-F.Cardinal
+  plain_again v.LongInteger = ap plain_tree (sym tree.rolls-LongInteger) ∙ fold-roll-TypeTree PlainType PlainField plain_step plain_field_step TypeTree-F.LongInteger
+  plain_again v.LongCardinal = ap plain_tree (sym tree.rolls-LongCardinal) ∙ fold-roll-TypeTree PlainType PlainField plain_step plain_field_step TypeTree-F.LongCardinal
   plain_again v.Boolean = ap plain_tree (sym tree.rolls-Boolean) ∙ fold-roll-TypeTree PlainType PlainField plain_step plain_field_step TypeTree-F.Boolean
   plain_again v.Character = ap plain_tree (sym tree.rolls-Character) ∙ fold-roll-TypeTree PlainType PlainField plain_step plain_field_step TypeTree-F.Character
   plain_again v.String = ap plain_tree (sym tree.rolls-String) ∙ fold-roll-TypeTree PlainType PlainField plain_step plain_field_step TypeTree-F.String

@@ -25,8 +25,9 @@ use Rattle.check_rules.specs.Phrases.{holds, is_catch}
 use Rattle.check_rules.specs.Checking.{phrase, arms, statement, statements, exits, block, heads, head, initials, initial}
 use Rattle.check_rules.specs.Written.{ExprWritten, PhraseWritten, ArmsWritten, StatementWritten, StatementsWritten, BlockWritten, LocalsWritten, ItemWritten, ExitsWritten}
 use Rattle.check_rules.specs.Written as written
-use Rattle.check_rules.proofs.SoundTypes.{TypeIn, no_truth, word_kind}
-use Rattle.check_rules.proofs.SoundConstants.{constant_word}
+use Rattle.check_rules.proofs.SoundTypes.{TypeIn, no_truth}
+use Rattle.check_rules.proofs.SoundConstants.{constant_value_in}
+use Rattle.check_rules.specs.Interfaces.{ConstantFits}
 use Rattle.check_rules.proofs.SoundSteps.{World, Spot, at, MeaningIn, Rule, bind, so, under, given, plainly, apart, limited}
 use Rattle.check_rules.proofs.SoundnessStatements.{Inward, PhraseHere, AroundIn, Ready, LabelsIn, ValueIn, CheckedIn, AimIn, Checks}
 use Rattle.check_rules.proofs.SoundLists.{ChecksPhrase}
@@ -184,11 +185,11 @@ module _ (W : World) where
   unfolding MeaningIn
   constant_meant p flat (Some base) k b q e d h x = by (constant e) refl _
     where
-      made : (n : ℕ) → n < 65536 → kind_of k ≡ t.Ordinal → MeaningIn W flat (m.Constant k n)
-      made n i j = (i, j, h)
+      made : (n : ℕ) → ConstantFits (kind_of k) n → MeaningIn W flat (m.Constant k n)
+      made n i = (i, h)
 
       by : (o : Option ℕ) → constant e ≡ o → (cause : Cause) → IfOk (and_then (or_refuse o cause q) (λ n. Ok (m.Constant k n))) (MeaningIn W flat)
-      by (Some n) f cause = made n (constant_word (at W p) e (one (kind_of k)) n x f) (word_kind k base d)
+      by (Some n) f cause = made n (constant_value_in (at W p) e (kind_of k) n x f)
       by None f cause = tt
   constant_meant p flat None k b q e d h x = texts_meant p flat b q e (one (kind_of k)) x
 

@@ -21,6 +21,8 @@ module _ (W : World) where
     pub type_checks : (y : s.TypeExp) → ChecksType W y
     type_checks (s.Integer q) = (ty.type_plain W q).0
     type_checks (s.Cardinal q) = (ty.type_plain W q).1
+    type_checks (s.LongInteger q) = (ty.type_plain W q).5
+    type_checks (s.LongCardinal q) = (ty.type_plain W q).6
     type_checks (s.Boolean q) = (ty.type_plain W q).2
     type_checks (s.Character q) = (ty.type_plain W q).3
     type_checks (s.String q) = (ty.type_plain W q).4

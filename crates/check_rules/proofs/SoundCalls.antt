@@ -218,7 +218,7 @@ module _ (W : World) (p : Spot) where
       → n ≡ words_of k → n + operands_of x.values ≤ s → hidden_exprs x.values ≤ h → ValueIn W p (made k x) s h × ((made k x).kind ≡ k)
   unfolding GaveIn hidden_expr
   made_in k x js all s h n i c e a d o g = let b = built k x js all i c e a in
-      (record { value = b; kind = i; operands_are = omega (arith, built_words k x b, d, o); hidden_are = g; gave = tt }, refl)
+      (record { value = b; kind = i; operands_are = omega (arith, built_words k x b, d, o); hidden_are = g; gave = tt; literal = λ l. no_truth l }, refl)
 
   pub made_of_fields : (k : PlainType) (fs : List PlainField) (x : Arguments) (js : t.Kinds) (s h n : ℕ) → TypeIn k → fields k ≡ Some fs
       → sound.ExprsIn (at W p) x.values js → sound.Arranged x.places js (kinds_of fs)

@@ -5,7 +5,7 @@ use Rattle.mesa_base.specs.declared.place.Place.{Place}
 use Rattle.syntax_trees.specs.Syntax as s
 use Rattle.mesa_types.specs.Sound as sound
 use Rattle.mesa_types.specs.Operators as words
-use Rattle.mesa_types.specs.Counts.{operands, operands_of, operands_of_run, hidden_expr, hidden_exprs, hidden_operations}
+use Rattle.mesa_types.specs.Counts.{operands, operands_of, hidden_expr, hidden_exprs}
 use Rattle.mesa_types.specs.Nodes.{count_of}
 use Rattle.syntax_trees.specs.declared.syntax.Operator.{Operator}
 use Rattle.syntax_trees.specs.declared.syntax.Operator.TheVariants.{Or, And, Add, Subtract, Multiply, Divide, Modulo}
@@ -13,19 +13,21 @@ use Rattle.syntax_trees.specs.declared.syntax.Sign.{Sign}
 use Rattle.mesa_base.specs.declared.relation.Relation.{Relation}
 use Rattle.check_rules.specs.Typed as t
 use Rattle.interface_records.specs.PlainTypes as v
-use Rattle.interface_records.specs.PlainTypes.{PlainType}
+use Rattle.interface_records.specs.PlainTypes.{PlainType, words_of}
 use Rattle.check_rules.specs.Steps.{Check, lift}
 use Rattle.check_rules.specs.Around.{Around}
-use Rattle.check_rules.specs.Parts.{first, and_operation}
+use Rattle.check_rules.specs.Parts.{first}
+use Rattle.check_rules.specs.Operators.{sort_of, longer}
+use Rattle.check_rules.specs.Statements.{longer_number, longer_bounds}
 use Rattle.check_rules.specs.Ranges.{Typed, typed, Aim, Free, finish}
 use Rattle.check_rules.specs.Phrases.{holds, in_steps, in_interval}
-use Rattle.check_rules.specs.Values.{number, letter, truth, number_in, string, is_truth, not_of, signed, compared, within, Done, step, by_level, level_of, summed, truth_operand}
+use Rattle.check_rules.specs.Values.{number, letter, truth, number_in, string, is_truth, not_of, signed, compared, within, Sum, Begun, closed, Done, step, by_level, level_of, summed, truth_operand}
 use Rattle.check_rules.specs.Checking.{check, sums, truths, interval}
 use Rattle.check_rules.specs.Written.{ExprWritten, StepsWritten, IntervalWritten}
-use Rattle.check_rules.proofs.SoundTypes.{or_left, or_right}
+use Rattle.check_rules.proofs.SoundTypes.{no_truth, or_left, or_right}
 use Rattle.check_rules.proofs.SoundOperators.{plain_words, plain_types}
 use Rattle.check_rules.proofs.SoundSteps.{World, Spot, at, Rule, bind, under, so, given, plainly, ended, spent_words}
-use Rattle.check_rules.proofs.SoundnessStatements.{Ready, ValueIn, CheckedIn, AimIn, SumsIn, TruthsIn, Stepped, Checks, ChecksSums, ChecksTruths, ChecksInterval}
+use Rattle.check_rules.proofs.SoundnessStatements.{Ready, ValueIn, CheckedIn, AimIn, GaveIn, SumIn, SumsIn, TruthsIn, Stepped, Checks, ChecksSums, ChecksTruths, ChecksInterval}
 use Rattle.check_rules.proofs.SoundValues as values
 use Rattle.check_rules.proofs.SoundValues.{StepIn, TruthIn}
 
@@ -70,10 +72,12 @@ module _ (W : World) where
     by = λ flat p a aim.
         bind W flat (under W flat (λ pre. (part (or_left (holds d) (holds e)) (λ w. w.0) pre.0, tt)) (c.by flat p a (Free (first d)))) (λ x s h.
         bind W flat (under W flat (λ pre. (part (or_right (holds d) (holds e)) (λ w. w.1) pre.0.0, tt)) (k.by flat p a (Free (first e)))) (λ y m n.
-        bind W flat (plainly W flat {P = λ r. ValueIn W p r (s + m) (h + n)} (compared b o q x y)
-        (λ pre. values.compared_in W p b o q x y s h m n pre.0.1 pre.1)) (λ r i j.
-        ended W flat (finish aim r) (λ pre. values.finished W p aim r (s + (m + (i + 0))) (h + (n + (j + 0))) pre.0.0.0.1
-        (values.more W p r (s + m) (h + n) (s + (m + (i + 0))) (h + (n + (j + 0))) (omega arith) (omega arith) pre.1)))));
+        let more = longer (sort_of x.kind) x.literal (sort_of y.kind) y.literal in
+        bind W flat (plainly W flat {P = λ r. ValueIn W p r (s + m + more) (h + n)} (compared b o q (first d) x (first e) y)
+        (λ pre. values.compared_in W p b o q (first d) x (first e) y s h m n pre.0.1 pre.1)) (λ r i j.
+        bind W flat (spent_words W flat more) (λ u i' j'.
+        ended W flat (finish aim r) (λ pre. values.finished W p aim r (s + (m + (i + (i' + 0)))) (h + (n + (j + (j' + 0)))) pre.0.0.0.0.1
+        (values.more W p r (s + m + more) (h + n) (s + (m + (i + (i' + 0)))) (h + (n + (j + (j' + 0)))) (omega (arith, pre.1)) (omega arith) pre.0.1))))));
   }
 
   pub check_within : (e : s.Expr) (b : Bool) (q : Place) (i : s.Interval) → Checks W e → ChecksInterval W i → Checks W (s.Within e b q i)
@@ -82,11 +86,12 @@ module _ (W : World) where
     by = λ flat p a aim.
         bind W flat (under W flat (λ pre. (part (or_left (holds e) (in_interval i)) (λ w. w.0) pre.0, tt)) (c.by flat p a (Free (first e)))) (λ x s h.
         bind W flat (under W flat (λ pre. part (or_right (holds e) (in_interval i)) (λ w. w.1) pre.0.0) (k.by flat p a)) (λ ends m n.
-        bind W flat (plainly W flat {P = λ r. ValueIn W p r (s + m) (h + n)} (within b q x ends)
-        (λ pre. values.within_in W p b q x ends s h m n pre.0.1 pre.1))
-        (λ r i j.
-        ended W flat (finish aim r) (λ pre. values.finished W p aim r (s + (m + (i + 0))) (h + (n + (j + 0))) pre.0.0.0.1
-        (values.more W p r (s + m) (h + n) (s + (m + (i + 0))) (h + (n + (j + 0))) (omega arith) (omega arith) pre.1)))));
+        let more = longer_number x ends + longer_bounds x ends in
+        bind W flat (plainly W flat {P = λ r. ValueIn W p r (s + m + more) (h + n)} (within b q (first e) x ends)
+        (λ pre. values.within_in W p b q (first e) x ends s h m n pre.0.1 pre.1)) (λ r i j.
+        bind W flat (spent_words W flat more) (λ u i' j'.
+        ended W flat (finish aim r) (λ pre. values.finished W p aim r (s + (m + (i + (i' + 0)))) (h + (n + (j + (j' + 0)))) pre.0.0.0.0.1
+        (values.more W p r (s + m + more) (h + n) (s + (m + (i + (i' + 0)))) (h + (n + (j + (j' + 0)))) (omega (arith, pre.1)) (omega arith) pre.0.1))))));
   }
 
   pub check_interval : (q : Place) (open_low : Bool) (low high : s.Expr) (open_high : Bool) → Checks W low → Checks W high
@@ -96,13 +101,15 @@ module _ (W : World) where
     by = λ flat p a.
         bind W flat (under W flat (λ pre. (part (or_left (holds low) (holds high)) (λ w. w.0) pre, tt)) (c.by flat p a (Free (first low)))) (λ x s h.
         bind W flat (under W flat (λ pre. (part (or_right (holds low) (holds high)) (λ w. w.1) pre.0, tt)) (k.by flat p a (Free (first high)))) (λ y m n.
-        given W flat (record { open_low = open_low; low = x; high = y; open_high = open_high }) (λ pre. record {
+        given W flat (record { open_low = open_low; low_place = first low; low = x; high_place = first high; high = y; open_high = open_high }) (λ pre. record {
           low = (pre.0.1).value;
           low_kind = (pre.0.1).kind;
           high = (pre.1).value;
           high_kind = (pre.1).kind;
           operands_are = omega (arith, (pre.0.1).operands_are, (pre.1).operands_are);
           hidden_are = omega (arith, (pre.0.1).hidden_are, (pre.1).hidden_are);
+          low_literal = (pre.0.1).literal;
+          high_literal = (pre.1).literal;
         })));
   }
 
@@ -111,7 +118,7 @@ module _ (W : World) where
   unfolding check
   check_number q n = record {
     by = λ flat p a aim.
-        bind W flat (spent_words W flat 1) (λ u s h.
+        bind W flat (spent_words W flat (words_of (number n).kind)) (λ u s h.
         ended W flat (finish aim (number n)) (λ pre. values.finished W p aim (number n) (s + 0) (h + 0) pre.0.1
         (values.number_value W p n (s + 0) (h + 0) (omega (arith, pre.1)))));
   }
@@ -153,61 +160,44 @@ module _ (W : World) where
   }
 
   -- runs
-  pub operation_more : (p : Spot) (os : t.Operations) (x : Done) → sound.OperationsIn (at W p) os → sound.RangeIn x.left
-      → sound.ExprIn (at W p) x.right sound.a_word
-      → sound.OperationsIn (at W p) (and_operation os (t.Then x.left x.operator x.right))
-  unfolding sound.OperationsIn and_operation
-  operation_more p t.NoOperation x h l r = (l, r, tt)
-  operation_more p (t.Then q o e os) x h l r = (h.0, h.1, operation_more p os x h.2 l r)
-
-  pub operation_counts : (os : t.Operations) (x : Done)
-      → (operands_of_run (and_operation os (t.Then x.left x.operator x.right)) ≡ operands_of_run os + operands x.right)
-      × (hidden_operations (and_operation os (t.Then x.left x.operator x.right)) ≡ hidden_operations os + hidden_expr x.right)
-  unfolding operands_of_run hidden_operations and_operation
-  operation_counts t.NoOperation x = (omega arith, omega arith)
-  operation_counts (t.Then q o e os) x = let c = operation_counts os x in (omega (arith, c.0), omega (arith, c.1))
-
   pub sums_none : ChecksSums W s.NoOperation
-  unfolding sums Stepped
+  unfolding sums
   sums_none = record {
-    by = λ flat p a done kind literal. given W flat (done, kind) (λ pre. record {
-      operations = λ h. h;
-      before = λ x. absurd x;
-      word = λ h. h;
-      kind_in = λ h. h;
+    by = λ flat p a l done kind literal. given W flat (closed done, kind) (λ pre. record {
+      value = (pre.1).value;
+      kind_in = (pre.1).kind_in;
       operands_are = omega arith;
       hidden_are = omega arith;
     });
   }
 
-  pub run_more : (flat : Bool) (p : Spot) (a : Around) (done : t.Operations) (kind : PlainType) (o : Operator) (q : Place) (e : s.Expr)
-      (ss : s.Operations)
-      (x : Done) (c h m n : ℕ) {Y : Type 0}
+  pub run_more : (flat : Bool) (p : Spot) (a : Around) (l : Place) (done : Sum) (o : Operator) (q : Place) (e : s.Expr) (ss : s.Operations) (x : Done)
+      (w c h m n i j : ℕ) {Y : Type 0}
       → ChecksSums W ss
-      → Rule W flat ((Ready W flat p a (in_steps (s.AndOperation o q e ss)) (StepsWritten (s.AndOperation o q e ss)) × Y) × StepIn W p kind x c h)
-      (λ y i j. SumsIn W p done kind (s.AndOperation o q e ss) y (c + (m + i)) (h + (n + j)))
-      (sums a (and_operation done (t.Then x.left x.operator x.right)) x.kind false ss)
+      → Rule W flat (((Ready W flat p a (in_steps (s.AndOperation o q e ss)) (StepsWritten (s.AndOperation o q e ss)) × Y) × StepIn W p (closed done) x (c + w) h)
+      × (i ≡ w))
+      (λ y m' n'. SumsIn W p done y (c + (m + (i + m'))) (h + (n + (j + n'))))
+      (sums a l x.done x.kind false ss)
   unfolding in_steps StepsWritten
-  run_more flat p a done kind o q e ss x c h m n k =
-      so W flat (λ y i j pre u. record {
-        operations = λ d. u.operations (operation_more p done x d (pre.1).left (pre.1).right);
-        before = λ w. (pre.1).before;
-        word = λ w. u.word (pre.1).word;
-        kind_in = λ w. u.kind_in (pre.1).kind;
-        operands_are = omega (arith, u.operands_are, (operation_counts done x).0, (pre.1).operands_are);
-        hidden_are = omega (arith, u.hidden_are, (operation_counts done x).1, (pre.1).hidden_are);
+  run_more flat p a l done o q e ss x w c h m n i j k =
+      so W flat (λ y m' n' pre u. record {
+        value = u.value;
+        kind_in = u.kind_in;
+        operands_are = omega (arith, u.operands_are, (pre.0.1).operands_are, pre.1);
+        hidden_are = omega (arith, u.hidden_are, (pre.0.1).hidden_are);
       })
-      (under W flat (λ pre. part (or_right (holds e) (in_steps ss)) (λ w. w.1) pre.0.0)
-      (k.by flat p a (and_operation done (t.Then x.left x.operator x.right)) x.kind false))
+      (under W flat (λ pre. (part (or_right (holds e) (in_steps ss)) (λ w. w.1) pre.0.0.0, (pre.0.1).sum)) (k.by flat p a l x.done x.kind false))
 
   pub sums_more : (o : Operator) (q : Place) (e : s.Expr) (ss : s.Operations) → Checks W e → ChecksSums W ss → ChecksSums W (s.AndOperation o q e ss)
   unfolding sums in_steps StepsWritten CheckedIn AimIn
   sums_more o q e ss c k = record {
-    by = λ flat p a done kind literal.
-        bind W flat (under W flat (λ pre. (part (or_left (holds e) (in_steps ss)) (λ w. w.0) pre, tt)) (c.by flat p a (Free (first e)))) (λ r s h.
-        bind W flat (plainly W flat {P = λ x. StepIn W p kind x s h} (step o q kind literal r)
-        (λ pre. values.step_in W p o q kind literal r s h pre.1)) (λ x m n.
-        run_more flat p a done kind o q e ss x s h m n k));
+    by = λ flat p a l done kind literal.
+        bind W flat (under W flat (λ pre. (part (or_left (holds e) (in_steps ss)) (λ w. w.0) pre.0, tt)) (c.by flat p a (Free (first e)))) (λ r s h.
+        let more = longer (sort_of kind) literal (sort_of r.kind) r.literal in
+        bind W flat (plainly W flat {P = λ x. StepIn W p (closed done) x (s + more) h} (step o q l done kind literal (first e) r)
+        (λ pre. values.step_in W p o q l done kind literal (first e) r s h pre.0.1 pre.1)) (λ x m n.
+        bind W flat (spent_words W flat more) (λ u i j.
+        under W flat (λ pre. (((pre.0.0.0.0, pre.0.0.1), pre.0.1), pre.1)) (run_more flat p a l done o q e ss x more s h m n i j k))));
   }
 
   pub truths_none : ChecksTruths W s.NoOperation
@@ -254,14 +244,17 @@ module _ (W : World) where
   by_steps (s.AndOperation Divide q e ss) w x y z h i j k = i tt
   by_steps (s.AndOperation Modulo q e ss) w x y z h i j k = i tt
 
-  pub sum_value : (p : Spot) (x : Typed) (ss : s.Operations) (r : t.Operations × PlainType) (c h m n : ℕ) → Stepped ss → ValueIn W p x c h
-      → SumsIn W p t.NoOperation x.kind ss r m n
-      → ValueIn W p (summed x r) (c + (m + 0)) (h + (n + 0))
-  unfolding sound.ExprIn sound.OperationsIn operands hidden_expr operands_of_run hidden_operations
-  sum_value p x ss r c h m n stepped g u = values.word_value W p r.1 (t.Operate x.value r.0) (c + (m + 0)) (h + (n + 0)) (u.word (u.before stepped))
-      (u.kind_in g.kind)
-      (values.as_word W p x.value x.kind (u.before stepped) g.value, u.operations tt, refl)
-      (omega (arith, g.operands_are, u.operands_are)) (omega (arith, g.hidden_are, u.hidden_are))
+  pub sum_value : (p : Spot) (x : Typed) (r : t.Expr × PlainType) (c h m n : ℕ) → ValueIn W p x c h → SumsIn W p (Begun x.value) r m n
+      → ValueIn W p (summed r) (c + (m + 0)) (h + (n + 0))
+  unfolding GaveIn
+  sum_value p x r c h m n g u = record {
+    value = u.value;
+    kind = u.kind_in;
+    operands_are = omega (arith, g.operands_are, u.operands_are);
+    hidden_are = omega (arith, g.hidden_are, u.hidden_are);
+    gave = tt;
+    literal = λ l. no_truth l;
+  }
 
   pub all_value : (p : Spot) (x : Typed) (ss : s.Operations) (es : t.Exprs) (c h m n : ℕ) → Stepped ss → ValueIn W p x c h
       → TruthsIn W p (is_truth x.kind) ss es m n
@@ -281,6 +274,9 @@ module _ (W : World) where
       (omega (arith, u.some stepped), (values.as_word W p x.value x.kind (values.truth_word W p x.kind (u.fit stepped)) g.value, u.words), refl)
       (omega (arith, g.operands_are, u.operands_are)) (omega (arith, g.hidden_are, u.hidden_are))
 
+  begun : (p : Spot) (x : Typed) (s h : ℕ) → ValueIn W p x s h → SumIn W p (Begun x.value) x.kind x.literal
+  begun p x s h g = record { value = g.value; kind_in = g.kind; literal_is = g.literal }
+
   pub check_run : (e : s.Expr) (ss : s.Operations) → Checks W e → ChecksSums W ss → ChecksTruths W ss → Checks W (s.Run e ss)
   unfolding check holds ExprWritten CheckedIn AimIn
   check_run e ss c k l = record {
@@ -288,9 +284,9 @@ module _ (W : World) where
         bind W flat (under W flat (λ pre. (part (or_left (holds e) (in_steps ss)) (λ w. w.0) pre.0, tt)) (c.by flat p a (Free (first e)))) (λ x s h.
         bind W flat {P = λ r m n. ValueIn W p r (s + m) (h + n)} (by_steps ss _ _ _ _
         (given W flat x (λ pre. values.more W p x s h (s + 0) (h + 0) (omega arith) (omega arith) pre.1))
-        (λ stepped. bind W flat (under W flat (λ pre. part (or_right (holds e) (in_steps ss)) (λ w. w.1) pre.0.0)
-        (k.by flat p a t.NoOperation x.kind x.literal)) (λ r m n.
-        given W flat (summed x r) (λ pre. sum_value p x ss r s h m n stepped pre.0.1 pre.1)))
+        (λ stepped. bind W flat (under W flat (λ pre. (part (or_right (holds e) (in_steps ss)) (λ w. w.1) pre.0.0, begun p x s h pre.1))
+        (k.by flat p a (first e) (Begun x.value) x.kind x.literal)) (λ r m n.
+        given W flat (summed r) (λ pre. sum_value p x r s h m n pre.0.1 pre.1)))
         (λ stepped. bind W flat (under W flat (λ pre. part (or_right (holds e) (in_steps ss)) (λ w. w.1) pre.0.0) (l.by flat p a (is_truth x.kind)))
         (λ r m n.
         given W flat (truth (t.AllOf (t.AndExpr x.value r))) (λ pre. all_value p x ss r s h m n stepped pre.0.1 pre.1)))

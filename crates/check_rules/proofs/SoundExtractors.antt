@@ -15,15 +15,15 @@ use Rattle.check_rules.specs.Scopes.{has}
 use Rattle.check_rules.specs.Steps.{or_refuse}
 use Rattle.check_rules.specs.Around.{Around}
 use Rattle.check_rules.specs.Parts.{Found, number_by, first, field_named, count_lefts, keys_of_lefts, are_fields}
-use Rattle.check_rules.specs.Ranges.{Typed, Several, range_for}
+use Rattle.check_rules.specs.Ranges.{Typed, Several, range_for, conversion_for}
 use Rattle.check_rules.specs.Reached.{Target, part_of}
-use Rattle.check_rules.specs.Statements.{Source, source_by, is_one, record_fields, source, extracted}
+use Rattle.check_rules.specs.Statements.{Source, source_by, is_one, record_fields, source, target_by, extracted}
 use Rattle.check_rules.specs.Phrases.{holds, in_left, in_lefts, in_keyed_lefts, in_targets}
 use Rattle.check_rules.specs.Checking.{statement, targets, targets_in_order, targets_by_key}
 use Rattle.check_rules.specs.Written.{LeftsWritten, KeyedLeftsWritten, TargetsWritten, StatementWritten}
 use Rattle.check_rules.proofs.SoundTypes.{TypeIn, FieldsIn, no_truth, none_is_no, or_left, or_right, fields_of_type, words_agree}
-use Rattle.check_rules.proofs.SoundSame.{conforming_kind}
-use Rattle.check_rules.proofs.SoundOperators.{given_range, given_words, OnlyWords}
+use Rattle.mesa_types.proofs.WordSizes.{conversion_words}
+use Rattle.check_rules.proofs.SoundOperators.{given_range, given_words, OnlyWords, ConversionIn, conversion_in}
 use Rattle.check_rules.proofs.SoundSteps.{World, Spot, at, Rule, bind, so, under, given, plainly, tested}
 use Rattle.check_rules.proofs.SoundnessStatements.{Ready, SeveralIn, CheckedIn, AimIn, GaveIn, TargetIn, Checks}
 use Rattle.check_rules.proofs.SoundExpressions.{part}
@@ -131,11 +131,34 @@ module _ (W : World) where
   extracted_in : (p : Spot) (ks : t.Kinds) (q : Place) (f : Found) (x : Target) (c g : ℕ) → KindAt ks f.number (kind_of f.kind)
       → f.offset ≡ words_before ks f.number → TargetIn W p x c g
       → IfOk (extracted q f x) (λ put. PutTarget W p ks f.number put c g)
-  unfolding extracted sound.TargetsIn sound.taken operands_of_targets hidden_targets
+  unfolding extracted sound.TargetsIn sound.IsConversion sound.taken operands_of_targets hidden_targets
   extracted_in p ks q f x c g there lies h = rules.only_where (conforms f.kind x.kind) _ q
-      (t.AndTarget (part_of f) x.home x.suffixes (range_for f.kind x.kind)) (λ put. PutTarget W p ks f.number put c g) (λ e.
-      let same = conforming_kind f.kind x.kind e in
-      record {
+      (target_by (conversion_for f.kind x.kind) (range_for f.kind x.kind) f x) (λ put. PutTarget W p ks f.number put c g)
+      (λ e. by (conversion_for f.kind x.kind) (conversion_in f.kind x.kind e h.kind))
+    where
+      put_converted : (r : t.Conversion) → sound.IsConversion r → sound.Converts r (kind_of f.kind) (kind_of x.kind)
+          → PutTarget W p ks f.number (t.AndConverted (part_of f) x.home x.suffixes r) c g
+      put_converted r n d = record {
+        targets = λ ts i. (
+          kind_of f.kind,
+          kind_of x.kind,
+          h.whole,
+          record { is_there = there; lies = lies },
+          words_agree f.kind,
+          n,
+          d,
+          h.home,
+          h.part,
+          i,
+        );
+        taken = λ ts. refl;
+        operands_are = λ ts. omega (arith, h.operands_are, words_agree x.kind, conversion_words r (kind_of f.kind) (kind_of x.kind) d);
+        hidden_are = λ ts. omega (arith, h.hidden_are);
+      }
+
+      by : (r : t.Conversion) → ConversionIn r (kind_of f.kind) (kind_of x.kind)
+          → PutTarget W p ks f.number (target_by r (range_for f.kind x.kind) f x) c g
+      by t.Kept same = record {
         targets = λ ts i. (
           kind_of f.kind,
           h.whole,
@@ -151,7 +174,10 @@ module _ (W : World) where
         taken = λ ts. refl;
         operands_are = λ ts. omega (arith, h.operands_are, words_agree f.kind, words_agree x.kind, ap words_in same);
         hidden_are = λ ts. omega (arith, h.hidden_are);
-      })
+      }
+      by (t.Widened from to) d = put_converted (t.Widened from to) tt d
+      by (t.Narrowed from to r) d = put_converted (t.Narrowed from to r) tt d
+      by t.InCommon d = put_converted t.InCommon tt d
 
   -- ---- in order
   no_targets : (p : Spot) (all : t.Kinds) (n c g : ℕ) → OrderOf W p all n t.NoTargets c g

@@ -27,11 +27,13 @@ mutual
   pub type_in : (k : PlainType) → TypeInOrder k → TypeIn k
   type_in v.Integer h = tt
   type_in v.Cardinal h = tt
+  type_in v.LongInteger h = tt
+  type_in v.LongCardinal h = tt
   type_in v.Boolean h = tt
   type_in v.Character h = tt
   type_in v.String h = tt
   type_in (v.Enumeration o xs) h = (h.0, h.1)
-  type_in (v.Subrange k first last) h = (type_in k h.0, h.1, h.2, h.3)
+  type_in (v.Subrange k first last) h = (type_in k h.0, h.2, h.3, h.4, h.1)
   type_in (v.Array i e) h = (type_in i h.0, type_in e h.1, h.2, h.3, h.4)
   type_in (v.Record o ps) h = (parts_in ps h.0, some_part ps h.1, h.2, h.3)
 
@@ -58,7 +60,7 @@ items_in (i ∷ is) h = (
 constants_in : (cs : List PlainConstant) → ConstantsInOrder cs → ConstantsGood cs
 unfolding ConstantsInOrder ConstantsGood
 constants_in [] h = tt
-constants_in (c ∷ cs) h = (((h.0).word, (h.0).ordinal, type_in c.kind (h.0).kind), constants_in cs h.1)
+constants_in (c ∷ cs) h = (((h.0).value, type_in c.kind (h.0).kind), constants_in cs h.1)
 
 types_in : (xs : List PlainName) → NamesInOrder xs → TypesGood xs
 unfolding NamesInOrder TypesGood

@@ -1,6 +1,6 @@
 -- SELECT and loops: from what checking promises of their parts, what it promises of them.
 use Rattle.std.proofs.Common.{◌≡◌, ℕ, suc, ◌+◌, List, [], ◌∷◌, ◌++◌, length, refl, sym, ◌∙◌, ap, subst, arith}
-use Rattle.std.specs.Prelude.{◌≤◌, ◌<◌, ◌≢◌, Bool, true, false, ◌||◌, Ok, Err, IfOk, is_some, All, Contains}
+use Rattle.std.specs.Prelude.{◌≤◌, ◌<◌, ◌≢◌, Bool, true, false, not, ◌||◌, Ok, Err, IfOk, if◌then◌else◌, All, Contains}
 use Rattle.std.proofs.lemmas.List.Elements.{All-cons}
 use Rattle.mesa_base.specs.declared.place.Place.{Place}
 use Rattle.mesa_base.specs.declared.identifier.Identifier.{Identifier}
@@ -12,22 +12,23 @@ use Rattle.syntax_trees.specs.declared.syntax.RepeatLabels.TheVariants as repeat
 use Rattle.mesa_types.specs.Counts.{operands_of_stmt, operands_of_tests, operands_of_cases, operands_of_interval, operands_of_condition, operands_of_loop, hidden, hidden_tests, hidden_cases, hidden_interval, hidden_condition, hidden_loop, hidden_exits, hidden_finish, hidden_stmts, hidden_phrase}
 use Rattle.check_rules.specs.Typed as t
 use Rattle.interface_records.specs.PlainTypes as v
-use Rattle.interface_records.specs.PlainTypes.{PlainType, base_of, kind_of, conforms}
+use Rattle.interface_records.specs.PlainTypes.{PlainType, kind_of, is_long, is_ordinal, conforms}
 use Rattle.check_rules.specs.Meanings as m
 use Rattle.check_rules.specs.Meanings.{Meaning}
 use Rattle.check_rules.specs.Steps.{Checked, ◌>>=◌, pure}
 use Rattle.check_rules.specs.Around.{Around, in_loop, in_round}
-use Rattle.check_rules.specs.Operators.{related, turned}
+use Rattle.check_rules.specs.Operators.{Relating, Longs, Words, sort_of, related, relating, longer, selecting, selecting_itself, beside, turned}
 use Rattle.check_rules.specs.Parts.{first, first_of_interval, names_of}
 use Rattle.check_rules.specs.Ranges.{Typed, Free, Into, range_for}
-use Rattle.check_rules.specs.Statements.{Ends, between, bases, lies_in, test_by, tested, tested_inside, Rounds, rounds_by, rounds, Counter, counter, given, Counted, NotCounted, By, Controlled, looped, labels_of, labels_of_repeats, numbers_from, Left, also_left, new_labels, is_finished}
+use Rattle.check_rules.specs.Statements.{Ends, are_related, meets_bounds, is_long_interval, longer_bounds, not_long, test_by, tested, test_inside_by, tested_inside, selected_by, selected, held_words, Rounds, rounds_by, rounds, Counter, counter, given, Counted, NotCounted, By, Controlled, looped, labels_of, labels_of_repeats, numbers_from, Left, also_left, new_labels, is_finished}
 use Rattle.check_rules.specs.Phrases.{holds, in_interval, in_tests, in_cases}
 use Rattle.check_rules.specs.Checking.{statement, statements, phrase, tests, cases, control, counted, condition, repeats}
 use Rattle.check_rules.specs.Written.{StatementWritten, StatementsWritten, TestsWritten, CasesWritten, ControlWritten, CountWritten, ConditionWritten, RepeatsWritten, RepeatWritten, PhraseWritten}
 use Rattle.check_rules.specs.Written as written
-use Rattle.check_rules.proofs.SoundTypes.{TypeIn, or_left, or_right, some_base}
-use Rattle.check_rules.proofs.SoundOperators.{related_in, given_range}
-use Rattle.check_rules.proofs.SoundSteps.{World, Spot, at, MeaningIn, Rule, bind, under, given as put_given, plainly, hidden_words}
+use Rattle.check_rules.proofs.SoundTypes.{TypeIn, or_left, or_right, ordinal_kind, long_kind}
+use Rattle.check_rules.proofs.SoundOperators.{number_kind, RelatesFor, relating_in, related_in, left_word, numbers_word, selecting_in, selecting_itself_in, given_range}
+use Rattle.check_rules.proofs.SoundOperators as operators
+use Rattle.check_rules.proofs.SoundSteps.{World, Spot, at, MeaningIn, Rule, bind, under, given as put_given, plainly, spent_words, hidden_words}
 use Rattle.check_rules.proofs.SoundnessStatements.{PhraseHere, SeenIn, AroundIn, Ready, ValueIn, EndsIn, CheckedIn, AimIn, Checks, ChecksInterval}
 use Rattle.check_rules.proofs.SoundExpressions.{part}
 use Rattle.check_rules.proofs.SoundLists.{ChecksPhrase, CaughtIn}
@@ -38,59 +39,108 @@ use Rattle.check_rules.proofs.SoundValues as rules
 
 -- ---- judgements
 
+-- x is the selector
 pub record PutIn (W : World) (p : Spot) (x : Typed) (f : t.Tests → t.Tests) (spent hid : ℕ) : Type 0 where
-  pub word : kind_of x.kind ≡ t.Ordinal
+  pub word : is_long x.kind ≡ false → kind_of x.kind ≡ t.Ordinal
+  pub takes : (ts : t.Tests) → sound.TestsTake (kind_of x.kind) ts → sound.TestsTake (kind_of x.kind) (f ts)
   pub some : (ts : t.Tests) → sound.HasTest (f ts)
   pub tests : (ts : t.Tests) → sound.TestsIn (at W p) ts → sound.TestsIn (at W p) (f ts)
   pub operands_are : (ts : t.Tests) → operands_of_tests (f ts) ≤ operands_of_tests ts + spent
   pub hidden_are : (ts : t.Tests) → hidden_tests (f ts) ≤ hidden_tests ts + hid
 
 pub record TestsOf (W : World) (p : Spot) (x : Typed) (xs : s.Tests) (ts : t.Tests) (spent hid : ℕ) : Type 0 where
-  pub word : written.HasTest xs → kind_of x.kind ≡ t.Ordinal
+  pub word : written.HasTest xs → is_long x.kind ≡ false → kind_of x.kind ≡ t.Ordinal
+  pub takes : sound.TestsTake (kind_of x.kind) ts
   pub some : written.HasTest xs → sound.HasTest ts
   pub tests : sound.TestsIn (at W p) ts
   pub operands_are : operands_of_tests ts ≤ spent
   pub hidden_are : hidden_tests ts ≤ hid
 
 pub record ChecksTests (W : World) (ts : s.Tests) : Type 0 where
-  pub by : (p : Spot) (a : Around) (x : Typed) → Rule W false (Ready W false p a (in_tests ts) (TestsWritten ts)) (TestsOf W p x ts) (tests a x ts)
+  pub by : (p : Spot) (a : Around) (l : Place) (x : Typed)
+      → Rule W false (Ready W false p a (in_tests ts) (TestsWritten ts) × TypeIn x.kind) (TestsOf W p x ts) (tests a l x ts)
 
 pub record CasesOf (W : World) (p : Spot) (x : Typed) (f : t.Cases → t.Cases) (spent hid : ℕ) : Type 0 where
   pub cases : (cs : t.Cases) → sound.CasesIn (at W p) cs → sound.CasesIn (at W p) (f cs)
-  pub selects : (cs : t.Cases) → sound.Selects (kind_of x.kind) cs → sound.Selects (kind_of x.kind) (f cs)
+  pub takes : (cs : t.Cases) → sound.CasesTake (kind_of x.kind) cs → sound.CasesTake (kind_of x.kind) (f cs)
+  pub selects : (cs : t.Cases) → is_long x.kind ≡ false → sound.Selects (kind_of x.kind) cs → sound.CasesTake (kind_of x.kind) cs
+      → sound.Selects (kind_of x.kind) (f cs)
   pub operands_are : (cs : t.Cases) → operands_of_cases (f cs) ≤ operands_of_cases cs + spent
   pub hidden_are : (cs : t.Cases) → hidden_cases (f cs) ≤ hidden_cases cs + hid
 
 pub record ChecksCases (W : World) (cs : s.Cases) : Type 0 where
-  pub by : (p : Spot) (a : Around) (x : Typed) → Rule W false (Ready W false p a (in_cases cs) (CasesWritten cs)) (CasesOf W p x) (cases a x cs)
+  pub by : (p : Spot) (a : Around) (l : Place) (x : Typed)
+      → Rule W false (Ready W false p a (in_cases cs) (CasesWritten cs) × TypeIn x.kind) (CasesOf W p x) (cases a l x cs)
 
 module _ (W : World) where
   -- ---- tests
-  tested_in : (p : Spot) (negated : Bool) (o : Relation) (q : Place) (x y : Typed) (c g : ℕ) → ValueIn W p y c g
-      → IfOk (tested negated o q x y) (λ f. PutIn W p x f c g)
-  unfolding tested sound.HasTest sound.TestsIn operands_of_tests hidden_tests
-  tested_in p negated o q x y c g h = rules.where_some (related x.kind x.literal y.kind y.literal) _ q (test_by (turned negated o) x y)
-      (λ f. PutIn W p x f c g) (λ z e.
-      let r = related_in x.kind y.kind x.literal y.literal z e in
-      record {
-        word = r.left;
+  made_long : (x : Typed) (c : t.Conversion) → TypeIn x.kind → operators.IsNumber (sort_of x.kind) → sound.Converts c (operators.kind_by (sort_of x.kind)) t.Longs
+      → sound.Converts c (kind_of x.kind) t.Longs
+  made_long x c i n h = subst (λ k. sound.Converts c k t.Longs) (sym (number_kind x.kind i n)) h
+
+  tested_in : (p : Spot) (negated : Bool) (o : Relation) (q l : Place) (x : Typed) (place : Place) (y : Typed) (c g : ℕ) → TypeIn x.kind → ValueIn W p y c g
+      → IfOk (tested negated o q l x place y) (λ f. PutIn W p x f (c + longer (sort_of x.kind) false (sort_of y.kind) y.literal) g)
+  unfolding tested sound.HasTest sound.TestsIn sound.TestsTake operands_of_tests hidden_tests
+  tested_in p negated o q l x place y c g i h =
+      rules.where_some (relating x.kind x.literal y.kind y.literal) _ (beside q l (sort_of x.kind) place (sort_of y.kind)) (test_by (turned negated o) x y)
+      (λ f. PutIn W p x f (c + longer (sort_of x.kind) false (sort_of y.kind) y.literal) g)
+      (λ z e. by z (relating_in x.kind y.kind x.literal y.literal z e))
+    where
+      by : (z : Relating) → RelatesFor x.kind x.literal y.kind y.literal z
+          → PutIn W p x (test_by (turned negated o) x y z) (c + longer (sort_of x.kind) false (sort_of y.kind) y.literal) g
+      by (Words z) r = record {
+        word = λ f. r.left;
+        takes = λ ts k. (r.left, k);
         some = λ ts. tt;
-        tests = λ ts i. ((r.met).left, rules.checked_word W p z.right y.value (r.met).right (rules.as_word W p y.value y.kind r.right h.value), i);
+        tests = λ ts k. ((r.met).left, rules.checked_word W p z.right y.value (r.met).right (rules.as_word W p y.value y.kind r.right h.value), k);
         operands_are = λ ts. omega (arith, rules.checked_operands W p z.right y.value, h.operands_are);
         hidden_are = λ ts. omega (arith, rules.checked_hidden W p z.right y.value, h.hidden_are);
-      })
+      }
+      by (Longs z) r = record {
+        word = λ f. left_word x.kind y.kind x.literal y.literal (Longs z) r f;
+        takes = λ ts k. (made_long x (selecting z.base (sort_of x.kind) x.literal) i r.left_number
+            (selecting_in z.base (sort_of x.kind) x.literal r.left_number), k);
+        some = λ ts. tt;
+        tests = λ ts k. (rules.long_operand W p z.right y.kind y.literal y.value h.kind r.right_number r.right h.literal h.value, k);
+        operands_are = λ ts. omega (arith, (rules.fitted_counts W p z.right y.value).0, r.right_words, h.operands_are);
+        hidden_are = λ ts. omega (arith, (rules.fitted_counts W p z.right y.value).1, h.hidden_are);
+      }
 
-  tested_interval : (p : Spot) (negated : Bool) (q : Place) (x : Typed) (i : Ends) (c g : ℕ) → EndsIn W p i c g
-      → IfOk (tested_inside negated q x i) (λ f. PutIn W p x f c g)
-  unfolding tested_inside sound.HasTest sound.TestsIn operands_of_tests hidden_tests
-  tested_interval p negated q x i c g h = rules.only_where (lies_in x i) _ q (t.IfWithin negated (bases x.kind i) (between i)) (λ f. PutIn W p x f c g) (λ e.
-      let r = rules.interval_in W p x i c g e h in
-      record { word = r.0; some = λ ts. tt; tests = λ ts j. (r.1, j); operands_are = λ ts. omega (arith, r.2); hidden_are = λ ts. omega (arith, r.3) })
+  tested_interval : (p : Spot) (negated : Bool) (q l : Place) (x : Typed) (i : Ends) (c g : ℕ) → TypeIn x.kind → EndsIn W p i c g
+      → IfOk (tested_inside negated q l x i) (λ f. PutIn W p x f (c + longer_bounds x i) g)
+  unfolding tested_inside meets_bounds sound.HasTest sound.TestsIn sound.TestsTake operands_of_tests hidden_tests
+  tested_interval p negated q l x i c g k h =
+      rules.two_where (are_related x i.low) (are_related x i.high) _ _ _ (test_inside_by (is_long_interval x i) negated x i)
+      (λ f. PutIn W p x f (c + longer_bounds x i) g) (λ e d. by (is_long_interval x i) refl e d)
+    where
+      by : (b : Bool) → is_long_interval x i ≡ b → are_related x i.low ≡ true → are_related x i.high ≡ true
+          → PutIn W p x (test_inside_by b negated x i) (c + longer_bounds x i) g
+      by false f e d =
+          let r = rules.words_between W p x i c g f e d h in
+          record {
+            word = λ n. r.word;
+            takes = λ ts j. (r.word, j);
+            some = λ ts. tt;
+            tests = λ ts j. (r.interval, j);
+            operands_are = λ ts. omega (arith, r.operands_are);
+            hidden_are = λ ts. omega (arith, r.hidden_are);
+          }
+      by true f e d =
+          let r = rules.longs_between W p x i c g f e d h in
+          record {
+            word = λ n. numbers_word x.kind r.number n;
+            takes = λ ts j. (made_long x (selecting_itself (sort_of x.kind)) k r.number (selecting_itself_in (sort_of x.kind) r.number), j);
+            some = λ ts. tt;
+            tests = λ ts j. (r.interval, j);
+            operands_are = λ ts. omega (arith, r.operands_are);
+            hidden_are = λ ts. omega (arith, r.hidden_are);
+          }
 
   put_tests : (p : Spot) (x : Typed) (f : t.Tests → t.Tests) (xs ys : s.Tests) (ts : t.Tests) (c g m n c' g' : ℕ) → PutIn W p x f c g → TestsOf W p x xs ts m n
       → c + m ≤ c' → g + n ≤ g' → TestsOf W p x ys (f ts) c' g'
   put_tests p x f xs ys ts c g m n c' g' a b i j = record {
     word = λ h. a.word;
+    takes = a.takes ts b.takes;
     some = λ h. a.some ts;
     tests = a.tests ts b.tests;
     operands_are = omega (arith, i, a.operands_are ts, b.operands_are);
@@ -98,92 +148,121 @@ module _ (W : World) where
   }
 
   pub tests_none : ChecksTests W s.NoTests
-  unfolding tests written.HasTest sound.TestsIn operands_of_tests hidden_tests
+  unfolding tests written.HasTest sound.TestsIn sound.TestsTake operands_of_tests hidden_tests
   tests_none = record {
-    by = λ p a x. put_given W false t.NoTests (λ pre. record
-        { word = λ h. absurd h; some = λ h. absurd h; tests = tt; operands_are = omega arith; hidden_are = omega arith });
+    by = λ p a l x. put_given W false t.NoTests (λ pre. record
+        { word = λ h. absurd h; takes = tt; some = λ h. absurd h; tests = tt; operands_are = omega arith; hidden_are = omega arith });
   }
 
   pub tests_value : (e : s.Expr) (ts : s.Tests) → Checks W e → ChecksTests W ts → ChecksTests W (s.Value e ts)
   unfolding tests in_tests TestsWritten CheckedIn AimIn
   tests_value e ts k l = record {
-    by = λ p a x.
-        bind W false (under W false (λ pre. (part (or_left (holds e) (in_tests ts)) (λ w. w.0) pre, tt)) (k.by false p a (Free (first e)))) (λ y c g.
-        bind W false (plainly W false {P = λ f. PutIn W p x f c g} (tested false t.Equal (first e) x y)
-        (λ pre. tested_in p false t.Equal (first e) x y c g pre.1)) (λ f i j.
-        bind W false (under W false (λ pre. part (or_right (holds e) (in_tests ts)) (λ w. w.1) pre.0.0) (l.by p a x)) (λ us m n.
-        put_given W false (f us) (λ pre. put_tests p x f ts (s.Value e ts) us c g m n (c + (i + (m + 0))) (g + (j + (n + 0))) pre.0.1 pre.1 (omega arith)
-        (omega arith)))));
+    by = λ p a lx x.
+        bind W false (under W false (λ pre. (part (or_left (holds e) (in_tests ts)) (λ w. w.0) pre.0, tt)) (k.by false p a (Free (first e)))) (λ y c g.
+        let more = longer (sort_of x.kind) false (sort_of y.kind) y.literal in
+        bind W false (plainly W false {P = λ f. PutIn W p x f (c + more) g} (tested false t.Equal (first e) lx x (first e) y)
+        (λ pre. tested_in p false t.Equal (first e) lx x (first e) y c g pre.0.1 pre.1)) (λ f i j.
+        bind W false (spent_words W false more) (λ u i' j'.
+        bind W false (under W false (λ pre. (part (or_right (holds e) (in_tests ts)) (λ w. w.1) pre.0.0.0.0, pre.0.0.0.1)) (l.by p a lx x)) (λ us m n.
+        put_given W false (f us) (λ pre. put_tests p x f ts (s.Value e ts) us (c + more) g m n (c + (i + (i' + (m + 0)))) (g + (j + (j' + (n + 0)))) pre.0.0.1
+        pre.1 (omega (arith, pre.0.1)) (omega arith))))));
   }
 
   pub tests_compared : (b : Bool) (o : Relation) (q : Place) (e : s.Expr) (ts : s.Tests) → Checks W e → ChecksTests W ts → ChecksTests W (s.Compared b o q e ts)
   unfolding tests in_tests TestsWritten CheckedIn AimIn
   tests_compared b o q e ts k l = record {
-    by = λ p a x.
-        bind W false (under W false (λ pre. (part (or_left (holds e) (in_tests ts)) (λ w. w.0) pre, tt)) (k.by false p a (Free (first e)))) (λ y c g.
-        bind W false (plainly W false {P = λ f. PutIn W p x f c g} (tested b o q x y) (λ pre. tested_in p b o q x y c g pre.1)) (λ f i j.
-        bind W false (under W false (λ pre. part (or_right (holds e) (in_tests ts)) (λ w. w.1) pre.0.0) (l.by p a x)) (λ us m n.
-        put_given W false (f us) (λ pre. put_tests p x f ts (s.Compared b o q e ts) us c g m n (c + (i + (m + 0))) (g + (j + (n + 0))) pre.0.1 pre.1
-        (omega arith) (omega arith)))));
+    by = λ p a lx x.
+        bind W false (under W false (λ pre. (part (or_left (holds e) (in_tests ts)) (λ w. w.0) pre.0, tt)) (k.by false p a (Free (first e)))) (λ y c g.
+        let more = longer (sort_of x.kind) false (sort_of y.kind) y.literal in
+        bind W false (plainly W false {P = λ f. PutIn W p x f (c + more) g} (tested b o q lx x (first e) y)
+        (λ pre. tested_in p b o q lx x (first e) y c g pre.0.1 pre.1)) (λ f i j.
+        bind W false (spent_words W false more) (λ u i' j'.
+        bind W false (under W false (λ pre. (part (or_right (holds e) (in_tests ts)) (λ w. w.1) pre.0.0.0.0, pre.0.0.0.1)) (l.by p a lx x)) (λ us m n.
+        put_given W false (f us) (λ pre. put_tests p x f ts (s.Compared b o q e ts) us (c + more) g m n (c + (i + (i' + (m + 0)))) (g + (j + (j' + (n + 0))))
+        pre.0.0.1 pre.1 (omega (arith, pre.0.1)) (omega arith))))));
   }
 
   pub tests_inside : (b : Bool) (q : Place) (i : s.Interval) (ts : s.Tests) → ChecksInterval W i → ChecksTests W ts → ChecksTests W (s.Inside b q i ts)
   unfolding tests in_tests TestsWritten
   tests_inside b q i ts k l = record {
-    by = λ p a x.
-        bind W false (under W false (λ pre. part (or_left (in_interval i) (in_tests ts)) (λ w. w.0) pre) (k.by false p a)) (λ y c g.
-        bind W false (plainly W false {P = λ f. PutIn W p x f c g} (tested_inside b q x y) (λ pre. tested_interval p b q x y c g pre.1)) (λ f d h.
-        bind W false (under W false (λ pre. part (or_right (in_interval i) (in_tests ts)) (λ w. w.1) pre.0.0) (l.by p a x)) (λ us m n.
-        put_given W false (f us) (λ pre. put_tests p x f ts (s.Inside b q i ts) us c g m n (c + (d + (m + 0))) (g + (h + (n + 0))) pre.0.1 pre.1 (omega arith)
-        (omega arith)))));
+    by = λ p a lx x.
+        bind W false (under W false (λ pre. part (or_left (in_interval i) (in_tests ts)) (λ w. w.0) pre.0) (k.by false p a)) (λ y c g.
+        bind W false (plainly W false {P = λ f. PutIn W p x f (c + longer_bounds x y) g} (tested_inside b q lx x y)
+        (λ pre. tested_interval p b q lx x y c g pre.0.1 pre.1)) (λ f d h.
+        bind W false (spent_words W false (longer_bounds x y)) (λ u d' h'.
+        bind W false (under W false (λ pre. (part (or_right (in_interval i) (in_tests ts)) (λ w. w.1) pre.0.0.0.0, pre.0.0.0.1)) (l.by p a lx x)) (λ us m n.
+        put_given W false (f us) (λ pre. put_tests p x f ts (s.Inside b q i ts) us (c + longer_bounds x y) g m n (c + (d + (d' + (m + 0))))
+        (g + (h + (h' + (n + 0)))) pre.0.0.1 pre.1 (omega (arith, pre.0.1)) (omega arith))))));
   }
 
   -- ---- cases
   pub cases_none : ChecksCases W s.NoCases
   unfolding cases
   cases_none = record {
-    by = λ p a x. put_given W false (λ cs. cs) (λ pre. record
-        { cases = λ cs h. h; selects = λ cs h. h; operands_are = λ cs. omega arith; hidden_are = λ cs. omega arith });
+    by = λ p a l x. put_given W false (λ cs. cs) (λ pre. record
+        { cases = λ cs h. h; takes = λ cs h. h; selects = λ cs f h k. h; operands_are = λ cs. omega arith; hidden_are = λ cs. omega arith });
   }
 
   pub cases_more : (ts : s.Tests) (body : s.Statement) (rest : s.Cases) → ChecksTests W ts → ChecksStatement W body → ChecksCases W rest
       → ChecksCases W (s.AndCase ts body rest)
-  unfolding cases in_cases CasesWritten sound.CasesIn sound.Selects operands_of_cases hidden_cases
+  unfolding cases in_cases CasesWritten sound.CasesIn sound.CasesTake sound.Selects operands_of_cases hidden_cases
   cases_more ts body rest k l n = record {
-    by = λ p a x.
-        bind W false (under W false (λ pre. part (or_left (in_tests ts) (in_cases rest)) (λ w. w.1) pre) (k.by p a x)) (λ us c g.
-        bind W false (under W false (λ pre. ((pre.0).around, (pre.0).written.2)) (l.by p a)) (λ b i j.
-        bind W false (under W false (λ pre. part (or_right (in_tests ts) (in_cases rest)) (λ w. w.3) pre.0.0) (n.by p a x)) (λ more d h.
+    by = λ p a lx x.
+        bind W false (under W false (λ pre. (part (or_left (in_tests ts) (in_cases rest)) (λ w. w.1) pre.0, pre.1)) (k.by p a lx x)) (λ us c g.
+        bind W false (under W false (λ pre. ((pre.0.0).around, (pre.0.0).written.2)) (l.by p a)) (λ b i j.
+        bind W false (under W false (λ pre. (part (or_right (in_tests ts) (in_cases rest)) (λ w. w.3) pre.0.0.0, pre.0.0.1)) (n.by p a lx x)) (λ more d h.
         put_given W false (λ cs. t.AndCase us b (more cs)) (λ pre. record {
-          cases = λ cs i. ((pre.0.0.1).some (pre.0.0.0).written.0, (pre.0.0.1).tests, (pre.0.1).statement, (pre.1).cases cs i);
-          selects = λ cs i. (pre.0.0.1).word (pre.0.0.0).written.0;
+          cases = λ cs i. ((pre.0.0.1).some (pre.0.0.0.0).written.0, (pre.0.0.1).tests, (pre.0.1).statement, (pre.1).cases cs i);
+          takes = λ cs i. ((pre.0.0.1).takes, (pre.1).takes cs i);
+          selects = λ cs f i m. let d = (pre.0.0.1).word (pre.0.0.0.0).written.0 f in
+              (d, subst (λ k. sound.TestsTake k us × sound.CasesTake k (more cs)) d ((pre.0.0.1).takes, (pre.1).takes cs m));
           operands_are = λ cs. omega (arith, (pre.0.0.1).operands_are, (pre.1).operands_are cs);
           hidden_are = λ cs. omega (arith, (pre.0.0.1).hidden_are, (pre.0.1).hidden_are, (pre.1).hidden_are cs);
         }))));
   }
 
+  selected_body : (o : Spot) (x : Typed) (b : Bool) → is_long x.kind ≡ b → (cs : t.Cases) (c g d h j c' g' : ℕ) → ValueIn W o x c g
+      → (is_long x.kind ≡ false → sound.Selects (kind_of x.kind) cs) → sound.CasesTake (kind_of x.kind) cs → sound.CasesIn (at W o) cs
+      → operands_of_cases cs ≤ d → hidden_cases cs ≤ h → (if b then 2 else 1) ≤ j → c + d ≤ c' → g + h + j ≤ g'
+      → BodyOf W o (selected_by b x.value cs) c' g'
+  unfolding sound.StmtIn sound.Fits operands_of_stmt hidden
+  selected_body o x true e cs c g d h j c' g' v s k i m n held p q = record {
+    statement = λ fits. (
+      fits,
+      rules.as_long W o x.value x.kind (long_kind x.kind e) v.value,
+      subst (λ k. sound.CasesTake k cs) (long_kind x.kind e) k,
+      i,
+    );
+    operands_are = omega (arith, v.operands_are, m, p);
+    hidden_are = omega (arith, v.hidden_are, n, held, q);
+  }
+  selected_body o x false e cs c g d h j c' g' v s k i m n held p q = record {
+    statement = λ fits. (kind_of x.kind, fits, v.value, s e, i);
+    operands_are = omega (arith, v.operands_are, m, p);
+    hidden_are = omega (arith, v.hidden_are, n, held, q);
+  }
+
+  other_cases : (k : t.Kind) (y : t.Stmt) → sound.Selects k (t.Otherwise y) × sound.CasesTake k (t.Otherwise y)
+  unfolding sound.Selects sound.CasesTake
+  other_cases k y = (tt, tt)
+
   pub statement_select : (q : Place) (e : s.Expr) (cs : s.Cases) (other : s.MaybeStatement) → Checks W e → ChecksCases W cs → ChecksOther W other
       → ChecksStatement W (s.Select q e cs other)
-  unfolding statement StatementWritten CheckedIn AimIn sound.StmtIn sound.Fits sound.CasesIn sound.Selects operands_of_stmt operands_of_cases hidden
-      hidden_cases
+  unfolding statement StatementWritten CheckedIn AimIn sound.CasesIn operands_of_cases hidden_cases selected
   statement_select q e cs other k l n = record {
     by = λ p a. whole_statement W (holds e || in_cases cs) p a q _ (λ o b mark.
         bind W false (under W false (λ pre. (part (or_left (holds e) (in_cases cs)) (λ w. w.0) pre, tt)) (k.by false o b (Free (first e)))) (λ x c g.
-        bind W false (hidden_words W false 1) (λ u i j.
-        bind W false (under W false (λ pre. part (or_right (holds e) (in_cases cs)) (λ w. w.1) pre.0.0) (l.by o b x)) (λ f d h.
+        bind W false (hidden_words W false (held_words x)) (λ u i j.
+        bind W false (under W false (λ pre. (part (or_right (holds e) (in_cases cs)) (λ w. w.1) pre.0.0, (pre.0.1).kind)) (l.by o b (first e) x)) (λ f d h.
         bind W false (under W false (λ pre. ((pre.0.0.0).around, (pre.0.0.0).written.2)) (n.by o b)) (λ y e' h'.
-        put_given W false (t.Select x.value (f (t.Otherwise y))) (λ pre. record {
-          statement = λ fits. (
-            kind_of x.kind,
-            fits,
-            (pre.0.0.0.1).value,
-            (pre.0.1).selects (t.Otherwise y) tt,
-            (pre.0.1).cases (t.Otherwise y)
-                (pre.1).statement,
-          );
-          operands_are = omega (arith, (pre.0.0.0.1).operands_are, (pre.0.1).operands_are (t.Otherwise y));
-          hidden_are = omega (arith, (pre.0.0.0.1).hidden_are, pre.0.0.1, (pre.0.1).hidden_are (t.Otherwise y), (pre.1).hidden_are);
-        }))))));
+        put_given W false (selected x (f (t.Otherwise y))) (λ pre.
+        selected_body o x (is_long x.kind) refl (f (t.Otherwise y)) c g d (h + h') j (c + (i + (d + (e' + 0)))) (g + (j + (h + (h' + 0)))) pre.0.0.0.1
+        (λ short. (pre.0.1).selects (t.Otherwise y) short (other_cases (kind_of x.kind) y).0 (other_cases (kind_of x.kind) y).1)
+        ((pre.0.1).takes (t.Otherwise y) (other_cases (kind_of x.kind) y).1)
+        ((pre.0.1).cases (t.Otherwise y) (pre.1).statement)
+        (omega (arith, (pre.0.1).operands_are (t.Otherwise y)))
+        (omega (arith, (pre.0.1).hidden_are (t.Otherwise y), (pre.1).hidden_are))
+        (omega (arith, pre.0.0.1)) (omega arith) (omega arith)))))));
   }
 
 -- ---- what stands before a DO
@@ -266,8 +345,8 @@ module _ (W : World) where
 
   counter_in : (p : Spot) (q : Place) (x : Meaning) → SeenIn W false x → IfOk (counter q x) (CounterIn p)
   unfolding MeaningIn sound.VariableIn
-  counter_in p q (m.Variable h k) i = rules.only_where (is_some (base_of k)) _ q (record { home = h; kind = k }) (CounterIn p)
-      (λ e. by h k i.there (some_base k e))
+  counter_in p q (m.Variable h k) i = rules.only_where (is_ordinal k) _ q (record { home = h; kind = k }) (CounterIn p)
+      (λ e. by h k i.there (ordinal_kind k e))
     where
       by : (h : t.Home) (k : PlainType) → MeaningIn W false (m.Variable h k) → kind_of k ≡ t.Ordinal → CounterIn p (record { home = h; kind = k })
       by (t.Global n) k i e = record { home = subst (sound.VariableIn (at W p) (t.Global n)) e i.0; kind = i.1 }
@@ -288,8 +367,11 @@ module _ (W : World) where
     hidden_are : hidden_interval r.interval ≤ g
 
   rounds_in : (p : Spot) (q : Place) (i : Ends) (c g : ℕ) → EndsIn W p i c g → IfOk (rounds q i) (λ r. RoundsIn p r c g)
-  unfolding rounds sound.IntervalIn operands_of_interval hidden_interval
-  rounds_in p q i c g h = rules.where_some (related (i.low).kind (i.low).literal (i.high).kind (i.high).literal) _ q (rounds_by i) (λ r. RoundsIn p r c g)
+  unfolding rounds not_long sound.IntervalIn operands_of_interval hidden_interval
+  rounds_in p q i c g h =
+      rules.behind_only (not (is_long (i.low).kind)) _ i.low_place _ (λ r. RoundsIn p r c g)
+      (rules.behind_only (not (is_long (i.high).kind)) _ i.high_place _ (λ r. RoundsIn p r c g)
+      (rules.where_some (related (i.low).kind (i.low).literal (i.high).kind (i.high).literal) _ q (rounds_by i) (λ r. RoundsIn p r c g)
       (λ z e.
       let r = related_in (i.low).kind (i.high).kind (i.low).literal (i.high).literal z e in
       record {
@@ -299,7 +381,7 @@ module _ (W : World) where
         );
         operands_are = omega (arith, rules.checked_operands W p z.left (i.low).value, rules.checked_operands W p z.right (i.high).value, h.operands_are);
         hidden_are = omega (arith, rules.checked_hidden W p z.left (i.low).value, rules.checked_hidden W p z.right (i.high).value, h.hidden_are);
-      })
+      })))
 
   given_in : (p : Spot) (q : Place) (c : Counter) (r : Rounds) → CounterIn p c → IfOk (given q c r) (sound.GivenIn (at W p))
   unfolding given sound.GivenIn

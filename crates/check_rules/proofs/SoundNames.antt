@@ -14,7 +14,7 @@ use Rattle.syntax_trees.specs.declared.syntax.Labels.TheVariants.{Any, Unwind, S
 use Rattle.mesa_types.specs.Links.{imported, IsUsed}
 use Rattle.check_rules.specs.Typed as t
 use Rattle.interface_records.specs.PlainTypes as v
-use Rattle.interface_records.specs.PlainTypes.{PlainType, PlainItem, base_of, item_of}
+use Rattle.interface_records.specs.PlainTypes.{PlainType, PlainItem, base_of, item_of, is_ordinal}
 use Rattle.check_rules.specs.Scopes.{Scope, find}
 use Rattle.check_rules.specs.Meanings.{Meaning}
 use Rattle.check_rules.specs.Meanings as m
@@ -99,7 +99,7 @@ found_in W flat x (scope ∷ scopes) a h e = by (scope x) refl e (found_in W fla
 -- the type whose values an interval is of, where a word or a name says it
 unfoldable pub BaseIn : Option PlainType → Type 0
 BaseIn None = Unit {0}
-BaseIn (Some k) = TypeIn k
+BaseIn (Some k) = TypeIn k × (is_ordinal k ≡ true)
 
 module _ (W : World) (flat : Bool) where
   -- an item of an import is marked
@@ -239,22 +239,22 @@ module _ (W : World) (flat : Bool) where
   type_is_seen a q h = bind W flat (qualified_is_seen a q h) (λ x i j. ended W flat (type_by (last_of q).place x)
       (λ pre. type_meant (last_of q).place x (pre.1).there))
 
-  ordinal_meant : (q : Place) (k : PlainType) → TypeIn k → IfOk (ordinal_type q k) TypeIn
-  ordinal_meant q k h = by (is_some (base_of k)) _
+  ordinal_meant : (q : Place) (k : PlainType) → TypeIn k → IfOk (ordinal_type q k) (λ j. TypeIn j × (is_ordinal j ≡ true))
+  ordinal_meant q k h = by (is_ordinal k) refl _
     where
-      by : (b : Bool) (cause : Cause) → IfOk (and_then (only b cause q) (λ _. Ok k)) TypeIn
-      by true cause = h
-      by false cause = tt
+      by : (b : Bool) → is_ordinal k ≡ b → (cause : Cause) → IfOk (and_then (only b cause q) (λ _. Ok k)) (λ j. TypeIn j × (is_ordinal j ≡ true))
+      by true e cause = (h, e)
+      by false e cause = tt
 
   pub base_is_seen : {Pre : Type 0} {p : Spot} (a : Around) (b : TypeBase) → (Pre → AroundIn W flat p a)
       → Rule W flat Pre (λ k m n. BaseIn k) (word_base a b)
-  unfolding word_base BaseIn TypeIn
+  unfolding word_base BaseIn TypeIn is_ordinal base_of
   base_is_seen a Unsaid h = given W flat None (λ pre. tt)
-  base_is_seen a (OfInteger q) h = given W flat (Some v.Integer) (λ pre. tt)
-  base_is_seen a (OfCardinal q) h = given W flat (Some v.Cardinal) (λ pre. tt)
-  base_is_seen a (OfCharacter q) h = given W flat (Some v.Character) (λ pre. tt)
+  base_is_seen a (OfInteger q) h = given W flat (Some v.Integer) (λ pre. (tt, refl))
+  base_is_seen a (OfCardinal q) h = given W flat (Some v.Cardinal) (λ pre. (tt, refl))
+  base_is_seen a (OfCharacter q) h = given W flat (Some v.Character) (λ pre. (tt, refl))
   base_is_seen a (OfName q) h = bind W flat (type_is_seen a q h) (λ k i j.
-      bind W flat (plainly W flat {P = TypeIn} (ordinal_type (last_of q).place k) (λ pre. ordinal_meant (last_of q).place k pre.1))
+      bind W flat (plainly W flat {P = λ j. TypeIn j × (is_ordinal j ≡ true)} (ordinal_type (last_of q).place k) (λ pre. ordinal_meant (last_of q).place k pre.1))
       (λ k i j. given W flat (Some k) (λ pre. pre.1)))
 
   signal_there : (r : t.Raised) (i : PlainItem) → MeaningIn W flat (m.Signal r i) → MeaningIn W false (m.Signal r i)

@@ -1,6 +1,6 @@
 -- What a name leads to, and what its suffixes lead to from there, is sound.
 use Rattle.std.proofs.Common.{◌≡◌, ℕ, suc, ◌+◌, ◌*◌, List, [], ◌∷◌, ◌++◌, length, refl, sym, ◌∙◌, ap, subst, arith}
-use Rattle.std.specs.Prelude.{◌≤◌, ◌<◌, ◌≢◌, ◌-◌, Bool, true, false, Option, Some, None, Ok, IfOk, min, if◌then◌else◌}
+use Rattle.std.specs.Prelude.{◌≤◌, ◌<◌, ◌≢◌, ◌-◌, Bool, true, false, ◌&&◌, Option, Some, None, Ok, IfOk, min, if◌then◌else◌}
 use Rattle.mesa_base.specs.declared.place.Place.{Place}
 use Rattle.mesa_base.specs.declared.identifier.Identifier.{Identifier}
 use Rattle.mesa_types.specs.Sound as sound
@@ -9,7 +9,7 @@ use Rattle.mesa_types.specs.Shapes.{one, KindAt, PartOf, words_before, words_in,
 use Rattle.mesa_types.proofs.WordSizes.{values_have_words}
 use Rattle.check_rules.specs.Typed as t
 use Rattle.interface_records.specs.PlainTypes as v
-use Rattle.interface_records.specs.PlainTypes.{PlainType, PlainField, base_of, kind_of, kinds_of, fields, is_text, words_of, elements_of, one_base, array_parts, bounds}
+use Rattle.interface_records.specs.PlainTypes.{PlainType, PlainField, base_of, kind_of, kinds_of, fields, is_text, is_long, is_ordinal, is_ordinal_base, words_of, elements_of, one_base, one_ordinal_base, array_parts, bounds}
 use Rattle.check_rules.specs.declared.fault.Cause.{Cause}
 use Rattle.check_rules.specs.Meanings.{Meaning}
 use Rattle.check_rules.specs.Meanings as m
@@ -17,8 +17,10 @@ use Rattle.check_rules.specs.Steps.{refuse}
 use Rattle.check_rules.specs.Around.{Around}
 use Rattle.check_rules.specs.Parts.{Found, has_name, found, field_named, and_suffix, and_part}
 use Rattle.check_rules.specs.Ranges.{Typed, typed, Aim, Free, Into, Several}
-use Rattle.check_rules.specs.Reached.{Reached, Variable, Value, Results, Named, reached, settled, results, value, is_length, length_of, field_of_fields, field_in, field_of_variable, part_of, field_of_value, field, Bracketed, InArray, InText, text_at, indexed_by, indexed, first_word, index_range, index_of, at_index, stored}
-use Rattle.check_rules.proofs.SoundTypes.{TypeIn, FieldsIn, FieldsOf, no_truth, none_is_no, fields_of_type, words_agree, has_words, based_left, some_base}
+use Rattle.check_rules.specs.Interfaces.{ConstantFits}
+use Rattle.check_rules.specs.Reached.{Reached, Variable, Value, Results, Named, constant_value, reached, settled, results, value, is_length, length_of, field_of_fields, field_in, field_of_variable, part_of, field_of_value, field, Bracketed, InArray, InText, text_at, indexed_by, indexed, first_word, index_range, index_of, at_index, stored}
+use Rattle.check_rules.proofs.SoundTypes.{TypeIn, FieldsIn, FieldsOf, no_truth, none_is_no, both_left, fields_of_type, words_agree, has_words, ordinal_kind, long_kind}
+use Rattle.check_rules.proofs.SoundConstants.{constant_kind}
 use Rattle.check_rules.proofs.SoundOperators.{index_words, first_is_word, plain_words, plain_types}
 use Rattle.check_rules.proofs.SoundSteps.{World, Spot, at, MeaningIn, Rule, bind, given, ended, failed, spent_words}
 use Rattle.check_rules.proofs.SoundNames.{interface_is_seen}
@@ -73,6 +75,8 @@ pub text_type : (k : PlainType) → is_text k ≡ true → k ≡ v.String
 text_type v.String e = refl
 text_type v.Integer e = no_truth e
 text_type v.Cardinal e = no_truth e
+text_type v.LongInteger e = no_truth e
+text_type v.LongCardinal e = no_truth e
 text_type v.Boolean e = no_truth e
 text_type v.Character e = no_truth e
 text_type (v.Enumeration o xs) e = no_truth e
@@ -159,6 +163,45 @@ module _ (W : World) (p : Spot) where
   unfolding sound.ExprIn
   variable_expr h ss k n g r = (r.whole, kind_of k, r.home, r.part, words_agree k, refl)
 
+  record ConstantIn (k : PlainType) (e : t.Expr) : Type 0 where
+    value : sound.ExprIn (at W p) e (one (kind_of k))
+    operands_are : operands e ≡ words_of k
+    hidden_are : hidden_expr e ≡ 0
+
+  constant_in : (k : PlainType) (i : ℕ) (l : Bool) → is_long k ≡ l → ConstantFits (kind_of k) i → ConstantIn k (constant_value l i)
+  unfolding sound.ExprIn operands hidden_expr words_in ConstantFits sound.a_word sound.a_long
+  constant_in k i true e h =
+      let d = long_kind k e in record {
+        value = (subst (λ j. ConstantFits j i) d h, ap one d);
+        operands_are = sym (words_agree k ∙ ap words_in d);
+        hidden_are = refl;
+      }
+  constant_in k i false e h =
+      let d = constant_kind k i h e in record {
+        value = (subst (λ j. ConstantFits j i) d h, ap one d);
+        operands_are = sym (words_agree k ∙ ap words_in d);
+        hidden_are = refl;
+      }
+
+  no_fields : (k : PlainType) (i : ℕ) (fs : List PlainField) → TypeIn k → ConstantFits (kind_of k) i → fields k ≡ Some fs → ⊥
+  unfolding ConstantFits
+  no_fields k i fs d h e = subst (λ j. ConstantFits j i) (fields_of_type k fs d e).shape h
+
+  constant_reached : (k : PlainType) (i n g : ℕ) → ConstantFits (kind_of k) i → TypeIn k → ValueReached W p (words_of k) (constant_value (is_long k) i) k n g
+  unfolding ConstantFits kind_of
+  constant_reached k i n g h d =
+      let c = constant_in k i (is_long k) refl h in record {
+        value = c.value;
+        kind = d;
+        operands_are = omega (arith, c.operands_are);
+        one_is = λ e. absurd (no_text k i h e);
+        few = λ fs e. absurd (no_fields k i fs d h e);
+        hidden_are = omega (arith, c.hidden_are);
+      }
+    where
+      no_text : (k : PlainType) (i : ℕ) → ConstantFits (kind_of k) i → is_text k ≡ true → ⊥
+      no_text k i h e = subst (λ j. ConstantFits (kind_of j) i) (text_type k e) h
+
   pub name_reached : (flat : Bool) (a : Meaning) (n g : ℕ) → SeenIn W flat a → ReachedIn W flat p (reached a) n g
   unfolding reached ReachedIn MeaningIn sound.VariableIn sound.SuffixesIn operands_in hidden_suffixes operands hidden_expr unnamed
   name_reached flat (m.Variable (t.Global i) k) n g h = record {
@@ -177,19 +220,12 @@ module _ (W : World) (p : Spot) where
     operands_are = omega arith;
     hidden_are = omega arith;
   }
-  name_reached flat (m.Constant k i) n g h = record {
-    value = values.of_word W p (t.Number i) k (h.there).1 (values.number_expr W p i (h.there).0);
-    kind = (h.there).2;
-    operands_are = omega arith;
-    one_is = omega arith;
-    few = λ fs e. omega arith;
-    hidden_are = omega arith;
-  }
+  name_reached flat (m.Constant k i) n g h = constant_reached k i n g (h.there).0 (h.there).1
   name_reached flat (m.TextConstant i) n g h = record {
     value = (values.text_value W p i 2 0 h.there (omega arith)).value;
     kind = plain_types.4;
     operands_are = omega arith;
-    one_is = omega arith;
+    one_is = λ c. omega arith;
     few = λ fs e. none_is_no fs e;
     hidden_are = omega arith;
   }
@@ -207,7 +243,7 @@ module _ (W : World) (p : Spot) where
     value = h.value;
     kind = (h.kinds).0;
     operands_are = omega (arith, h.operands_are);
-    one_is = omega (arith, h.operands_are);
+    one_is = λ c. omega (arith, h.operands_are);
     few = λ fs e. omega arith;
     hidden_are = h.hidden_are;
   }
@@ -232,7 +268,7 @@ module _ (W : World) (p : Spot) where
     value = h.value;
     kind = h.kind;
     operands_are = omega (arith, a, h.operands_are);
-    one_is = omega (arith, a, h.one_is);
+    one_is = λ c. omega (arith, a, h.one_is c);
     few = h.few;
     hidden_are = omega (arith, b, h.hidden_are);
   }
@@ -259,7 +295,7 @@ module _ (W : World) (p : Spot) where
         (subst (λ j. sound.ExprIn (at W p) e (one j)) (ap kind_of d ∙ text_kind) x));
     kind = plain_types.3;
     operands_are = o;
-    one_is = omega (arith, small, o);
+    one_is = λ c. omega (arith, small, o);
     few = λ fs e. none_is_no fs e;
     hidden_are = i;
   }
@@ -309,7 +345,7 @@ module _ (W : World) (p : Spot) where
         value = part_more e (part_of f) (kind_of k) (kind_of f.kind) r.value (part_in k fs f o i);
         kind = i.kind;
         operands_are = omega (arith, (part_counts e (part_of f)).0, r.operands_are);
-        one_is = omega (arith, (part_counts e (part_of f)).0, r.operands_are, small);
+        one_is = λ c. omega (arith, (part_counts e (part_of f)).0, r.operands_are, small);
         few = λ gs e. small;
         hidden_are = omega (arith, (part_counts e (part_of f)).1, r.hidden_are);
       }
@@ -335,7 +371,7 @@ module _ (W : World) (p : Spot) where
       (λ fs f d c. let o = fields_of_type k fs (pre.1).kind d in
       more_reached flat (field_of_value n e f) s g (s + 0) (g + 0) (omega arith) (omega arith)
       (field_of_value_in flat n e k fs f s g o d (found_in_fields fs x f o.types c) pre.1))
-      (λ d. length_reached flat (min n 1) e k (s + 0) (g + 0) (text_type k d) (pre.1).value (omega arith) (omega (arith, (pre.1).one_is))
+      (λ d. length_reached flat (min n 1) e k (s + 0) (g + 0) (text_type k d) (pre.1).value (omega arith) (omega (arith, (pre.1).one_is d))
       (omega (arith, (pre.1).hidden_are))))
   field_reached flat a last (Named (m.Interface n)) x s g =
       bind W flat (interface_is_seen W flat a n x (λ pre. pre.0)) (λ y i j. given W flat (reached y)
@@ -366,6 +402,8 @@ module _ (W : World) (p : Spot) where
       same_pair a b e = cc
   array_is v.Integer i e d = none_is_no (i, e) d
   array_is v.Cardinal i e d = none_is_no (i, e) d
+  array_is v.LongInteger i e d = none_is_no (i, e) d
+  array_is v.LongCardinal i e d = none_is_no (i, e) d
   array_is v.Boolean i e d = none_is_no (i, e) d
   array_is v.Character i e d = none_is_no (i, e) d
   array_is v.String i e d = none_is_no (i, e) d
@@ -389,7 +427,7 @@ module _ (W : World) (p : Spot) where
 
   pub text_in : (last : Place) (n : ℕ) (e : t.Expr) (k : PlainType) (s g : ℕ) → ValueReached W p n e k s g
       → IfOk (text_at last k n e) (λ b. BracketedIn W p b s g)
-  text_in last n e k s g r = text_found last n e k s g r.value (λ d. r.one_is) r.hidden_are
+  text_in last n e k s g r = text_found last n e k s g r.value (λ d. r.one_is d) r.hidden_are
 
   record ElementsOf (i e : PlainType) : Type 0 where
     index : TypeIn i
@@ -415,15 +453,19 @@ module _ (W : World) (p : Spot) where
     value = values.of_word W p (t.ByteOf e i.value) v.Character plain_words.1 (x, y, refl);
     kind = plain_types.1;
     operands_are = omega (arith, o, a);
-    one_is = omega (arith, o, a);
+    one_is = λ c. omega (arith, o, a);
     few = λ fs d. none_is_no fs d;
     hidden_are = omega (arith, h, b);
   }
 
+  index_ordinal : (i : PlainType) (o : Option PlainType) → one_ordinal_base (base_of i) o ≡ true → is_ordinal i ≡ true
+  unfolding is_ordinal
+  index_ordinal i o e = both_left (is_ordinal_base (base_of i)) (is_ordinal_base o && one_base (base_of i) o) e
+
   pub at_index_in : (flat : Bool) (b : Bracketed) (start : Place) (i : Typed) (s g m n : ℕ) → BracketedIn W p b s g → ValueIn W p i m n
       → IfOk (at_index b start i) (λ r. ReachedIn W flat p r (s + m) (g + n))
   unfolding at_index BracketedIn ReachedIn
-  at_index_in flat (InArray h ss index element) start i s g m n b x = values.only_where (one_base (base_of i.kind) (base_of index)) _ start
+  at_index_in flat (InArray h ss index element) start i s g m n b x = values.only_where (one_ordinal_base (base_of i.kind) (base_of index)) _ start
       (Variable h (and_suffix ss (index_of index element i)) element) (λ r. ReachedIn W flat p r (s + m) (g + n)) (λ e.
       let is_array = subst TypeIn b.1 (b.2).kind in
       let o = elements_of_array index element is_array in
@@ -434,7 +476,7 @@ module _ (W : World) (p : Spot) where
         part = index_more ss r.whole (kind_of element) (index_range i.kind index) (first_word (bounds index)) (elements_of index) (words_of element) i.value
             (subst (λ j. sound.SuffixesIn (at W p) ss r.whole j) (ap kind_of b.1 ∙ o.shape) r.part) (words_agree element) (first_is_word index o.index) o.few
             (index_words i.kind index o.index)
-            (values.as_word W p i.value i.kind (some_base i.kind (based_left (base_of i.kind) (base_of index) e)) x.value);
+            (values.as_word W p i.value i.kind (ordinal_kind i.kind (index_ordinal i.kind (base_of index) e)) x.value);
         kind = o.element;
         operands_are = omega (
           arith,
@@ -449,9 +491,9 @@ module _ (W : World) (p : Spot) where
           x.hidden_are,
         );
       })
-  at_index_in flat (InText n' e) start i s g m n b x = values.only_where (one_base (base_of i.kind) (Some v.Integer)) _ start
+  at_index_in flat (InText n' e) start i s g m n b x = values.only_where (one_ordinal_base (base_of i.kind) (Some v.Integer)) _ start
       (Value n' (t.ByteOf e i.value) v.Character) (λ r. ReachedIn W flat p r (s + m) (g + n)) (λ d.
-      byte_reached flat n' e i s g m n b.0 b.1 b.2 (values.as_word W p i.value i.kind (some_base i.kind (based_left (base_of i.kind) (Some v.Integer) d))
+      byte_reached flat n' e i s g m n b.0 b.1 b.2 (values.as_word W p i.value i.kind (ordinal_kind i.kind (index_ordinal i.kind (Some v.Integer) d))
       x.value) x.operands_are x.hidden_are)
 
   -- ---- values, stores
@@ -461,7 +503,14 @@ module _ (W : World) (p : Spot) where
   results_in aim e (f ∷ []) s g r = by aim
     where
       single : ValueIn W p (record { value = e; kind = f.kind; literal = false; gave = Some (f ∷ []) }) s g
-      single = record { value = r.value; kind = (r.kinds).0; operands_are = r.operands_are; hidden_are = r.hidden_are; gave = (r.call, r.value, r.kinds) }
+      single = record {
+        value = r.value;
+        kind = (r.kinds).0;
+        operands_are = r.operands_are;
+        hidden_are = r.hidden_are;
+        gave = (r.call, r.value, r.kinds);
+        literal = λ l. no_truth l;
+      }
 
       by : (aim : Aim) → FreshIn W p aim (record { value = e; kind = f.kind; literal = false; gave = Some (f ∷ []) }) s g
       by (Free q) = single
@@ -501,6 +550,7 @@ module _ (W : World) (p : Spot) where
     operands_are = omega (arith, e, r.operands_are);
     hidden_are = omega (arith, r.hidden_are);
     gave = tt;
+    literal = λ l. no_truth l;
   }
 
   value_value : (c : ℕ) (e : t.Expr) (k : PlainType) (s g m n : ℕ) → m ≡ c → ValueReached W p c e k s g → ValueIn W p (typed k e) (s + (m + 0)) (g + (n + 0))
@@ -511,6 +561,7 @@ module _ (W : World) (p : Spot) where
     operands_are = omega (arith, d, r.operands_are);
     hidden_are = omega (arith, r.hidden_are);
     gave = tt;
+    literal = λ l. no_truth l;
   }
 
   pub value_in : (flat : Bool) (aim : Aim) (last : Place) (r : Reached) (s g : ℕ)
@@ -558,7 +609,7 @@ module _ (W : World) (p : Spot) where
     value = subst (λ j. sound.ExprIn (at W p) x.value (one (kind_of j))) e h.value;
     kind = subst TypeIn e h.kind;
     operands_are = omega (arith, a, h.operands_are);
-    one_is = omega (arith, a, h.operands_are);
+    one_is = λ c. omega (arith, a, h.operands_are);
     few = λ fs d. omega arith;
     hidden_are = omega (arith, b, h.hidden_are);
   }

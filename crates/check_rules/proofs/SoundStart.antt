@@ -16,6 +16,7 @@ use Rattle.check_rules.specs.Meanings.{Meaning}
 use Rattle.check_rules.specs.Parts.{names_of}
 use Rattle.check_rules.specs.Programs.{also, one_ahead, ahead}
 use Rattle.check_rules.specs.Directory.{Entry, first_entry, elements_from, is_own, elements_in, in_parts, in_fields, in_items, in_constants, in_types, linked, of_import, items_from, constant_entry, type_entry, entries, restricted, place_in, offered, names_in, directory_scope, scope_at, opened, predeclared}
+use Rattle.check_rules.specs.Interfaces.{ConstantFits}
 use Rattle.check_rules.proofs.SoundTypes.{TypeIn, PartsIn, FieldsIn, none_is_no}
 use Rattle.check_rules.proofs.SoundSteps.{World, ItemIn, SignalKind, MeaningIn, ScopeIn}
 use Rattle.check_rules.proofs.SoundScopes.{no_names, over_in}
@@ -31,7 +32,7 @@ ItemsGood (i ∷ is) = ItemGood i × ItemsGood is
 
 unfoldable pub ConstantsGood : List PlainConstant → Type 0
 ConstantsGood [] = Unit {0}
-ConstantsGood (c ∷ cs) = ((c.value < 65536) × (kind_of c.kind ≡ t.Ordinal) × TypeIn c.kind) × ConstantsGood cs
+ConstantsGood (c ∷ cs) = (ConstantFits (kind_of c.kind) c.value × TypeIn c.kind) × ConstantsGood cs
 
 unfoldable pub TypesGood : List PlainName → Type 0
 TypesGood [] = Unit {0}
@@ -80,6 +81,8 @@ module _ (W : World) where
     type_elements : (face : PlainInterface) (k : PlainType) → TypeIn k → EntriesIn (elements_in face k)
     type_elements face v.Integer h = tt
     type_elements face v.Cardinal h = tt
+    type_elements face v.LongInteger h = tt
+    type_elements face v.LongCardinal h = tt
     type_elements face v.Boolean h = tt
     type_elements face v.Character h = tt
     type_elements face v.String h = tt
@@ -111,7 +114,7 @@ module _ (W : World) where
   constants_elements : (face : PlainInterface) (cs : List PlainConstant) → ConstantsGood cs → EntriesIn (in_constants face cs)
   unfolding EntriesIn in_constants ConstantsGood
   constants_elements face [] h = tt
-  constants_elements face (c ∷ cs) h = both_entries (elements_in face c.kind) (in_constants face cs) (type_elements face c.kind h.0.2) (constants_elements face cs h.1)
+  constants_elements face (c ∷ cs) h = both_entries (elements_in face c.kind) (in_constants face cs) (type_elements face c.kind h.0.1) (constants_elements face cs h.1)
 
   types_elements : (face : PlainInterface) (xs : List PlainName) → TypesGood xs → EntriesIn (in_types face xs)
   unfolding EntriesIn in_types TypesGood

@@ -18,6 +18,7 @@ use Rattle.interface_records.specs.PlainTypes.{PlainField, PlainItem, kind_of, k
 use Rattle.check_rules.specs.Scopes.{Scope, outer}
 use Rattle.check_rules.specs.Meanings.{Meaning}
 use Rattle.check_rules.specs.Meanings as m
+use Rattle.check_rules.specs.Interfaces.{ConstantFits}
 use Rattle.check_rules.specs.declared.fault.Cause.{Cause}
 use Rattle.check_rules.specs.Steps.{State, Check, Checked, and_then, ◌>>=◌, pure, fail, lift, ensure, spend, hide, measured, within_operands}
 use Rattle.check_rules.specs.Names.{or_empty}
@@ -81,7 +82,7 @@ pub record Bare (i : PlainItem) : Type 0 where
 unfoldable pub MeaningIn : World → Bool → Meaning → Type 0
 MeaningIn W flat (m.Variable (t.Global n) k) = KindAt W.globals n (kind_of k) × TypeIn k
 MeaningIn W flat (m.Variable (t.Local n) k) = (flat ≡ false) × KindAt W.locals n (kind_of k) × TypeIn k
-MeaningIn W flat (m.Constant k n) = (n < 65536) × (kind_of k ≡ t.Ordinal) × TypeIn k
+MeaningIn W flat (m.Constant k n) = ConstantFits (kind_of k) n × TypeIn k
 MeaningIn W flat (m.TextConstant n) = n < W.strings
 MeaningIn W flat (m.TypeName k) = TypeIn k
 MeaningIn W flat (m.Procedure (t.OwnProcedure q) i) = ItemIn i × (k : ℕ) × (q ≡ suc k) × (slice_get W.procedures k ≡ Some (item_of i))

@@ -33,6 +33,8 @@ mutual
   short_type (s.Record p fs) h = short_fields fs h.1
   short_type (s.Integer p) h = tt
   short_type (s.Cardinal p) h = tt
+  short_type (s.LongInteger p) h = tt
+  short_type (s.LongCardinal p) h = tt
   short_type (s.Boolean p) h = tt
   short_type (s.Character p) h = tt
   short_type (s.String p) h = tt

@@ -48,6 +48,8 @@ mutual
   shapes : (k : PlainType) → shaped (tree_of k) ≡ shape_of k
   shapes v.Integer = shape_at TypeTree-F.Integer tree.Integer tree.rolls-Integer
   shapes v.Cardinal = shape_at TypeTree-F.Cardinal tree.Cardinal tree.rolls-Cardinal
+  shapes v.LongInteger = shape_at TypeTree-F.LongInteger tree.LongInteger tree.rolls-LongInteger
+  shapes v.LongCardinal = shape_at TypeTree-F.LongCardinal tree.LongCardinal tree.rolls-LongCardinal
   shapes v.Boolean = shape_at TypeTree-F.Boolean tree.Boolean tree.rolls-Boolean
   shapes v.Character = shape_at TypeTree-F.Character tree.Character tree.rolls-Character
   shapes v.String = shape_at TypeTree-F.String tree.String tree.rolls-String
@@ -111,6 +113,8 @@ mutual
   depths : (k : PlainType) → deep (tree_of k) ≡ depth_of k
   depths v.Integer = depth_at TypeTree-F.Integer tree.Integer tree.rolls-Integer
   depths v.Cardinal = depth_at TypeTree-F.Cardinal tree.Cardinal tree.rolls-Cardinal
+  depths v.LongInteger = depth_at TypeTree-F.LongInteger tree.LongInteger tree.rolls-LongInteger
+  depths v.LongCardinal = depth_at TypeTree-F.LongCardinal tree.LongCardinal tree.rolls-LongCardinal
   depths v.Boolean = depth_at TypeTree-F.Boolean tree.Boolean tree.rolls-Boolean
   depths v.Character = depth_at TypeTree-F.Character tree.Character tree.rolls-Character
   depths v.String = depth_at TypeTree-F.String tree.String tree.rolls-String
@@ -152,6 +156,8 @@ mutual
   longest : (k : PlainType) → TypeIn k → long (tree_of k) ≤ 65536
   longest v.Integer h = omega (arith, long_at TypeTree-F.Integer tree.Integer tree.rolls-Integer)
   longest v.Cardinal h = omega (arith, long_at TypeTree-F.Cardinal tree.Cardinal tree.rolls-Cardinal)
+  longest v.LongInteger h = omega (arith, long_at TypeTree-F.LongInteger tree.LongInteger tree.rolls-LongInteger)
+  longest v.LongCardinal h = omega (arith, long_at TypeTree-F.LongCardinal tree.LongCardinal tree.rolls-LongCardinal)
   longest v.Boolean h = omega (arith, long_at TypeTree-F.Boolean tree.Boolean tree.rolls-Boolean)
   longest v.Character h = omega (arith, long_at TypeTree-F.Character tree.Character tree.rolls-Character)
   longest v.String h = omega (arith, long_at TypeTree-F.String tree.String tree.rolls-String)
@@ -186,6 +192,8 @@ few_words : (k : PlainType) → TypeIn k → words_of k ≤ 16384
 unfolding TypeIn words_of
 few_words v.Integer h = omega arith
 few_words v.Cardinal h = omega arith
+few_words v.LongInteger h = omega arith
+few_words v.LongCardinal h = omega arith
 few_words v.Boolean h = omega arith
 few_words v.Character h = omega arith
 few_words v.String h = omega arith
@@ -198,6 +206,8 @@ not_deep : (k : PlainType) → TypeIn k → depth_of k ≤ 64
 unfolding TypeIn depth_of
 not_deep v.Integer h = omega arith
 not_deep v.Cardinal h = omega arith
+not_deep v.LongInteger h = omega arith
+not_deep v.LongCardinal h = omega arith
 not_deep v.Boolean h = omega arith
 not_deep v.Character h = omega arith
 not_deep v.String h = omega arith

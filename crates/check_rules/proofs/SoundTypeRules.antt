@@ -1,5 +1,5 @@
 -- Types as they are written keep their limits: rules that look at no part of the text, and each form from its parts.
-use Rattle.std.proofs.Common.{◌≡◌, ℕ, suc, ◌+◌, List, [], ◌∷◌, ◌++◌, length, refl, ap, subst, arith}
+use Rattle.std.proofs.Common.{◌≡◌, ℕ, suc, ◌+◌, List, [], ◌∷◌, ◌++◌, length, refl, sym, ap, subst, arith}
 use Rattle.std.specs.Prelude.{◌≤◌, ◌<◌, ◌≢◌, ◌-◌, Bool, true, false, not, Option, Some, None, Ok, Err, IfOk, nat_le, if◌then◌else◌}
 use Rattle.std.proofs.lemmas.Bool.{leb-true}
 use Rattle.mesa_base.specs.declared.place.Place.{Place}
@@ -12,25 +12,27 @@ use Rattle.syntax_trees.specs.declared.syntax.TypeBase.{TypeBase}
 use Rattle.mesa_types.specs.declared.types.Origin.{Origin}
 use Rattle.check_rules.specs.Typed as t
 use Rattle.interface_records.specs.PlainTypes as v
-use Rattle.interface_records.specs.PlainTypes.{PlainType, Parts, PlainField, base_of, kind_of, elements_of, words_of, depth_of, parts_of, same}
+use Rattle.interface_records.specs.PlainTypes.{PlainType, Parts, PlainField, base_of, kind_of, elements_of, words_of, depth_of, parts_of, same, conforms, is_long, is_ordinal}
 use Rattle.check_rules.specs.declared.fault.Cause.{Cause}
 use Rattle.check_rules.specs.Meanings as m
 use Rattle.check_rules.specs.Meanings.{Meaning}
 use Rattle.check_rules.specs.Scopes.{innermost}
 use Rattle.check_rules.specs.Steps.{State, Check, Checked, and_then, ◌>>=◌, pure, lift, only, refuse, or_refuse}
 use Rattle.check_rules.specs.Around.{Around, in_constant}
-use Rattle.check_rules.specs.Operators.{Sort, Number, Letter, Truth, Other, sort_of}
+use Rattle.check_rules.specs.Operators.{Sort, Number, LongNumber, Letter, Truth, Other, sort_of}
+use Rattle.check_rules.specs.Interfaces.{ConstantFits}
+use Rattle.check_rules.specs.Statements.{not_long}
 use Rattle.check_rules.specs.Names.{is_declared, element_in}
 use Rattle.check_rules.specs.Parts.{first, first_of_type, names_of, distinct, each_of}
-use Rattle.check_rules.specs.Ranges.{Typed}
-use Rattle.check_rules.specs.Values.{bound_aim}
+use Rattle.check_rules.specs.Ranges.{Typed, Free, fitted_if, finish}
+use Rattle.check_rules.specs.Values.{bound_aim, bound_of}
 use Rattle.check_rules.specs.TypeRules.{origin, limited, elements, few, is_index, bound, number_base, same_base, bounds_base, base_of_bounds, subrange_if, subrange, interval_base}
 use Rattle.check_rules.specs.Checking.{type_exp, fields_of, named_fields, unnamed_fields, of_interval}
 use Rattle.check_rules.specs.Written.{IntervalWritten, TypeWritten, FieldsWritten, NamedWritten, TypesWritten, HasField}
-use Rattle.check_rules.proofs.SoundTypes.{TypeIn, PartsIn, FieldsIn, SomePart, no_truth, none_is_no, both_left, both_right}
+use Rattle.check_rules.proofs.SoundTypes.{TypeIn, PartsIn, FieldsIn, SomePart, no_truth, no_lie, none_is_no, both_left, both_right, ordinal_not_long}
 use Rattle.check_rules.proofs.SoundConstants.{wrapped}
 use Rattle.check_rules.proofs.SoundSteps.{World, Spot, MeaningIn, ScopesIn, Step, Rule, bind, under, given, ended, plainly, tested}
-use Rattle.check_rules.proofs.SoundnessStatements.{AroundIn, AimIn, CheckedIn, Checks}
+use Rattle.check_rules.proofs.SoundnessStatements.{AroundIn, ValueIn, AimIn, CheckedIn, Checks}
 use Rattle.check_rules.proofs.SoundNames.{BaseIn, type_is_seen, base_is_seen}
 use Rattle.check_rules.proofs.SoundScopes.{name_more, innermost_in, outer_in, then_by, done}
 use Rattle.check_rules.proofs.SoundAround.{constant_spot, constant_around, constant_phrase}
@@ -68,9 +70,11 @@ limited_record q o ps h k = only_ok _ _ q (v.Record o ps) TypeIn (λ d. (
 ))
 
 pub index_elements : (k : PlainType) → TypeIn k → is_index k ≡ true → 0 < elements_of k
-unfolding is_index base_of TypeIn
+unfolding is_index is_ordinal sort_of base_of TypeIn
 index_elements v.Integer h e = omega arith
 index_elements v.Cardinal h e = omega arith
+index_elements v.LongInteger h e = no_truth e
+index_elements v.LongCardinal h e = no_truth e
 index_elements v.Boolean h e = omega arith
 index_elements v.Character h e = omega arith
 index_elements v.String h e = no_truth e
@@ -95,49 +99,52 @@ pub record BaseType (k : PlainType) : Type 0 where
   pub type : TypeIn k
   pub flat : depth_of k ≡ 1
   pub word : kind_of k ≡ t.Ordinal
+  pub ordinal : is_ordinal k ≡ true
 
-base_type : (k b : PlainType) → TypeIn k → base_of k ≡ Some b → BaseType b
-unfolding base_of TypeIn depth_of kind_of
-base_type v.Integer b h e = subst BaseType (same_one v.Integer b e) (record { type = tt; flat = refl; word = refl })
+base_type : (k b : PlainType) → TypeIn k → is_long k ≡ false → base_of k ≡ Some b → BaseType b
+unfolding base_of TypeIn depth_of kind_of is_ordinal
+base_type v.Integer b h f e = subst BaseType (same_one v.Integer b e) (record { type = tt; flat = refl; word = refl; ordinal = refl })
   where
     same_one : (a b : PlainType) → Some a ≡ Some b → a ≡ b
     same_one a b e = cc
-base_type v.Cardinal b h e = subst BaseType (same_one v.Cardinal b e) (record { type = tt; flat = refl; word = refl })
+base_type v.Cardinal b h f e = subst BaseType (same_one v.Cardinal b e) (record { type = tt; flat = refl; word = refl; ordinal = refl })
   where
     same_one : (a b : PlainType) → Some a ≡ Some b → a ≡ b
     same_one a b e = cc
-base_type v.Boolean b h e = subst BaseType (same_one v.Boolean b e) (record { type = tt; flat = refl; word = refl })
+base_type v.LongInteger b h f e = no_lie f
+base_type v.LongCardinal b h f e = no_lie f
+base_type v.Boolean b h f e = subst BaseType (same_one v.Boolean b e) (record { type = tt; flat = refl; word = refl; ordinal = refl })
   where
     same_one : (a b : PlainType) → Some a ≡ Some b → a ≡ b
     same_one a b e = cc
-base_type v.Character b h e = subst BaseType (same_one v.Character b e) (record { type = tt; flat = refl; word = refl })
+base_type v.Character b h f e = subst BaseType (same_one v.Character b e) (record { type = tt; flat = refl; word = refl; ordinal = refl })
   where
     same_one : (a b : PlainType) → Some a ≡ Some b → a ≡ b
     same_one a b e = cc
-base_type v.String b h e = none_is_no b e
-base_type (v.Enumeration o xs) b h e = subst BaseType (same_one (v.Enumeration o xs) b e) (record { type = h; flat = refl; word = refl })
+base_type v.String b h f e = none_is_no b e
+base_type (v.Enumeration o xs) b h f e = subst BaseType (same_one (v.Enumeration o xs) b e) (record { type = h; flat = refl; word = refl; ordinal = refl })
   where
     same_one : (a b : PlainType) → Some a ≡ Some b → a ≡ b
     same_one a b e = cc
-base_type (v.Subrange k m n) b h e = base_type k b h.0 e
-base_type (v.Array i k) b h e = none_is_no b e
-base_type (v.Record o ps) b h e = none_is_no b e
+base_type (v.Subrange k m n) b h f e = base_type k b h.0 (ordinal_not_long k h.4) e
+base_type (v.Array i k) b h f e = none_is_no b e
+base_type (v.Record o ps) b h f e = none_is_no b e
 
 abbrev IfBase : Option PlainType → Type 0
 IfBase None = Unit {0}
 IfBase (Some k) = BaseType k
 
-base_in : (k : PlainType) → TypeIn k → IfBase (base_of k)
-base_in k h = by (base_of k) refl
+base_in : (k : PlainType) → TypeIn k → is_long k ≡ false → IfBase (base_of k)
+base_in k h f = by (base_of k) refl
   where
     by : (o : Option PlainType) → base_of k ≡ o → IfBase o
-    by (Some b) e = base_type k b h e
+    by (Some b) e = base_type k b h f e
     by None e = tt
 
 number_bases : (b c : Bool) → IfBase (number_base b c)
-unfolding TypeIn depth_of kind_of
-number_bases true c = record { type = tt; flat = refl; word = refl }
-number_bases false true = record { type = tt; flat = refl; word = refl }
+unfolding TypeIn depth_of kind_of is_ordinal base_of
+number_bases true c = record { type = tt; flat = refl; word = refl; ordinal = refl }
+number_bases false true = record { type = tt; flat = refl; word = refl; ordinal = refl }
 number_bases false false = tt
 
 same_bases : (a b : Option PlainType) → IfBase a → IfBase (same_base a b)
@@ -151,18 +158,20 @@ same_bases None b h = tt
 
 bounds_bases : (i : Sort) (x : ℕ) (j : Sort) (y : ℕ) (o : Option PlainType) → IfBase o → IfBase (bounds_base i x j y o)
 bounds_bases (Number a) x (Number b) y o h = number_bases _ _
+bounds_bases (Number a) x (LongNumber b) y o h = h
 bounds_bases (Number a) x Letter y o h = h
 bounds_bases (Number a) x Truth y o h = h
 bounds_bases (Number a) x Other y o h = h
+bounds_bases (LongNumber a) x j y o h = h
 bounds_bases Letter x j y o h = h
 bounds_bases Truth x j y o h = h
 bounds_bases Other x j y o h = h
 
-interval_bases : (base : Option PlainType) (i j : PlainType) (x y : ℕ) → BaseIn base → TypeIn i → IfBase (interval_base base i x j y)
+interval_bases : (base : Option PlainType) (i j : PlainType) (x y : ℕ) → BaseIn base → TypeIn i → is_long i ≡ false → IfBase (interval_base base i x j y)
 unfolding BaseIn base_of_bounds
-interval_bases (Some k) i j x y h g = base_in k h
-interval_bases None i j x y h g = bounds_bases (sort_of i) x (sort_of j) y (same_base (base_of i) (base_of j))
-    (same_bases (base_of i) (base_of j) (base_in i g))
+interval_bases (Some k) i j x y h g f = base_in k h.0 (ordinal_not_long k h.1)
+interval_bases None i j x y h g f = bounds_bases (sort_of i) x (sort_of j) y (same_base (base_of i) (base_of j))
+    (same_bases (base_of i) (base_of j) (base_in i g f))
 
 pub refused_base : (o : Option PlainType) (cause : Cause) (q : Place) → IfBase o → IfOk (or_refuse o cause q) BaseType
 refused_base (Some k) cause q h = h
@@ -171,7 +180,7 @@ refused_base None cause q h = tt
 subrange_by : (b : Bool) (q : Place) (k : PlainType) (open_low : Bool) (x y : ℕ) (open_high : Bool) → BaseType k
     → IfOk (subrange_if b q k open_low x y open_high) TypeIn
 unfolding TypeIn depth_of
-subrange_by true q k open_low x y open_high h = (h.type, wrapped (x + truth open_low), wrapped (y + 65536 - truth open_high), omega (arith, h.flat))
+subrange_by true q k open_low x y open_high h = (h.type, wrapped (x + truth open_low), wrapped (y + 65536 - truth open_high), omega (arith, h.flat), h.ordinal)
 subrange_by false q k open_low x y open_high h = tt
 
 pub subrange_in : (q : Place) (k : PlainType) (open_low : Bool) (x y : ℕ) (open_high : Bool) → BaseType k
@@ -182,8 +191,11 @@ subrange_in q k open_low x y open_high h = subrange_by _ q k open_low x y open_h
 -- ---- elements of an enumeration are constants
 
 element_meaning : (W : World) (flat : Bool) (k : PlainType) (n : ℕ) → TypeIn k → kind_of k ≡ t.Ordinal → n < 65536 → MeaningIn W flat (m.Constant k n)
-unfolding MeaningIn
-element_meaning W flat k n h e i = (i, e, h)
+unfolding MeaningIn ConstantFits
+element_meaning W flat k n h e i = (subst (λ j. ConstantFits j n) (sym e) (word_fits n i), h)
+  where
+    word_fits : (n : ℕ) → n < 65536 → ConstantFits t.Ordinal n
+    word_fits n i = i
 
 module _ (W : World) (flat : Bool) where
   element_step : {A : Type 0} {Pre : Type 0} (Q : A → ℕ → ℕ → Type 0) (b : Bool) (x : List ℕ) (a : Meaning) (y : A) (s : State)
@@ -283,19 +295,28 @@ pub record ChecksBounds (W : World) (i : s.Interval) : Type 0 where
       (λ k i j. TypeIn k) (of_interval a base i)
 
 module _ (W : World) where
-  bound_aim_in : (base : Option PlainType) (q : Place) → BaseIn base → AimIn (bound_aim base q)
-  unfolding BaseIn AimIn
-  bound_aim_in (Some k) q h = h
-  bound_aim_in None q h = tt
+  -- a bound, which is not LONG
+  record BoundIn (p : Spot) (x : Typed) : Type 0 where
+    kind : TypeIn x.kind
+    short : is_long x.kind ≡ false
 
-  aimed_type : (p : Spot) (base : Option PlainType) (q : Place) (x : Typed) (c g : ℕ) → CheckedIn W p (bound_aim base q) x c g → TypeIn x.kind
-  unfolding CheckedIn
-  aimed_type p (Some k) q x c g h = (h.0).kind
-  aimed_type p None q x c g h = h.kind
+  bound_in : (p : Spot) (base : Option PlainType) (q : Place) (x : Typed) (c g : ℕ) → BaseIn base → ValueIn W p x c g → IfOk (bound_of base q x) (BoundIn p)
+  unfolding bound_of not_long finish BaseIn
+  bound_in p base q x c g b h = by (is_long x.kind) refl _ base b
+    where
+      fitted_bound : (k : PlainType) (f : Bool) → TypeIn k → is_ordinal k ≡ true → IfOk (fitted_if f k q x) (BoundIn p)
+      fitted_bound k true i o = record { kind = i; short = ordinal_not_long k o }
+      fitted_bound k false i o = tt
+
+      by : (l : Bool) → is_long x.kind ≡ l → (cause : Cause) (base : Option PlainType) → BaseIn base
+          → IfOk (and_then (only (not l) cause q) (λ u. finish (bound_aim base q) x)) (BoundIn p)
+      by true e cause base b = tt
+      by false e cause None b = record { kind = h.kind; short = e }
+      by false e cause (Some k) b = fitted_bound k (conforms x.kind k) b.0 b.1
 
   pub bounds_checked : (q : Place) (open_low : Bool) (low high : s.Expr) (open_high : Bool) → Checks W low → Checks W high
       → ChecksBounds W (s.Between q open_low low high open_high)
-  unfolding of_interval IntervalWritten
+  unfolding of_interval IntervalWritten CheckedIn AimIn
   bounds_checked q open_low low high open_high l k = record {
     by = λ flat p a base.
         bind W flat (under W flat (λ pre. (
@@ -304,28 +325,30 @@ module _ (W : World) where
             phrase = λ e. constant_phrase W p a (first low);
             written = pre.2.0;
           },
-          bound_aim_in base (first low) pre.1,
-        )) (l.by flat (constant_spot W p a) (in_constant (first low) a)
-        (bound_aim base (first low)))) (λ x c g.
+          tt,
+        )) (l.by flat (constant_spot W p a) (in_constant (first low) a) (Free (first low)))) (λ i c g.
+        bind W flat (plainly W flat {P = BoundIn (constant_spot W p a)} (bound_of base (first low) i)
+        (λ pre. bound_in (constant_spot W p a) base (first low) i c g pre.0.1 pre.1)) (λ x c1 g1.
         bind W flat (plainly W flat {P = λ n. Unit {0}} (bound (first low) x) (λ pre. any_ok (bound (first low) x))) (λ m c' g'.
         bind W flat (under W flat (λ pre. (
           record {
-            around = constant_around W flat p a (first high) pre.0.0.0;
+            around = constant_around W flat p a (first high) pre.0.0.0.0;
             phrase = λ e. constant_phrase W p a (first high);
-            written = pre.0.0.2.1;
+            written = pre.0.0.0.2.1;
           },
-          bound_aim_in base (first high) pre.0.0.1,
-        )) (k.by flat (constant_spot W p a) (in_constant (first high) a)
-        (bound_aim base (first high)))) (λ y d h.
+          tt,
+        )) (k.by flat (constant_spot W p a) (in_constant (first high) a) (Free (first high)))) (λ j d h.
+        bind W flat (plainly W flat {P = BoundIn (constant_spot W p a)} (bound_of base (first high) j)
+        (λ pre. bound_in (constant_spot W p a) base (first high) j d h pre.0.0.0.0.1 pre.1)) (λ y d1 h1.
         bind W flat (plainly W flat {P = λ n. Unit {0}} (bound (first high) y) (λ pre. any_ok (bound (first high) y))) (λ n d' h'.
         bind W flat (plainly W flat {P = BaseType} (or_refuse (interval_base base x.kind m y.kind n) _ q)
         (λ pre. refused_base (interval_base base x.kind m y.kind n) _ q
-        (interval_bases base x.kind y.kind m n pre.0.0.0.0.1 (aimed_type (constant_spot W p a) base (first low) x c g pre.0.0.0.1)))) (λ z i j.
-        ended W flat (subrange q z open_low m n open_high) (λ pre. subrange_in q z open_low m n open_high pre.1))))));
+        (interval_bases base x.kind y.kind m n pre.0.0.0.0.0.0.1 (pre.0.0.0.0.1).kind (pre.0.0.0.0.1).short))) (λ z i' j'.
+        ended W flat (subrange q z open_low m n open_high) (λ pre. subrange_in q z open_low m n open_high pre.1))))))));
   }
 
   pub type_plain : (q : Place) → ChecksType W (s.Integer q) × ChecksType W (s.Cardinal q) × ChecksType W (s.Boolean q) × ChecksType W
-      (s.Character q) × ChecksType W (s.String q)
+      (s.Character q) × ChecksType W (s.String q) × ChecksType W (s.LongInteger q) × ChecksType W (s.LongCardinal q)
   unfolding type_exp TypeIn
   type_plain q = (
     record { by = λ flat p a. given W flat v.Integer (λ pre. tt) },
@@ -334,6 +357,8 @@ module _ (W : World) where
         { by = λ flat p a. given W flat v.Boolean (λ pre. tt) },
     record { by = λ flat p a. given W flat v.Character (λ pre. tt) },
     record { by = λ flat p a. given W flat v.String (λ pre. tt) },
+    record { by = λ flat p a. given W flat v.LongInteger (λ pre. tt) },
+    record { by = λ flat p a. given W flat v.LongCardinal (λ pre. tt) },
   )
 
   pub type_called : (x : QualifiedName) → ChecksType W (s.Called x)

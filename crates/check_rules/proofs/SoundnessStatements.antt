@@ -3,7 +3,7 @@
 -- judgement        premise                                        of what it gives
 -- named, qualified the place is in order                          the meaning is there, and used where it is an import's
 -- check            and a phrase has its statement; the aim's type a sound value of its type, or for Several of its results
--- sums, truths     the operands before are sound                  the operations, or words
+-- sums, truths     what stands before is sound                     the run, or words
 -- walk             what was reached is sound                      what is reached then
 -- arguments        the types of the parameters are in order       values that are arranged as the parameters
 -- type_exp         the place is in order                          a type that keeps its limits
@@ -15,17 +15,18 @@ use Rattle.std.specs.Prelude.{◌≤◌, ◌<◌, ◌≢◌, ◌-◌, Bool, true
 use Rattle.mesa_types.specs.Sound as sound
 use Rattle.mesa_types.specs.Typed as points
 use Rattle.mesa_types.specs.Links.{IsUsed}
-use Rattle.mesa_types.specs.Counts.{operands, operands_of, operands_in, operands_of_run, unnamed, hidden_expr, hidden_exprs, hidden_suffixes, hidden_operations}
+use Rattle.mesa_types.specs.Counts.{operands, operands_of, operands_in, unnamed, hidden_expr, hidden_exprs, hidden_suffixes}
 use Rattle.mesa_types.specs.Shapes.{one, KindAt, words_before}
 use Rattle.mesa_types.specs.Nodes.{count_of}
+use Rattle.mesa_base.specs.declared.place.Place.{Place}
 use Rattle.syntax_trees.specs.Syntax as s
 use Rattle.check_rules.specs.Typed as t
-use Rattle.interface_records.specs.PlainTypes.{PlainType, Array, PlainField, kind_of, kinds_of, fields, words_of}
+use Rattle.interface_records.specs.PlainTypes.{PlainType, Array, PlainField, kind_of, kinds_of, fields, is_text, words_of}
 use Rattle.check_rules.specs.Scopes.{Scope}
 use Rattle.check_rules.specs.Meanings.{Meaning}
 use Rattle.check_rules.specs.Meanings as m
 use Rattle.check_rules.specs.Around.{Around, Seen, ArmHere, NoArm, InArm, ArmLabel, ForAny, ForUnwind, ForSignal, label_of}
-use Rattle.check_rules.specs.Values.{number_in}
+use Rattle.check_rules.specs.Values.{number_in, Sum, closed}
 use Rattle.check_rules.specs.Ranges.{Typed, Aim, Free, Into, Several, Arguments}
 use Rattle.check_rules.specs.Statements.{Ends, is_one}
 use Rattle.check_rules.specs.Reached.{Reached, Variable, Value, Results, Named, Bracketed, InArray, InText, Target}
@@ -129,6 +130,12 @@ unfoldable pub GaveIn : World → Spot → t.Expr → Option (List PlainField) �
 GaveIn W p e None = Unit {0}
 GaveIn W p e (Some fs) = sound.IsCall e × sound.ExprIn (at W p) e (kinds_of fs) × FieldsIn fs
 
+-- a number as it is written
+unfoldable pub IsLiteral : t.Expr → Type 0
+IsLiteral (t.Number n) = Unit {0}
+IsLiteral (t.LongNumber n) = Unit {0}
+IsLiteral _ = ⊥
+
 -- a value of its type
 pub record ValueIn (W : World) (p : Spot) (r : Typed) (spent hid : ℕ) : Type 0 where
   pub value : sound.ExprIn (at W p) r.value (one (kind_of r.kind))
@@ -136,6 +143,7 @@ pub record ValueIn (W : World) (p : Spot) (r : Typed) (spent hid : ℕ) : Type 0
   pub operands_are : operands r.value ≤ spent
   pub hidden_are : hidden_expr r.value ≤ hid
   pub gave : GaveIn W p r.value r.gave
+  pub literal : r.literal ≡ true → IsLiteral r.value
 
 -- what an extractor takes
 pub record SeveralIn (W : World) (p : Spot) (r : Typed) (spent hid : ℕ) : Type 0 where
@@ -159,15 +167,18 @@ unfoldable pub Stepped : s.Operations → Type 0
 Stepped s.NoOperation = ⊥
 Stepped (s.AndOperation o p e ss) = Unit {0}
 
--- a run behind operations that are done on a left side of this type
-pub record SumsIn (W : World) (p : Spot) (done : t.Operations) (kind : PlainType) (ss : s.Operations) (r : t.Operations × PlainType) (spent hid : ℕ) : Type 0
-  where
-    pub operations : sound.OperationsIn (at W p) done → sound.OperationsIn (at W p) r.0
-    pub before : Stepped ss → kind_of kind ≡ t.Ordinal
-    pub word : kind_of kind ≡ t.Ordinal → kind_of r.1 ≡ t.Ordinal
-    pub kind_in : TypeIn kind → TypeIn r.1
-    pub operands_are : operands_of_run r.0 ≤ operands_of_run done + spent
-    pub hidden_are : hidden_operations r.0 ≤ hidden_operations done + hid
+-- a run so far, of this type
+pub record SumIn (W : World) (p : Spot) (done : Sum) (kind : PlainType) (literal : Bool) : Type 0 where
+  pub value : sound.ExprIn (at W p) (closed done) (one (kind_of kind))
+  pub kind_in : TypeIn kind
+  pub literal_is : literal ≡ true → IsLiteral (closed done)
+
+-- a run behind what is done
+pub record SumsIn (W : World) (p : Spot) (done : Sum) (r : t.Expr × PlainType) (spent hid : ℕ) : Type 0 where
+  pub value : sound.ExprIn (at W p) r.0 (one (kind_of r.1))
+  pub kind_in : TypeIn r.1
+  pub operands_are : operands r.0 ≤ operands (closed done) + spent
+  pub hidden_are : hidden_expr r.0 ≤ hidden_expr (closed done) + hid
 
 pub record TruthsIn (W : World) (p : Spot) (fits : Bool) (ss : s.Operations) (es : t.Exprs) (spent hid : ℕ) : Type 0 where
   pub fit : Stepped ss → fits ≡ true
@@ -183,6 +194,8 @@ pub record EndsIn (W : World) (p : Spot) (i : Ends) (spent hid : ℕ) : Type 0 w
   pub high_kind : TypeIn (i.high).kind
   pub operands_are : operands (i.low).value + operands (i.high).value ≤ spent
   pub hidden_are : hidden_expr (i.low).value + hidden_expr (i.high).value ≤ hid
+  pub low_literal : (i.low).literal ≡ true → IsLiteral (i.low).value
+  pub high_literal : (i.high).literal ≡ true → IsLiteral (i.high).value
 
 -- ---- what a name leads to
 
@@ -204,7 +217,7 @@ pub record ValueReached (W : World) (p : Spot) (n : ℕ) (e : t.Expr) (k : Plain
   pub value : sound.ExprIn (at W p) e (one (kind_of k))
   pub kind : TypeIn k
   pub operands_are : operands e ≤ spent + n
-  pub one_is : operands e - unnamed e ≤ spent + min n 1
+  pub one_is : is_text k ≡ true → operands e - unnamed e ≤ spent + min n 1
   pub few : (fs : List PlainField) → fields k ≡ Some fs → n ≤ 1
   pub hidden_are : hidden_expr e ≤ hid
 
@@ -271,8 +284,8 @@ pub record Checks (W : World) (e : s.Expr) : Type 0 where
       (check a aim e)
 
 pub record ChecksSums (W : World) (ss : s.Operations) : Type 0 where
-  pub by : (flat : Bool) (p : Spot) (a : Around) (done : t.Operations) (kind : PlainType) (literal : Bool)
-      → Rule W flat (Ready W flat p a (in_steps ss) (StepsWritten ss)) (SumsIn W p done kind ss) (sums a done kind literal ss)
+  pub by : (flat : Bool) (p : Spot) (a : Around) (l : Place) (done : Sum) (kind : PlainType) (literal : Bool)
+      → Rule W flat (Ready W flat p a (in_steps ss) (StepsWritten ss) × SumIn W p done kind literal) (SumsIn W p done) (sums a l done kind literal ss)
 
 pub record ChecksTruths (W : World) (ss : s.Operations) : Type 0 where
   pub by : (flat : Bool) (p : Spot) (a : Around) (fits : Bool) → Rule W flat (Ready W flat p a (in_steps ss) (StepsWritten ss)) (TruthsIn W p fits ss)

@@ -114,7 +114,7 @@ constants_can : (cs : List PlainConstant) → ConstantsFine spelled cs → Const
 unfolding ConstantsFine ConstantsOrdinal ConstantsCanBeSpelled
 constants_can [] h o a = tt
 constants_can (c ∷ cs) h o a = (
-  record { name = All-head IsName c.name (names_of_constants cs) a; kind = h.0; ordinal = o.0; value = h.1 },
+  record { name = All-head IsName c.name (names_of_constants cs) a; kind = h.0; based = o.0; value = h.1 },
   constants_can cs h.2 o.1 (All-tail IsName c.name (names_of_constants cs) a),
 )
 

@@ -12,9 +12,11 @@ use Rattle.mesa_types.specs.declared.types.Origin.{Origin}
 use Rattle.mesa_types.specs.Operators.{fits, shifted, tried, truth, wrap}
 use Rattle.check_rules.specs.Typed.{Base, Signed, Unsigned, From}
 use Rattle.interface_records.specs.PlainTypes as v
-use Rattle.interface_records.specs.PlainTypes.{PlainType, PlainField, base_of, bounds, conforms, depth_of, elements_of, fields_of_parts, is_number, one_base, parts_of, same, sign_of, words_of, words_of_parts}
+use Rattle.interface_records.specs.PlainTypes.{PlainType, PlainField, base_of, bounds, conforms, depth_of, elements_of, fields_of_parts, is_long, is_number, is_ordinal, one_base, parts_of, same, sign_of, words_of, words_of_parts}
 use Rattle.interface_records.specs.PlainTypes.{HasPart}
-use Rattle.check_rules.specs.Operators.{number_type}
+use Rattle.mesa_types.specs.Longs.{tried_long, widened}
+use Rattle.mesa_types.proofs.LongLaws.{tried_long_small}
+use Rattle.check_rules.specs.Operators.{number_type, long_type}
 use Rattle.check_rules.specs.Parts.{names_of}
 use Rattle.check_rules.specs.Ranges.{range_between, range_for}
 use Rattle.interface_records.specs.Spelled.{OriginCanBeSpelled, IsValueOf, names_among, with_name, NamesCanBeSpelled, TypeCanBeSpelled, PartsCanBeSpelled}
@@ -23,24 +25,36 @@ use Rattle.check_rules.specs.TypeRules.{is_index}
 use Rattle.check_rules.proofs.Distinct.{times, none_twice}
 use Rattle.check_rules.proofs.Keeping.{OfSome}
 use Rattle.check_rules.proofs.Outcomes.{length_of_map}
-use Rattle.check_rules.proofs.OrderKept.{some_name, has_part, as_tried}
-use Rattle.check_rules.proofs.SoundConstants.{wrapped, tried_word}
+use Rattle.check_rules.proofs.OrderKept.{some_name, has_part, as_tried, fine_below_long}
+use Rattle.check_rules.proofs.SoundConstants.{wrapped, tried_word, widened_small}
 use Rattle.check_rules.proofs.SoundSame.{types_same}
-use Rattle.check_rules.proofs.SoundTypes.{no_truth, none_is_no, both_left, both_right, one_of}
+use Rattle.check_rules.proofs.SoundTypes.{no_truth, no_lie, ordinal_not_long, none_is_no, both_left, both_right, one_of}
 use Rattle.check_rules.proofs.TypeLaws.{TypeLaw, FieldsHave, NamesFine, FieldsMade}
 
 -- ---- values
-pub value_word : (k : PlainType) (n : ℕ) → TypeCanBeSpelled k → IsValueOf k n → n < 65536
+pub value_word : (k : PlainType) (n : ℕ) → TypeCanBeSpelled k → is_long k ≡ false → IsValueOf k n → n < 65536
 unfolding TypeCanBeSpelled IsValueOf
-value_word v.Integer n h w = w
-value_word v.Cardinal n h w = w
-value_word v.Boolean n h w = omega (arith, w)
-value_word v.Character n h w = omega (arith, w)
-value_word v.String n h w = absurd w
-value_word (v.Enumeration o xs) n h w = let few : length xs ≤ 65536 = h.2 in omega (arith, w, few)
-value_word (v.Subrange k x y) n h w = value_word k n h.0 w.0
-value_word (v.Array i e) n h w = absurd w
-value_word (v.Record o ps) n h w = absurd w
+value_word v.Integer n h s w = w
+value_word v.Cardinal n h s w = w
+value_word v.LongInteger n h s w = no_lie s
+value_word v.LongCardinal n h s w = no_lie s
+value_word v.Boolean n h s w = omega (arith, w)
+value_word v.Character n h s w = omega (arith, w)
+value_word v.String n h s w = absurd w
+value_word (v.Enumeration o xs) n h s w = let few : length xs ≤ 65536 = h.2 in omega (arith, w, few)
+value_word (v.Subrange k x y) n h s w = value_word k n h.0 (ordinal_not_long k h.2) w.0
+value_word (v.Array i e) n h s w = absurd w
+value_word (v.Record o ps) n h s w = absurd w
+
+pub long_value : (b : Base) (n : ℕ) → n < 4294967296 → IsValueOf (long_type b) n
+unfolding IsValueOf
+long_value Signed n h = h
+long_value Unsigned n h = h
+
+pub value_long : (b : Base) (n : ℕ) → IsValueOf (long_type b) n → n < 4294967296
+unfolding IsValueOf
+value_long Signed n h = h
+value_long Unsigned n h = h
 
 pub number_value : (b : Base) (n : ℕ) → n < 65536 → IsValueOf (number_type b) n
 unfolding IsValueOf
@@ -68,6 +82,8 @@ pub base_value : (k b : PlainType) (n : ℕ) → base_of k ≡ Some b → IsValu
 unfolding base_of IsValueOf
 base_value v.Integer b n e h = subst (λ k. IsValueOf k n) (one_type v.Integer b e) h
 base_value v.Cardinal b n e h = subst (λ k. IsValueOf k n) (one_type v.Cardinal b e) h
+base_value v.LongInteger b n e h = subst (λ k. IsValueOf k n) (one_type v.LongInteger b e) h
+base_value v.LongCardinal b n e h = subst (λ k. IsValueOf k n) (one_type v.LongCardinal b e) h
 base_value v.Boolean b n e h = subst (λ k. IsValueOf k n) (one_type v.Boolean b e) h
 base_value v.Character b n e h = subst (λ k. IsValueOf k n) (one_type v.Character b e) h
 base_value v.String b n e h = absurd h
@@ -133,12 +149,14 @@ passes : (from : Base) (k b : PlainType) (n : ℕ) → TypeCanBeSpelled k → ba
 unfolding base_of IsValueOf TypeCanBeSpelled sign_of
 passes from v.Integer b n h e w x f = subst (λ k. IsValueOf k n) (sym (one_type v.Integer b e)) w
 passes from v.Cardinal b n h e w x f = subst (λ k. IsValueOf k n) (sym (one_type v.Cardinal b e)) w
+passes from v.LongInteger b n h e w x f = subst (λ k. IsValueOf k n) (sym (one_type v.LongInteger b e)) w
+passes from v.LongCardinal b n h e w x f = subst (λ k. IsValueOf k n) (sym (one_type v.LongCardinal b e)) w
 passes from v.Boolean b n h e w x f = subst (λ k. IsValueOf k n) (sym (one_type v.Boolean b e)) w
 passes from v.Character b n h e w x f = subst (λ k. IsValueOf k n) (sym (one_type v.Character b e)) w
 passes from v.String b n h e w x f = none_is_no b e
 passes from (v.Enumeration o xs) b n h e w x f = subst (λ k. IsValueOf k n) (sym (one_type (v.Enumeration o xs) b e)) w
 passes from (v.Subrange c first last) b n h e w x f =
-    let r = between from (sign_of c) first last n (value_word c first h.0 h.2) (value_word c last h.0 h.3) x (f first last refl) in
+    let r = between from (sign_of c) first last n (value_word c first h.0 (ordinal_not_long c h.2) h.3) (value_word c last h.0 (ordinal_not_long c h.2) h.4) x (f first last refl) in
     (subst (λ k. IsValueOf k n) (sym (one_type c b (sym h.1 ∙ e))) w, r.above, r.below)
 passes from (v.Array i k) b n h e w x f = none_is_no b e
 passes from (v.Record o ps) b n h e w x f = none_is_no b e
@@ -147,6 +165,8 @@ number_of : (b : PlainType) (n : ℕ) → is_number b ≡ true → n < 65536 →
 unfolding IsValueOf
 number_of v.Integer n e h = h
 number_of v.Cardinal n e h = h
+number_of v.LongInteger n e h = omega (arith, h)
+number_of v.LongCardinal n e h = omega (arith, h)
 number_of v.Boolean n e h = no_truth e
 number_of v.Character n e h = no_truth e
 number_of v.String n e h = no_truth e
@@ -163,6 +183,8 @@ ranged j (v.Subrange c x y) n e first last d =
     subst (λ b. fits (range_between (sign_of j) (sign_of (v.Subrange c x y)) b.0 b.1) n ≡ true) same e
 ranged j v.Integer n e first last d = none_is_no (first, last) d
 ranged j v.Cardinal n e first last d = none_is_no (first, last) d
+ranged j v.LongInteger n e first last d = none_is_no (first, last) d
+ranged j v.LongCardinal n e first last d = none_is_no (first, last) d
 ranged j v.Boolean n e first last d = none_is_no (first, last) d
 ranged j v.Character n e first last d = none_is_no (first, last) d
 ranged j v.String n e first last d = none_is_no (first, last) d
@@ -170,19 +192,19 @@ ranged j (v.Enumeration o xs) n e first last d = none_is_no (first, last) d
 ranged j (v.Array i k) n e first last d = none_is_no (first, last) d
 ranged j (v.Record o ps) n e first last d = none_is_no (first, last) d
 
-pub fitted_value : (j k : PlainType) (n : ℕ) → TypeCanBeSpelled j → TypeCanBeSpelled k → conforms j k ≡ true → fits (range_for j k) n ≡ true → IsValueOf j n
-    → IsValueOf k n
+pub fitted_value : (j k : PlainType) (n : ℕ) → TypeCanBeSpelled j → TypeCanBeSpelled k → conforms j k ≡ true → is_long j ≡ false → is_long k ≡ false
+    → fits (range_for j k) n ≡ true → IsValueOf j n → IsValueOf k n
 unfolding conforms
-fitted_value j k n h i e f w = by (one_of (one_base (base_of j) (base_of k)) (same j k) e)
+fitted_value j k n h i e s t f w = by (one_of (one_base (base_of j) (base_of k)) (same j k) e)
   where
     of_bases : (o p : Option PlainType) → base_of j ≡ o → base_of k ≡ p → one_base o p ≡ true → IsValueOf k n
     of_bases None p d g e = no_truth e
     of_bases (Some a) None d g e = no_truth e
-    of_bases (Some a) (Some b) d g e = passes (sign_of j) k b n i g (one (one_of (is_number a && is_number b) (same a b) e)) (value_word j n h w)
+    of_bases (Some a) (Some b) d g e = passes (sign_of j) k b n i g (one (one_of (is_number a && is_number b) (same a b) e)) (value_word j n h s w)
         (ranged j k n f)
       where
         one : (is_number a && is_number b ≡ true) ⊎ (same a b ≡ true) → IsValueOf b n
-        one (inl m) = number_of b n (both_right (is_number a) (is_number b) m) (value_word j n h w)
+        one (inl m) = number_of b n (both_right (is_number a) (is_number b) m) (value_word j n h s w)
         one (inr m) = subst (λ c. IsValueOf c n) (types_same a b m) (base_value j a n d w)
 
     by : (one_base (base_of j) (base_of k) ≡ true) ⊎ (same j k ≡ true) → IsValueOf k n
@@ -217,43 +239,46 @@ below_limit many x y a b m h i j k l =
     let r = unsigned_bounds x y a b (omega (arith, m, h)) (omega (arith, m, i)) j k l in
     (omega (arith, r.0, r.1, i), omega (arith, r.1, i), omega (arith, r.0))
 
-bounds_of : (k : PlainType) (l h : Bool) (x y : ℕ) → TypeCanBeSpelled k → base_of k ≡ Some k → IsValueOf k x → IsValueOf k y
+bounds_of : (k : PlainType) (l h : Bool) (x y : ℕ) → TypeCanBeSpelled k → base_of k ≡ Some k → is_ordinal k ≡ true → IsValueOf k x → IsValueOf k y
     → shifted (sign_of k) x + truth l + truth h ≤ shifted (sign_of k) y
     → Bounds k (wrap (x + truth l)) (wrap (y + 65536 - truth h))
-unfolding TypeCanBeSpelled IsValueOf base_of sign_of shifted depth_of
-bounds_of v.Integer l h x y k e f g d = record {
+unfolding TypeCanBeSpelled IsValueOf base_of is_ordinal sign_of shifted depth_of
+bounds_of v.Integer l h x y k e o f g d = record {
   first = wrapped (x + truth l);
   last = wrapped (y + 65536 - truth h);
   order = signed_bounds x y (truth l) (truth h) f g (bit_small l) (bit_small h) d;
 }
-bounds_of v.Cardinal l h x y k e f g d =
+bounds_of v.Cardinal l h x y k e o f g d =
     let r = below_limit 65536 x y (truth l) (truth h) (omega arith) f g (bit_small l) (bit_small h) d in record { first = r.0; last = r.1; order = r.2 }
-bounds_of v.Boolean l h x y k e f g d =
+bounds_of v.LongInteger l h x y k e o f g d = no_truth o
+bounds_of v.LongCardinal l h x y k e o f g d = no_truth o
+bounds_of v.Boolean l h x y k e o f g d =
     let r = below_limit 2 x y (truth l) (truth h) (omega arith) f g (bit_small l) (bit_small h) d in record { first = r.0; last = r.1; order = r.2 }
-bounds_of v.Character l h x y k e f g d =
+bounds_of v.Character l h x y k e o f g d =
     let r = below_limit 256 x y (truth l) (truth h) (omega arith) f g (bit_small l) (bit_small h) d in record { first = r.0; last = r.1; order = r.2 }
-bounds_of v.String l h x y k e f g d = absurd f
-bounds_of (v.Enumeration o xs) l h x y k e f g d =
+bounds_of v.String l h x y k e o f g d = absurd f
+bounds_of (v.Enumeration m xs) l h x y k e o f g d =
     let r = below_limit (length xs) x y (truth l) (truth h) k.2 f g (bit_small l) (bit_small h) d in record { first = r.0; last = r.1; order = r.2 }
-bounds_of (v.Subrange c m n) l h x y k e f g d =
+bounds_of (v.Subrange c m n) l h x y k e o f g d =
     let flat : c ≡ v.Subrange c m n = one_type c (v.Subrange c m n) (sym k.1 ∙ e) in absurd (deeper c m n flat)
   where
     deeper : (c : PlainType) (m n : ℕ) → c ≡ v.Subrange c m n → ⊥
     deeper c m n e = let d : depth_of c ≡ depth_of c + 1 = ap depth_of e in omega (arith, d)
-bounds_of (v.Array i c) l h x y k e f g d = absurd f
-bounds_of (v.Record o ps) l h x y k e f g d = absurd f
+bounds_of (v.Array i c) l h x y k e o f g d = absurd f
+bounds_of (v.Record m ps) l h x y k e o f g d = absurd f
 
-pub subrange_spelled : (k : PlainType) (l h : Bool) (x y : ℕ) → TypeCanBeSpelled k → base_of k ≡ Some k → IsValueOf k x → IsValueOf k y
+pub subrange_spelled : (k : PlainType) (l h : Bool) (x y : ℕ) → TypeCanBeSpelled k → base_of k ≡ Some k → is_ordinal k ≡ true → IsValueOf k x → IsValueOf k y
     → nat_le (shifted (sign_of k) x + truth l + truth h) (shifted (sign_of k) y) ≡ true
     → TypeCanBeSpelled (v.Subrange k (wrap (x + truth l)) (wrap (y + 65536 - truth h)))
 unfolding TypeCanBeSpelled
-subrange_spelled k l h x y i e f g d =
-    let r = bounds_of k l h x y i e f g (leb-true _ _ d) in (i, e, r.first, r.last, r.order)
+subrange_spelled k l h x y i e o f g d =
+    let r = bounds_of k l h x y i e o f g (leb-true _ _ d) in (i, e, o, r.first, r.last, r.order)
 
 -- ---- enumerations, arrays and records
 pub plain_spelled : TypeCanBeSpelled v.Integer × TypeCanBeSpelled v.Cardinal × TypeCanBeSpelled v.Boolean × TypeCanBeSpelled v.Character × TypeCanBeSpelled v.String
+    × TypeCanBeSpelled v.LongInteger × TypeCanBeSpelled v.LongCardinal
 unfolding TypeCanBeSpelled
-plain_spelled = (tt, tt, tt, tt, tt)
+plain_spelled = (tt, tt, tt, tt, tt, tt, tt)
 
 pub names_spelled : (xs : List Identifier) → AllNames xs → All IsName (names_of xs)
 names_spelled xs h = All-map IsName (λ (x : Identifier). x.name) xs h
@@ -271,9 +296,11 @@ array_spelled i e h k x w d = (x, h, k, w, d)
 
 -- each type has a word
 pub index_some : (k : PlainType) → TypeCanBeSpelled k → is_index k ≡ true → 0 < elements_of k
-unfolding is_index base_of TypeCanBeSpelled
+unfolding is_index is_ordinal base_of TypeCanBeSpelled
 index_some v.Integer h e = omega arith
 index_some v.Cardinal h e = omega arith
+index_some v.LongInteger h e = no_truth e
+index_some v.LongCardinal h e = no_truth e
 index_some v.Boolean h e = omega arith
 index_some v.Character h e = omega arith
 index_some v.String h e = no_truth e
@@ -288,6 +315,8 @@ mutual
   has_word : (k : PlainType) → TypeCanBeSpelled k → 0 < words_of k
   has_word v.Integer h = omega arith
   has_word v.Cardinal h = omega arith
+  has_word v.LongInteger h = omega arith
+  has_word v.LongCardinal h = omega arith
   has_word v.Boolean h = omega arith
   has_word v.Character h = omega arith
   has_word v.String h = omega arith
@@ -346,6 +375,10 @@ pub base_spelled : (k : PlainType) (x y : ℕ) → TypeCanBeSpelled (v.Subrange 
 unfolding TypeCanBeSpelled
 base_spelled k x y h = h.0
 
+pub base_ordinal : (k : PlainType) (x y : ℕ) → TypeCanBeSpelled (v.Subrange k x y) → is_ordinal k ≡ true
+unfolding TypeCanBeSpelled
+base_ordinal k x y h = h.2
+
 pub index_spelled : (i e : PlainType) → TypeCanBeSpelled (v.Array i e) → TypeCanBeSpelled i
 unfolding TypeCanBeSpelled
 index_spelled i e h = h.1
@@ -367,12 +400,15 @@ abbrev pub spelled : TypeLaw
 spelled = record {
   Kept = TypeCanBeSpelled;
   Word = λ n. n < 65536;
+  Long = λ n. n < 4294967296;
   Worth = IsValueOf;
   Made = OriginCanBeSpelled;
   Written = Unit {0};
   Named = Unit {0};
   integer = plain_spelled.0;
   cardinal = plain_spelled.1;
+  long_integer = plain_spelled.5;
+  long_cardinal = plain_spelled.6;
   boolean = plain_spelled.2;
   character = plain_spelled.3;
   string = plain_spelled.4;
@@ -381,6 +417,7 @@ spelled = record {
   array = array_spelled;
   fields = record_spelled;
   base = base_spelled;
+  ordinal_base = base_ordinal;
   index = index_spelled;
   element = element_spelled;
   parts = record_parts;
@@ -393,4 +430,9 @@ spelled = record {
   enumerated = λ o xs n h l. element_value o xs n l;
   based = base_value;
   fitted = fitted_value;
+  long_small = λ n l. l;
+  long_operated = λ o x y h. fine_below_long (tried_long o x y) (tried_long_small o x y h);
+  widened = λ from to n w. fine_below_long (widened from to n) (widened_small from to n w);
+  long = long_value;
+  long_word = value_long;
 }

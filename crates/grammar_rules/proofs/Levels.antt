@@ -235,6 +235,7 @@ deep_types = (
   record { end = []; made = λ p. t.Integer p; reads = λ p ws f. (g.integer, refl) },
   (
     record { end = []; made = λ p. t.Cardinal p; reads = λ p ws f. (g.cardinal, refl) },
+    (record { end = at_word IntegerWord ∷ []; made = λ p. t.LongInteger p; reads = λ p ws f. (g.long_integer, refl) },
     (
       record { end = []; made = λ p. t.Character p; reads = λ p ws f. (g.character, refl) },
       (
@@ -251,7 +252,7 @@ deep_types = (
                   interval_deep _ false refl,
                   (
                     interval_deep _ true refl,
-                    tt,
+                    tt),
                   ),
                 ),
               ),

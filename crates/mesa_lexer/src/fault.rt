@@ -11,7 +11,7 @@ pub enum LexFault {
     BadByte(Place),
     /// The text ends inside this string.
     OpenString(Place),
-    /// The number is above 65,535, or the character's code above 255.
+    /// The number is above 4,294,967,295, or the character's code above 255.
     NumberTooLarge(Place),
     /// The identifier has more than 255 bytes, or the string's value more than 32,767.
     TokenTooLong(Place),

@@ -19,7 +19,7 @@ fn run(alloc: Global, left: u16, operator: Operator, right: u16) -> Result<Typed
     Ok(TypedExpr::Operate(left, rest))
 }
 
-fn check_constant(rt: &impl Abort, whole: TypedExpr, value: Option<u16>) {
+fn check_constant(rt: &impl Abort, whole: TypedExpr, value: Option<u32>) {
     assert_eq!(rt; constant(&whole), value);
     whole.let_go();
 }
@@ -30,7 +30,7 @@ fn check_run(
     left: u16,
     operator: Operator,
     right: u16,
-    value: Option<u16>,
+    value: Option<u32>,
 ) -> Result<(), Fail> {
     check_constant(rt, run(alloc, left, operator, right)?, value);
     Ok(())

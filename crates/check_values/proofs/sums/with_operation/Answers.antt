@@ -1,8 +1,8 @@
 use Rattle.std.proofs.Common.{rules, ◌≡◌, ◌++◌, ◌∷◌, [], ap, ◌∙◌, refl}
-use Rattle.mesa_types.specs.declared.typed_tree.Condition.TheViews.{roll-Operation}
-use Rattle.check_operands.specs.Views as view
-use Rattle.check_operands.proofs.OperationLaws.{operation_more}
-use Rattle.check_operands.proofs.steps.with_operation.Goals as goal
+use Rattle.check_rules.specs.mesa_types.specs.declared.typed_tree.Condition.TheViews.{roll-Operation}
+use Rattle.check_values.specs.Views as view
+use Rattle.check_values.proofs.OperationLaws.{operation_more}
+use Rattle.check_values.proofs.sums.with_operation.Goals as goal
 
 pub returns : goal.returns
 returns c =
