@@ -190,4 +190,4 @@ module _ (m : Module) (o : Object) (h : IsObjectOf m o) where
       }
 
 pub objects_of_modules_fit : ObjectsOfModulesFit
-objects_of_modules_fit version m o sound names s h = objects_fit version o s (can_be_spelled m o h sound names s)
+objects_of_modules_fit m o sound names s h = objects_fit o s (can_be_spelled m o h sound names s)

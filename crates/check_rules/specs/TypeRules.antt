@@ -43,7 +43,7 @@ abbrev pub literal_word : Bool → t.Expr → Option ℕ
 literal_word true (t.Literal n) = Some 0
 literal_word _ e = constant e
 
--- the word of a bound; a string literal is a constant too, and of no interval
+-- the word of a bound; a string literal is a constant too, and of no interval, and neither is a LONG value
 unfoldable pub bound : Place → Typed → Checked ℕ
 bound p x = or_refuse (literal_word (is_text x.kind) x.value) NotConstant p
 
