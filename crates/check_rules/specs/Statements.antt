@@ -1,5 +1,5 @@
 -- Rules of statements that look at no part of the text again (Language Manual, chapters 4, 7 and 8).
-use Rattle.std.specs.Prelude.{ℕ, ◌+◌, Bool, true, false, ◌&&◌, ◌||◌, not, List, [], ◌∷◌, ◌++◌, length, map, Option, Some, None, Ok, if◌then◌else◌, nat_eq, nat_le, is_some}
+use Rattle.std.specs.Prelude.{ℕ, ◌+◌, Bool, true, false, ◌&&◌, ◌||◌, not, List, [], ◌∷◌, ◌++◌, length, map, Option, Some, None, Ok, if◌then◌else◌, nat_eq, nat_le}
 use Rattle.mesa_base.specs.declared.limits.TheConstants.{GLOBAL_WORDS}
 use Rattle.mesa_base.specs.declared.place.Place.{Place}
 use Rattle.mesa_types.specs.Shapes.{join, one, count_in, words_in_all}
@@ -10,7 +10,7 @@ use Rattle.mesa_base.specs.declared.identifier.Identifier.{Identifier}
 use Rattle.syntax_trees.specs.declared.syntax.RepeatLabels.{RepeatLabels}
 use Rattle.syntax_trees.specs.declared.syntax.RepeatLabels.TheVariants as repeat
 use Rattle.mesa_types.specs.Constants.{constant}
-use Rattle.check_rules.specs.Operators.{Meeting, LongMeeting, Relating, Longs, Words, relating, related, number_type, turned, Sort, Number, LongNumber, sort_of, fitted, by_itself, selecting, selecting_itself, beside}
+use Rattle.check_rules.specs.Operators.{Meeting, Relating, Longs, Words, relating, related, number_type, turned, Sort, Number, sort_of, fitted, by_itself, selecting, selecting_itself, beside}
 use Rattle.check_rules.specs.Ranges.{Typed, checked, range_for, conversion_for, Arguments}
 use Rattle.check_rules.specs.Scopes.{Scope, with_name, nothing}
 use Rattle.check_rules.specs.Meanings.{Meaning, Variable, Constant, TextConstant}

@@ -4,7 +4,7 @@ use Rattle.syntax_trees.specs.Syntax as s
 use Rattle.mesa_base.specs.declared.limits.TheConstants.{GREATEST_NUMBER, GREATEST_CHARACTER, DISTINCT_STRINGS}
 use Rattle.mesa_base.specs.declared.place.Place.{Place}
 use Rattle.check_rules.specs.Typed as t
-use Rattle.check_rules.specs.Typed.{Range, Every, Kept, Relation}
+use Rattle.check_rules.specs.Typed.{Every, Kept, Relation}
 use Rattle.interface_records.specs.PlainTypes as v
 use Rattle.mesa_types.specs.declared.faces.ItemKind.{ItemKind}
 use Rattle.mesa_types.specs.declared.faces.ItemKind.TheVariants as item
@@ -15,12 +15,12 @@ use Rattle.syntax_trees.specs.declared.syntax.Sign.{Sign}
 use Rattle.syntax_trees.specs.declared.syntax.Sign.TheVariants.{Positive, Negative}
 use Rattle.check_rules.specs.Meanings.{Meaning}
 use Rattle.check_rules.specs.Meanings as m
-use Rattle.check_rules.specs.Operators.{Sort, Number, LongNumber, Truth, Meeting, LongMeeting, Fit, AsLiteral, By, Applied, LongApplied, Application, OfWords, OfLongs, Relating, Longs, Words, sort_of, operation, relating, turned, number_type, long_type, fitted, beside}
+use Rattle.check_rules.specs.Operators.{Sort, Number, LongNumber, Truth, Fit, By, Application, OfWords, OfLongs, Relating, Longs, Words, sort_of, operation, relating, turned, number_type, long_type, fitted, beside}
 use Rattle.check_rules.specs.Ranges.{Typed, typed, Aim, Free, Into, Several, checked, finish, Arguments}
 use Rattle.check_rules.specs.Parts.{and_operation, complete, places_of}
 use Rattle.check_rules.specs.Reached.{Reached, Results, Shape, OfFields, OfElements, NoShape, shape_of}
 use Rattle.check_rules.specs.Statements.{Ends, not_long, bases, between, long_between, is_long_interval, by_itself_of, meets_bounds}
-use Rattle.check_rules.specs.Steps.{Check, Checked, and_then, ◌>>=◌, pure, fail, refuse, or_refuse, only, ensure, spend}
+use Rattle.check_rules.specs.Steps.{Check, Checked, and_then, ◌>>=◌, pure, fail, refuse, or_refuse, ensure, spend}
 use Rattle.check_rules.specs.declared.fault.Cause.TheVariants.{TypeMismatch, WrongCount, GlobalsTooLarge}
 use Rattle.interface_records.specs.PlainTypes.{PlainField, PlainItem, PlainType, words_of, words_of_fields}
 

@@ -8,7 +8,7 @@ use Rattle.syntax_trees.specs.Syntax as s
 use Rattle.syntax_trees.specs.declared.syntax.RepeatLabels.{RepeatLabels}
 use Rattle.syntax_trees.specs.declared.syntax.RepeatLabels.TheVariants as repeat
 use Rattle.check_rules.specs.Typed as t
-use Rattle.check_rules.specs.Typed.{Relation, Home, Given}
+use Rattle.check_rules.specs.Typed.{Relation}
 use Rattle.interface_records.specs.PlainTypes.{PlainType, PlainField, base_of, conforms, is_long, is_ordinal, is_text, words_of, depth_of, sign_of}
 use Rattle.mesa_types.specs.Shapes.{words_in_all}
 use Rattle.mesa_types.specs.Constants.{constant}

@@ -6,12 +6,12 @@ use Rattle.mesa_base.specs.declared.limits.TheConstants.{TYPE_DEPTH}
 use Rattle.mesa_base.specs.declared.file_fault.Field.TheVariants as field
 use Rattle.mesa_types.specs.declared.faces.ItemKind.{ItemKind}
 use Rattle.mesa_types.specs.declared.faces.ItemKind.TheVariants.{Procedure, Signal, Error}
-use Rattle.mesa_types.specs.declared.types.FieldType.{FieldType, out-FieldType}
+use Rattle.mesa_types.specs.declared.types.FieldType.{FieldType}
 use Rattle.mesa_types.specs.declared.types.TypeTree.{TypeTree, out-TypeTree}
 use Rattle.mesa_types.specs.declared.types.TypeTree.TheVariants as v
-use Rattle.file_forms.specs.Forms.{Form, number, always, pair, led, ruled, list, choose, at_least}
+use Rattle.file_forms.specs.Forms.{Form, number, always, pair, led, list, at_least}
 use Rattle.file_forms.specs.Names.{name, fresh_name}
-use Rattle.face_rules.specs.Layers.{tag_of, of_enumeration, of_subrange, of_array, of_record}
+use Rattle.face_rules.specs.Layers.{tag_of, of_subrange, of_array, of_record}
 use Rattle.face_rules.specs.TypeForms.{any, last_tag, is_known, is_base, is_index, is_of_constants, basic, origin, label, field_of, field_parts, field_form, fields_form, enumeration, bounds, subrange, array, record_of, tagged, is_small, tag, typed, too_deep, type_form, types, fields}
 use Rattle.face_rules.specs.FaceForms.{item_kind, gives, item_of, item_parts, item_named, item_names, items, face_of, face_parts, face}
 use Rattle.face_rules.specs.InterfaceForms.{constant_of, constant_parts, value_of, constant, constant_names, constants, named_of, named_parts, named_type, type_names, named_types, interface_of, interface_parts, interface}

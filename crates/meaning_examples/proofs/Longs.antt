@@ -1,6 +1,6 @@
 -- Programs over LONG numbers, each with the least turns with which it is done and mostly with one less.
 use Rattle.std.specs.Prelude.{◌≡◌, refl, ℕ, List, [], ◌∷◌, codes, true, false}
-use Rattle.mesa_types.specs.Typed.{Kinds, NoKinds, AndKind, Ordinal, Longs, Record, Expr, Number, LongNumber, Variable, Converted, OperateLong, NegateLong, RelateLong, WithinLong, Between, NoSuffix, Field, NoOperation, Then, Stmt, Declare, DeclareAs, Assign, If, Null, SelectLong, Select, Extract, AndTarget, AndConverted, NoTargets, AndCase, Otherwise, IfRelatedLong, IfRelated, IfWithinLong, NoTests}
+use Rattle.mesa_types.specs.Typed.{Kinds, NoKinds, AndKind, Ordinal, Longs, Record, Expr, Number, LongNumber, Variable, Converted, OperateLong, NegateLong, RelateLong, WithinLong, Between, NoSuffix, Field, NoOperation, Then, Stmt, Declare, DeclareAs, Assign, If, Null, SelectLong, Select, Extract, AndConverted, NoTargets, AndCase, Otherwise, IfRelatedLong, IfRelated, IfWithinLong, NoTests}
 use Rattle.mesa_types.specs.declared.typed_parts.Home.TheVariants.{Global}
 use Rattle.mesa_types.specs.declared.typed_parts.Base.TheVariants.{Signed, Unsigned}
 use Rattle.mesa_types.specs.declared.typed_parts.Range.TheVariants.{Every}

@@ -15,7 +15,7 @@ use Rattle.mesa_types.specs.declared.types.TypeTree.TheOpen.{TypeTree-F}
 use Rattle.mesa_types.specs.declared.types.TypeTree.TheFolds.{fold-FieldType, map-TypeTree}
 use Rattle.mesa_types.specs.declared.types.FieldType.{FieldType, roll-FieldType}
 use Rattle.interface_records.specs.PlainTypes as p
-use Rattle.interface_records.specs.PlainTypes.{PlainType, Parts, base_of, bounds, is_long, is_ordinal, is_ordinal_base, sign_of, sign_by, elements_of, words_of, words_of_parts, tree_of, trees_of}
+use Rattle.interface_records.specs.PlainTypes.{PlainType, Parts, base_of, is_long, is_ordinal, is_ordinal_base, sign_of, elements_of, words_of, words_of_parts, tree_of, trees_of}
 use Rattle.interface_records.specs.Sorts as s
 use Rattle.interface_records.specs.Sorts.{is_index_by, sort_of, sort_of_base}
 use Rattle.interface_records.specs.Spelled.{IsValueOf, TypeCanBeSpelled}

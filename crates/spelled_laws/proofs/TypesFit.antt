@@ -12,7 +12,7 @@ use Rattle.mesa_types.specs.declared.types.FieldType.{FieldType, out-roll-FieldT
 use Rattle.mesa_types.specs.Operators.{shifted}
 use Rattle.interface_records.specs.Lists.{NoneTwice}
 use Rattle.interface_records.specs.PlainTypes as p
-use Rattle.interface_records.specs.PlainTypes.{PlainType, Parts, HasPart, depth_of, depth_of_parts, fields_of_parts, is_ordinal, sign_of, words_of, plain, plain_field, tree_of, trees_of}
+use Rattle.interface_records.specs.PlainTypes.{PlainType, Parts, HasPart, depth_of, depth_of_parts, is_ordinal, sign_of, words_of, plain, tree_of, trees_of}
 use Rattle.interface_records.specs.Spelled.{OriginCanBeSpelled, IsValueOf, NamesCanBeSpelled, TypeCanBeSpelled, PartsCanBeSpelled}
 use Rattle.file_forms.specs.Forms.{Form, number, pair, list, between}
 use Rattle.file_forms.specs.Names.{name, fresh_name}

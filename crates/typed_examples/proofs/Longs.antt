@@ -1,18 +1,18 @@
 -- Expressions and statements over LONG numbers that are sound at a place, and beside each one that is not.
 use Rattle.std.proofs.Common.{◌≡◌, ℕ, [], ◌∷◌, refl, sym, ap, ◌∙◌, arith}
 use Rattle.std.specs.Prelude.{true, false}
-use Rattle.mesa_types.specs.Typed.{Kind, Ordinal, Longs, Texts, Record, Kinds, NoKinds, AndKind, Expr, Number, LongNumber, Variable, Converted, OperateLong, NegateLong, RelateLong, WithinLong, Between, NoSuffix, NoOperation, Then, Stmt, Null, Assign, Extract, Select, SelectLong, Targets, NoTargets, AndTarget, AndConverted, Cases, Otherwise, AndCase, NoTests, IfRelated, IfRelatedLong}
+use Rattle.mesa_types.specs.Typed.{Kind, Ordinal, Longs, Record, Kinds, NoKinds, AndKind, Expr, LongNumber, Variable, Converted, OperateLong, NegateLong, RelateLong, WithinLong, Between, NoSuffix, NoOperation, Then, Null, Assign, Select, SelectLong, NoTargets, AndConverted, Otherwise, AndCase, NoTests, IfRelated, IfRelatedLong}
 use Rattle.mesa_types.specs.declared.typed_parts.Home.TheVariants.{Global}
 use Rattle.mesa_types.specs.declared.typed_parts.Part.{Part}
 use Rattle.mesa_types.specs.declared.typed_parts.Range.TheVariants.{Every, From}
-use Rattle.mesa_types.specs.declared.typed_parts.Base.TheVariants.{Signed, Unsigned}
+use Rattle.mesa_types.specs.declared.typed_parts.Base.TheVariants.{Signed}
 use Rattle.mesa_types.specs.declared.typed_parts.Conversion.{Conversion}
-use Rattle.mesa_types.specs.declared.typed_parts.Conversion.TheVariants.{Kept, Widened, Narrowed, InCommon}
+use Rattle.mesa_types.specs.declared.typed_parts.Conversion.TheVariants.{Kept, Widened, Narrowed}
 use Rattle.mesa_types.specs.declared.typed_parts.Operator.TheVariants.{Add, AddToCharacter}
 use Rattle.mesa_base.specs.declared.relation.Relation.TheVariants.{Equal}
-use Rattle.mesa_types.specs.Shapes.{words_in, words_before, one, KindAt, PartOf}
-use Rattle.mesa_types.specs.Counts.{hidden, hidden_expr, hidden_cases, hidden_suffixes, words_of, words_after, operands, operands_in, operands_of_stmt, operands_of_cases, operands_of_tests, operands_of_targets}
-use Rattle.mesa_types.specs.Sound.{Scope, Fits, VariableIn, RangeIn, IsCheck, Converts, IsConversion, IsOnNumbers, AllDiffer, taken, TestsTake, CasesTake, Selects, HasTest, a_word, a_long, ExprIn, LongOperationsIn, LongIntervalIn, SuffixesIn, StmtIn, TargetsIn, CasesIn, TestsIn}
+use Rattle.mesa_types.specs.Shapes.{words_in, words_before, one, KindAt}
+use Rattle.mesa_types.specs.Counts.{hidden, hidden_expr, hidden_cases, hidden_suffixes, words_of, operands, operands_in, operands_of_stmt, operands_of_cases, operands_of_tests}
+use Rattle.mesa_types.specs.Sound.{Scope, Fits, VariableIn, RangeIn, IsCheck, Converts, IsConversion, IsOnNumbers, TestsTake, CasesTake, Selects, HasTest, a_word, a_long, ExprIn, LongOperationsIn, LongIntervalIn, SuffixesIn, StmtIn, TargetsIn, CasesIn, TestsIn}
 use Rattle.typed_examples.proofs.Places.{here, kind_number}
 
 -- globals: a word, a LONG number, a record of both

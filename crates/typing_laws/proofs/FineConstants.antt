@@ -13,7 +13,7 @@ use Rattle.check_rules.specs.Typed as t
 use Rattle.check_rules.specs.Typed.{Base, Signed, Unsigned, Kept, Widened, Narrowed, InCommon}
 use Rattle.interface_records.specs.PlainTypes as v
 use Rattle.interface_records.specs.PlainTypes.{PlainType, base_of, bounds, conforms, is_long, is_number, one_base, same, sign_of}
-use Rattle.check_rules.specs.Operators.{Sort, Number, LongNumber, Letter, Truth, Other, Meeting, LongMeeting, Fit, AsLiteral, By, Applied, LongApplied, Application, OfWords, OfLongs, sort_of, sort_of_base, number_type, long_type, lengthened, made_by, fitted, arithmetic, on_longs, long_arithmetic, on_letter, meet, meet_long, word_operation, by_length, operation}
+use Rattle.check_rules.specs.Operators.{Sort, Number, LongNumber, Letter, Truth, Other, Meeting, LongMeeting, Fit, AsLiteral, By, Applied, LongApplied, Application, OfWords, OfLongs, sort_of, sort_of_base, number_type, long_type, lengthened, fitted, arithmetic, long_arithmetic, on_letter, meet, meet_long, word_operation, by_length, operation}
 use Rattle.check_rules.specs.Values.{Sum, Begun, InWords, InLongs, closed, then_word, then_long}
 use Rattle.check_rules.specs.Parts.{and_operation, and_part}
 use Rattle.check_rules.specs.Ranges as ranges

@@ -1,5 +1,5 @@
 -- The types that checking meets keep a law on types: what names mean, and the form in which it is said.
-use Rattle.std.specs.Prelude.{ℕ, ◌≡◌, ◌+◌, Bool, true, false, Option, Some, None, Ok, Err, List, [], ◌∷◌, is_some, IfOk, slice_get}
+use Rattle.std.specs.Prelude.{ℕ, ◌≡◌, ◌+◌, Bool, true, false, Option, Some, None, Ok, Err, List, [], ◌∷◌, IfOk, slice_get}
 use Rattle.std.specs.Option.{option_or}
 use Rattle.std.proofs.Common.{refl}
 use Rattle.mesa_base.specs.declared.place.Place.{Place}

@@ -1,5 +1,5 @@
 -- Rules of statements: how many nodes they give, and where their faults stand.
-use Rattle.std.specs.Prelude.{ℕ, ◌≡◌, ◌+◌, ◌≤◌, Bool, true, false, not, ◌&&◌, Option, Some, None, List, [], ◌∷◌, length, map, is_some, if◌then◌else◌, nat_lt, nat_le}
+use Rattle.std.specs.Prelude.{ℕ, ◌≡◌, ◌+◌, ◌≤◌, Bool, true, false, not, ◌&&◌, Option, Some, None, List, [], ◌∷◌, length, map, if◌then◌else◌, nat_lt, nat_le}
 use Rattle.std.proofs.Common.{refl, arith}
 use Rattle.mesa_base.specs.declared.limits.TheConstants.{TYPE_WORDS, TYPE_DEPTH, ENUMERATION_ELEMENTS, GLOBAL_WORDS}
 use Rattle.mesa_base.specs.declared.place.Place.{Place}
