@@ -14,7 +14,7 @@ use Rattle.mesa_types.specs.declared.faces.Pair.{Pair}
 use Rattle.check_scopes.specs.Scopes.{has}
 use Rattle.interface_records.specs.Lists.{Ascend, NoneTwice}
 use Rattle.interface_records.specs.PlainTypes.{plain_item}
-use Rattle.interface_records.specs.Spelled.{InFourBytes, ImportCanBeSpelled, ExportCanBeSpelled, FaceCanBeSpelled, item_numbers}
+use Rattle.interface_records.specs.Spelled.{InFourBytes, ImportCanBeSpelled, ExportCanBeSpelled, FaceCanBeSpelled, ShapeCanBeSpelled, item_numbers}
 use Rattle.config_rules.specs.InOrder.{NamesDiffer, NumbersIn}
 use Rattle.code_forms.specs.declared.module_code.CodeSignal.{CodeSignal}
 use Rattle.spelled_laws.specs.face_rules.specs.FaceForms.{item_names}
