@@ -21,7 +21,7 @@ returns c =
     let before = words.state c.args.state.now in
     let after = words.state c.body.new.state in
     let body : in_scope (words.names c.args.head.scope) (block_rule (body_of (words.known c.args.known.now) i.takes i.gives) (plain.block c.args.one.now)) (fresh before)
-        ≡ Ok (stmt c.in_ok-does.does, after) = search rules in
+    ≡ Ok (stmt c.in_ok-does.does, after) = search rules in
     let locals : few_locals i.takes i.gives (first_name c.args.names.now) after ≡ Ok tt = search rules in
     let operands : only (nat_le (0 + c.args.head.operands) OPERAND_WORDS) FrameTooLarge (first_name c.args.names.now) ≡ Ok tt = search rules in
     let made : plain_procedure c.in_ok-made.field-0 ≡ record { head = item_of i; body = record { variables = after.variables; does = stmt c.in_ok-does.does } } = search (rules, item_back) in
