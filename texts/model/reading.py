@@ -3,17 +3,19 @@ Types, items and faces are read here for objects and images too. Nothing of the 
 from collections import namedtuple
 
 WORDS, DEPTH, ELEMENTS = 16_384, 64, 65_536
-INTEGER, CARDINAL, BOOLEAN, CHARACTER, STRING, ENUMERATION, SUBRANGE, ARRAY, RECORD = range(1, 10)
-ANY, BASE = set(range(INTEGER, RECORD + 1)), {INTEGER, CARDINAL, BOOLEAN, CHARACTER, ENUMERATION}
-INDEX, ORDINAL = {BOOLEAN, CHARACTER, ENUMERATION, SUBRANGE}, BASE | {SUBRANGE}
+INTEGER, CARDINAL, BOOLEAN, CHARACTER, STRING, ENUMERATION, SUBRANGE, ARRAY, RECORD, LONG_INTEGER, LONG_CARDINAL = range(1, 12)
+ANY, BASE = set(range(INTEGER, LONG_CARDINAL + 1)), {INTEGER, CARDINAL, BOOLEAN, CHARACTER, ENUMERATION}
+INDEX, OF_CONSTANTS = {BOOLEAN, CHARACTER, ENUMERATION, SUBRANGE}, BASE | {SUBRANGE, LONG_INTEGER, LONG_CARDINAL}
+# The types that a version has, which are those up to this tag.
+LAST = {1: RECORD, 2: LONG_CARDINAL}
 PROCEDURE, SIGNAL, ERROR = 1, 2, 3
 
-# A type: its tag and parts, by which two are the same; its words; and where it is ordinal its first and last value and how words are read as values.
+# A type: its tag and parts, by which two are the same; its words; and where it is ordinal or LONG its first and last value and how words are read as values.
 Type = namedtuple("Type", "tree words first last value", defaults=(None, None, None))
 # An item takes and gives lists of names, each with its type; an error gives None.
 Item = namedtuple("Item", "kind name takes gives")
 Face = namedtuple("Face", "name stamp items")
-# The number of a constant is the value of its word; a named type is a name and a type.
+# The number of a constant is the value of its word, or of its two; a named type is a name and a type.
 Constant = namedtuple("Constant", "name kind number")
 Interface = namedtuple("Interface", "face constants types")
 
@@ -24,6 +26,10 @@ class Wrong(Exception):
 
 def signed(word):
     return word - 65_536 if word > 32_767 else word
+
+
+def signed_long(number):
+    return number - 2**32 if number >= 2**31 else number
 
 
 def is_name(text):
@@ -42,7 +48,7 @@ class Reader:
     """Reads a file. Each call takes a part, or says by Wrong why it is none."""
 
     def __init__(self, held):
-        self.held, self.at = held, 0
+        self.held, self.at, self.version = held, 0, 2
 
     def bad(self, at, field):
         raise Wrong(f"BadField {at} {field}")
@@ -98,14 +104,15 @@ class Reader:
 
     def type(self, allowed=ANY, depth=1):
         at = self.at
-        tag = self.ruled(1, lambda tag: depth <= DEPTH and tag in allowed, "type")
+        tag = self.ruled(1, lambda tag: depth <= DEPTH and tag in allowed and tag <= LAST[self.version], "type")
         kind = {ENUMERATION: self.enumeration, SUBRANGE: self.subrange, ARRAY: self.array, RECORD: self.record}.get(tag, self.plain)(tag, depth)
         self.ensure(kind.words <= WORDS, at, "type")
         return kind
 
     def plain(self, tag, depth):
         bounds = {INTEGER: (-32_768, 32_767, signed), CARDINAL: (0, 65_535, int), BOOLEAN: (0, 1, int), CHARACTER: (0, 255, int)}
-        return Type((tag,), 1, *bounds[tag]) if tag in bounds else Type((tag,), 2)
+        longs = {LONG_INTEGER: (-(2**31), 2**31 - 1, signed_long), LONG_CARDINAL: (0, 2**32 - 1, int)}
+        return Type((tag,), 1, *bounds[tag]) if tag in bounds else Type((tag,), 2, *longs.get(tag, ()))
 
     def origin(self):
         return self.name(), self.number(6), self.number(4)
@@ -116,8 +123,8 @@ class Reader:
         return Type((tag, origin, tuple(names)), 1, 0, len(names) - 1, int)
 
     def value(self, kind, least):
-        """A word that is a value of the type, and not below this one."""
-        return kind.value(self.ruled(2, lambda word: max(kind.first, least) <= kind.value(word) <= kind.last, "number"))
+        """A word or two that are a value of the type, and not below this one."""
+        return kind.value(self.ruled(2 * kind.words, lambda word: max(kind.first, least) <= kind.value(word) <= kind.last, "number"))
 
     def subrange(self, tag, depth):
         base = self.type(BASE, depth + 1)
@@ -163,7 +170,7 @@ class Reader:
 
     def constant(self, before):
         name = self.fresh(before)
-        kind = self.type(ORDINAL)
+        kind = self.type(OF_CONSTANTS)
         return Constant(name, kind, self.value(kind, kind.first))
 
     def named_type(self, before):
@@ -181,7 +188,7 @@ class Reader:
         if self.held[:3] != letters[: len(self.held)]:
             raise Wrong("BadMagic")
         self.taken(3)
-        self.ruled(1, lambda version: version in (1, 2), "version")
+        self.version = self.ruled(1, lambda version: version in (1, 2), "version")
         found = value()
         if self.at < len(self.held):
             raise Wrong(f"TrailingBytes {self.at}")

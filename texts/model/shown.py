@@ -4,7 +4,7 @@ from model.code import NAMES, SIZES
 from model.objects import LINKED, OWN, TO, image_in, needs_of, object_in
 from model.reading import ARRAY, ENUMERATION, ERROR, RECORD, SUBRANGE
 
-WORDS = {1: "INTEGER", 2: "CARDINAL", 3: "BOOLEAN", 4: "CHARACTER", 5: "STRING"}
+WORDS = {1: "INTEGER", 2: "CARDINAL", 3: "BOOLEAN", 4: "CHARACTER", 5: "STRING", 10: "LONG INTEGER", 11: "LONG CARDINAL"}
 KINDS = {1: "PROCEDURE", 2: "SIGNAL", 3: "ERROR"}
 LABELS = {1: "ANY", 2: "UNWIND", 5: "BoundsFault", 6: "ZeroDivisor"}
 

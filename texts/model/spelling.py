@@ -32,6 +32,7 @@ def items(*parts):
 # ---- types, items and faces
 
 INTEGER, CARDINAL, BOOLEAN, CHARACTER, STRING = (u8(tag) for tag in range(1, 6))
+LONG_INTEGER, LONG_CARDINAL = u8(10), u8(11)
 
 
 def fields(*parts):
@@ -64,7 +65,7 @@ def item(kind, called, takes=(), gives=()):
 
 
 def constant(called, kind, value):
-    return name(called) + kind + u16(value)
+    return name(called) + kind + (u32 if kind in (LONG_INTEGER, LONG_CARDINAL) else u16)(value)
 
 
 def named(called, kind):

@@ -9,7 +9,7 @@ use Rattle.mesa_types.specs.declared.types.TypeTree.{TypeTree}
 use Rattle.mesa_types.specs.declared.types.TypeTree.TheOpen.{FieldType-F}
 use Rattle.mesa_types.specs.declared.types.TypeTree.TheVariants.{Character}
 use Rattle.interface_records.specs.Faces.{parameter, procedure, iodefs}
-use Rattle.interface_records.specs.Hosts.{SameItem, IsHostItem}
+use Rattle.interface_records.specs.Hosts.{SameItem}
 use Rattle.object_files.specs.declared.image.Image.{Image}
 use Rattle.agreement_rules.specs.Stands.{IsWanted, WantsTheHost}
 

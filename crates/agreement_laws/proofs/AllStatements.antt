@@ -1,6 +1,6 @@
 -- Every statement follows its meaning: the recursion over the tree, which gives the lemma of each form its parts.
 use Rattle.std.proofs.Common.{ℕ, suc}
-use Rattle.mesa_types.specs.Typed.{Count, Endless, Stmt, Null, Marked, Declare, DeclareAs, Assign, Extract, Perform, If, Select, Block, Repeat, For, Jump, ReturnWith, Resume, Reject, Retry, Continue, Stmts, NoStmts, AndStmt, Cases, Otherwise, AndCase, Exits, NoExits, AndExit, Loop, LoopOf, Finish, NoFinish, Finished}
+use Rattle.mesa_types.specs.Typed.{Count, Endless, Stmt, Null, Marked, Declare, DeclareAs, Assign, Extract, Perform, If, Select, SelectLong, Block, Repeat, For, Jump, ReturnWith, Resume, Reject, Retry, Continue, Stmts, NoStmts, AndStmt, Cases, Otherwise, AndCase, Exits, NoExits, AndExit, Loop, LoopOf, Finish, NoFinish, Finished}
 use Rattle.source_meaning.specs.Meaning.{does}
 use Rattle.agreement_laws.specs.World.{World}
 use Rattle.agreement_laws.specs.Promises.{next, ExpressionsFollow, SignalsFollow, Follows, SequenceFollows, CasesFollow, LoopFollows, NextFollows, StatementsFollow}
@@ -11,7 +11,7 @@ use Rattle.agreement_laws.proofs.Declared.{declare_as_follows}
 use Rattle.agreement_laws.proofs.Extracts.{extract_follows}
 use Rattle.agreement_laws.proofs.Exits.{ExitsFollow, no_exits_follow, exits_follow}
 use Rattle.agreement_laws.proofs.Rounds.{FinishFollows, no_finish_follows, finished_follows, repeat_follows}
-use Rattle.agreement_laws.proofs.Selects.{otherwise_follows, case_follows, select_follows, select_none_follows}
+use Rattle.agreement_laws.proofs.Selects.{otherwise_follows, case_follows, select_follows, select_none_follows, select_long_follows, select_long_none_follows}
 use Rattle.agreement_laws.proofs.Statements.{null_follows, marked_follows, declare_follows, assign_follows, perform_follows, if_follows, jump_follows, return_follows, resume_follows, reject_follows, retry_follows, continue_follows, sequence_none, sequence_more}
 
 module _ (W : World) (n : ℕ) (again : NextFollows W n) (signals : SignalsFollow W n) (expressions : ExpressionsFollow W n) where
@@ -31,6 +31,9 @@ module _ (W : World) (n : ℕ) (again : NextFollows W n) (signals : SignalsFollo
     statement_follows (Select e (Otherwise s)) = select_none_follows W n expressions e s (statement_follows s)
     statement_follows (Select e (AndCase ts s cs)) =
         select_follows W n expressions e ts s cs (case_follows W n expressions signals.raise ts s cs (statement_follows s) (cases_follow cs))
+    statement_follows (SelectLong e (Otherwise s)) = select_long_none_follows W n expressions e s (statement_follows s)
+    statement_follows (SelectLong e (AndCase ts s cs)) =
+        select_long_follows W n expressions e ts s cs (case_follows W n expressions signals.raise ts s cs (statement_follows s) (cases_follow cs))
     statement_follows (Block ph ss es) = block_follows W n signals.phrase ph ss es (sequence_follows ss) (labels_follow es)
     statement_follows (Repeat c l) = repeat_follows W (suc n) (does W.program (next W n)) c l (loop_follows Endless l)
     statement_follows (For g down base i l) = for_follows W n expressions g down base i l (λ c. loop_follows c l)

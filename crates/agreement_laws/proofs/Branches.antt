@@ -44,7 +44,7 @@ unfolding truth
 truth_small true = omega arith
 truth_small false = omega arith
 
-truth_true : (t : Bool) → is_true (truth t) ≡ t
+pub truth_true : (t : Bool) → is_true (truth t) ≡ t
 unfolding is_true truth
 truth_true true = refl
 truth_true false = refl
@@ -321,7 +321,7 @@ module _ (W : World) (bound : ℕ) (K : Site) (w : Place) (hi : ℕ) (ctx : Cont
 
 -- A relation with a jump: where the relation is an opposite its code tests the other one, and the jump is turned.
 
-abbrev plain : Relation → Relation
+abbrev pub plain : Relation → Relation
 plain Equal = Equal
 plain NotEqual = Equal
 plain Less = Less
@@ -337,7 +337,7 @@ comparison_is b AtMost = refl
 comparison_is b Greater = refl
 comparison_is b AtLeast = refl
 
-less_turned : (x y : ℕ) → nat_le x y ≡ not (nat_lt y x)
+pub less_turned : (x y : ℕ) → nat_le x y ≡ not (nat_lt y x)
 less_turned x y = ⊎_elim
     (λ (h : y < x). lt-leb x y h ∙ sym (ap not (lt-ltb y x h)))
     (λ (h : x ≤ y). le-leb x y h ∙ sym (ap not (le-ltb y x h)))
@@ -352,7 +352,7 @@ related_turned AtMost b x y = sym (less_turned (shifted b x) (shifted b y))
 related_turned Greater b x y = refl
 related_turned AtLeast b x y = sym (less_turned (shifted b y) (shifted b x))
 
-differ_turned : (t opposite sense : Bool) → differ t (differ opposite sense) ≡ differ (differ opposite t) sense
+pub differ_turned : (t opposite sense : Bool) → differ t (differ opposite sense) ≡ differ (differ opposite t) sense
 unfolding differ
 differ_turned true true true = refl
 differ_turned true true false = refl

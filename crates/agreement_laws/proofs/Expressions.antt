@@ -1,23 +1,24 @@
 -- Expressions follow: one recursion over the tree.
 use Rattle.std.proofs.Common.{◌≡◌, ℕ, suc, ◌+◌, ◌<◌, List, [], ◌∷◌, true, false, not, refl, sym, ◌∙◌, subst, arith}
-use Rattle.mesa_types.specs.Typed.{Kind, Texts, Kinds, NoKinds, AndKind, Expr, Number, Literal, Variable, FieldOf, LengthOf, ByteOf, Checked, Operate, Negate, Relate, Within, Not, AllOf, SomeOf, Construct, Call, Raise, Exprs, NoExprs, AndExpr, Suffixes, NoSuffix, Field, Index, Operations, NoOperation, Then, Between}
+use Rattle.mesa_types.specs.Typed.{Kind, Texts, Kinds, NoKinds, AndKind, Expr, Number, LongNumber, Literal, Variable, FieldOf, LengthOf, ByteOf, Checked, Converted, Operate, OperateLong, Negate, NegateLong, Relate, RelateLong, Within, WithinLong, Not, AllOf, SomeOf, Construct, Call, Raise, Exprs, NoExprs, AndExpr, Suffixes, NoSuffix, Field, Index, Operations, NoOperation, Then, Between}
 use Rattle.mesa_types.specs.Shapes.{HasWords, one, words_in, words_in_all}
 use Rattle.mesa_types.specs.Counts.{hidden_expr, hidden_exprs, hidden_suffixes, hidden_operations, hidden_interval, hidden_phrase, words_of}
 use Rattle.mesa_types.specs.Plain.{kinds_of}
 use Rattle.mesa_types.specs.Operators.{truth}
-use Rattle.mesa_types.specs.Sound.{Scope, a_word, Constructs, Arranged, ExprIn, ExprsIn, WordsIn, SuffixesIn, OperationsIn, IntervalIn}
+use Rattle.mesa_types.specs.Longs.{two_words}
+use Rattle.mesa_types.specs.Sound.{Scope, a_word, a_long, Constructs, Arranged, ExprIn, ExprsIn, WordsIn, SuffixesIn, OperationsIn, LongOperationsIn, IntervalIn, LongIntervalIn}
 use Rattle.mesa_types.proofs.Arranged.{arranged_words}
 use Rattle.mesa_types.proofs.WordSizes.{sizes_agree}
 use Rattle.code_forms.specs.declared.instruction.Instruction.TheVariants as i
 use Rattle.source_meaning.specs.Value.{nth, word}
-use Rattle.source_meaning.specs.State.{State, Result, Run, carry, after, value_then, on_values, on_value, on_word}
-use Rattle.source_meaning.specs.Meaning.{value, values, all_of, some_of, path, operations}
+use Rattle.source_meaning.specs.State.{State, Result, Run, carry, after, value_then, on_values, on_value, on_word, on_long}
+use Rattle.source_meaning.specs.Meaning.{value, values, all_of, some_of, path, operations, long_operations}
 use Rattle.machine_rules.specs.State.{Store, Stepped}
 use Rattle.machine_rules.specs.Words.{push}
 use Rattle.code_rules.specs.CodeFor as row
 use Rattle.code_rules.specs.Reading.{Place, beyond, deeper, past, past_all}
 use Rattle.code_rules.specs.Slots.{fields_of}
-use Rattle.code_rules.proofs.Whole.{expr_run, exprs_run, operations_run, path_run, branch_run, operands_run}
+use Rattle.code_rules.proofs.Whole.{expr_run, exprs_run, operations_run, long_operations_run, path_run, branch_run, operands_run}
 use Rattle.agreement_rules.proofs.Lifted.{in_order}
 use Rattle.agreement_rules.specs.Reaches.{Reaches}
 use Rattle.agreement_laws.specs.World.{World, Ready}
@@ -26,13 +27,15 @@ use Rattle.agreement_laws.specs.Relation.{Agrees, standing}
 use Rattle.agreement_laws.specs.Contexts.{Site, InPlace, Inside}
 use Rattle.agreement_laws.specs.Answers.{Valued}
 use Rattle.agreement_laws.specs.Promises as promise
-use Rattle.agreement_laws.specs.Promises.{next, SignalsFollow, CallFollows, ValueFollows, ValuesFollow, PathFollows, OperationsFollow, BranchFollows, ExpressionsFollow}
+use Rattle.agreement_laws.specs.Promises.{next, SignalsFollow, CallFollows, ValueFollows, ValuesFollow, PathFollows, OperationsFollow, LongOperationsFollow, BranchFollows, ExpressionsFollow}
 use Rattle.agreement_laws.proofs.Branches.{Chose}
 use Rattle.agreement_laws.proofs.Branches as led
 use Rattle.agreement_laws.proofs.Calling.{call_row, raise_row}
 use Rattle.agreement_laws.proofs.Fields.{variable_small, literal_row, field_row}
 use Rattle.agreement_laws.proofs.Following.{valued_later, valued_out, word_on}
 use Rattle.agreement_laws.proofs.Lists.{none_row, and_row, construct_row}
+use Rattle.agreement_laws.proofs.LongBranches.{long_relation_led_row}
+use Rattle.agreement_laws.proofs.LongWords.{long_here, long_then, long_number_row, negate_long_row, converted_row, relate_long_row, within_long_row, long_operation_row}
 use Rattle.agreement_laws.proofs.Moving.{place_part, place_first, run_order, inside_part}
 use Rattle.agreement_laws.proofs.Owning.{law, own_gives}
 use Rattle.agreement_laws.proofs.Texts.{text_fits}
@@ -66,12 +69,15 @@ word_then W n K around c b rest s r k h on =
 
 module _ (W : World) (ready : Ready W) (n : ℕ) (signals : SignalsFollow W n) (calls : CallFollows W n) where
   mutual
-    unfolding value values all_of some_of path operations on_value on_word on_values after carry hidden_expr hidden_exprs hidden_suffixes hidden_operations hidden_interval ExprIn ExprsIn WordsIn SuffixesIn OperationsIn IntervalIn truth
+    unfolding value values all_of some_of path operations long_operations on_value on_word on_long on_values after carry hidden_expr hidden_exprs hidden_suffixes hidden_operations hidden_interval ExprIn ExprsIn WordsIn SuffixesIn OperationsIn LongOperationsIn IntervalIn LongIntervalIn truth
 
     pub value_follows : (e : Expr) → ValueFollows W n e
     value_follows (Number x) K w ks a b rest μ m σ (row.number own) sound place inside now =
         as_kinds W (suc n) K w.around ks a_word b rest (promise.here K a rest μ m) (value W.program (next W n) (Number x) K.meant σ) sound.1
         (number_row W n K w place x a b rest μ m σ sound.0 own now)
+    value_follows (LongNumber x) K w ks a b rest μ m σ (row.long_number own) sound place inside now =
+        as_kinds W (suc n) K w.around ks a_long b rest (promise.here K a rest μ m) (value W.program (next W n) (LongNumber x) K.meant σ) sound.1
+        (long_number_row W n K w place x a b rest μ m σ sound.0 own now)
     value_follows (Literal k) K w ks a b rest μ m σ (row.literal own) sound place inside now =
         as_kinds W (suc n) K w.around ks (one Texts) b rest (promise.here K a rest μ m) (value W.program (next W n) (Literal k) K.meant σ) sound.1
         (literal_row W n K w (w.slot + 0) place k a b rest μ m σ sound.0 own now)
@@ -123,6 +129,12 @@ module _ (W : World) (ready : Ready W) (n : ℕ) (signals : SignalsFollow W n) (
         (checked_row W n K (past e w) (place_part W K w (hidden_expr e) (hidden_expr e) 0 (omega arith) place) c b rest (inside_part W K.ground a b c b low (omega arith) inside)
         signals.raise range (promise.here K a rest μ m) (value W.program (next W n) e K.meant σ)
         (value_follows e K w a_word a c rest μ m σ code sound.1 place (inside_part W K.ground a b a c (omega arith) high inside) now) own)
+    value_follows (Converted conversion e) K w ks a b rest μ m σ (row.converted c code own) sound place inside now =
+        let low = run_order (expr_run code) in let high = in_order own in
+        as_kinds W (suc n) K w.around ks (one sound.2) b rest (promise.here K a rest μ m) (value W.program (next W n) (Converted conversion e) K.meant σ) sound.5
+        (converted_row W n K (past e w) (place_part W K w (hidden_expr e) (hidden_expr e) 0 (omega arith) place) c b rest (inside_part W K.ground a b c b low (omega arith) inside)
+        signals.raise conversion sound.1 sound.2 (promise.here K a rest μ m) (value W.program (next W n) e K.meant σ) sound.3
+        (value_follows e K w (one sound.1) a c rest μ m σ code sound.4 place (inside_part W K.ground a b a c (omega arith) high inside) now) own)
     value_follows (Operate e os) K w ks a b rest μ m σ (row.operate c code ops) sound place inside now =
         let low = run_order (expr_run code) in let high = run_order (operations_run ops) in
         let r = value W.program (next W n) e K.meant σ in
@@ -132,12 +144,27 @@ module _ (W : World) (ready : Ready W) (n : ℕ) (signals : SignalsFollow W n) (
         (inside_part W K.ground a b a c (omega arith) high inside) now)
         (λ x ν l lt agrees. operations_follow os K (past e w) c b x rest ν l r.state ops sound.1 lt
         (place_part W K w (hidden_expr e + hidden_operations os) (hidden_expr e) (hidden_operations os) (omega arith) place) (inside_part W K.ground a b c b low (omega arith) inside) agrees))
+    value_follows (OperateLong e os) K w ks a b rest μ m σ (row.operate_long c code ops) sound place inside now =
+        let low = run_order (expr_run code) in let high = run_order (long_operations_run ops) in
+        let r = value W.program (next W n) e K.meant σ in
+        as_kinds W (suc n) K w.around ks a_long b rest (promise.here K a rest μ m) (value W.program (next W n) (OperateLong e os) K.meant σ) sound.2
+        (long_then W n K w.around c b rest (promise.here K a rest μ m) r (λ x. long_operations W.program (next W n) os K.meant x)
+        (value_follows e K w a_long a c rest μ m σ code sound.0 (place_first W K w (hidden_expr e + hidden_operations os) (hidden_expr e) (omega arith) place)
+        (inside_part W K.ground a b a c (omega arith) high inside) now)
+        (λ x ν l lt agrees. long_operations_follow os K (past e w) c b x rest ν l r.state ops sound.1 lt
+        (place_part W K w (hidden_expr e + hidden_operations os) (hidden_expr e) (hidden_operations os) (omega arith) place) (inside_part W K.ground a b c b low (omega arith) inside) agrees))
     value_follows (Negate e) K w ks a b rest μ m σ (row.negate c code own) sound place inside now =
         let low = run_order (expr_run code) in let high = in_order own in
         as_kinds W (suc n) K w.around ks a_word b rest (promise.here K a rest μ m) (value W.program (next W n) (Negate e) K.meant σ) sound.1
         (negate_row W n K (past e w) (place_part W K w (hidden_expr e) (hidden_expr e) 0 (omega arith) place) c b rest (inside_part W K.ground a b c b low (omega arith) inside)
         (promise.here K a rest μ m) (value W.program (next W n) e K.meant σ)
         (value_follows e K w a_word a c rest μ m σ code sound.0 place (inside_part W K.ground a b a c (omega arith) high inside) now) own)
+    value_follows (NegateLong e) K w ks a b rest μ m σ (row.negate_long c code own) sound place inside now =
+        let low = run_order (expr_run code) in let high = in_order own in
+        as_kinds W (suc n) K w.around ks a_long b rest (promise.here K a rest μ m) (value W.program (next W n) (NegateLong e) K.meant σ) sound.1
+        (negate_long_row W n K (past e w) (place_part W K w (hidden_expr e) (hidden_expr e) 0 (omega arith) place) c b rest (inside_part W K.ground a b c b low (omega arith) inside)
+        (promise.here K a rest μ m) (value W.program (next W n) e K.meant σ)
+        (value_follows e K w a_long a c rest μ m σ code sound.0 place (inside_part W K.ground a b a c (omega arith) high inside) now) own)
     value_follows (Relate base o d e) K w ks a b rest μ m σ (row.relate c f first second own) sound place inside now =
         let low = run_order (expr_run first) in let mid = run_order (expr_run second) in let high = in_order own in
         let r = value W.program (next W n) d K.meant σ in
@@ -148,6 +175,17 @@ module _ (W : World) (ready : Ready W) (n : ℕ) (signals : SignalsFollow W n) (
         (value_follows d K w a_word a c rest μ m σ first sound.0 (place_first W K w (hidden_expr d + hidden_expr e) (hidden_expr d) (omega arith) place)
         (inside_part W K.ground a b a c (omega arith) (omega (arith, mid, high)) inside) now)
         (λ x ν l agrees. value_follows e K (past d w) a_word c f (x ∷ rest) ν l r.state second sound.1
+        (place_part W K w (hidden_expr d + hidden_expr e) (hidden_expr d) (hidden_expr e) (omega arith) place) (inside_part W K.ground a b c f low high inside) agrees) own)
+    value_follows (RelateLong base o d e) K w ks a b rest μ m σ (row.relate_long c f first second own) sound place inside now =
+        let low = run_order (expr_run first) in let mid = run_order (expr_run second) in let high = in_order own in
+        let r = value W.program (next W n) d K.meant σ in
+        as_kinds W (suc n) K w.around ks a_word b rest (promise.here K a rest μ m) (value W.program (next W n) (RelateLong base o d e) K.meant σ) sound.2
+        (relate_long_row W n K (past e (past d w)) (place_part W K (past d w) (hidden_expr e) (hidden_expr e) 0 (omega arith)
+        (place_part W K w (hidden_expr d + hidden_expr e) (hidden_expr d) (hidden_expr e) (omega arith) place)) f b rest
+        (inside_part W K.ground a b f b (omega (arith, low, mid)) (omega arith) inside) base o c (value W.program (next W n) e K.meant) (promise.here K a rest μ m) r
+        (value_follows d K w a_long a c rest μ m σ first sound.0 (place_first W K w (hidden_expr d + hidden_expr e) (hidden_expr d) (omega arith) place)
+        (inside_part W K.ground a b a c (omega arith) (omega (arith, mid, high)) inside) now)
+        (λ x ν l agrees. value_follows e K (past d w) a_long c f (push (two_words x) rest) ν l r.state second sound.1
         (place_part W K w (hidden_expr d + hidden_expr e) (hidden_expr d) (hidden_expr e) (omega arith) place) (inside_part W K.ground a b c f low high inside) agrees) own)
     value_follows (Within bases e (Between d p f q)) K w ks a b rest μ m σ (row.within c g code (row.bounds h first last) own) sound place inside now =
         let low = run_order (expr_run code) in let mid = run_order (expr_run first) in let more = run_order (expr_run last) in let high = in_order own in
@@ -165,6 +203,23 @@ module _ (W : World) (ready : Ready W) (n : ℕ) (signals : SignalsFollow W n) (
         (λ x ν l agrees. value_follows d K (past e w) a_word c h (x ∷ rest) ν l r.state first sound.1.0
         (place_first W K (past e w) (hidden_expr d + hidden_expr f) (hidden_expr d) (omega arith) two) (inside_part W K.ground a b c h low (omega (arith, more, high)) inside) agrees)
         (λ x y ν l agrees. value_follows f K (past d (past e w)) a_word h g (y ∷ x ∷ rest) ν l r2.state last sound.1.1 three
+        (inside_part W K.ground a b h g (omega (arith, low, mid)) high inside) agrees) own)
+    value_follows (WithinLong bases e (Between d p f q)) K w ks a b rest μ m σ (row.within_long c g code (row.bounds h first last) own) sound place inside now =
+        let low = run_order (expr_run code) in let mid = run_order (expr_run first) in let more = run_order (expr_run last) in let high = in_order own in
+        let r = value W.program (next W n) e K.meant σ in
+        let words = hidden_expr e + (hidden_expr d + hidden_expr f) in
+        let r2 = value W.program (next W n) d K.meant r.state in
+        let two = place_part W K w words (hidden_expr e) (hidden_expr d + hidden_expr f) (omega arith) place in
+        let three = place_part W K (past e w) (hidden_expr d + hidden_expr f) (hidden_expr d) (hidden_expr f) (omega arith) two in
+        as_kinds W (suc n) K w.around ks a_word b rest (promise.here K a rest μ m) (value W.program (next W n) (WithinLong bases e (Between d p f q)) K.meant σ) sound.2
+        (within_long_row W n K (past f (past d (past e w))) (place_part W K (past d (past e w)) (hidden_expr f) (hidden_expr f) 0 (omega arith) three) g b rest
+        (inside_part W K.ground a b g b (omega (arith, low, mid, more)) (omega arith) inside) bases p q c h (value W.program (next W n) d K.meant) (value W.program (next W n) f K.meant)
+        (promise.here K a rest μ m) r
+        (value_follows e K w a_long a c rest μ m σ code sound.0 (place_first W K w words (hidden_expr e) (omega arith) place)
+        (inside_part W K.ground a b a c (omega arith) (omega (arith, mid, more, high)) inside) now)
+        (λ x ν l agrees. value_follows d K (past e w) a_long c h (push (two_words x) rest) ν l r.state first sound.1.0
+        (place_first W K (past e w) (hidden_expr d + hidden_expr f) (hidden_expr d) (omega arith) two) (inside_part W K.ground a b c h low (omega (arith, more, high)) inside) agrees)
+        (λ x y ν l agrees. value_follows f K (past d (past e w)) a_long h g (push (two_words y) (push (two_words x) rest)) ν l r2.state last sound.1.1 three
         (inside_part W K.ground a b h g (omega (arith, low, mid)) high inside) agrees) own)
     value_follows (Not e) K w ks a b rest μ m σ (row.negation c code own) sound place inside now =
         let low = run_order (expr_run code) in let high = in_order own in
@@ -238,6 +293,20 @@ module _ (W : World) (ready : Ready W) (n : ℕ) (signals : SignalsFollow W n) (
         (place_part W K w (hidden_expr e + hidden_operations os) (hidden_expr e) (hidden_operations os) (omega arith) place)
         (inside_part W K.ground a b f b (omega (arith, low, mid, high)) (omega arith) inside) agrees)
 
+    pub long_operations_follow : (os : Operations) → LongOperationsFollow W n os
+    long_operations_follow NoOperation K w a b x rest μ m σ row.no_long_operation sound lt place inside now = long_here W (suc n) K w.around a rest x μ m σ lt now
+    long_operations_follow (Then range o e os) K w a b x rest μ m σ (row.long_operation c d code own more) sound lt place inside now =
+        let mid = run_order (expr_run code) in let high = in_order own in let last = run_order (long_operations_run more) in
+        long_operation_row W n K w signals.raise o e x c d b rest (value W.program (next W n) e K.meant)
+        (λ y. long_operations W.program (next W n) os K.meant y) a μ m σ lt own
+        (inside_part W K.ground a b c d mid last inside)
+        (place_part W K w (hidden_expr e + hidden_operations os) (hidden_expr e) 0 (omega arith) place)
+        (value_follows e K w a_long a c (push (two_words x) rest) μ m σ code sound.2 (place_first W K w (hidden_expr e + hidden_operations os) (hidden_expr e) (omega arith) place)
+        (inside_part W K.ground a b a c (omega arith) (omega (arith, high, last)) inside) now)
+        (λ y ν l less agrees. long_operations_follow os K (beyond (hidden_expr e) w) d b y rest ν l (value W.program (next W n) e K.meant σ).state more sound.3 less
+        (place_part W K w (hidden_expr e + hidden_operations os) (hidden_expr e) (hidden_operations os) (omega arith) place)
+        (inside_part W K.ground a b d b (omega (arith, mid, high)) (omega arith) inside) agrees)
+
     pub path_follows : (s : Suffixes) → PathFollows W n s
     path_follows NoSuffix K w j k a b first rest μ m σ row.here sound some small place inside now = no_suffix_row W n K w.around j k a first rest μ m σ sound now
     path_follows (Field f offset s) K w j k a b first rest μ m σ (row.field code) sound some small place inside now =
@@ -268,6 +337,16 @@ module _ (W : World) (ready : Ready W) (n : ℕ) (signals : SignalsFollow W n) (
         (value_follows d K w a_word a c rest μ m σ first sound.0 (place_first W K w (hidden_expr d + hidden_expr e) (hidden_expr d) (omega arith) place)
         (inside_part W K.ground a b a c (omega arith) (omega (arith, mid, high)) inside) now)
         (λ x ν l agrees. value_follows e K (past d w) a_word c f (x ∷ rest) ν l r.state second sound.1
+        (place_part W K w (hidden_expr d + hidden_expr e) (hidden_expr d) (hidden_expr e) (omega arith) place) (inside_part W K.ground a b c f low high inside) agrees) own
+    branch_follows (RelateLong base o d e) follows K w sense target a b rest μ m σ (row.on_long_relation c f first second own) sound place inside now =
+        let low = run_order (expr_run first) in let mid = run_order (expr_run second) in let high = in_order own in
+        let r = value W.program (next W n) d K.meant σ in
+        long_relation_led_row W (suc n) K (past e (past d w)) (w.slot + hidden_expr d + hidden_expr e + 0)
+        (place_part W K (past d w) (hidden_expr e) (hidden_expr e) 0 (omega arith) (place_part W K w (hidden_expr d + hidden_expr e) (hidden_expr d) (hidden_expr e) (omega arith) place))
+        base o sense target c f b rest (value W.program (next W n) e K.meant) (promise.here K a rest μ m) r
+        (value_follows d K w a_long a c rest μ m σ first sound.0 (place_first W K w (hidden_expr d + hidden_expr e) (hidden_expr d) (omega arith) place)
+        (inside_part W K.ground a b a c (omega arith) (omega (arith, mid, high)) inside) now)
+        (λ x ν l agrees. value_follows e K (past d w) a_long c f (push (two_words x) rest) ν l r.state second sound.1
         (place_part W K w (hidden_expr d + hidden_expr e) (hidden_expr d) (hidden_expr e) (omega arith) place) (inside_part W K.ground a b c f low high inside) agrees) own
     branch_follows (AllOf es) follows K w sense target a b rest μ m σ (row.unless_all code) sound place inside now =
         led.chosen_led W (suc n) K w.around false target b rest (promise.here K a rest μ m) (all_of W.program (next W n) es K.meant σ)

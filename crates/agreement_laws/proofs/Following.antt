@@ -2,8 +2,9 @@
 use Rattle.std.proofs.Common.{ℕ, ◌<◌, List, ◌∷◌, sym, subst}
 use Rattle.mesa_types.specs.Typed.{Kind, Kinds}
 use Rattle.mesa_types.specs.Shapes.{one}
-use Rattle.mesa_types.specs.Sound.{a_word}
-use Rattle.source_meaning.specs.Value.{Value, nth, word}
+use Rattle.mesa_types.specs.Sound.{a_word, a_long}
+use Rattle.mesa_types.specs.Longs.{two_words}
+use Rattle.source_meaning.specs.Value.{Value, nth, word, long}
 use Rattle.source_meaning.specs.Value as value
 use Rattle.source_meaning.specs.State.{State, Answer, Result, Run, value_then}
 use Rattle.machine_rules.specs.State.{Store, Stepped}
@@ -16,7 +17,7 @@ use Rattle.agreement_laws.specs.Relation.{Agrees, standing}
 use Rattle.agreement_laws.specs.Contexts.{Site}
 use Rattle.agreement_laws.specs.Answers.{Gave, Passed, Valued}
 use Rattle.agreement_laws.proofs.Going.{Keeps, gave_later, answered_later, passed_answered, values_on}
-use Rattle.agreement_laws.proofs.Shown.{the_word, the_value}
+use Rattle.agreement_laws.proofs.Shown.{the_word, the_long, the_value}
 
 module _ (W : World) (bound : ℕ) (K : Site) (around : List ℕ) where
   pub gave_keeps : (ks : Kinds) (o : ℕ) (rest : List ℕ) → Keeps W bound (λ s vs σ. Gave W bound K.ground ks o rest s vs σ)
@@ -40,6 +41,16 @@ module _ (W : World) (bound : ℕ) (K : Site) (around : List ℕ) where
         let i = the_word (texts_of W) vs words shown in
         subst (λ l. Q (standing K.ground c (push l rest) μ m) (k (word (nth vs 0)) r.state)) (sym i.words)
         (subst (λ v. Q (standing K.ground c (i.word ∷ rest) μ m) (k (word (nth v 0)) r.state)) (sym i.is) (on i.word μ m i.small agrees)))
+
+    -- a LONG number has come
+    pub long_on : (c : ℕ) (rest : List ℕ) (k : ℕ → Run) (s : Stepped) (r : Result) → Valued W bound K around a_long c rest s r
+        → ((x : ℕ) (μ : Frames) (m : Store) → x < 4294967296 → Agrees W bound K.ground μ m r.state → Q (standing K.ground c (push (two_words x) rest) μ m) (k x r.state))
+        → Q s (value_then (λ vs. k (long (nth vs 0))) r.answer r.state)
+    unfolding nth long value.one
+    long_on c rest k s r h on = values_on W bound K around Q later out a_long c rest (λ vs. k (long (nth vs 0))) s r h (λ vs words μ m shown agrees.
+        let i = the_long (texts_of W) vs words shown in
+        subst (λ l. Q (standing K.ground c (push l rest) μ m) (k (long (nth vs 0)) r.state)) (sym i.words)
+        (subst (λ v. Q (standing K.ground c (push (two_words i.long) rest) μ m) (k (long (nth v 0)) r.state)) (sym i.is) (on i.long μ m i.small agrees)))
 
     -- a value has come
     pub value_on : (j : Kind) (c : ℕ) (rest : List ℕ) (k : Value → Run) (s : Stepped) (r : Result) → Valued W bound K around (one j) c rest s r

@@ -1,9 +1,10 @@
 -- The words of a new frame, and of its results.
 use Rattle.std.proofs.Common.{◌≡◌, ℕ, zero, suc, ◌+◌, ◌*◌, ◌<◌, ◌≤◌, List, [], ◌∷◌, ◌++◌, length, refl, sym, ap, ◌∙◌, subst, arith}
-use Rattle.mesa_types.specs.Typed.{Kind, Ordinal, Texts, Array, Record, Kinds, NoKinds, AndKind}
+use Rattle.mesa_types.specs.Typed.{Kind, Ordinal, Longs, Texts, Array, Record, Kinds, NoKinds, AndKind}
+use Rattle.mesa_types.specs.Longs.{long_of}
 use Rattle.mesa_types.specs.Shapes.{words_in, words_in_all, words_before, count_in, KindAt}
 use Rattle.mesa_types.specs.Shapes as shape
-use Rattle.source_meaning.specs.Value.{Value, Word, Text, Many, Values, AndValue, copies, zero_of, some_from}
+use Rattle.source_meaning.specs.Value.{Value, Word, Long, Text, Many, Values, AndValue, copies, zero_of, some_from}
 use Rattle.source_meaning.specs.Value as value
 use Rattle.machine_rules.specs.Words.{zeros, words_at}
 use Rattle.agreement_rules.specs.Layout.{Strings, Slots, slots_of, each, value_at, values_at, Show}
@@ -23,11 +24,17 @@ copies_each (suc n) v f h =
 abbrev ZerosFrom : Slots → ℕ → Type 0
 ZerosFrom m s = (i : ℕ) → s ≤ i → m i ≡ 0
 
+no_long : long_of 0 0 ≡ 0
+unfolding long_of
+no_long = refl
+
 mutual
   unfolding zero_of value.zeros value_at
 
   zero_value : (texts : Strings) (m : Slots) (s : ℕ) (k : Kind) → texts 0 0 ≡ [] → ZerosFrom m s → zero_of k ≡ value_at texts m s k
   zero_value texts m s Ordinal e h = ap Word (sym (h s (omega arith)))
+  zero_value texts m s Longs e h =
+      ap Long (sym no_long ∙ ap (λ x. long_of x 0) (sym (h s (omega arith))) ∙ ap (λ y. long_of (m s) y) (sym (h (s + 1) (omega arith))))
   zero_value texts m s Texts e h =
       ap Text (sym e ∙ ap (λ x. texts x 0) (sym (h s (omega arith))) ∙ ap (λ y. texts (m s) y) (sym (h (s + 1) (omega arith))))
   zero_value texts m s (Array n k) e h =

@@ -39,6 +39,8 @@ pub mod Keeping
 pub mod Labels
 pub mod Linked
 pub mod Lists
+pub mod LongBranches
+pub mod LongWords
 pub mod Loops
 pub mod Main
 pub mod Marks

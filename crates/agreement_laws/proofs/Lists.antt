@@ -1,7 +1,7 @@
 -- The rows of values one after the other, and of constructors.
 use Rattle.std.proofs.Common.{◌≡◌, ⊎_elim, ℕ, zero, suc, ◌+◌, ◌-◌, ◌*◌, ◌<◌, ◌≤◌, List, [], ◌∷◌, ◌++◌, length, refl, sym, ap, ◌∙◌, subst, arith}
 use Rattle.std.proofs.lemmas.Bool.{cases_lt}
-use Rattle.mesa_types.specs.Typed.{Kind, Ordinal, Texts, Array, Record, Kinds, NoKinds, AndKind, Exprs, NoExprs, AndExpr}
+use Rattle.mesa_types.specs.Typed.{Kind, Ordinal, Longs, Texts, Array, Record, Kinds, NoKinds, AndKind, Exprs, NoExprs, AndExpr}
 use Rattle.mesa_types.specs.Shapes.{one, copies, words_in, words_in_all}
 use Rattle.mesa_types.specs.Sound.{Scope, Constructs, Arranged, ExprsIn}
 use Rattle.mesa_types.proofs.WordSizes.{sizes_agree}
@@ -82,6 +82,7 @@ pub show_built : (texts : Strings) (k : Kind) (places : List ℕ) (all : Kinds) 
     → Show texts all vs ws → Show texts (one k) (value.one (Many vs)) ws
 unfolding Constructs values_at value_at one value.one words_in_all
 show_built texts Ordinal places all vs ws c e h = absurd c
+show_built texts Longs places all vs ws c e h = absurd c
 show_built texts Texts places all vs ws c e h = absurd c
 show_built texts (Array n k) places all vs ws c e h = record {
   size = let s = h.size in omega (arith, s, e);

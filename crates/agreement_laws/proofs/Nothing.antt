@@ -2,9 +2,9 @@
 -- what is left is NULL, and the numbers and blocks around such statements.
 use Rattle.std.proofs.Common.{◌≡◌, ◌≢◌, ℕ, zero, suc, ◌<◌, ◌≤◌, List, [], ◌∷◌, ◌++◌, Bool, true, false, refl, sym, ap, ◌∙◌, subst, arith}
 use Rattle.mesa_types.specs.declared.typed_parts.Home.{Home}
-use Rattle.mesa_types.specs.Typed.{Kind, Ordinal, Texts, Array, Record, Kinds, NoKinds, AndKind, Expr, Exprs, Stmt, Stmts, Loop, Marked}
+use Rattle.mesa_types.specs.Typed.{Kind, Ordinal, Longs, Texts, Array, Record, Kinds, NoKinds, AndKind, Expr, Exprs, Stmt, Stmts, Loop, Marked}
 use Rattle.mesa_types.specs.Shapes.{HasWords, copies, one}
-use Rattle.mesa_types.specs.Sound.{Scope, a_word, Constructs, Placed, Arranged, ExprIn, ExprsIn, WordsIn, StmtIn, StmtsIn, in_marked, in_labelled}
+use Rattle.mesa_types.specs.Sound.{Scope, a_word, a_long, Constructs, Placed, Arranged, ExprIn, ExprsIn, WordsIn, StmtIn, StmtsIn, in_marked, in_labelled}
 use Rattle.mesa_types.specs.Nodes.{count_of}
 use Rattle.code_forms.specs.declared.instruction.Instruction.{Instruction}
 use Rattle.code_forms.specs.declared.instruction.Instruction.TheVariants as i
@@ -20,7 +20,7 @@ use Rattle.code_rules.specs.Loops.{Counter, step_code}
 use Rattle.code_rules.specs.OwnCode.{arrange_code}
 use Rattle.code_rules.specs.Reading.{Coded, Place, Own, one_more}
 use Rattle.code_rules.specs.Slots.{zero_code, sizes}
-use Rattle.code_rules.proofs.Whole.{expr_run, exprs_run, bounds_run, operations_run, path_run, operands_run, stmts_run, targets_run, cases_run, condition_run, stmt_run, finish_run, exits_run}
+use Rattle.code_rules.proofs.Whole.{expr_run, exprs_run, bounds_run, operations_run, long_operations_run, path_run, operands_run, stmts_run, targets_run, cases_run, condition_run, stmt_run, finish_run, exits_run}
 use Rattle.agreement_rules.proofs.Lifted.{in_order}
 use Rattle.agreement_laws.proofs.Moving.{run_order, onward_run}
 
@@ -46,6 +46,7 @@ SomeKind (AndKind k ks) = Unit {0}
 some_parts : (k : Kind) (places : List ℕ) (all : Kinds) → HasWords k → Constructs k places all → SomeKind all
 unfolding HasWords Constructs copies
 some_parts Ordinal places all words parts = absurd parts
+some_parts Longs places all words parts = absurd parts
 some_parts Texts places all words parts = absurd parts
 some_parts (Array zero k) places all words parts = absurd (let lt = words.0 in omega (arith, lt))
 some_parts (Array (suc n) k) places all words parts = subst (λ ks. SomeKind ks) (sym parts.1) tt
@@ -65,6 +66,7 @@ mutual
 
   expr_bytes : {P : Coded} {w : Place} {e : Expr} {a b : ℕ} (Γ : Scope) (ks : Kinds) → ExprCode P w e a b → ExprIn Γ e ks → a < b
   expr_bytes Γ ks (row.number own) sound = own_bytes own
+  expr_bytes Γ ks (row.long_number own) sound = own_bytes own
   expr_bytes Γ ks (row.literal own) sound = own_bytes own
   expr_bytes Γ ks (row.variable static own) sound = own_bytes own
   expr_bytes Γ ks (row.element c d dynamic own code load) sound =
@@ -75,13 +77,21 @@ mutual
   expr_bytes Γ ks (row.byte_of c d code second own) sound =
       let x = run_order (expr_run code) in let y = run_order (expr_run second) in let z = own_bytes own in omega (arith, x, y, z)
   expr_bytes Γ ks (row.checked c code own) sound = let x = expr_bytes Γ a_word code sound.1 in let y = in_order own in omega (arith, x, y)
+  expr_bytes Γ ks (row.converted c code own) sound = let x = expr_bytes Γ (one sound.1) code sound.4 in let y = in_order own in omega (arith, x, y)
   expr_bytes Γ ks (row.operate c code ops) sound =
       let x = expr_bytes Γ a_word code sound.0 in let y = run_order (operations_run ops) in omega (arith, x, y)
+  expr_bytes Γ ks (row.operate_long c code ops) sound =
+      let x = expr_bytes Γ a_long code sound.0 in let y = run_order (long_operations_run ops) in omega (arith, x, y)
   expr_bytes Γ ks (row.negate c code own) sound = let x = run_order (expr_run code) in let y = own_bytes own in omega (arith, x, y)
+  expr_bytes Γ ks (row.negate_long c code own) sound = let x = run_order (expr_run code) in let y = own_bytes own in omega (arith, x, y)
   expr_bytes Γ ks (row.relate c f first second own) sound =
       let x = expr_bytes Γ a_word first sound.0 in let y = run_order (expr_run second) in let z = in_order own in omega (arith, x, y, z)
+  expr_bytes Γ ks (row.relate_long c f first second own) sound =
+      let x = expr_bytes Γ a_long first sound.0 in let y = run_order (expr_run second) in let z = in_order own in omega (arith, x, y, z)
   expr_bytes Γ ks (row.within c d code bounds own) sound =
       let x = expr_bytes Γ a_word code sound.0 in let y = run_order (bounds_run bounds) in let z = in_order own in omega (arith, x, y, z)
+  expr_bytes Γ ks (row.within_long c d code bounds own) sound =
+      let x = expr_bytes Γ a_long code sound.0 in let y = run_order (bounds_run bounds) in let z = in_order own in omega (arith, x, y, z)
   expr_bytes Γ ks (row.negation c code own) sound = let x = run_order (expr_run code) in let y = own_bytes own in omega (arith, x, y)
   expr_bytes Γ ks (row.all_of c off code yes_own no_own) sound =
       let x = run_order (operands_run code) in let y = own_bytes yes_own in let z = in_order no_own in omega (arith, x, y, z)
@@ -105,6 +115,8 @@ mutual
   branch_bytes Γ ks (row.on_negation code) sound = branch_bytes Γ a_word code sound.0
   branch_bytes Γ ks (row.on_relation c f first second own) sound =
       let x = expr_bytes Γ a_word first sound.0 in let y = run_order (expr_run second) in let z = in_order own in omega (arith, x, y, z)
+  branch_bytes Γ ks (row.on_long_relation c f first second own) sound =
+      let x = expr_bytes Γ a_long first sound.0 in let y = run_order (expr_run second) in let z = in_order own in omega (arith, x, y, z)
   branch_bytes Γ ks (row.unless_all code) sound = operands_bytes Γ code sound.1 (let le = sound.0 in omega (arith, le))
   branch_bytes Γ ks (row.if_all c code own) sound = let x = run_order (operands_run code) in let y = own_bytes own in omega (arith, x, y)
   branch_bytes Γ ks (row.if_some code) sound = operands_bytes Γ code sound.1 (let le = sound.0 in omega (arith, le))
@@ -155,6 +167,10 @@ module _ (Q : Program) (again : Next) where
         let x = run_order (expr_run code) in let y = own_bytes store in let z = run_order (cases_run cases) in no_room (omega (arith, x, y, z)) le
     statement_nothing Γ (row.select_none c d code drop last) sound le w σ =
         let x = expr_bytes Γ (one sound.0) code sound.2 in let y = in_order drop in let z = run_order (stmt_run last) in no_room (omega (arith, x, y, z)) le
+    statement_nothing Γ (row.select_long c d code store cases) sound le w σ =
+        let x = run_order (expr_run code) in let y = own_bytes store in let z = run_order (cases_run cases) in no_room (omega (arith, x, y, z)) le
+    statement_nothing Γ (row.select_long_none c d code drop last) sound le w σ =
+        let x = expr_bytes Γ a_long code sound.1 in let y = in_order drop in let z = run_order (stmt_run last) in no_room (omega (arith, x, y, z)) le
     statement_nothing Γ (row.block {ph = ph} {ss = ss} {es = es} offsets c d phrase stmts onward last) sound le w σ =
         let x = run_order (onward_run onward) in let y = run_order (exits_run last) in
         ap (λ r. carry (carry r (through_of again w ph)) (labelled_of w.frame (λ l. exits Q again es w l)))

@@ -2,6 +2,9 @@
 use Rattle.std.proofs.Common.{◌≡◌, ℕ, suc, List, [], ◌∷◌, true, refl, sym, ap, ◌∙◌, subst, arith}
 use Rattle.std.proofs.lemmas.Bool.{false≢true}
 use Rattle.mesa_types.specs.Typed.{Kinds, NoKinds}
+use Rattle.mesa_types.specs.declared.typed_parts.Conversion.{Conversion}
+use Rattle.mesa_types.specs.declared.typed_parts.Conversion.TheVariants as conversion
+use Rattle.mesa_types.specs.Longs.{two_words, converted}
 use Rattle.mesa_types.specs.Operators.{WordFault, OutOfBounds, DividedByZero, Tried, Fine, Faulty}
 use Rattle.code_forms.specs.declared.instruction.Instruction.{Instruction}
 use Rattle.source_meaning.specs.Value.{Values, NoValues, how_many}
@@ -13,12 +16,13 @@ use Rattle.machine_rules.specs.Words.{push}
 use Rattle.machine_rules.specs.Signals as machine
 use Rattle.machine_rules.specs.Steps.{fault_signal}
 use Rattle.machine_rules.specs.Activations.{own_frame, set_variables, variables}
+use Rattle.code_rules.specs.OwnCode.{conversion_code}
 use Rattle.code_rules.specs.Reading.{Place, Own, scratch}
 use Rattle.agreement_rules.specs.Agreement.{id_of}
 use Rattle.agreement_rules.specs.Layout.{Show}
-use Rattle.agreement_rules.specs.Operators.{OwnCodeAgrees}
+use Rattle.agreement_rules.specs.Operators.{OwnCodeAgrees, words_for, outcome_by, IsTakenBy}
 use Rattle.agreement_rules.proofs.Agreement.{operators_agree}
-use Rattle.agreement_rules.specs.Own.{Outcome, Given, Raised, outcome, Kept}
+use Rattle.agreement_rules.specs.Own.{Outcome, Given, Raised, outcome, long_outcome, Kept}
 use Rattle.agreement_rules.specs.Reaches as steps
 use Rattle.agreement_rules.specs.Reaches.{Reaches, Takes, raising}
 use Rattle.agreement_laws.specs.World.{World, texts_of, scratch_of}
@@ -47,6 +51,27 @@ pub fault_is : (fault : WordFault) → fault_signal fault ≡ id_of (raised_for 
 unfolding fault_signal id_of raised_for
 fault_is OutOfBounds = refl
 fault_is DividedByZero = refl
+
+-- the words that a conversion gives
+unfoldable pub words_made : Conversion → ℕ → List ℕ
+words_made conversion.Kept n = two_words n
+words_made (conversion.Widened from to) n = two_words n
+words_made (conversion.Narrowed from to r) n = n ∷ []
+words_made conversion.InCommon n = two_words n
+
+pub made_given : (c : Conversion) (n : ℕ) → outcome_by c (Fine n) ≡ Given (words_made c n)
+unfolding outcome_by outcome long_outcome words_made
+made_given conversion.Kept n = refl
+made_given (conversion.Widened from to) n = refl
+made_given (conversion.Narrowed from to r) n = refl
+made_given conversion.InCommon n = refl
+
+made_raised : (c : Conversion) (fault : WordFault) → outcome_by c (Faulty fault) ≡ Raised fault
+unfolding outcome_by outcome long_outcome
+made_raised conversion.Kept fault = refl
+made_raised (conversion.Widened from to) fault = refl
+made_raised (conversion.Narrowed from to r) fault = refl
+made_raised conversion.InCommon fault = refl
 
 module _ (W : World) (K : Site) (w : Place) (hi : ℕ) (ctx : Context W K w.points w.around w.slot hi) where
   abbrev pub frame : Numbered
@@ -156,3 +181,24 @@ module _ (W : World) (K : Site) (w : Place) (hi : ℕ) (ctx : Context W K w.poin
     outcome_on μ m σ code a b ins rest t k own leads inside h on =
         tried_on μ m σ code a b ins rest (λ x. x ∷ []) t k own
         (λ x e. subst (λ y. Leads μ m code ins (outcome y)) e leads) (λ fault e. subst (λ y. Leads μ m code ins (outcome y)) e leads) inside h on
+
+    pub long_outcome_on : (μ : Frames) (m : Store) (σ : State) (code : List Instruction) (a b : ℕ) (ins rest : List ℕ) (t : Tried) (k : ℕ → Run)
+        → Own K.code w code a b → Leads μ m code ins (long_outcome t) → Inside W K.ground a b → Agrees W (suc n) K.ground μ m σ
+        → ((x : ℕ) (ν : Frames) (l : Store) → t ≡ Fine x → Agrees W (suc n) K.ground ν l σ → Q (standing K.ground b (push (two_words x) rest) ν l) (k x σ))
+        → Q (standing K.ground a (push ins rest) μ m) (on_tried W.program (next W n) K.meant t k σ)
+    unfolding long_outcome
+    long_outcome_on μ m σ code a b ins rest t k own leads inside h on =
+        tried_on μ m σ code a b ins rest two_words t k own
+        (λ x e. subst (λ y. Leads μ m code ins (long_outcome y)) e leads) (λ fault e. subst (λ y. Leads μ m code ins (long_outcome y)) e leads) inside h on
+
+    -- a number is converted, or the fault is raised in its place
+    pub conversion_on : (μ : Frames) (m : Store) (σ : State) (c : Conversion) (a b : ℕ) (rest : List ℕ) (x : ℕ) (k : ℕ → Run)
+        → Own K.code w (conversion_code c) a b → IsTakenBy c x → Inside W K.ground a b → Agrees W (suc n) K.ground μ m σ
+        → ((y : ℕ) (ν : Frames) (l : Store) → converted c x ≡ Fine y → Agrees W (suc n) K.ground ν l σ → Q (standing K.ground b (push (words_made c y) rest) ν l) (k y σ))
+        → Q (standing K.ground a (push (words_for c x) rest) μ m) (on_tried W.program (next W n) K.meant (converted c x) k σ)
+    conversion_on μ m σ c a b rest x k own taken inside h on =
+        let leads = (law μ m).conversion c x taken in
+        tried_on μ m σ (conversion_code c) a b (words_for c x) rest (words_made c) (converted c x) k own
+        (λ y e. subst (λ o. Leads μ m (conversion_code c) (words_for c x) o) (made_given c y) (subst (λ t. Leads μ m (conversion_code c) (words_for c x) (outcome_by c t)) e leads))
+        (λ fault e. subst (λ o. Leads μ m (conversion_code c) (words_for c x) o) (made_raised c fault) (subst (λ t. Leads μ m (conversion_code c) (words_for c x) (outcome_by c t)) e leads))
+        inside h on

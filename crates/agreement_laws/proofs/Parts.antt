@@ -2,23 +2,26 @@
 use Rattle.std.proofs.Common.{◌≡◌, ℕ, zero, suc, ◌+◌, ◌<◌, ◌≤◌, List, [], ◌∷◌, ◌++◌, length, Bool, true, false, sym, ap, ◌∙◌, subst, inl, inr, ⊎_elim, ◌⊎◌, arith}
 use Rattle.std.specs.Prelude.{Contains}
 use Rattle.std.proofs.lemmas.Bool.{cases_order, true≢false}
+use Rattle.mesa_types.specs.declared.typed_parts.Conversion.{Conversion}
 use Rattle.mesa_types.specs.declared.typed_parts.Part.{Part}
 use Rattle.mesa_types.specs.declared.typed_parts.Range.{Range}
 use Rattle.mesa_types.specs.declared.typed_parts.Range.TheVariants.{Every, From}
 use Rattle.mesa_types.specs.Typed.{Kind, Kinds, NoKinds, AndKind, Suffixes, NoSuffix, Field, Index}
 use Rattle.mesa_types.specs.Shapes.{one, words_in, words_before, HasWords, KindAt, PartOf}
 use Rattle.mesa_types.specs.Operators.{Tried, Fine, Faulty, fits, fine_if, checked}
-use Rattle.mesa_types.specs.Sound.{Scope, a_word, ChecksKind, SuffixesIn}
+use Rattle.mesa_types.specs.Longs.{converted}
+use Rattle.mesa_types.specs.Sound.{Scope, a_word, ChecksKind, Converts, SuffixesIn}
 use Rattle.code_forms.specs.declared.instruction.Instruction.{Instruction}
 use Rattle.source_meaning.specs.Value.{Value, Values, nth, word}
 use Rattle.source_meaning.specs.Value as value
 use Rattle.source_meaning.specs.State.{State, Result, Run}
 use Rattle.source_meaning.specs.Signals.{on_tried}
+use Rattle.source_meaning.specs.Meaning.{number_for, value_by}
 use Rattle.machine_rules.specs.State.{Store, Stepped}
 use Rattle.machine_rules.specs.Words.{push, words_at}
 use Rattle.code_rules.specs.CodeFor.{words_over}
 use Rattle.code_rules.specs.Laws.{behind_all}
-use Rattle.code_rules.specs.OwnCode.{lift_code, check_code}
+use Rattle.code_rules.specs.OwnCode.{lift_code, check_code, conversion_code}
 use Rattle.code_rules.specs.Reading.{Place, Own, no_more, scratch}
 use Rattle.code_rules.proofs.Whole.{own_code_joins}
 use Rattle.agreement_rules.specs.Layout.{Strings, slots_of, value_at, Show}
@@ -35,8 +38,9 @@ use Rattle.agreement_laws.specs.Relation.{Ground, Agrees, standing}
 use Rattle.agreement_laws.specs.Contexts.{Site, Context, Inside}
 use Rattle.agreement_laws.specs.Promises.{next, RaiseFollows}
 use Rattle.agreement_laws.proofs.Doing.{Did, did_later, did_out}
+use Rattle.agreement_laws.proofs.LongWords.{the_taken, made_shown}
 use Rattle.agreement_laws.proofs.Moving.{inside_part}
-use Rattle.agreement_laws.proofs.Owning.{Leads, law, own_gives, outcome_on}
+use Rattle.agreement_laws.proofs.Owning.{Leads, law, own_gives, outcome_on, words_made, conversion_on}
 use Rattle.agreement_laws.proofs.Returns.{behind_around}
 use Rattle.agreement_laws.proofs.Shown.{the_word}
 use Rattle.agreement_laws.proofs.Spread.{moved, own_moved}
@@ -158,27 +162,23 @@ module _ (W : World) (n : ℕ) (K : Site) (w : Place) (hi : ℕ) (ctx : Context 
       (subst (λ l2. Q (standing G d (push l2 rest) ν l) (others σ)) i.words (on ν l agrees)))))
 
 module _ (W : World) (n : ℕ) (raises : RaiseFollows W n) (K : Site) (w : Place) (hi : ℕ) (ctx : Context W K w.points w.around w.slot hi) (b : ℕ) where
-  -- Under some words on top stands what is left of the value. The part comes to the top and is checked; how it goes on from there is
-  -- said of the code behind.
-  pub part_row : (ks : Kinds) (vs : Values) (words : List ℕ) (t : List Part) (p : Part) (range : Range) (tops : List ℕ) (over : ℕ) (behind : List Instruction) (u : Place) (a c : ℕ)
-      (others : Run) (μ : Frames) (m : Store) (σ : State) → Show (texts_of W) ks vs words → (is : IsPart ks p) → OffAll p t → LieApart (length words) t → ChecksKind range is.kind
-      → over ≡ words_over (length words) t p + length tops → u.around ≡ w.around → Own K.code u (lift_code p.words over ++ (check_code range ++ behind)) a c → Inside W K.ground a c
+  -- Under some words on top stands what is left of the value. The part comes to the top; how it goes on from there is said of the code behind.
+  lifted_row : (ks : Kinds) (vs : Values) (words : List ℕ) (t : List Part) (p : Part) (tops : List ℕ) (over : ℕ) (behind : List Instruction) (u : Place) (a c : ℕ)
+      (μ : Frames) (m : Store) (σ : State) (result : Result) → Show (texts_of W) ks vs words → (is : IsPart ks p) → OffAll p t → LieApart (length words) t
+      → over ≡ words_over (length words) t p + length tops → u.around ≡ w.around → Own K.code u (lift_code p.words over ++ behind) a c → Inside W K.ground a c
       → Agrees W (suc n) K.ground μ m σ
       → ((v : Place) (part : List ℕ) (o : ℕ) (ν : Frames) (l : Store) → v.around ≡ w.around → Show (texts_of W) (one is.kind) (value.one (nth vs p.field)) part → Own K.code v behind o c
-      → Agrees W (suc n) K.ground ν l σ → Q W n K w hi ctx b (standing K.ground o (push part (push tops (push (untaken (p ∷ t) 0 words) []))) ν l) (others σ))
-      → Q W n K w hi ctx b (standing K.ground a (push tops (push (untaken t 0 words) [])) μ m)
-      (on_tried W.program (next W n) K.meant (checked range (word (nth vs p.field))) (λ x. others) σ)
-  part_row ks vs words t p range tops over behind u a c others μ m σ shown is off apart checks size same own inside h on =
+      → Inside W K.ground o c → Agrees W (suc n) K.ground ν l σ
+      → Q W n K w hi ctx b (standing K.ground o (push part (push tops (push (untaken (p ∷ t) 0 words) []))) ν l) result)
+      → Q W n K w hi ctx b (standing K.ground a (push tops (push (untaken t 0 words) [])) μ m) result
+  lifted_row ks vs words t p tops over behind u a c μ m σ result shown is off apart size same own inside h on =
       let G = K.ground in
       let k = is.kind in
       let lift = lift_code p.words over in
-      let x = own_code_joins.splits K.code u lift (check_code range ++ behind) a c own in
+      let x = own_code_joins.splits K.code u lift behind a c own in
       let v1 = behind_all K.code lift u in
-      let y = own_code_joins.splits K.code v1 (check_code range) behind x.0 c x.2 in
-      let v2 = behind_all K.code (check_code range) v1 in
       let near1 : v1.around ≡ w.around = behind_around K.code lift u ∙ same in
-      let near2 : v2.around ≡ w.around = behind_around K.code (check_code range) v1 ∙ near1 in
-      let low = in_order x.1 in let mid = in_order y.1 in let high = in_order y.2 in
+      let low = in_order x.1 in let high = in_order x.2 in
       let o = take_out t p words is.some (within_all (texts_of W) ks vs words p shown is) off apart in
       let after = o.after ++ tops in
       let rest = push o.before [] in
@@ -197,9 +197,52 @@ module _ (W : World) (n : ℕ) (raises : RaiseFollows W n) (K : Site) (w : Place
       let shows : Show (texts_of W) (one k) (value.one (nth vs p.field)) o.part =
       subst (λ l. Show (texts_of W) (one k) (value.one (nth vs p.field)) l) (sym (o.is ∙ ap (λ z. words_at words p.offset z) is.words))
       (part_shown (texts_of W) ks vs words p.field p.offset k shown is.part_of) in
-      let result = on_tried W.program (next W n) K.meant (checked range (word (nth vs p.field))) (λ x. others) σ in
       did_later W (suc n) K w.around b (standing G a (push tops (push (untaken t 0 words) [])) μ m) (standing G x.0 (push o.part whole) g.frames g.store) result
       (subst (λ l. Reaches W.image (standing G a l μ m) (standing G x.0 (push o.part whole) g.frames g.store)) (sym stack)
       (subst (λ l. Reaches W.image (standing G a (push (o.part ++ after) rest) μ m) (standing G x.0 l g.frames g.store)) left g.reaches))
-      (checked_part W n K (moved v1 w) hi ctx b raises range k (nth vs p.field) o.part whole x.0 y.0 others g.frames g.store σ checks shows (own_moved w near1 y.1)
-      (inside_part W G a c x.0 y.0 low high inside) g.agrees (λ ν l agrees. on v2 o.part y.0 ν l near2 shows y.2 agrees))
+      (on v1 o.part x.0 g.frames g.store near1 shows x.2 (inside_part W G a c x.0 c low (omega arith) inside) g.agrees)
+
+  -- and is checked
+  pub part_row : (ks : Kinds) (vs : Values) (words : List ℕ) (t : List Part) (p : Part) (range : Range) (tops : List ℕ) (over : ℕ) (behind : List Instruction) (u : Place) (a c : ℕ)
+      (others : Run) (μ : Frames) (m : Store) (σ : State) → Show (texts_of W) ks vs words → (is : IsPart ks p) → OffAll p t → LieApart (length words) t → ChecksKind range is.kind
+      → over ≡ words_over (length words) t p + length tops → u.around ≡ w.around → Own K.code u (lift_code p.words over ++ (check_code range ++ behind)) a c → Inside W K.ground a c
+      → Agrees W (suc n) K.ground μ m σ
+      → ((v : Place) (part : List ℕ) (o : ℕ) (ν : Frames) (l : Store) → v.around ≡ w.around → Show (texts_of W) (one is.kind) (value.one (nth vs p.field)) part → Own K.code v behind o c
+      → Agrees W (suc n) K.ground ν l σ → Q W n K w hi ctx b (standing K.ground o (push part (push tops (push (untaken (p ∷ t) 0 words) []))) ν l) (others σ))
+      → Q W n K w hi ctx b (standing K.ground a (push tops (push (untaken t 0 words) [])) μ m)
+      (on_tried W.program (next W n) K.meant (checked range (word (nth vs p.field))) (λ x. others) σ)
+  part_row ks vs words t p range tops over behind u a c others μ m σ shown is off apart checks size same own inside h on =
+      lifted_row ks vs words t p tops over (check_code range ++ behind) u a c μ m σ (on_tried W.program (next W n) K.meant (checked range (word (nth vs p.field))) (λ x. others) σ)
+      shown is off apart size same own inside h (λ v part o ν l near shows code within agrees.
+      let y = own_code_joins.splits K.code v (check_code range) behind o c code in
+      let v2 = behind_all K.code (check_code range) v in
+      let near2 : v2.around ≡ w.around = behind_around K.code (check_code range) v ∙ near in
+      let high = in_order y.2 in
+      checked_part W n K (moved v w) hi ctx b raises range is.kind (nth vs p.field) part (push tops (push (untaken (p ∷ t) 0 words) [])) o y.0 others ν l σ checks shows (own_moved w near y.1)
+      (inside_part W K.ground o c o y.0 (omega arith) high within) agrees (λ ξ q now. on v2 part y.0 ξ q near2 shows y.2 now))
+
+  -- or converted
+  pub converted_part_row : (ks : Kinds) (vs : Values) (words : List ℕ) (t : List Part) (p : Part) (conversion : Conversion) (given : Kind) (tops : List ℕ) (over : ℕ) (behind : List Instruction)
+      (u : Place) (a c : ℕ) (others : ℕ → Run) (μ : Frames) (m : Store) (σ : State) → Show (texts_of W) ks vs words → (is : IsPart ks p) → OffAll p t → LieApart (length words) t
+      → Converts conversion is.kind given
+      → over ≡ words_over (length words) t p + length tops → u.around ≡ w.around → Own K.code u (lift_code p.words over ++ (conversion_code conversion ++ behind)) a c → Inside W K.ground a c
+      → Agrees W (suc n) K.ground μ m σ
+      → ((v : Place) (x : ℕ) (part : List ℕ) (o : ℕ) (ν : Frames) (l : Store) → v.around ≡ w.around → Show (texts_of W) (one given) (value.one (value_by conversion x)) part → Own K.code v behind o c
+      → Agrees W (suc n) K.ground ν l σ → Q W n K w hi ctx b (standing K.ground o (push part (push tops (push (untaken (p ∷ t) 0 words) []))) ν l) (others x σ))
+      → Q W n K w hi ctx b (standing K.ground a (push tops (push (untaken t 0 words) [])) μ m)
+      (on_tried W.program (next W n) K.meant (converted conversion (number_for conversion (nth vs p.field))) others σ)
+  converted_part_row ks vs words t p conversion given tops over behind u a c others μ m σ shown is off apart con size same own inside h on =
+      let y0 = on_tried W.program (next W n) K.meant (converted conversion (number_for conversion (nth vs p.field))) others σ in
+      let left = push tops (push (untaken (p ∷ t) 0 words) []) in
+      lifted_row ks vs words t p tops over (conversion_code conversion ++ behind) u a c μ m σ y0 shown is off apart size same own inside h (λ v part o ν l near shows code within agrees.
+      let y = own_code_joins.splits K.code v (conversion_code conversion) behind o c code in
+      let v2 = behind_all K.code (conversion_code conversion) v in
+      let near2 : v2.around ≡ w.around = behind_around K.code (conversion_code conversion) v ∙ near in
+      let high = in_order y.2 in
+      let taken = the_taken (texts_of W) conversion is.kind given (nth vs p.field) part con shows in
+      let x = number_for conversion (nth vs p.field) in
+      subst (λ l2. Q W n K w hi ctx b (standing K.ground o (push l2 left) ν l) y0) (sym taken.words)
+      (conversion_on W K (moved v w) hi ctx n raises (λ s r. Did W (suc n) K w.around b s r) (λ s t r k h. did_later W (suc n) K w.around b s t r k h)
+      (λ s a σ h. did_out W (suc n) K w.around b s a σ h) ν l σ conversion o y.0 left x others (own_moved w near y.1) taken.is_taken
+      (inside_part W K.ground o c o y.0 (omega arith) high within) agrees (λ z ξ q e now.
+      on v2 z (words_made conversion z) y.0 ξ q near2 (made_shown (texts_of W) conversion is.kind given x z con taken.is_taken e) y.2 now)))

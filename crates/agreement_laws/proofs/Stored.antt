@@ -1,7 +1,7 @@
 -- Words written into a part of a variable are those of the value with the part put in.
 use Rattle.std.proofs.Common.{◌≡◌, ⊎_elim, inl, inr, ℕ, zero, suc, ◌+◌, ◌-◌, ◌*◌, ◌<◌, ◌≤◌, ◌⊎◌, List, [], ◌∷◌, length, refl, sym, ap, ◌∙◌, arith}
 use Rattle.std.proofs.lemmas.Bool.{cases_lt}
-use Rattle.mesa_types.specs.Typed.{Kind, Ordinal, Texts, Array, Record, Kinds}
+use Rattle.mesa_types.specs.Typed.{Kind, Ordinal, Longs, Texts, Array, Record, Kinds}
 use Rattle.mesa_types.specs.Shapes.{one, words_in, words_in_all, words_before, KindAt}
 use Rattle.source_meaning.specs.Value.{Value, Many, Values, AndValue, nth, with_nth, parts, with_part}
 use Rattle.source_meaning.specs.Value as value
@@ -68,6 +68,7 @@ unfolding PathAt with_part value_at parts words_in
 with_path texts m m' s [] j k d h a =
     let e : s + d ≡ s = omega (arith, h.1) in ap (λ x. value_at texts m' x k) e ∙ ap (λ x. value_at texts m' s x) (sym h.0)
 with_path texts m m' s (n ∷ path) Ordinal k d h a = absurd h
+with_path texts m m' s (n ∷ path) Longs k d h a = absurd h
 with_path texts m m' s (n ∷ path) Texts k d h a = absurd h
 with_path texts m m' s (n ∷ path) (Record ks) k d h a =
     let b = words_before ks n in

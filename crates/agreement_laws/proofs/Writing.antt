@@ -28,7 +28,7 @@ use Rattle.agreement_laws.proofs.Stacks.{with_words, words_here, fill_set}
 
 -- Words and globals that are set twice, or to what they are.
 
-words_twice : (μ : Frames) (g : ℕ) (one two : List ℕ) (f : ℕ) → with_words (with_words μ g one) g two f ≡ with_words μ g two f
+pub words_twice : (μ : Frames) (g : ℕ) (one two : List ℕ) (f : ℕ) → with_words (with_words μ g one) g two f ≡ with_words μ g two f
 words_twice μ g one two f = by (nat_eq f g)
   where
     by : (b : Bool) → (if b then two else (if b then one else μ f)) ≡ (if b then two else μ f)

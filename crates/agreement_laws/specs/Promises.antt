@@ -5,23 +5,24 @@ use Rattle.std.specs.Prelude.{◌≡◌, ℕ, suc, ◌+◌, ◌<◌, List, [], �
 use Rattle.mesa_types.specs.declared.faces.Item.{Item}
 use Rattle.mesa_types.specs.declared.typed_parts.Callee.{Callee}
 use Rattle.mesa_types.specs.declared.typed_parts.Raised.{Raised}
-use Rattle.mesa_types.specs.Typed.{Kind, Kinds, NoKinds, Count, Expr, Exprs, Suffixes, Operations, Phrase, Stmt, Stmts, Cases, Tests, Loop, Repeat}
+use Rattle.mesa_types.specs.Typed.{Kind, Ordinal, Longs, Kinds, NoKinds, Count, Expr, Exprs, Suffixes, Operations, Phrase, Stmt, Stmts, Cases, Tests, Loop, Repeat}
 use Rattle.mesa_types.specs.Shapes.{HasWords, words_in}
 use Rattle.mesa_types.specs.Counts.{hidden, hidden_expr, hidden_exprs, hidden_suffixes, hidden_operations, hidden_phrase, hidden_stmts, hidden_cases, hidden_tests, hidden_loop}
 use Rattle.mesa_types.specs.Plain.{kinds_of}
 use Rattle.mesa_types.specs.Operators.{differ, is_true, truth}
-use Rattle.mesa_types.specs.Sound.{a_word, CalleeIs, RaisedIs, ExprIn, ExprsIn, SuffixesIn, OperationsIn, PhraseIn, StmtIn, StmtsIn, CasesIn, TestsIn, LoopIn}
+use Rattle.mesa_types.specs.Longs.{more_of, less_of, two_words}
+use Rattle.mesa_types.specs.Sound.{a_word, a_long, CalleeIs, RaisedIs, ExprIn, ExprsIn, SuffixesIn, OperationsIn, LongOperationsIn, PhraseIn, StmtIn, StmtsIn, CasesIn, TestsIn, CasesTake, TestsTake, LoopIn}
 use Rattle.source_meaning.specs.Value.{Word, Values, one, how_many, path_of}
 use Rattle.source_meaning.specs.Program.{Signal, SignalOf, BoundsFault, ZeroDivisor, NoInput, Unnamed, module_of, resumes, callee_of, raised_of}
 use Rattle.source_meaning.specs.State.{State, Result}
 use Rattle.source_meaning.specs.Signals.{Next, catching, raise, through_of}
 use Rattle.source_meaning.specs.Calls.{call}
-use Rattle.source_meaning.specs.Meaning.{value, values, path, operations, tests, cases, does, sequence, meaning}
+use Rattle.source_meaning.specs.Meaning.{value, values, path, operations, long_operations, tests, cases, does, sequence, meaning}
 use Rattle.machine_rules.specs.State.{Store, Stepped}
 use Rattle.machine_rules.specs.Words.{push}
 use Rattle.machine_rules.specs.Moves as moves
 use Rattle.machine_rules.specs.Signals as machine
-use Rattle.code_rules.specs.CodeFor.{ExprCode, ExprsCode, OperationsCode, PathCode, BranchCode, PhraseCode, StmtCode, StmtsCode, CasesCode, TestsCode, LoopCode}
+use Rattle.code_rules.specs.CodeFor.{ExprCode, ExprsCode, OperationsCode, LongOperationsCode, PathCode, BranchCode, PhraseCode, StmtCode, StmtsCode, CasesCode, TestsCode, LoopCode}
 use Rattle.code_rules.specs.Laws as runs
 use Rattle.code_rules.specs.Links.{call_code, raise_code}
 use Rattle.code_rules.specs.Loops.{Counter}
@@ -68,6 +69,13 @@ OperationsFollow W n os = (K : Site) (w : Place) (a b x : ℕ) (rest : List ℕ)
     → OperationsCode K.code w os a b → OperationsIn K.scope os → x < 65536 → InPlace W K w (hidden_operations os) → Inside W K.ground a b
     → Now W (suc n) K μ m σ
     → Valued W (suc n) K w.around a_word b rest (here K a (x ∷ rest) μ m) (operations W.program (next W n) os K.meant x σ)
+
+-- over LONG numbers: the two words of the one that stands to the left are on the operands
+abbrev pub LongOperationsFollow : World → ℕ → Operations → Type 0
+LongOperationsFollow W n os = (K : Site) (w : Place) (a b x : ℕ) (rest : List ℕ) (μ : Frames) (m : Store) (σ : State)
+    → LongOperationsCode K.code w os a b → LongOperationsIn K.scope os → x < 4294967296 → InPlace W K w (hidden_operations os) → Inside W K.ground a b
+    → Now W (suc n) K μ m σ
+    → Valued W (suc n) K w.around a_long b rest (here K a (push (two_words x) rest) μ m) (long_operations W.program (next W n) os K.meant x σ)
 
 -- the places of the suffixes lead from kind j to a part of kind k; its offset is on the operands, less the fields that are still to come,
 -- which were counted before
@@ -202,10 +210,15 @@ SequenceFollows W n ss = (K : Site) (w : Place) (a b : ℕ) (μ : Frames) (m : S
     → StmtsCode K.code w ss a b → StmtsIn K.scope ss → InPlace W K w (hidden_stmts ss) → Inside W K.ground a b → Now W (suc n) K μ m σ
     → Done W (suc n) K w.around b (here K a [] μ m) (sequence W.program (next W n) ss K.meant σ).answer (sequence W.program (next W n) ss K.meant σ).state
 
--- the selector x is held in a hidden word of the frame
+-- a selector x of this kind is held in the hidden words of the frame from slot z on: in one, or as a LONG number in two
+abbrev pub HeldAs : Site → (z : ℕ) → Kind → (x : ℕ) → Type 0
+HeldAs K z Ordinal x = (K.ground.hold K.meant.frame z ≡ Some x) × (x < 65536)
+HeldAs K z Longs x = (K.ground.hold K.meant.frame z ≡ Some (more_of x)) × (K.ground.hold K.meant.frame (z + 1) ≡ Some (less_of x)) × (x < 4294967296)
+HeldAs K z _ x = ⊥
+
 abbrev pub CasesFollow : World → ℕ → Cases → Type 0
-CasesFollow W n cs = (K : Site) (w : Place) (z x a b : ℕ) (μ : Frames) (m : Store) (σ : State)
-    → CasesCode K.code w z cs a b → CasesIn K.scope cs → K.ground.hold K.meant.frame z ≡ Some x → x < 65536 → InPlace W K w (hidden_cases cs)
+CasesFollow W n cs = (K : Site) (w : Place) (k : Kind) (z x a b : ℕ) (μ : Frames) (m : Store) (σ : State)
+    → CasesCode K.code w z cs a b → CasesIn K.scope cs → CasesTake k cs → HeldAs K z k x → InPlace W K w (hidden_cases cs)
     → Inside W K.ground a b → Now W (suc n) K μ m σ
     → Done W (suc n) K w.around b (here K a [] μ m) (cases W.program (next W n) cs K.meant x σ).answer (cases W.program (next W n) cs K.meant x σ).state
 
@@ -216,8 +229,8 @@ pub record Tested (W : World) (bound : ℕ) (G : Ground) (yes no : ℕ) (s : Ste
   pub comes : Comes W bound G (if answer then yes else no) [] s σ
 
 abbrev pub TestsFollow : World → ℕ → Tests → Type 0
-TestsFollow W n ts = (K : Site) (w : Place) (z x yes no a b : ℕ) (μ : Frames) (m : Store) (σ : State)
-    → TestsCode K.code w z ts yes no a b → TestsIn K.scope ts → K.ground.hold K.meant.frame z ≡ Some x → x < 65536 → InPlace W K w (hidden_tests ts)
+TestsFollow W n ts = (K : Site) (w : Place) (k : Kind) (z x yes no a b : ℕ) (μ : Frames) (m : Store) (σ : State)
+    → TestsCode K.code w z ts yes no a b → TestsIn K.scope ts → TestsTake k ts → HeldAs K z k x → InPlace W K w (hidden_tests ts)
     → Inside W K.ground a b → Now W (suc n) K μ m σ
     → Answered W (suc n) K w.around (λ s vs σ. Tested W (suc n) K.ground yes no s vs σ) (here K a [] μ m)
     (tests W.program (next W n) ts K.meant x σ).answer (tests W.program (next W n) ts K.meant x σ).state

@@ -1,3 +1,4 @@
+//! The laws of images and the programs for which they stand: what images do, and that the machine is never stuck.
 ghost use Rattle.agreement_rules.specs.Agreement.{ImagesRunAsTheirSource};
 ghost use Rattle.agreement_laws.specs.Laws.{ImagesOfSourcesAreNeverStuck, SourcesMeanWhatTheirImagesDo};
 

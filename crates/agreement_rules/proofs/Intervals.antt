@@ -43,21 +43,21 @@ works_both texts number (i ∷ is) js w = after_one texts number is js w (works 
 
 -- Tests as words.
 
-neither : (n l : Bool) → truth (nat_eq (wrap (truth (nat_eq (truth n) 0) * truth (nat_eq (truth l) 0))) 0) ≡ truth (n || l)
+pub neither : (n l : Bool) → truth (nat_eq (wrap (truth (nat_eq (truth n) 0) * truth (nat_eq (truth l) 0))) 0) ≡ truth (n || l)
 unfolding truth wrap
 neither true true = refl
 neither true false = refl
 neither false true = refl
 neither false false = refl
 
-but_not : (n l : Bool) → wrap (truth (nat_eq (truth n) 0) * truth l) ≡ truth (not n && l)
+pub but_not : (n l : Bool) → wrap (truth (nat_eq (truth n) 0) * truth l) ≡ truth (not n && l)
 unfolding truth wrap
 but_not true true = refl
 but_not true false = refl
 but_not false true = refl
 but_not false false = refl
 
-both : (p q : Bool) → wrap (truth p * truth q) ≡ truth (p && q)
+pub both : (p q : Bool) → wrap (truth p * truth q) ≡ truth (p && q)
 unfolding truth wrap
 both true true = refl
 both true false = refl
@@ -73,6 +73,12 @@ unsigned_less : (x y : ℕ) → x < 65536 → y < 65536
     → (not (nat_lt (shifted Signed y) (shifted Signed 0)) && nat_lt (shifted Unsigned x) (shifted Unsigned y)) ≡ nat_lt (shifted Unsigned x) (shifted Signed y)
 unfolding shifted
 unsigned_less x y a b = grind (arith, nat_tests)
+
+pub behind_it : (p q : ℕ) → nat_lt p q ≡ nat_le (suc p) q
+behind_it p q = grind (arith, nat_tests)
+
+pub not_before : (p q : ℕ) → not (nat_lt q p) ≡ nat_le p q
+not_before p q = grind (arith, nat_tests)
 
 -- Scratch words, one by one.
 
@@ -97,7 +103,7 @@ module _ (texts : Strings) (number : ℕ) (vs gs : List ℕ) where
   less_works Unsigned s x Signed u y ops e d lx ly = rw d (rw e (rw d (
       ap (λ z. Did (work (z ∷ ops) vs gs)) (but_not (nat_lt (shifted Signed y) (shifted Signed 0)) (nat_lt (shifted Unsigned x) (shifted Unsigned y)) ∙ ap truth (unsigned_less x y lx ly)))))
 
-  not_works : (p : Bool) (ops : List ℕ) → works_all texts number (Not ∷ []) (work (truth p ∷ ops) vs gs) ≡ Did (work (truth (not p) ∷ ops) vs gs)
+  pub not_works : (p : Bool) (ops : List ℕ) → works_all texts number (Not ∷ []) (work (truth p ∷ ops) vs gs) ≡ Did (work (truth (not p) ∷ ops) vs gs)
   unfolding works_all works go_on leaves
   not_works p ops = ap (λ z. Did (work (z ∷ ops) vs gs)) (truth_not p)
 
@@ -107,17 +113,11 @@ module _ (texts : Strings) (number : ℕ) (vs gs : List ℕ) where
   unfolding past and_then
   bound_works true b s x c u y ops e d lx ly =
       less_works b s x c u y ops e d lx ly ∙ ap (λ z. Did (work (truth z ∷ ops) vs gs)) (behind_it (shifted b x) (shifted c y))
-    where
-      behind_it : (p q : ℕ) → nat_lt p q ≡ nat_le (suc p) q
-      behind_it p q = grind (arith, nat_tests)
   bound_works false b s x c u y ops e d lx ly =
       works_both texts number (less_code c u b s) (Not ∷ []) (work ops vs gs)
       ∙ ap (λ w. and_then w (works_all texts number (Not ∷ []))) (less_works c u y b s x ops d e ly lx)
       ∙ not_works (nat_lt (shifted c y) (shifted b x)) ops
       ∙ ap (λ z. Did (work (truth z ∷ ops) vs gs)) (not_before (shifted b x) (shifted c y))
-    where
-      not_before : (p q : ℕ) → not (nat_lt q p) ≡ nat_le p q
-      not_before p q = grind (arith, nat_tests)
 
 three : (vs : List ℕ) (t x y z : ℕ) → (slots_of (put_words vs t (x ∷ y ∷ z ∷ [])) t ≡ x)
     × (slots_of (put_words vs t (x ∷ y ∷ z ∷ [])) (t + 1) ≡ y) × (slots_of (put_words vs t (x ∷ y ∷ z ∷ [])) (t + 2) ≡ z)
@@ -131,13 +131,13 @@ wraps : (x : ℕ) → x < 65536 → x ≡ wrap (x + (65536 - 0))
 unfolding wrap
 wraps x lt = omega arith
 
-last_is : (is_open : Bool) (p q : ℕ) → nat_le (past is_open p) q ≡ nat_lt p (past (not is_open) q)
+pub last_is : (is_open : Bool) (p q : ℕ) → nat_le (past is_open p) q ≡ nat_lt p (past (not is_open) q)
 unfolding past
 last_is true p q = grind (arith, nat_tests)
 last_is false p q = grind (arith, nat_tests)
 
 module _ (texts : Strings) (number t : ℕ) (vs gs : List ℕ) where
-  mul_works : (x y : ℕ) (ops now : List ℕ) → works_all texts number (Mul ∷ []) (work (y ∷ x ∷ ops) now gs) ≡ Did (work (wrap (x * y) ∷ ops) now gs)
+  pub mul_works : (x y : ℕ) (ops now : List ℕ) → works_all texts number (Mul ∷ []) (work (y ∷ x ∷ ops) now gs) ≡ Did (work (wrap (x * y) ∷ ops) now gs)
   unfolding works_all works go_on leaves
   mul_works x y ops now = refl
 

@@ -4,6 +4,8 @@ pub mod Arranged
 pub mod Intervals
 pub mod Leaves
 pub mod Lifted
+pub mod LongIntervals
+pub mod LongLeaves
 pub mod Memory
 pub mod Results
 pub mod Rows

@@ -22,6 +22,8 @@ use Rattle.agreement_rules.proofs.Memory.{length_both, take_long, take_slots, dr
 use Rattle.agreement_rules.proofs.Values.{value_same, small_words, kind_within, nth_value, path_value, path_within, read_shows, two_show}
 use Rattle.agreement_rules.proofs.Leaves.{work, same_kept, operator_does, relation_does}
 use Rattle.agreement_rules.proofs.Intervals.{and_then, works_both, within_does, number_does, negation_does, complement_does, length_does, byte_does, check_does, index_does}
+use Rattle.agreement_rules.proofs.LongLeaves.{long_does, conversion_does, long_operator_does, long_negation_does, long_relation_does}
+use Rattle.agreement_rules.proofs.LongIntervals.{long_within_does}
 
 module _ (texts : Strings) (number : ℕ) (vs gs : List ℕ) where
   -- Words of the operand stack.
@@ -178,16 +180,22 @@ part_of_value texts number t vs gs v j k path d after ws h leads e =
 pub own_code_does : OwnCodeDoes
 own_code_does texts number P vs gs = record {
   number_leaf = number_does texts number (scratch P) vs gs;
+  long_leaf = long_does texts number (scratch P) vs gs;
   literal = λ k ln lk. (suc number ∷ suc k ∷ [], two_show texts (suc number) (suc k) ln lk, literal_does texts number (scratch P) vs gs k);
   part = part_does texts number P vs gs;
   field_of = part_of_value texts number (scratch P) vs gs;
   length_of = length_does texts number (scratch P) vs gs;
   byte_of = byte_does texts number (scratch P) vs gs;
   check = check_does texts number (scratch P) vs gs;
+  conversion = conversion_does texts number (scratch P) vs gs;
   index = index_does texts number (scratch P) vs gs;
   operator = λ o x y lx ly. operator_does texts number (scratch P) vs gs x y lx ly o;
+  long_operator = λ o x y lx ly. long_operator_does texts number (scratch P) vs gs o x y;
   negation = negation_does texts number (scratch P) vs gs;
   relation = relation_does texts number (scratch P) vs gs;
+  long_negation = λ x lx. long_negation_does texts number (scratch P) vs gs x;
+  long_relation = λ b o x y lx ly. long_relation_does texts number (scratch P) vs gs b o x y;
   within = within_does texts number (scratch P) vs gs;
+  long_within = long_within_does texts number (scratch P) vs gs;
   complement = complement_does texts number (scratch P) vs gs;
 }

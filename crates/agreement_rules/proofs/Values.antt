@@ -2,9 +2,10 @@
 use Rattle.std.proofs.Common.{◌≡◌, ℕ, zero, suc, ◌+◌, ◌*◌, ◌<◌, ◌≤◌, List, [], ◌∷◌, length, refl, sym, ap, ◌∙◌, ⊎_elim, arith}
 use Rattle.std.specs.Prelude.{slice_index}
 use Rattle.std.proofs.lemmas.Bool.{cases_lt}
-use Rattle.mesa_types.specs.Typed.{Kind, Ordinal, Texts, Array, Record, Kinds, NoKinds, AndKind}
+use Rattle.mesa_types.specs.Typed.{Kind, Ordinal, Longs, Texts, Array, Record, Kinds, NoKinds, AndKind}
+use Rattle.mesa_types.specs.Longs.{long_of}
 use Rattle.mesa_types.specs.Shapes.{one, words_in, words_in_all, words_before, KindAt}
-use Rattle.source_meaning.specs.Value.{Value, Word, Text, Many, NoValues, AndValue, nth, parts, part_at}
+use Rattle.source_meaning.specs.Value.{Value, Word, Long, Text, Many, NoValues, AndValue, nth, parts, part_at}
 use Rattle.source_meaning.specs.Value as value
 use Rattle.machine_rules.specs.Words.{words_at}
 use Rattle.agreement_rules.specs.Layout.{Strings, Slots, Small, slots_of, each, value_at, values_at, Show}
@@ -38,6 +39,9 @@ mutual
   pub value_same : (texts : Strings) (m m' : Slots) (s s' : ℕ) (k : Kind) → ((i : ℕ) → i < words_in k → m (s + i) ≡ m' (s' + i))
       → value_at texts m s k ≡ value_at texts m' s' k
   value_same texts m m' s s' Ordinal h = ap Word (ap m (omega arith) ∙ h 0 (omega arith) ∙ ap m' (omega arith))
+  value_same texts m m' s s' Longs h =
+      let e : m s ≡ m' s' = ap m (omega arith) ∙ h 0 (omega arith) ∙ ap m' (omega arith) in
+      ap (λ x. Long (long_of x (m (s + 1)))) e ∙ ap (λ y. Long (long_of (m' s') y)) (h 1 (omega arith))
   value_same texts m m' s s' Texts h =
       let e : m s ≡ m' s' = ap m (omega arith) ∙ h 0 (omega arith) ∙ ap m' (omega arith) in
       ap (λ x. Text (texts x (m (s + 1)))) e ∙ ap (λ y. Text (texts (m' s') y)) (h 1 (omega arith))
@@ -76,6 +80,7 @@ pub path_within : (path : List ℕ) (j k : Kind) (d : ℕ) → PathAt path j k d
 unfolding PathAt words_in
 path_within [] j k d h = let e = ap words_in h.0 in omega (arith, h.1)
 path_within (n ∷ path) Ordinal k d h = absurd h
+path_within (n ∷ path) Longs k d h = absurd h
 path_within (n ∷ path) Texts k d h = absurd h
 path_within (n ∷ path) (Record ks) k d h =
     let x = path_within path h.0 k h.1 h.3 in
@@ -89,6 +94,7 @@ pub path_value : (texts : Strings) (m : Slots) (s : ℕ) (path : List ℕ) (j k 
 unfolding PathAt part_at value_at parts
 path_value texts m s [] j k d h = let e : s ≡ s + d = omega (arith, h.1) in ap (λ x. value_at texts m s x) h.0 ∙ ap (λ x. value_at texts m x k) e
 path_value texts m s (n ∷ path) Ordinal k d h = absurd h
+path_value texts m s (n ∷ path) Longs k d h = absurd h
 path_value texts m s (n ∷ path) Texts k d h = absurd h
 path_value texts m s (n ∷ path) (Record ks) k d h =
     let e : (s + words_before ks n) + h.1 ≡ s + d = omega (arith, h.4) in

@@ -1,9 +1,10 @@
 -- Which words show which values (rule of this project). A string has no words of its own, since two literals may have the same bytes; so
 -- a value is read out of words, and what else is said of words is said by that.
 use Rattle.std.specs.Prelude.{◌≡◌, ℕ, zero, suc, ◌+◌, ◌*◌, ◌<◌, List, length, slice_index}
-use Rattle.mesa_types.specs.Typed.{Kind, Ordinal, Texts, Array, Record, Kinds, NoKinds, AndKind}
+use Rattle.mesa_types.specs.Longs.{long_of}
+use Rattle.mesa_types.specs.Typed.{Kind, Ordinal, Longs, Texts, Array, Record, Kinds, NoKinds, AndKind}
 use Rattle.mesa_types.specs.Shapes.{words_in, words_in_all}
-use Rattle.source_meaning.specs.Value.{Value, Word, Text, Many, Values, NoValues, AndValue}
+use Rattle.source_meaning.specs.Value.{Value, Word, Long, Text, Many, Values, NoValues, AndValue}
 
 -- the words of a frame, or of the globals of an instance, by slot
 abbrev pub Slots : Type 0
@@ -26,6 +27,8 @@ each (suc n) f = AndValue (f 0) (each n (λ i. f (suc i)))
 unfoldable mutual
   pub value_at : Strings → Slots → ℕ → Kind → Value
   value_at texts m s Ordinal = Word (m s)
+  -- the more significant word is the first
+  value_at texts m s Longs = Long (long_of (m s) (m (s + 1)))
   value_at texts m s Texts = Text (texts (m s) (m (s + 1)))
   value_at texts m s (Array n k) = Many (each n (λ i. value_at texts m (s + i * words_in k) k))
   value_at texts m s (Record ks) = Many (values_at texts m s ks)

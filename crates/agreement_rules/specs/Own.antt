@@ -1,6 +1,7 @@
 -- Instructions that work on one activation alone, one after the other; and what own code comes to, in words. No turn and no other
 -- activation is spoken of here.
 use Rattle.std.specs.Prelude.{◌≡◌, ℕ, ◌+◌, ◌<◌, ◌≤◌, ◌⊎◌, List, [], ◌∷◌}
+use Rattle.mesa_types.specs.Longs.{two_words}
 use Rattle.mesa_types.specs.Operators.{WordFault, Tried, Fine, Faulty}
 use Rattle.code_forms.specs.declared.instruction.Instruction.{Instruction}
 use Rattle.machine_rules.specs.Words.{push}
@@ -31,6 +32,11 @@ pub data Outcome : Type 0 where
 unfoldable pub outcome : Tried → Outcome
 outcome (Fine x) = Given (x ∷ [])
 outcome (Faulty fault) = Raised fault
+
+-- a LONG number, as its two words
+unfoldable pub long_outcome : Tried → Outcome
+long_outcome (Fine n) = Given (two_words n)
+long_outcome (Faulty fault) = Raised fault
 
 -- all slots but the 16 scratch words from t on are as they were
 abbrev pub Kept : (t : ℕ) → (old new : List ℕ) → Type 0

@@ -1,3 +1,5 @@
+//! The laws of images that are built from a tree, and of the tree's program.
+
 ghost use Rattle.bound_images.specs.Laws.{
   BuiltImagesAreInOrder,
   BuiltImagesRunAsTheirSource,

@@ -30,7 +30,7 @@ use Rattle.code_forms.specs.Ranges.{InOrder, ProcedureInRange}
 use Rattle.code_forms.specs.Routine.{Routine, routine_with}
 use Rattle.code_forms.specs.Same.{bare_entry, bare_procedure, with_code}
 use Rattle.code_rules.specs.Modules as code
-use Rattle.code_rules.specs.Modules.{ProcedureCode, ProceduresCode}
+use Rattle.code_rules.specs.Modules.{ProceduresCode}
 use Rattle.object_files.specs.declared.object.Object.{Object}
 use Rattle.object_rules.specs.ModuleForms.{has_sizes, is_of_kind, procedure_gives, signal_gives, gives_as, gives_item}
 use Rattle.object_rules.specs.Parts.{instructions, procedure_part, procedure_code, entries_from, kind_code, link_code, link_codes}
@@ -190,4 +190,4 @@ module _ (m : Module) (o : Object) (h : IsObjectOf m o) where
       }
 
 pub objects_of_modules_fit : ObjectsOfModulesFit
-objects_of_modules_fit version m o sound names s h = objects_fit version o s (can_be_spelled m o h sound names s)
+objects_of_modules_fit m o sound names s h = objects_fit o s (can_be_spelled m o h sound names s)

@@ -1,4 +1,4 @@
--- The form of objects fits an object whose shape and code can be spelled.
+-- The form of objects in version 2 fits an object whose shape and code can be spelled.
 use Rattle.std.proofs.Common.{◌≡◌, ℕ, ◌<◌, ◌≤◌, true, List, [], length, map, slice_get, refl, subst, arith}
 use Rattle.std.specs.Prelude.{All}
 use Rattle.std.proofs.lemmas.Bool.{le-leb}
@@ -22,7 +22,7 @@ use Rattle.built_files.specs.Laws.{SpelledObjectsFit}
 use Rattle.built_files.specs.Objects.{InBytes, GivesItems}
 use Rattle.built_files.proofs.CodeFits.{each_of, put_signal, put_text, put_procedures}
 
-module _ (version : ℕ) (c : ModuleCode) where
+module _ (c : ModuleCode) where
   abbrev Gives : Export → Pair → Type 0
   Gives e p = InBytes 4 p.number × (gives_item c.signals (map procedure_part c.procedures) (slice_get e.face.items p.item) p.number ≡ true)
 
@@ -32,11 +32,11 @@ module _ (version : ℕ) (c : ModuleCode) where
   item_few : (e : Export) → ExportCanBeSpelled e → (before : List Pair) (p : Pair) → is_next (length e.face.items) (last_item before) p.item ≡ true → p.item < 4294967296
   item_few e h before p n = let less = (got_next (length e.face.items) (last_item before) p.item n).1 in let few = few_items e h in omega (arith, less, few)
 
-  put_export : (e : Export) → ExportCanBeSpelled e → GivesItems c e → (export_form version c.signals (map procedure_part c.procedures)).fits e
+  put_export : (e : Export) → ExportCanBeSpelled e → GivesItems c e → (export_form 2 c.signals (map procedure_part c.procedures)).fits e
   unfolding export_form given
   put_export e h g =
       let few : length e.given < 4294967296 = h.count in (
-        (faces_fit version e.face).0 h.face,
+        (faces_fit e.face).0 h.face,
         (
           (few, le-leb 0 (length e.given) (omega arith)),
           (
@@ -49,7 +49,7 @@ module _ (version : ℕ) (c : ModuleCode) where
 
 pub objects_fit : SpelledObjectsFit
 unfolding module_form
-objects_fit version o s c =
+objects_fit o s c =
     let imports : length o.shape.imports < 4294967296 = s.import_count in
     let exports : length o.shape.exports < 4294967296 = s.export_count in
     let globals : o.code.global_words ≤ 16384 = c.ranges.few_globals in
@@ -61,7 +61,7 @@ objects_fit version o s c =
       (
         (
           (imports, le-leb 0 (length o.shape.imports) (omega arith)),
-          (refl, each_of (import_form version) ImportCanBeSpelled (λ i h. (imports_fit version i).0 h) [] o.shape.imports s.imports),
+          (refl, each_of (import_form 2) ImportCanBeSpelled (λ i h. (imports_fit i).0 h) [] o.shape.imports s.imports),
         ),
         (
           (omega (arith, globals), le-leb o.code.global_words GLOBAL_WORDS c.ranges.few_globals),
@@ -90,8 +90,8 @@ objects_fit version o s c =
                   (exports, le-leb 0 (length o.shape.exports) (omega arith)),
                   (
                     refl,
-                    each_of (export_form version o.code.signals (map procedure_part o.code.procedures)) (λ e. ExportCanBeSpelled e × GivesItems o.code e)
-                        (λ e h. put_export version o.code e h.0 h.1) [] o.shape.exports (λ k d less. (s.exports k d less, c.exports k d less)),
+                    each_of (export_form 2 o.code.signals (map procedure_part o.code.procedures)) (λ e. ExportCanBeSpelled e × GivesItems o.code e)
+                        (λ e h. put_export o.code e h.0 h.1) [] o.shape.exports (λ k d less. (s.exports k d less, c.exports k d less)),
                   ),
                 ),
               ),

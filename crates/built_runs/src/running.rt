@@ -1,3 +1,4 @@
+//! The run of the image that is linked from modules, a tree and its bindings.
 ghost use Rattle.std.specs.Prelude.{◌≡◌, ◌-◌, ◌≤◌, map, IfOk, IfSome, IsErrOf};
 ghost use Rattle.mesa_base.specs.Asked.{AskedOnce};
 ghost use Rattle.mesa_base.specs.Outside.{Rose};

@@ -11,8 +11,10 @@ ghost use Rattle.check_values.specs.Views as value;
 ghost use Rattle.check_declared.specs.Views as view;
 
 use check_rules::{Cause, CheckFault};
-use check_state::{Meaning, Typed, base_of, conforms};
-use check_values::{Ends, Meeting, Sort, checked, number_type, range_for, related, sort_of};
+use check_state::{Meaning, Typed, conforms, is_ordinal};
+use check_values::{
+    Ends, Meeting, Sort, checked, not_long, number_type, range_for, related, sort_of,
+};
 use held_trees::{LetGo, both};
 use mesa_base::{OutOfMemory, Place};
 use mesa_types::{Base, Given, Home, Interval, TypeTree, TypedExpr};
@@ -46,7 +48,7 @@ fn met_kind(sort: Sort, base: Base, kind: TypeTree) -> TypeTree
             kind.let_go();
             number_type(base)
         }
-        Sort::Letter | Sort::Truth | Sort::Other => kind,
+        Sort::LongNumber(_) | Sort::Letter | Sort::Truth | Sort::Other => kind,
     }
 }
 
@@ -78,7 +80,9 @@ fn rounds_by(alloc: Global, ends: Ends, meeting: Meeting) -> Result<Rounds, OutO
 {
     let Ends {
         open_low,
+        low_place: _,
         low,
+        high_place: _,
         high,
         open_high,
     } = ends;
@@ -98,11 +102,15 @@ fn rounds_by(alloc: Global, ends: Ends, meeting: Meeting) -> Result<Rounds, OutO
     })
 }
 
-/// The bounds of a loop that counts between these ends.
+/// The bounds of a loop that counts between these ends; neither is LONG.
 #[tactic(auto, unfolding(check_rules::specs::Statements::rounds))]
 pub fn rounds_of(place: Place, alloc: Global, ends: Ends) -> Result<Rounds, CheckFault>
     ensures { GivesOnly view.rounds (spec.rounds place (value.ends ends)) result }
 {
+    let fits = not_long(ends.low_place, &ends.low);
+    let (ends, _) = both(ends, fits)?;
+    let fits = not_long(ends.high_place, &ends.high);
+    let (ends, _) = both(ends, fits)?;
     match related(
         &ends.low.kind,
         ends.low.literal,
@@ -124,13 +132,13 @@ pub struct Counter {
     pub kind: TypeTree,
 }
 
-/// The variable of a FOR, by what its name means: it has an ordinal type.
+/// The variable of a FOR, by what its name means: it has an ordinal type, and so is no LONG one.
 pub fn counter_of(place: Place, named: Meaning) -> Result<Counter, CheckFault>
     ensures { GivesOnly view.counter (spec.counter place (meaning named)) result }
 {
     match named {
         Meaning::Variable(home, kind) => {
-            if base_of(&kind).is_some() {
+            if is_ordinal(&kind) {
                 Ok(Counter { home, kind })
             } else {
                 Err(CheckFault::At(Cause::TypeMismatch, place))

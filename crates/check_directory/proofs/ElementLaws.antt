@@ -9,7 +9,7 @@ use Rattle.check_rules.specs.Directory.{elements_from, elements_in, first_entry,
 use Rattle.check_rules.specs.Meanings as m
 use Rattle.interface_records.specs.PlainTypes as v
 use Rattle.interface_records.specs.PlainTypes.{PlainInterface, PlainType, plain}
-use Rattle.check_state.proofs.TypeForms.{of_array, of_boolean, of_cardinal, of_character, of_enumeration, of_integer, of_string}
+use Rattle.check_state.proofs.TypeForms.{of_array, of_boolean, of_cardinal, of_character, of_enumeration, of_integer, of_long_cardinal, of_long_integer, of_string}
 use Rattle.check_directory.proofs.EntryLaws.{over_entries, over_none}
 
 pub then_ok : {A E P Q : Type 0} (r : Result A E) → OnOk r P → (P → Q) → OnOk r Q
@@ -31,6 +31,14 @@ module _ (face : PlainInterface) (s : Scope m.Meaning) where
   pub in_cardinal : (k : TypeTree) → k ≡ tree.Cardinal → s ≡ over s (first_entry (elements_in face (plain k)))
   unfolding elements_in
   in_cardinal k h = sym (ap with (ap plain h ∙ of_cardinal) ∙ over_none s)
+
+  pub in_long_integer : (k : TypeTree) → k ≡ tree.LongInteger → s ≡ over s (first_entry (elements_in face (plain k)))
+  unfolding elements_in
+  in_long_integer k h = sym (ap with (ap plain h ∙ of_long_integer) ∙ over_none s)
+
+  pub in_long_cardinal : (k : TypeTree) → k ≡ tree.LongCardinal → s ≡ over s (first_entry (elements_in face (plain k)))
+  unfolding elements_in
+  in_long_cardinal k h = sym (ap with (ap plain h ∙ of_long_cardinal) ∙ over_none s)
 
   pub in_boolean : (k : TypeTree) → k ≡ tree.Boolean → s ≡ over s (first_entry (elements_in face (plain k)))
   unfolding elements_in

@@ -7,7 +7,7 @@ ghost use Rattle.interface_records.specs.PlainTypes.{plain, plain_field, plain_i
 
 use crate::offers::offer;
 use check_scopes::Names;
-use check_state::{Meaning, narrower, next};
+use check_state::{Meaning, next};
 use interface_records::{Constant, Interface, NamedType};
 use mesa_base::{Name, OutOfMemory};
 use mesa_types::{FieldType, Item, Origin, TypeTree};
@@ -24,9 +24,8 @@ fn elements(
 {
     let mut number = 0u32;
     for element in elements {
-        let word = narrower(number as usize)?;
         let kind = kind.copy(alloc)?;
-        offer(element, alloc, Meaning::Constant(kind, word), names)?;
+        offer(element, alloc, Meaning::Constant(kind, number), names)?;
         number = next(number)?;
     }
     Ok(())
@@ -70,6 +69,8 @@ fn in_type(
         TypeTree::Record(_, fields) => in_fields(fields.get().as_slice(), alloc, interface, names),
         TypeTree::Integer
         | TypeTree::Cardinal
+        | TypeTree::LongInteger
+        | TypeTree::LongCardinal
         | TypeTree::Boolean
         | TypeTree::Character
         | TypeTree::String => Ok(()),

@@ -26,31 +26,31 @@ use Rattle.check_rules.specs.declared.fault.Cause.TheVariants.{TypeMismatch, Wro
 use Rattle.check_rules.specs.Ranges.{Typed, Aim, Free, Into, Several, finish}
 use Rattle.check_rules.specs.Reached.{Reached, Bracketed, Named, Value, Variable, Results, Shape, OfFields, OfElements, NoShape, Use, field, indexed, may_apply, settled, shape_of, text_at}
 use Rattle.check_rules.specs.Steps.{Check, Checked, State, and_then, ◌>>=◌, pure, lift, only, refuse, spend, fail, ensure}
-use Rattle.check_rules.specs.Values.{Raises, by_level, by_shape, compared, in_order, is_truth, letter, level_of, raises_by, summed, not_of, number, signed, string, truth, within}
+use Rattle.check_rules.specs.Values.{Raises, Begun, by_level, by_shape, in_order, is_truth, letter, level_of, raises_by, summed, not_of, signed, string, truth}
 use Rattle.check_operands.specs.Lists as lists
 use Rattle.check_operands.specs.Runs as runs
 use Rattle.check_operands.specs.Runs.{freely}
-use Rattle.check_expressions.specs.Lists.{at_place, none_given, nothing_in, target}
+use Rattle.check_expressions.specs.Lists.{at_place, comparison, inclusion, none_given, nothing_in, number_literal, target}
 use Rattle.check_expressions.proofs.Folding.{in_turn}
 
 made_of : (f : t.Exprs → t.Expr) (x : t.Expr) (m : Check t.Exprs) → m >>= (λ es. pure (truth (f (t.AndExpr x es)))) ≡ (m >>= (λ es. pure (t.AndExpr x es))) >>= (λ es. pure (truth (f es)))
 made_of f x m = λ i σ. sym (in_turn {B = t.Exprs × State} {C = Typed × State} (m σ) (λ r. Ok (t.AndExpr x r.0, r.1)) (λ r. Ok (truth (f r.0), r.1))) i
 
-run_is : (a : Around) (x : Typed) (ss : s.Operations)
-    → by_level (level_of ss) (pure x) (spec.sums a t.NoOperation x.kind x.literal ss >>= (λ r. pure (summed x r)))
+run_is : (a : Around) (l : Place) (x : Typed) (ss : s.Operations)
+    → by_level (level_of ss) (pure x) (spec.sums a l (Begun x.value) x.kind x.literal ss >>= (λ r. pure (summed r)))
     (spec.truths a (is_truth x.kind) ss >>= (λ es. pure (truth (t.AllOf (t.AndExpr x.value es)))))
     (spec.truths a (is_truth x.kind) ss >>= (λ es. pure (truth (t.SomeOf (t.AndExpr x.value es)))))
-    ≡ runs.run a x ss
+    ≡ runs.run a l x ss
 unfolding runs.run runs.sums runs.truths
-run_is a x ss = λ i. by_level (level_of ss) (pure x) (spec.sums a t.NoOperation x.kind x.literal ss >>= (λ r. pure (summed x r)))
+run_is a l x ss = λ i. by_level (level_of ss) (pure x) (spec.sums a l (Begun x.value) x.kind x.literal ss >>= (λ r. pure (summed r)))
     (made_of t.AllOf x.value (spec.truths a (is_truth x.kind) ss) i) (made_of t.SomeOf x.value (spec.truths a (is_truth x.kind) ss) i)
 
 pub check_run : (a : Around) (aim : Aim) (e : s.Expr) (ss : s.Operations) → spec.check a aim (s.Run e ss) ≡ (do
   x ← freely a e
-  r ← runs.run a x ss
+  r ← runs.run a (first e) x ss
   lift (finish aim r))
 unfolding spec.check
-check_run a aim e ss = λ i. freely a e >>= (λ x. run_is a x ss i >>= (λ r. lift (finish aim r)))
+check_run a aim e ss = λ i. freely a e >>= (λ x. run_is a (first e) x ss i >>= (λ r. lift (finish aim r)))
 
 pub check_not : (a : Around) (aim : Aim) (p : Place) (e : s.Expr) → spec.check a aim (s.Not p e) ≡ (do
   x ← freely a e
@@ -62,16 +62,14 @@ check_not a aim p e = refl
 pub check_compare : (a : Around) (aim : Aim) (d : s.Expr) (b : Bool) (o : Relation) (p : Place) (e : s.Expr) → spec.check a aim (s.Compare d b o p e) ≡ (do
   x ← freely a d
   y ← freely a e
-  r ← lift (compared b o p x y)
-  lift (finish aim r))
+  comparison aim b o p (first d) x (first e) y)
 unfolding spec.check
 check_compare a aim d b o p e = refl
 
 pub check_within : (a : Around) (aim : Aim) (e : s.Expr) (b : Bool) (p : Place) (i : s.Interval) → spec.check a aim (s.Within e b p i) ≡ (do
   x ← freely a e
   ends ← spec.interval a i
-  r ← lift (within b p x ends)
-  lift (finish aim r))
+  inclusion aim b p (first e) x ends)
 unfolding spec.check
 check_within a aim e b p i = refl
 
@@ -82,7 +80,7 @@ pub check_signed : (a : Around) (aim : Aim) (sign : Sign) (p : Place) (e : s.Exp
 unfolding spec.check
 check_signed a aim sign p e = refl
 
-pub check_number : (a : Around) (aim : Aim) (p : Place) (n : ℕ) → spec.check a aim (s.NumberLiteral p n) ≡ spend 1 >>= (λ _. lift (finish aim (number n)))
+pub check_number : (a : Around) (aim : Aim) (p : Place) (n : ℕ) → spec.check a aim (s.NumberLiteral p n) ≡ number_literal aim n
 unfolding spec.check
 check_number a aim p n = refl
 
@@ -133,7 +131,7 @@ pub ruleset clauses = (check_run, check_not, check_compare, check_within, check_
 pub interval_is : (a : Around) (p : Place) (low high : s.Expr) (open_low open_high : Bool) → spec.interval a (s.Between p open_low low high open_high) ≡ (do
   x ← freely a low
   y ← freely a high
-  pure (record { open_low = open_low; low = x; high = y; open_high = open_high }))
+  pure (record { open_low = open_low; low_place = first low; low = x; high_place = first high; high = y; open_high = open_high }))
 unfolding spec.check
 interval_is a p low high open_low open_high = refl
 

@@ -1,6 +1,6 @@
 -- Runs of operators and of suffixes, part by part.
 use Rattle.std.proofs.lemmas.List.{map-append}
-use Rattle.std.proofs.Common.{◌≡◌, ◌<◌, ◌+◌, drop, length, get_or, ℕ, Bool, true, false, List, [], ◌∷◌, ◌++◌, map, Ok, Err, None, refl, sym, ap, ◌∙◌}
+use Rattle.std.proofs.Common.{◌≡◌, ◌<◌, ◌+◌, drop, length, get_or, ℕ, Bool, true, List, [], ◌∷◌, ◌++◌, map, Ok, Err, refl, sym, ap, ◌∙◌}
 use Rattle.mesa_base.specs.declared.place.Place.{Place}
 use Rattle.mesa_base.specs.declared.identifier.Identifier.{Identifier}
 use Rattle.mesa_types.specs.Plain as tree
@@ -32,61 +32,74 @@ use Rattle.syntax_trees.proofs.PlainForms.{parts_of_operation, suffix_at}
 use Rattle.check_rules.specs.Around.{Around}
 use Rattle.check_rules.specs.Checking as spec
 use Rattle.check_rules.specs.interface_records.specs.PlainTypes.{PlainType}
+use Rattle.check_rules.specs.Parts.{first}
 use Rattle.check_rules.specs.Ranges.{Typed}
 use Rattle.check_rules.specs.Reached.{Reached, Use, field, may_apply, settled}
 use Rattle.check_rules.specs.declared.fault.Cause.TheVariants.{TypeMismatch}
-use Rattle.check_rules.specs.Steps.{Checked, State, and_then, ◌>>=◌, pure, ensure}
-use Rattle.check_rules.specs.Values.{Done, Bare, Sums, Alls, Somes, level_of, is_truth, step, truth, truth_operand}
+use Rattle.check_rules.specs.Steps.{Checked, State, and_then, ◌>>=◌, pure, ensure, spend}
+use Rattle.check_rules.specs.Values.{Done, Bare, Sums, Alls, Somes, level_of, is_truth, step, summed, truth, truth_operand}
 use Rattle.check_operands.specs.Folds.{folded}
-use Rattle.check_operands.specs.Runs.{freely, Sum, begun, with_done, behind, ended, sum_turn, sums, operand, truth_turn, truths, run, suffix}
+use Rattle.check_operands.specs.Runs.{freely, Run, begun, with_done, behind, ended, longer_by, sum_turn, sums, operand, truth_turn, truths, run, suffix}
 use Rattle.check_expressions.proofs.Folding.{folded_at, in_turn}
 
 -- ---- sums and products
 
-abbrev done_with : Sum → (t.Operations × PlainType) × State → Checked (Typed × State)
-done_with a r = Ok (record { value = t.Operate a.first r.0.0; kind = r.0.1; literal = false; gave = None }, r.1)
+abbrev summed_at : (t.Expr × PlainType) × State → Checked (Typed × State)
+summed_at r = Ok (summed r.0, r.1)
 
-abbrev ended_at : Sum × State → Checked (Typed × State)
+abbrev ended_at : Run × State → Checked (Typed × State)
 ended_at r = Ok (ended r.0, r.1)
 
-abbrev sums_after : Around → Sum → s.Operations → State → Checked ((t.Operations × PlainType) × State)
-sums_after a done ss σ = spec.sums a done.operations done.kind done.literal ss σ
+abbrev sums_after : Around → Run → s.Operations → State → Checked ((t.Expr × PlainType) × State)
+sums_after a done ss σ = spec.sums a done.start done.done done.kind done.literal ss σ
 
-abbrev stepped : Around → Sum → s.Operations → State → Done → Checked ((t.Operations × PlainType) × State)
-stepped a done ss σ x = sums_after a (with_done done x) ss σ
+abbrev stepped : Around → Run → s.Operations → State → Done → Checked ((t.Expr × PlainType) × State)
+stepped a done ss σ x = sums_after a (with_done done.start x) ss σ
 
 abbrev done_at : State → Done → Checked (Done × State)
 done_at σ x = Ok (x, σ)
 
-abbrev and_state : State → Sum → Checked (Sum × State)
+abbrev and_state : State → Run → Checked (Run × State)
 and_state σ b = Ok (b, σ)
 
-sum_step : (a : Around) (done : Sum) (os : List Operation) (m : Checked Done) (σ : State)
-    → ((x : Done) → and_then (stepped a done (plain.operations os) σ x) (done_with done) ≡ and_then (folded (sum_turn a) (with_done done x) os σ) ended_at)
-    → and_then (and_then (and_then m (done_at σ)) (λ x. stepped a done (plain.operations os) x.1 x.0)) (done_with done)
-    ≡ and_then (and_then (and_then (and_then m (λ x. Ok (with_done done x))) (and_state σ)) (λ r. folded (sum_turn a) r.0 os r.1)) ended_at
-sum_step a done os (Ok x) σ h = h x
-sum_step a done os (Err e) σ h = refl
+-- what is counted behind a step leaves the run as it is
+abbrev spent : ℕ → Run × State → Checked (Run × State)
+spent n b = and_then (spend n b.1) (λ u. Ok (b.0, u.1))
 
-sum_check : (a : Around) (done : Sum) (o : Operator) (p : Place) (os : List Operation) (m : Checked (Typed × State))
-    → ((x : Done) (σ : State) → and_then (stepped a done (plain.operations os) σ x) (done_with done) ≡ and_then (folded (sum_turn a) (with_done done x) os σ) ended_at)
-    → and_then (and_then m (λ r. and_then (and_then (step o p done.kind done.literal r.0) (done_at r.1)) (λ x. stepped a done (plain.operations os) x.1 x.0))) (done_with done)
-    ≡ and_then (and_then (and_then m (λ r. and_then (behind o p done r.0) (and_state r.1))) (λ r. folded (sum_turn a) r.0 os r.1)) ended_at
-sum_check a done o p os (Ok r) h = sum_step a done os (step o p done.kind done.literal r.0) r.1 (λ x. h x r.1)
-sum_check a done o p os (Err e) h = refl
+sum_spent : (a : Around) (done : Run) (os : List Operation) (x : Done) (m : Checked (Unit {0} × State))
+    → ((x : Done) (σ : State) → and_then (stepped a done (plain.operations os) σ x) summed_at ≡ and_then (folded (sum_turn a) (with_done done.start x) os σ) ended_at)
+    → and_then (and_then m (λ u. stepped a done (plain.operations os) u.1 x)) summed_at
+    ≡ and_then (and_then (and_then m (λ u. and_state u.1 (with_done done.start x))) (λ r. folded (sum_turn a) r.0 os r.1)) ended_at
+sum_spent a done os x (Ok u) h = h x u.1
+sum_spent a done os x (Err e) h = refl
 
-sums_go : (a : Around) (done : Sum) (os : List Operation) (σ : State)
-    → and_then (sums_after a done (plain.operations os) σ) (done_with done) ≡ and_then (folded (sum_turn a) done os σ) ended_at
+sum_step : (a : Around) (done : Run) (os : List Operation) (n : ℕ) (m : Checked Done) (σ : State)
+    → ((x : Done) (σ : State) → and_then (stepped a done (plain.operations os) σ x) summed_at ≡ and_then (folded (sum_turn a) (with_done done.start x) os σ) ended_at)
+    → and_then (and_then (and_then m (done_at σ)) (λ x. and_then (spend n x.1) (λ u. stepped a done (plain.operations os) u.1 x.0))) summed_at
+    ≡ and_then (and_then (and_then (and_then (and_then m (λ x. Ok (with_done done.start x))) (and_state σ)) (spent n)) (λ r. folded (sum_turn a) r.0 os r.1)) ended_at
+sum_step a done os n (Ok x) σ h = sum_spent a done os x (spend n σ) h
+sum_step a done os n (Err e) σ h = refl
+
+sum_check : (a : Around) (done : Run) (o : Operator) (p q : Place) (os : List Operation) (m : Checked (Typed × State))
+    → ((x : Done) (σ : State) → and_then (stepped a done (plain.operations os) σ x) summed_at ≡ and_then (folded (sum_turn a) (with_done done.start x) os σ) ended_at)
+    → and_then (and_then m (λ r. and_then (and_then (step o p done.start done.done done.kind done.literal q r.0) (done_at r.1)) (λ x. and_then (spend (longer_by done r.0) x.1) (λ u. stepped a done (plain.operations os) u.1 x.0)))) summed_at
+    ≡ and_then (and_then (and_then m (λ r. and_then (and_then (behind o p done q r.0) (and_state r.1)) (spent (longer_by done r.0)))) (λ r. folded (sum_turn a) r.0 os r.1)) ended_at
+sum_check a done o p q os (Ok r) h = sum_step a done os (longer_by done r.0) (step o p done.start done.done done.kind done.literal q r.0) r.1 h
+sum_check a done o p q os (Err e) h = refl
+
+sums_go : (a : Around) (done : Run) (os : List Operation) (σ : State)
+    → and_then (sums_after a done (plain.operations os) σ) summed_at ≡ and_then (folded (sum_turn a) done os σ) ended_at
 unfolding spec.check folded sum_turn
 sums_go a done [] σ = refl
 sums_go a done (o ∷ os) σ =
-    ap (λ f. and_then (sums_after a done (f (plain.operations os)) σ) (done_with done)) (parts_of_operation o)
-    ∙ sum_check a done (out-Operation o).operator (out-Operation o).place os (freely a (plain.expr (out-Operation o).right) σ) (λ x σ. sums_go a (with_done done x) os σ)
+    ap (λ f. and_then (sums_after a done (f (plain.operations os)) σ) summed_at) (parts_of_operation o)
+    ∙ sum_check a done (out-Operation o).operator (out-Operation o).place (first (plain.expr (out-Operation o).right)) os (freely a (plain.expr (out-Operation o).right) σ)
+    (λ x σ. sums_go a (with_done done.start x) os σ)
 
-pub sums_folded : (a : Around) (x : Typed) (os : List Operation) (σ : State)
-    → sums a x (plain.operations os) σ ≡ and_then (folded (sum_turn a) (begun x) os σ) ended_at
+pub sums_folded : (a : Around) (l : Place) (x : Typed) (os : List Operation) (σ : State)
+    → sums a l x (plain.operations os) σ ≡ and_then (folded (sum_turn a) (begun l x) os σ) ended_at
 unfolding sums
-sums_folded a x os σ = sums_go a (begun x) os σ
+sums_folded a l x os σ = sums_go a (begun l x) os σ
 
 -- ---- AND and OR
 
@@ -164,21 +177,21 @@ exprs_more done e = map-append tree.expr done (e ∷ [])
 
 -- ---- a run, by its level
 
-pub run_bare : (a : Around) (x : Typed) (ss : s.Operations) → Bare ≡ level_of ss → run a x ss ≡ pure x
+pub run_bare : (a : Around) (l : Place) (x : Typed) (ss : s.Operations) → Bare ≡ level_of ss → run a l x ss ≡ pure x
 unfolding run
-run_bare a x ss h = rw (sym h) refl
+run_bare a l x ss h = rw (sym h) refl
 
-pub run_sums : (a : Around) (x : Typed) (ss : s.Operations) → Sums ≡ level_of ss → run a x ss ≡ sums a x ss
+pub run_sums : (a : Around) (l : Place) (x : Typed) (ss : s.Operations) → Sums ≡ level_of ss → run a l x ss ≡ sums a l x ss
 unfolding run
-run_sums a x ss h = rw (sym h) refl
+run_sums a l x ss h = rw (sym h) refl
 
-pub run_alls : (a : Around) (x : Typed) (ss : s.Operations) → Alls ≡ level_of ss → run a x ss ≡ truths a x ss >>= (λ es. pure (truth (t.AllOf es)))
+pub run_alls : (a : Around) (l : Place) (x : Typed) (ss : s.Operations) → Alls ≡ level_of ss → run a l x ss ≡ truths a x ss >>= (λ es. pure (truth (t.AllOf es)))
 unfolding run
-run_alls a x ss h = rw (sym h) refl
+run_alls a l x ss h = rw (sym h) refl
 
-pub run_somes : (a : Around) (x : Typed) (ss : s.Operations) → Somes ≡ level_of ss → run a x ss ≡ truths a x ss >>= (λ es. pure (truth (t.SomeOf es)))
+pub run_somes : (a : Around) (l : Place) (x : Typed) (ss : s.Operations) → Somes ≡ level_of ss → run a l x ss ≡ truths a x ss >>= (λ es. pure (truth (t.SomeOf es)))
 unfolding run
-run_somes a x ss h = rw (sym h) refl
+run_somes a l x ss h = rw (sym h) refl
 
 -- ---- suffixes
 

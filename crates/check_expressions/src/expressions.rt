@@ -17,18 +17,19 @@ ghost use Rattle.check_operands.specs.Runs as runs;
 ghost use Rattle.check_operands.specs.Views as view;
 
 use crate::lists::{bare, none_given, nothing_in, target_of};
-use crate::literals::{one_word, text};
+use crate::literals::{number_literal, one_word, text};
+use crate::operators::{Comparing, comparison, inclusion};
 use crate::phrases::Phrases;
 use check_operands::check_selectors::{
     Bracketed, Reached, Use, at_index, field, led_to, may_apply, places, settled, value,
 };
 use check_operands::check_values::{
-    Ends, compared, finish, is_truth, letter, not_of, number, signed, truth, truth_operand, within,
+    Ends, Run, finish, is_truth, letter, not_of, signed, truth, truth_operand,
 };
 use check_operands::{
-    Applied, Arguments, At, Level, Raises, Sum, Wanted, aim_for, all_of, applied_to, begun, behind,
-    called, counted, ended, first, has_parts, in_order, keyed_fields, level_of, made, only,
-    ordered, raised, some_of, truth_literal, unnamed, what_is_raised, words_given,
+    Applied, Arguments, At, Level, Raises, Wanted, aim_for, all_of, applied_to, begun, behind,
+    called, counted, ended, first, has_parts, in_order, keyed_fields, level_of, longer_by, made,
+    only, ordered, raised, some_of, truth_literal, unnamed, what_is_raised, words_given,
 };
 use check_rules::{Cause, CheckFault};
 use check_state::{Aim, Around, State, Typed, named, size};
@@ -62,8 +63,9 @@ impl<P: Phrases> Checker<P> {
     {
         match e {
             Expr::Run(left, rest) => {
-                let left = self.check(left.get(), around, state, Aim::Free(first(left.get())))?;
-                let found = self.run(rest.as_slice(), around, state, left)?;
+                let start = first(left.get());
+                let left = self.check(left.get(), around, state, Aim::Free(start))?;
+                let found = self.run(rest.as_slice(), around, state, start, left)?;
                 finish(self.alloc, aim, found)
             }
             Expr::Not(place, e) => {
@@ -78,11 +80,24 @@ impl<P: Phrases> Checker<P> {
                 place,
                 right,
             } => {
-                let left = self.check(left.get(), around, state, Aim::Free(first(left.get())))?;
-                let other = Aim::Free(first(right.get()));
-                let (left, right) = both(left, self.check(right.get(), around, state, other))?;
-                let found = compared(self.alloc, *is_negated, *relation, *place, left, right)?;
-                finish(self.alloc, aim, found)
+                let start = first(left.get());
+                let left = self.check(left.get(), around, state, Aim::Free(start))?;
+                let other = first(right.get());
+                let right = self.check(right.get(), around, state, Aim::Free(other));
+                let (left, right) = both(left, right)?;
+                let operator = Comparing {
+                    is_negated: *is_negated,
+                    relation: *relation,
+                    place: *place,
+                };
+                comparison(
+                    self.alloc,
+                    state,
+                    aim,
+                    operator,
+                    (start, left),
+                    (other, right),
+                )
             }
             Expr::Within {
                 value,
@@ -90,17 +105,18 @@ impl<P: Phrases> Checker<P> {
                 place,
                 interval,
             } => {
-                let found = self.check(value.get(), around, state, Aim::Free(first(value.get())))?;
+                let start = first(value.get());
+                let found = self.check(value.get(), around, state, Aim::Free(start))?;
                 let (found, ends) = both(found, self.interval(interval, around, state))?;
-                let found = within(self.alloc, *is_negated, *place, found, ends)?;
-                finish(self.alloc, aim, found)
+                let at = (*place, start);
+                inclusion(self.alloc, state, aim, *is_negated, at, found, ends)
             }
             Expr::Signed(sign, place, e) => {
                 let found = self.check(e.get(), around, state, Aim::Free(first(e.get())))?;
                 let found = signed(self.alloc, *sign, *place, found)?;
                 finish(self.alloc, aim, found)
             }
-            Expr::NumberLiteral(_, n) => one_word(self.alloc, state, aim, number(*n)),
+            Expr::NumberLiteral(_, n) => number_literal(self.alloc, state, aim, *n),
             Expr::CharacterLiteral(_, code) => one_word(self.alloc, state, aim, letter(*code)),
             Expr::StringLiteral(place, bytes) => {
                 text(self.alloc, around, state, aim, *place, bytes.as_slice())
@@ -123,7 +139,7 @@ impl<P: Phrases> Checker<P> {
         }
     }
 
-    /// What stands behind the first operand of a run.
+    /// What stands behind the first operand of a run, which begins at `start`.
     #[cycle(expressions)]
     #[tactic(auto, using(crate::proofs::RunLaws::run_bare, crate::proofs::RunLaws::run_sums, crate::proofs::RunLaws::run_alls, crate::proofs::RunLaws::run_somes))]
     fn run(
@@ -131,14 +147,15 @@ impl<P: Phrases> Checker<P> {
         all: &[Operation],
         around: &Around<'_>,
         state: &mut State,
+        start: Place,
         first: Typed,
     ) -> Result<Typed, CheckFault>
         requires { P.ask self.now.phrases }
-        ensures { Gives words.typed (runs.run (words.around around.now) (words.typed first) (plain.operations all.now) (words.state state.old)) result (words.state state.new) }
+        ensures { Gives words.typed (runs.run (words.around around.now) start (words.typed first) (plain.operations all.now) (words.state state.old)) result (words.state state.new) }
     {
         match level_of(all) {
             Level::Bare => Ok(first),
-            Level::Sums => self.sums(all, around, state, first),
+            Level::Sums => self.sums(all, around, state, start, first),
             Level::Alls => {
                 let operands = self.truths(all, around, state, first)?;
                 Ok(truth(all_of(operands)))
@@ -157,12 +174,13 @@ impl<P: Phrases> Checker<P> {
         all: &[Operation],
         around: &Around<'_>,
         state: &mut State,
+        start: Place,
         first: Typed,
     ) -> Result<Typed, CheckFault>
         requires { P.ask self.now.phrases }
-        ensures { Gives words.typed (runs.sums (words.around around.now) (words.typed first) (plain.operations all.now) (words.state state.old)) result (words.state state.new) }
+        ensures { Gives words.typed (runs.sums (words.around around.now) start (words.typed first) (plain.operations all.now) (words.state state.old)) result (words.state state.new) }
     {
-        let mut done = begun(self.alloc, first);
+        let mut done = begun(start, first);
         for one in all {
             done = self.and_operator(one, around, state, done)?;
         }
@@ -177,14 +195,18 @@ impl<P: Phrases> Checker<P> {
         one: &Operation,
         around: &Around<'_>,
         state: &mut State,
-        done: Sum,
-    ) -> Result<Sum, CheckFault>
+        done: Run,
+    ) -> Result<Run, CheckFault>
         requires { P.ask self.now.phrases }
-        ensures { Gives view.sum (runs.sum_turn (words.around around.now) (view.sum done) one.now (words.state state.old)) result (words.state state.new) }
+        ensures { Gives view.run (runs.sum_turn (words.around around.now) (view.run done) one.now (words.state state.old)) result (words.state state.new) }
     {
-        let aim = Aim::Free(first(&one.right));
-        let (done, right) = both(done, self.check(&one.right, around, state, aim))?;
-        behind(self.alloc, one.operator, one.place, done, right)
+        let start = first(&one.right);
+        let right = self.check(&one.right, around, state, Aim::Free(start));
+        let (done, right) = both(done, right)?;
+        let words = longer_by(&done, &right);
+        let more = behind(self.alloc, one.operator, one.place, done, start, right)?;
+        let (more, _) = both(more, state.spend(words))?;
+        Ok(more)
     }
 
     /// The operands of AND or OR.
@@ -238,13 +260,16 @@ impl<P: Phrases> Checker<P> {
         requires { P.ask self.now.phrases }
         ensures { Gives values.ends (spec.interval (words.around around.now) (plain.interval interval.now) (words.state state.old)) result (words.state state.new) }
     {
-        let aim = Aim::Free(first(interval.low.get()));
-        let low = self.check(interval.low.get(), around, state, aim)?;
-        let aim = Aim::Free(first(interval.high.get()));
+        let low_place = first(interval.low.get());
+        let low = self.check(interval.low.get(), around, state, Aim::Free(low_place))?;
+        let high_place = first(interval.high.get());
+        let aim = Aim::Free(high_place);
         let (low, high) = both(low, self.check(interval.high.get(), around, state, aim))?;
         Ok(Ends {
             open_low: interval.is_open_below,
+            low_place,
             low,
+            high_place,
             high,
             open_high: interval.is_open_above,
         })
@@ -266,7 +291,7 @@ impl<P: Phrases> Checker<P> {
         let meaning = named(self.alloc, around, state, &left.name)?;
         let at = At {
             last: left.name.place,
-            reached: led_to(self.alloc, meaning),
+            reached: led_to(self.alloc, meaning)?,
         };
         let at = self.walk(left.suffixes.as_slice(), around, state, Use::Read, at)?;
         let At { last, reached } = at;

@@ -4,6 +4,7 @@
 mod expressions;
 mod lists;
 mod literals;
+mod operators;
 mod phrases;
 
 pub use check_operands;

@@ -47,6 +47,8 @@ fn also_elements(e: &TypeExp, alloc: Global, scope: &mut Names<Meaning>) -> Resu
         TypeExp::Record(_, fields) => also_in_fields(fields, alloc, scope),
         TypeExp::Integer(_)
         | TypeExp::Cardinal(_)
+        | TypeExp::LongInteger(_)
+        | TypeExp::LongCardinal(_)
         | TypeExp::Boolean(_)
         | TypeExp::Character(_)
         | TypeExp::String(_)

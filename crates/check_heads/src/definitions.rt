@@ -97,7 +97,7 @@ fn named_constants(
     names: &[Identifier],
     alloc: Global,
     kind: &TypeTree,
-    value: u16,
+    value: u32,
 ) -> Result<Constants, OutOfMemory>
     ensures { IfOk result (λ made. map plain_constant made ≡ map (form.named_constant (plain kind.now) value) names.now) }
 {

@@ -198,6 +198,14 @@ module _ (rest : List Mention) where
   unfolding of_type
   of_cardinal_form p = refl
 
+  pub of_long_integer_form : (p : Place) → of_type (s.LongInteger p) ++ rest ≡ rest
+  unfolding of_type
+  of_long_integer_form p = refl
+
+  pub of_long_cardinal_form : (p : Place) → of_type (s.LongCardinal p) ++ rest ≡ rest
+  unfolding of_type
+  of_long_cardinal_form p = refl
+
   pub of_boolean_form : (p : Place) → of_type (s.Boolean p) ++ rest ≡ rest
   unfolding of_type
   of_boolean_form p = refl
@@ -517,7 +525,7 @@ pub ruleset phrases = (of_no_phrase_form, of_catch_form)
 
 pub ruleset arms = (of_no_arms_form, of_more_arms_form)
 
-pub ruleset written_types = (of_integer_form, of_cardinal_form, of_boolean_form, of_character_form, of_string_form, of_called_form, of_enumeration_form, of_subrange_form, of_array_form, of_record_form)
+pub ruleset written_types = (of_integer_form, of_cardinal_form, of_long_integer_form, of_long_cardinal_form, of_boolean_form, of_character_form, of_string_form, of_called_form, of_enumeration_form, of_subrange_form, of_array_form, of_record_form)
 
 pub ruleset field_lists = (of_with_names_form, of_unnamed_form)
 

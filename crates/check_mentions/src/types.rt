@@ -26,6 +26,8 @@ impl<'a> Parts<'a> {
             }
             TypeExp::Integer(_)
             | TypeExp::Cardinal(_)
+            | TypeExp::LongInteger(_)
+            | TypeExp::LongCardinal(_)
             | TypeExp::Boolean(_)
             | TypeExp::Character(_)
             | TypeExp::String(_)

@@ -1,5 +1,5 @@
 -- Parts of the rules of expressions, as the code takes them one by one.
-use Rattle.std.specs.Prelude.{Bool, true, false, List, [], ◌∷◌, ◌++◌, None, Ok}
+use Rattle.std.specs.Prelude.{ℕ, Bool, true, false, List, [], ◌∷◌, ◌++◌, Ok}
 use Rattle.mesa_base.specs.declared.place.Place.{Place}
 use Rattle.syntax_trees.specs.PlainSyntax as plain
 use Rattle.syntax_trees.specs.Syntax as s
@@ -10,49 +10,54 @@ use Rattle.check_rules.specs.Typed as t
 use Rattle.check_rules.specs.Around.{Around}
 use Rattle.check_rules.specs.Checking as spec
 use Rattle.check_rules.specs.Names.{named}
-use Rattle.check_rules.specs.Parts.{and_operation, first}
+use Rattle.check_rules.specs.Operators.{longer, sort_of}
+use Rattle.check_rules.specs.Parts.{first}
 use Rattle.check_rules.specs.interface_records.specs.PlainTypes.{PlainType, PlainItem, words_of_fields}
-use Rattle.check_rules.specs.Ranges.{Typed, Aim, Free, finish}
+use Rattle.check_rules.specs.Ranges.{Typed, typed, Aim, Free, finish}
 use Rattle.check_rules.specs.Meanings.{Meaning, Procedure, TypeName}
 use Rattle.check_rules.specs.Reached.{Reached, Variable, Value, Results, Named, Use, Read, Bracketed, at_index, indexed, reached, text_at, value}
 use Rattle.check_rules.specs.Steps.{Check, Checked, and_then, ◌>>=◌, pure, lift, spend, fail, refuse}
-use Rattle.check_rules.specs.Values.{Done, Raises, by_aim, by_level, has_parts, is_truth, level_of, no_phrase, step, summed, truth, truth_operand}
+use Rattle.check_rules.specs.Values.{Done, Raises, Sum, Begun, closed, by_aim, by_level, has_parts, is_truth, level_of, no_phrase, step, summed, truth, truth_operand}
 use Rattle.check_rules.specs.declared.fault.Cause.TheVariants.{TypeMismatch}
 
 -- an operand, which stands free
 abbrev pub freely : Around → s.Expr → Check Typed
 freely a e = spec.check a (Free (first e)) e
 
--- a run of sums or products as far as it is checked: its first operand, the operators with what stands to their right, the type
-pub record Sum : Type 0 where
-  pub first : t.Expr
-  pub operations : t.Operations
+-- a run of sums or products as far as it is checked: where it begins, its type, and whether that is a literal's
+pub record Run : Type 0 where
+  pub start : Place
+  pub done : Sum
   pub kind : PlainType
   pub literal : Bool
 
-abbrev pub begun : Typed → Sum
-begun x = record { first = x.value; operations = t.NoOperation; kind = x.kind; literal = x.literal }
+abbrev pub begun : Place → Typed → Run
+begun l x = record { start = l; done = Begun x.value; kind = x.kind; literal = x.literal }
 
-abbrev pub and_done : t.Operations → Done → t.Operations
-and_done os x = and_operation os (t.Then x.left x.operator x.right)
+abbrev pub with_done : Place → Done → Run
+with_done l x = record { start = l; done = x.done; kind = x.kind; literal = false }
 
-abbrev pub with_done : Sum → Done → Sum
-with_done a x = record { first = a.first; operations = and_done a.operations x; kind = x.kind; literal = false }
+-- one operator more, whose right operand is checked and begins at q
+abbrev pub behind : Operator → Place → Run → Place → Typed → Checked Run
+behind o p a q r = and_then (step o p a.start a.done a.kind a.literal q r) (λ x. Ok (with_done a.start x))
 
--- one operator more, whose right operand is checked
-abbrev pub behind : Operator → Place → Sum → Typed → Checked Sum
-behind o p a r = and_then (step o p a.kind a.literal r) (λ x. Ok (with_done a x))
+-- how many words the literal of one word among the operands counts more
+abbrev pub longer_by : Run → Typed → ℕ
+longer_by a r = longer (sort_of a.kind) a.literal (sort_of r.kind) r.literal
 
-abbrev pub ended : Sum → Typed
-ended a = record { value = t.Operate a.first a.operations; kind = a.kind; literal = false; gave = None }
+abbrev pub ended : Run → Typed
+ended a = typed a.kind (closed a.done)
 
-unfoldable pub sum_turn : Around → Sum → Operation → Check Sum
+unfoldable pub sum_turn : Around → Run → Operation → Check Run
 sum_turn a done o = do
   r ← freely a (plain.expr (out-Operation o).right)
-  lift (behind (out-Operation o).operator (out-Operation o).place done r)
+  more ← lift (behind (out-Operation o).operator (out-Operation o).place done (first (plain.expr (out-Operation o).right)) r)
+  _ ← spend (longer_by done r)
+  pure more
 
-unfoldable pub sums : Around → Typed → s.Operations → Check Typed
-sums a x ss = spec.sums a t.NoOperation x.kind x.literal ss >>= (λ r. pure (summed x r))
+-- of a run that begins at l
+unfoldable pub sums : Around → Place → Typed → s.Operations → Check Typed
+sums a l x ss = spec.sums a l (Begun x.value) x.kind x.literal ss >>= (λ r. pure (summed r))
 
 -- an operand of AND or OR, whose left operand fits or does not
 unfoldable pub operand : Around → Bool → Operation → Check t.Expr
@@ -68,8 +73,8 @@ unfoldable pub truths : Around → Typed → s.Operations → Check t.Exprs
 truths a x ss = spec.truths a (is_truth x.kind) ss >>= (λ es. pure (t.AndExpr x.value es))
 
 -- what a run is, by its level
-unfoldable pub run : Around → Typed → s.Operations → Check Typed
-run a x ss = by_level (level_of ss) (pure x) (sums a x ss)
+unfoldable pub run : Around → Place → Typed → s.Operations → Check Typed
+run a l x ss = by_level (level_of ss) (pure x) (sums a l x ss)
     (truths a x ss >>= (λ es. pure (truth (t.AllOf es))))
     (truths a x ss >>= (λ es. pure (truth (t.SomeOf es))))
 

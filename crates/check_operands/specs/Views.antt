@@ -4,7 +4,6 @@ use Rattle.mesa_base.specs.declared.place.Place.{Place}
 use Rattle.mesa_types.specs.Plain as tree
 use Rattle.mesa_types.specs.Plain.{expr}
 use Rattle.mesa_types.specs.Typed as t
-use Rattle.mesa_types.specs.declared.typed_tree.Operation.{Operation}
 use Rattle.mesa_types.specs.declared.typed_tree.TypedExpr.{TypedExpr}
 use Rattle.check_rules.specs.interface_records.specs.PlainTypes.{PlainType, plain, plain_item}
 use Rattle.check_rules.specs.Ranges as ranges
@@ -12,6 +11,8 @@ use Rattle.check_rules.specs.Reached as reached
 use Rattle.check_rules.specs.Values as values
 use Rattle.check_state.specs.Views as words
 use Rattle.check_state.specs.declared.typed.Typed.{Typed}
+use Rattle.check_selectors.specs.check_values.specs.Views.{sum}
+use Rattle.check_selectors.specs.check_values.specs.declared.sums.Run.{Run}
 use Rattle.check_selectors.specs.Views as reaching
 use Rattle.check_operands.specs.Lists.{kind_in, kind_placed}
 use Rattle.check_operands.specs.Runs as runs
@@ -22,18 +23,14 @@ use Rattle.check_operands.specs.declared.arguments.Wanted.TheVariants.{Each, Pla
 use Rattle.check_operands.specs.declared.arguments.Applied.{Applied}
 use Rattle.check_operands.specs.declared.arguments.Applied.TheVariants.{ToIndex, ToCall, ToConstruct}
 use Rattle.check_operands.specs.declared.steps.At.{At}
-use Rattle.check_operands.specs.declared.steps.Sum.{Sum}
 use Rattle.check_operands.specs.declared.steps.Level.{Level}
 use Rattle.check_operands.specs.declared.steps.Level.TheVariants.{Bare, Sums, Alls, Somes}
 
 unfoldable pub exprs : List TypedExpr → t.Exprs
 exprs es = tree.exprs (map expr es)
 
-unfoldable pub typed_operations : List Operation → t.Operations
-typed_operations os = tree.chain (map tree.operation os) t.NoOperation
-
-abbrev pub sum : Sum → runs.Sum
-sum a = record { first = expr a.first; operations = typed_operations a.operations; kind = plain a.kind; literal = a.literal }
+abbrev pub run : Run → runs.Run
+run a = record { start = a.start; done = sum a.done; kind = plain a.kind; literal = a.literal }
 
 abbrev pub level : Level → values.Level
 level Bare = values.Bare

@@ -15,5 +15,5 @@ pub use check_selectors;
 pub use check_selectors::check_values;
 pub use first_tokens::{first, first_of_interval};
 pub use steps::{
-    At, Level, Sum, all_of, begun, behind, ended, level_of, only, some_of, truth_literal,
+    At, Level, all_of, begun, behind, ended, level_of, longer_by, only, some_of, truth_literal,
 };

@@ -1,26 +1,23 @@
 //! One step of a run of operators or of a name's suffixes, once its parts are checked.
-ghost use Rattle.std.specs.Prelude.{◌≡◌, ◌++◌, ◌∷◌, [], ℕ, IfOk};
+ghost use Rattle.std.specs.Prelude.{◌≡◌, ◌∷◌, [], IfOk};
 ghost use Rattle.mesa_types.specs.Plain.{expr};
 ghost use Rattle.mesa_types.specs.Operators as operators;
 ghost use Rattle.syntax_trees.specs.PlainSyntax as tree;
 ghost use Rattle.mesa_types.specs.Typed as t;
-ghost use Rattle.check_rules.specs.Parts.{and_operation};
-ghost use Rattle.check_rules.specs.interface_records.specs.PlainTypes.{plain};
 ghost use Rattle.check_rules.specs.Values as spec;
 ghost use Rattle.check_state.specs.Gives.{GivesOnly};
 ghost use Rattle.check_state.specs.Views.{typed};
-ghost use Rattle.check_selectors.specs.check_values.specs.Views as values;
 ghost use Rattle.check_operands.specs.Runs as runs;
 ghost use Rattle.check_operands.specs.Views as view;
 
 use check_rules::CheckFault;
 use check_rules::typed_answers::truth as word_of;
 use check_selectors::Reached;
-use check_selectors::check_values::{Done, step, truth};
+use check_selectors::check_values::{Done, Run, Sum, longer, sort_of, step, truth};
 use check_state::{Typed, of_kind};
-use held_trees::{LetGo, both, boxed, pushed};
+use held_trees::{LetGo, both, pushed};
 use mesa_base::{List, OutOfMemory, Place};
-use mesa_types::{Exprs, Operation, Operations, Operator, Range, TypeTree, TypedExpr};
+use mesa_types::{Exprs, TypedExpr};
 use std::alloc::Global;
 use syntax_trees::syntax;
 
@@ -34,28 +31,6 @@ impl LetGo for At {
     fn let_go(self) {
         let At { last: _, reached } = self;
         reached.let_go();
-    }
-}
-
-/// A run of sums or products as far as it is checked.
-pub struct Sum {
-    pub first: TypedExpr,
-    pub operations: Operations,
-    pub kind: TypeTree,
-    pub literal: bool,
-}
-
-impl LetGo for Sum {
-    fn let_go(self) {
-        let Sum {
-            first,
-            operations,
-            kind,
-            literal: _,
-        } = self;
-        first.let_go();
-        operations.let_go();
-        kind.let_go();
     }
 }
 
@@ -87,10 +62,9 @@ pub fn level_of(all: &[syntax::Operation]) -> Level
     }
 }
 
-/// A run whose first operand this is.
-#[tactic(auto, unfolding(crate::specs::Views::typed_operations))]
-pub fn begun(alloc: Global, first: Typed) -> Sum
-    ensures { view.sum result ≡ runs.begun (typed first) }
+/// A run whose first operand this is, which begins at `start`.
+pub fn begun(start: Place, first: Typed) -> Run
+    ensures { view.run result ≡ runs.begun start (typed first) }
 {
     let Typed {
         value,
@@ -98,87 +72,59 @@ pub fn begun(alloc: Global, first: Typed) -> Sum
         literal,
         gave: _,
     } = first;
-    Sum {
-        first: value,
-        operations: List::new(alloc),
+    Run {
+        start,
+        done: Sum::Begun(value),
         kind,
         literal,
     }
 }
 
-fn with_operation(
-    operations: Operations,
-    check: Range,
-    operator: Operator,
-    right: TypedExpr,
-) -> Result<Operations, OutOfMemory>
-    ensures { IfOk result (λ longer. view.typed_operations longer ≡ and_operation (view.typed_operations operations) (t.Then check operator (expr right))) }
-{
-    let made = Operation {
-        check,
-        operator,
-        right,
-    };
-    let longer = pushed(operations, made)?;
-    Ok(longer)
-}
-
-fn and_done(operations: Operations, done: Done) -> Result<(Operations, TypeTree), OutOfMemory>
-    ensures { IfOk result (λ more. (view.typed_operations more.0 ≡ runs.and_done (view.typed_operations operations) (values.done done)) × (plain more.1 ≡ plain done.kind)) }
-{
-    let Done {
-        left,
-        operator,
-        right,
-        kind,
-    } = done;
-    let longer = with_operation(operations, left, operator, right);
-    let (kind, operations) = both(kind, longer)?;
-    Ok((operations, kind))
-}
-
-/// The run with one operator more, whose right operand is `right`.
+/// The run with one operator more, whose right operand is `right` and begins at `other`.
 pub fn behind(
     alloc: Global,
     operator: syntax::Operator,
     place: Place,
-    done: Sum,
+    run: Run,
+    other: Place,
     right: Typed,
-) -> Result<Sum, CheckFault>
-    ensures { GivesOnly view.sum (runs.behind operator place (view.sum done) (typed right)) result }
+) -> Result<Run, CheckFault>
+    ensures { GivesOnly view.run (runs.behind operator place (view.run run) other (typed right)) result }
 {
-    let Sum {
-        first,
-        operations,
-        kind,
-        literal,
-    } = done;
-    let applied = step(alloc, operator, place, &kind, literal, right);
-    kind.let_go();
-    let ((first, operations), applied) = both((first, operations), applied)?;
-    let (first, more) = both(first, and_done(operations, applied))?;
-    let (operations, kind) = more;
-    Ok(Sum {
-        first,
-        operations,
+    let start = run.start;
+    let Done { done, kind } = step(alloc, operator, place, run, other, right)?;
+    Ok(Run {
+        start,
+        done,
         kind,
         literal: false,
     })
 }
 
-/// The whole run.
-#[tactic(auto, unfolding(crate::specs::Views::typed_operations))]
-pub fn ended(alloc: Global, done: Sum) -> Result<Typed, OutOfMemory>
-    ensures { IfOk result (λ made. typed made ≡ runs.ended (view.sum done)) }
+/// How many words the literal of one word among the operands of the next operator counts more.
+pub fn longer_by(run: &Run, right: &Typed) -> u32
+    ensures { result ≡ runs.longer_by (view.run run.now) (typed right.now) }
 {
-    let Sum {
-        first,
-        operations,
+    longer(
+        sort_of(&run.kind),
+        run.literal,
+        sort_of(&right.kind),
+        right.literal,
+    )
+}
+
+/// The whole run.
+pub fn ended(alloc: Global, run: Run) -> Result<Typed, OutOfMemory>
+    ensures { IfOk result (λ made. typed made ≡ runs.ended (view.run run)) }
+{
+    let Run {
+        start: _,
+        done,
         kind,
         literal: _,
-    } = done;
-    let ((operations, kind), first) = both((operations, kind), boxed(alloc, first))?;
-    Ok(of_kind(kind, TypedExpr::Operate(first, operations)))
+    } = run;
+    let (kind, value) = both(kind, done.closed(alloc))?;
+    Ok(of_kind(kind, value))
 }
 
 /// A list of this value.

@@ -8,6 +8,7 @@ pub mod FoundLaws
 pub mod FoundLoops
 pub mod HeadScopes
 pub mod ItemLaws
+pub mod ProcedureLaws
 pub mod SignalLoops
 pub mod ValueCases
 pub mod ValueLaws

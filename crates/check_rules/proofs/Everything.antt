@@ -5,6 +5,7 @@ use Rattle.interface_records.specs.PlainTypes as plaintypes
 use Rattle.check_rules.specs.Ranges as ranges
 use Rattle.check_rules.specs.Operators as operators
 use Rattle.mesa_types.specs.Constants as constants
+use Rattle.mesa_types.specs.Longs as longs
 use Rattle.mesa_types.specs.Operators as words
 use Rattle.check_rules.specs.Parts as parts
 use Rattle.check_rules.specs.Around as around
@@ -28,23 +29,28 @@ use Rattle.check_rules.proofs.Texts as texts
 unfoldable pub everything : ℕ
 unfolding scopes.has plaintypes.fields_of_parts plaintypes.parts_of plaintypes.same_names plaintypes.same plaintypes.same_parts plaintypes.base_of
     plaintypes.words_of plaintypes.words_of_parts plaintypes.words_of_fields plaintypes.depth_of plaintypes.depth_of_parts plaintypes.kind_of
-    plaintypes.kinds_of_parts plaintypes.kinds_of plaintypes.conforms plaintypes.sign_of plaintypes.tree_of plaintypes.trees_of plaintypes.plain
-    plaintypes.plain_field ranges.range_for ranges.finish operators.sort_of operators.meet operators.operation operators.related constants.constant
-    constants.constant_run constants.all_true constants.some_true words.wrap words.shifted words.unshifted words.opposite words.is_negative
+    plaintypes.kinds_of_parts plaintypes.kinds_of plaintypes.is_ordinal plaintypes.conforms plaintypes.sign_of plaintypes.tree_of plaintypes.trees_of plaintypes.plain
+    plaintypes.plain_field ranges.range_for ranges.conversion_for ranges.given_as ranges.finish operators.sort_of operators.meet operators.meet_long operators.fitted operators.beside operators.word_operation operators.operation operators.related operators.relating constants.constant
+    constants.constant_run constants.constant_long_run constants.all_true constants.some_true words.wrap words.shifted words.unshifted words.opposite words.is_negative
     words.magnitude_if words.magnitude words.with_sign words.differ words.quotient words.remainder words.related words.past words.first_of
     words.beyond words.lies_in words.truth words.is_true words.fits words.fine_if words.checked words.by_divisor words.character words.tried
+    longs.more_of longs.less_of longs.two_words longs.long_of longs.wrap_long longs.shifted_long longs.opposite_long longs.is_negative_long
+    longs.long_magnitude_if longs.long_magnitude longs.with_sign_long longs.quotient_long longs.remainder_long longs.tried_long
+    longs.related_long longs.lies_in_long longs.extended_if longs.extended longs.is_in_common longs.widened longs.is_word_of longs.narrowed
+    longs.on_fine longs.converted
     parts.first parts.distinct parts.found parts.same_types parts.same_fields parts.count parts.keys parts.count_lefts parts.keys_of_lefts
     parts.are_fields parts.differ parts.and_operation parts.and_suffix parts.join_stmts around.label_scope around.jump around.all_resumable
     around.all_give around.resumed around.all_like around.parameters_of names.mark names.seen names.named names.of_interface names.qualified
     names.type_named names.word_base names.signals names.arm_labels names.announce names.each_means names.settle reached.reached reached.value
     reached.field_in reached.field reached.indexed reached.at_index reached.shape_of reached.stored reached.performed rules.limited rules.elements
-    rules.few rules.is_index rules.bound rules.base_of_bounds rules.subrange statements.tested statements.tested_inside statements.rounds
+    rules.few rules.is_index rules.bound rules.base_of_bounds rules.subrange statements.not_long statements.meets_bounds statements.is_long_interval statements.by_itself_of statements.longer_number
+    statements.longer_bounds statements.selected statements.tested statements.tested_inside statements.rounds
     statements.given statements.source statements.extracted statements.variables statements.fields_from statements.enter_arm
     statements.is_text_literal statements.constant_meaning statements.labels_of_exits statements.labels_of_repeats statements.numbers_from
     phrases.holds phrases.in_steps phrases.in_interval phrases.in_left phrases.in_suffixes phrases.in_brackets phrases.in_items phrases.in_exprs
     phrases.in_keyed phrases.in_raise phrases.in_maybe phrases.in_lefts phrases.in_keyed_lefts phrases.in_targets phrases.in_tests phrases.in_cases
     phrases.in_values values.number values.letter values.number_in values.string values.is_truth values.not_of values.signed values.compared
-    values.within values.step checking.check checking.sums checking.truths checking.interval checking.walk checking.apply checking.one
+    values.within values.step values.bound_of checking.check checking.sums checking.truths checking.interval checking.walk checking.apply checking.one
     checking.construct checking.arguments checking.values checking.alike checking.keyed checking.raise checking.with_brackets checking.phrase
     checking.arms checking.type_exp checking.fields_of checking.named_fields checking.unnamed_fields checking.of_interval checking.statement
     checking.otherwise checking.statements checking.target checking.targets checking.targets_in_order checking.targets_by_key checking.cases

@@ -425,6 +425,7 @@ unfoldable mutual
   type_exp (suc n) =
       on (codes "INTEGER") (λ p. of_base n (base.OfInteger p) (s.Integer p))
       (on (codes "CARDINAL") (λ p. of_base n (base.OfCardinal p) (s.Cardinal p))
+      (on (codes "LONG") (λ p. on (codes "INTEGER") (λ q. pure (s.LongInteger p)) (take (codes "CARDINAL") >>= (λ q. pure (s.LongCardinal p))))
       (on (codes "CHARACTER") (λ p. of_base n (base.OfCharacter p) (s.Character p))
       (on (codes "BOOLEAN") (λ p. pure (s.Boolean p))
       (on (codes "STRING") (λ p. pure (s.String p))
@@ -432,7 +433,7 @@ unfoldable mutual
       (peek_any (codes "[" ∷ codes "(" ∷ []) (interval n >>= (λ i. pure (s.Subrange base.Unsaid i)))
       (on (codes "ARRAY") (λ p. type_exp n >>= (λ i. take (codes "OF") >>= (λ q. type_exp n >>= (λ e. pure (s.Array p i e)))))
       (on (codes "RECORD") (λ p. take (codes "[") >>= (λ q. fields n >>= (λ fs. take (codes "]") >>= (λ r. pure (s.Record p fs)))))
-      (qualified >>= (λ q. of_base n (base.OfName q) (s.Called q)))))))))))
+      (qualified >>= (λ q. of_base n (base.OfName q) (s.Called q))))))))))))
 
   pub of_base : ℕ → TypeBase → s.TypeExp → Read s.TypeExp
   of_base zero b e = fail

@@ -1,12 +1,15 @@
 -- What tests of sameness say: what is the same is equal, and a type conforms to a target of the same shape.
 use Rattle.std.proofs.Common.{◌≡◌, ℕ, List, [], ◌∷◌, refl, sym, ◌∙◌, ap, inl, inr, ◌⊎◌}
-use Rattle.std.specs.Prelude.{true, ◌&&◌, Option, Some, None, nat_eq, bytes_eq}
+use Rattle.std.specs.Prelude.{Bool, true, false, ◌&&◌, Option, Some, None, nat_eq, bytes_eq}
 use Rattle.std.proofs.lemmas.Bool.{eqb-true}
 use Rattle.mesa_types.specs.declared.types.Origin.{Origin}
+use Rattle.mesa_types.specs.Typed as t
 use Rattle.interface_records.specs.PlainTypes as v
-use Rattle.interface_records.specs.PlainTypes.{PlainType, Parts, PlainField, base_of, kind_of, kinds_of, same, same_parts, same_names, same_name, same_origin, same_stamp, conforms, one_base}
+use Rattle.interface_records.specs.PlainTypes.{PlainType, Parts, PlainField, base_of, kind_of, kinds_of, same, same_parts, same_names, same_name, same_origin, same_stamp, conforms, one_base, is_long}
 use Rattle.check_rules.specs.Parts.{same_types, same_fields}
-use Rattle.check_rules.proofs.SoundTypes.{no_truth, both_left, both_right, one_of, some_base, based_left, based_right}
+use Rattle.check_rules.proofs.SoundTypes.{no_truth, both_left, both_right, one_of, no_lie, some_base, based_left, based_right}
+use Rattle.std.specs.Prelude.{T}
+use Rattle.std.proofs.Math.Dec.{eqb_refl}
 
 pub bytes_same : (xs ys : List ℕ) → bytes_eq xs ys ≡ true → xs ≡ ys
 bytes_same [] [] e = refl
@@ -57,6 +60,8 @@ mutual
   pub types_same : (j k : PlainType) → same j k ≡ true → j ≡ k
   types_same v.Integer v.Integer e = refl
   types_same v.Cardinal v.Cardinal e = refl
+  types_same v.LongInteger v.LongInteger e = refl
+  types_same v.LongCardinal v.LongCardinal e = refl
   types_same v.Boolean v.Boolean e = refl
   types_same v.Character v.Character e = refl
   types_same v.String v.String e = refl
@@ -91,14 +96,31 @@ mutual
   all_same v.NoPart (v.AndPart y k qs) e = no_truth e
   all_same (v.AndPart x j ps) v.NoPart e = no_truth e
 
--- what conforms has the shape of its target
-pub conforming_kind : (j k : PlainType) → conforms j k ≡ true → kind_of j ≡ kind_of k
+-- what conforms has the shape of its target, unless one of the two is LONG
+pub conforming_kind : (j k : PlainType) → conforms j k ≡ true → is_long j ≡ false → is_long k ≡ false → kind_of j ≡ kind_of k
 unfolding conforms
-conforming_kind j k e = by (one_of (one_base (base_of j) (base_of k)) (same j k) e)
+conforming_kind j k e f g = by (one_of (one_base (base_of j) (base_of k)) (same j k) e)
   where
     by : (one_base (base_of j) (base_of k) ≡ true) ⊎ (same j k ≡ true) → kind_of j ≡ kind_of k
-    by (inl h) = some_base j (based_left (base_of j) (base_of k) h) ∙ sym (some_base k (based_right (base_of j) (base_of k) h))
+    by (inl h) = some_base j (based_left (base_of j) (base_of k) h) f ∙ sym (some_base k (based_right (base_of j) (base_of k) h) g)
     by (inr h) = ap kind_of (types_same j k h)
+
+-- where a target is LONG and its value is not, or the other way round, the one that is not has one word
+pub conforming_word : (j k : PlainType) → conforms j k ≡ true → is_long j ≡ false → is_long k ≡ true → kind_of j ≡ t.Ordinal
+unfolding conforms
+conforming_word j k e f g = by (one_of (one_base (base_of j) (base_of k)) (same j k) e)
+  where
+    by : (one_base (base_of j) (base_of k) ≡ true) ⊎ (same j k ≡ true) → kind_of j ≡ t.Ordinal
+    by (inl h) = some_base j (based_left (base_of j) (base_of k) h) f
+    by (inr h) = no_lie (sym g ∙ (sym (ap is_long (types_same j k h)) ∙ f))
+
+pub word_conforming : (j k : PlainType) → conforms j k ≡ true → is_long j ≡ true → is_long k ≡ false → kind_of k ≡ t.Ordinal
+unfolding conforms
+word_conforming j k e f g = by (one_of (one_base (base_of j) (base_of k)) (same j k) e)
+  where
+    by : (one_base (base_of j) (base_of k) ≡ true) ⊎ (same j k ≡ true) → kind_of k ≡ t.Ordinal
+    by (inl h) = some_base k (based_right (base_of j) (base_of k) h) g
+    by (inr h) = no_lie (sym f ∙ (ap is_long (types_same j k h) ∙ g))
 
 -- lists of the same types have the same shapes
 pub same_kinds : (fs gs : List PlainField) → same_types fs gs ≡ true → kinds_of fs ≡ kinds_of gs
@@ -121,3 +143,14 @@ same_field_kinds (f ∷ fs) (g ∷ gs) e =
     let head : kind_of f.kind ≡ kind_of g.kind = ap kind_of (types_same f.kind g.kind (both_left (same f.kind g.kind) (same_fields fs gs) r)) in
     let rest : kinds_of fs ≡ kinds_of gs = same_field_kinds fs gs (both_right (same f.kind g.kind) (same_fields fs gs) r) in
     cc
+
+number_itself : (n : ℕ) → nat_eq n n ≡ true
+number_itself n = is_true (nat_eq n n) (eqb_refl n)
+  where
+    is_true : (b : Bool) → T b → b ≡ true
+    is_true true h = refl
+    is_true false h = absurd h
+
+pub bytes_itself : (xs : List ℕ) → bytes_eq xs xs ≡ true
+bytes_itself [] = refl
+bytes_itself (x ∷ xs) = rw (number_itself x, bytes_itself xs) refl

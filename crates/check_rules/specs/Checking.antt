@@ -13,12 +13,13 @@ use Rattle.check_rules.specs.Meanings.{TypeName, Procedure}
 use Rattle.check_rules.specs.Steps.{Check, ◌>>=◌, pure, fail, or_refuse, ensure, lift, spend, hide, in_scope, seeing, measured, within_operands}
 use Rattle.check_rules.specs.Around.{Around, inside, in_constant, with_labels, in_round, in_arm, exit_loop, next_round, go_to, return, retry, continue, reject, resumed, label_of}
 use Rattle.check_rules.specs.Names.{named, qualified, type_named, word_base, arm_labels, announce, settle}
-use Rattle.check_rules.specs.Parts.{first, first_of_interval, first_of_type, first_name, last_of, names_of, distinct, field_named, kinds, kind_by, places_of, each_of, count, keys, count_lefts, keys_of_lefts, are_fields, complete, and_operation}
+use Rattle.check_rules.specs.Parts.{first, first_of_interval, first_of_type, first_name, last_of, names_of, distinct, field_named, kinds, kind_by, places_of, each_of, count, keys, count_lefts, keys_of_lefts, are_fields, complete}
 use Rattle.check_rules.specs.Ranges.{Typed, Aim, Free, Into, Several, Arguments, finish}
-use Rattle.check_rules.specs.Values.{number, letter, truth, string, is_truth, not_of, signed, compared, within, by_level, level_of, step, summed, truth_operand, no_phrase, by_shape, by_aim, construct_shape, has_parts, in_fields, by_keys, bound_aim, in_order, Raises, raises_by, raised}
+use Rattle.check_rules.specs.Values.{number, letter, truth, string, is_truth, not_of, signed, compared, within, by_level, level_of, Sum, Begun, closed, step, summed, truth_operand, no_phrase, by_shape, by_aim, construct_shape, has_parts, in_fields, by_keys, bound_of, in_order, Raises, raises_by, raised}
+use Rattle.check_rules.specs.Operators.{sort_of, longer}
 use Rattle.check_rules.specs.Reached.{Reached, Named, Value, Variable, Results, Use, Read, Store, Perform, reached, settled, value, field, indexed, text_at, at_index, may_apply, shape_of, Target, stored, performed}
 use Rattle.check_rules.specs.TypeRules.{origin, limited, elements, few, is_index, bound, subrange, interval_base}
-use Rattle.check_rules.specs.Statements.{whole, held, numbered, returned, declare, given_initial, Ends, tested, tested_inside, rounds, counter, given, Counted, NotCounted, By, Controlled, looped, source, extracted, enter_arm, Headed, Nothing, Variables, constant_meaning, labels_of_exits, labels_of_repeats, numbers_from, Left, also_left, new_labels, is_finished, labels_of}
+use Rattle.check_rules.specs.Statements.{whole, held, numbered, returned, declare, given_initial, Ends, tested, tested_inside, rounds, counter, given, Counted, NotCounted, By, Controlled, looped, source, extracted, selected, held_words, longer_number, longer_bounds, enter_arm, Headed, Nothing, Variables, constant_meaning, labels_of_exits, labels_of_repeats, numbers_from, Left, also_left, new_labels, is_finished, labels_of}
 use Rattle.check_rules.specs.Phrases.{holds, in_left, in_raise, in_targets, in_cases, in_items, is_catch}
 use Rattle.check_rules.specs.declared.fault.Cause.TheVariants.{TypeMismatch, WrongCount, TwiceDeclared}
 use Rattle.interface_records.specs.PlainTypes.{PlainField, PlainItem, PlainType, kind_of, parts_of, words_of, words_of_fields}
@@ -29,7 +30,7 @@ unfoldable mutual
   check a aim (s.Run e ss) = do
     x ← check a (Free (first e)) e
     r ← by_level (level_of ss) (pure x)
-        (sums a t.NoOperation x.kind x.literal ss >>= (λ r. pure (summed x r)))
+        (sums a (first e) (Begun x.value) x.kind x.literal ss >>= (λ r. pure (summed r)))
         (truths a (is_truth x.kind) ss >>= (λ es. pure (truth (t.AllOf (t.AndExpr x.value es)))))
         (truths a (is_truth x.kind) ss >>= (λ es. pure (truth (t.SomeOf (t.AndExpr x.value es)))))
     lift (finish aim r)
@@ -40,18 +41,20 @@ unfoldable mutual
   check a aim (s.Compare d b o p e) = do
     x ← check a (Free (first d)) d
     y ← check a (Free (first e)) e
-    r ← lift (compared b o p x y)
+    r ← lift (compared b o p (first d) x (first e) y)
+    _ ← spend (longer (sort_of x.kind) x.literal (sort_of y.kind) y.literal)
     lift (finish aim r)
   check a aim (s.Within e b p i) = do
     x ← check a (Free (first e)) e
     ends ← interval a i
-    r ← lift (within b p x ends)
+    r ← lift (within b p (first e) x ends)
+    _ ← spend (longer_number x ends + longer_bounds x ends)
     lift (finish aim r)
   check a aim (s.Signed sign p e) = do
     x ← check a (Free (first e)) e
     r ← lift (signed sign p x)
     lift (finish aim r)
-  check a aim (s.NumberLiteral p n) = spend 1 >>= (λ _. lift (finish aim (number n)))
+  check a aim (s.NumberLiteral p n) = spend (words_of (number n).kind) >>= (λ _. lift (finish aim (number n)))
   check a aim (s.CharacterLiteral p n) = spend 1 >>= (λ _. lift (finish aim (letter n)))
   check a aim (s.StringLiteral p bytes) = do
     x ← lift (string a.known.strings p bytes)
@@ -70,13 +73,14 @@ unfoldable mutual
     x ← value aim x.0 x.1
     lift (finish aim x)
 
-  -- the operators of a run behind those that are done, and the type of it all
-  pub sums : Around → t.Operations → PlainType → Bool → s.Operations → Check (t.Operations × PlainType)
-  sums a done kind literal s.NoOperation = pure (done, kind)
-  sums a done kind literal (s.AndOperation o p e ss) = do
+  -- the operators of a run that begins at l, behind those that are done, and the type of it all
+  pub sums : Around → Place → Sum → PlainType → Bool → s.Operations → Check (t.Expr × PlainType)
+  sums a l done kind literal s.NoOperation = pure (closed done, kind)
+  sums a l done kind literal (s.AndOperation o p e ss) = do
     r ← check a (Free (first e)) e
-    x ← lift (step o p kind literal r)
-    sums a (and_operation done (t.Then x.left x.operator x.right)) x.kind false ss
+    x ← lift (step o p l done kind literal (first e) r)
+    _ ← spend (longer (sort_of kind) literal (sort_of r.kind) r.literal)
+    sums a l x.done x.kind false ss
 
   -- the operands of AND or OR behind the first
   pub truths : Around → Bool → s.Operations → Check t.Exprs
@@ -91,7 +95,7 @@ unfoldable mutual
   interval a (s.Between p open_low low high open_high) = do
     x ← check a (Free (first low)) low
     y ← check a (Free (first high)) high
-    pure (record { open_low = open_low; low = x; high = y; open_high = open_high })
+    pure (record { open_low = open_low; low_place = first low; low = x; high_place = first high; high = y; open_high = open_high })
 
   -- where the suffixes of a name lead, and the place of the last name
   pub walk : Around → Use → Place → Reached → s.Suffixes → Check (Place × Reached)
@@ -223,6 +227,8 @@ unfoldable mutual
   pub type_exp : Around → s.TypeExp → Check PlainType
   type_exp a (s.Integer p) = pure v.Integer
   type_exp a (s.Cardinal p) = pure v.Cardinal
+  type_exp a (s.LongInteger p) = pure v.LongInteger
+  type_exp a (s.LongCardinal p) = pure v.LongCardinal
   type_exp a (s.Boolean p) = pure v.Boolean
   type_exp a (s.Character p) = pure v.Character
   type_exp a (s.String p) = pure v.String
@@ -264,9 +270,11 @@ unfoldable mutual
 
   pub of_interval : Around → Option PlainType → s.Interval → Check PlainType
   of_interval a base (s.Between p open_low low high open_high) = do
-    x ← check (in_constant (first low) a) (bound_aim base (first low)) low
+    i ← check (in_constant (first low) a) (Free (first low)) low
+    x ← lift (bound_of base (first low) i)
     m ← lift (bound (first low) x)
-    y ← check (in_constant (first high) a) (bound_aim base (first high)) high
+    j ← check (in_constant (first high) a) (Free (first high)) high
+    y ← lift (bound_of base (first high) j)
     n ← lift (bound (first high) y)
     k ← lift (or_refuse (interval_base base x.kind m y.kind n) TypeMismatch p)
     lift (subrange p k open_low m n open_high)
@@ -300,10 +308,10 @@ unfoldable mutual
     pure (t.If x.value b o))
   statement a (s.Select p e cs other) = whole a p (holds e || in_cases cs) (λ a. do
     x ← check a (Free (first e)) e
-    _ ← hide 1
-    cs ← cases a x cs
+    _ ← hide (held_words x)
+    cs ← cases a (first e) x cs
     o ← otherwise a other
-    pure (t.Select x.value (cs (t.Otherwise o))))
+    pure (selected x (cs (t.Otherwise o))))
   statement a (s.Loop c p ph ss rs) = whole a (s.control_place c p) true (λ a. do
     x ← control a c
     w ← phrase (in_round (labels_of_repeats rs) a) ph
@@ -376,30 +384,35 @@ unfoldable mutual
     ts ← targets_by_key a q fs (key.name ∷ taken) ls
     pure (put ts)
 
-  pub cases : Around → Typed → s.Cases → Check (t.Cases → t.Cases)
-  cases a x s.NoCases = pure (λ cs. cs)
-  cases a x (s.AndCase ts body rest) = do
-    ts ← tests a x ts
+  -- of a selector that begins at l
+  pub cases : Around → Place → Typed → s.Cases → Check (t.Cases → t.Cases)
+  cases a l x s.NoCases = pure (λ cs. cs)
+  cases a l x (s.AndCase ts body rest) = do
+    ts ← tests a l x ts
     b ← statement a body
-    more ← cases a x rest
+    more ← cases a l x rest
     pure (λ cs. t.AndCase ts b (more cs))
 
-  pub tests : Around → Typed → s.Tests → Check t.Tests
-  tests a x s.NoTests = pure t.NoTests
-  tests a x (s.Value e ts) = do
+  -- the selector is no literal of a test; the right side may be one that takes its type
+  pub tests : Around → Place → Typed → s.Tests → Check t.Tests
+  tests a l x s.NoTests = pure t.NoTests
+  tests a l x (s.Value e ts) = do
     y ← check a (Free (first e)) e
-    put ← lift (tested false t.Equal (first e) x y)
-    ts ← tests a x ts
+    put ← lift (tested false t.Equal (first e) l x (first e) y)
+    _ ← spend (longer (sort_of x.kind) false (sort_of y.kind) y.literal)
+    ts ← tests a l x ts
     pure (put ts)
-  tests a x (s.Compared b o p e ts) = do
+  tests a l x (s.Compared b o p e ts) = do
     y ← check a (Free (first e)) e
-    put ← lift (tested b o p x y)
-    ts ← tests a x ts
+    put ← lift (tested b o p l x (first e) y)
+    _ ← spend (longer (sort_of x.kind) false (sort_of y.kind) y.literal)
+    ts ← tests a l x ts
     pure (put ts)
-  tests a x (s.Inside b p i ts) = do
+  tests a l x (s.Inside b p i ts) = do
     ends ← interval a i
-    put ← lift (tested_inside b p x ends)
-    ts ← tests a x ts
+    put ← lift (tested_inside b p l x ends)
+    _ ← spend (longer_bounds x ends)
+    ts ← tests a l x ts
     pure (put ts)
 
   -- Loops: the control stands outside the loop's ENABLE, and does not see its labels.

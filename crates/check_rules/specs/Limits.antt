@@ -1,18 +1,20 @@
 -- Which types keep their limits, inside and out: words, depth and elements (rule of this project).
-use Rattle.std.specs.Prelude.{◌≡◌, ◌≤◌, List, [], ◌∷◌, length, Some}
+use Rattle.std.specs.Prelude.{◌≡◌, ◌≤◌, true, List, [], ◌∷◌, length, Some}
 use Rattle.mesa_base.specs.declared.limits.TheConstants.{TYPE_WORDS, TYPE_DEPTH, ENUMERATION_ELEMENTS}
-use Rattle.interface_records.specs.PlainTypes.{PlainType, Integer, Cardinal, Boolean, Character, String, Enumeration, Subrange, Array, Record, Parts, NoPart, AndPart, PlainField, PlainItem, PlainConstant, PlainName, PlainInterface, base_of, words_of, depth_of}
+use Rattle.interface_records.specs.PlainTypes.{PlainType, Integer, Cardinal, LongInteger, LongCardinal, Boolean, Character, String, Enumeration, Subrange, Array, Record, Parts, NoPart, AndPart, PlainField, PlainItem, PlainConstant, PlainName, PlainInterface, base_of, words_of, depth_of, is_ordinal}
 
 unfoldable mutual
   pub KeepsLimits : PlainType → Type 0
   KeepsLimits Integer = Unit {0}
   KeepsLimits Cardinal = Unit {0}
+  KeepsLimits LongInteger = Unit {0}
+  KeepsLimits LongCardinal = Unit {0}
   KeepsLimits Boolean = Unit {0}
   KeepsLimits Character = Unit {0}
   KeepsLimits String = Unit {0}
   KeepsLimits (Enumeration o xs) = length xs ≤ ENUMERATION_ELEMENTS
-  -- a subrange is one of a base
-  KeepsLimits (Subrange k first last) = KeepsLimits k × (base_of k ≡ Some k)
+  -- a subrange is one of a base, which is ordinal
+  KeepsLimits (Subrange k first last) = KeepsLimits k × (base_of k ≡ Some k) × (is_ordinal k ≡ true)
   KeepsLimits (Array i e) = KeepsLimits i × KeepsLimits e × (words_of (Array i e) ≤ TYPE_WORDS) × (depth_of (Array i e) ≤ TYPE_DEPTH)
   KeepsLimits (Record o ps) = PartsKeepLimits ps × (words_of (Record o ps) ≤ TYPE_WORDS) × (depth_of (Record o ps) ≤ TYPE_DEPTH)
 

@@ -5,7 +5,7 @@ use Rattle.interface_records.specs.PlainTypes.{PlainItem, PlainType}
 
 pub data Meaning : Type 0 where
   Variable : t.Home → PlainType → Meaning
-  -- a constant or an element of an enumeration, with its word
+  -- a constant or an element of an enumeration, with its word, or, of a LONG type, its number as two words spell it
   Constant : PlainType → ℕ → Meaning
   -- a string literal's name
   TextConstant : ℕ → Meaning

@@ -16,7 +16,7 @@ use Rattle.check_rules.specs.Steps.{State, Check, Checked, ◌>>=◌, and_then, 
 use Rattle.check_rules.specs.Around.{Around, ArmLabel, ForAny, ForUnwind, ForSignal}
 use Rattle.check_rules.specs.Parts.{last_of}
 use Rattle.check_rules.specs.declared.fault.Cause.TheVariants.{UnknownName, TwiceDeclared, TypeMismatch, NotConstant}
-use Rattle.interface_records.specs.PlainTypes.{PlainType, base_of}
+use Rattle.interface_records.specs.PlainTypes.{PlainType, is_ordinal}
 
 abbrev pub or_empty : List Bool → Option (List Bool) → List Bool
 or_empty other None = other
@@ -80,7 +80,7 @@ unfoldable pub type_named : Around → QualifiedName → Check PlainType
 type_named a q = qualified a q >>= (λ m. lift (type_by (last_of q).place m))
 
 abbrev pub ordinal_type : Place → PlainType → Checked PlainType
-ordinal_type p k = and_then (only (is_some (base_of k)) TypeMismatch p) (λ _. Ok k)
+ordinal_type p k = and_then (only (is_ordinal k) TypeMismatch p) (λ _. Ok k)
 
 -- the type whose values an interval is of, where a word or a name says it
 unfoldable pub word_base : Around → TypeBase → Check (Option PlainType)

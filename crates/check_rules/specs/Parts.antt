@@ -41,6 +41,8 @@ first_of_base (OfName q) i = q.first.place
 abbrev pub first_of_type : s.TypeExp → Place
 first_of_type (s.Integer p) = p
 first_of_type (s.Cardinal p) = p
+first_of_type (s.LongInteger p) = p
+first_of_type (s.LongCardinal p) = p
 first_of_type (s.Boolean p) = p
 first_of_type (s.Character p) = p
 first_of_type (s.String p) = p

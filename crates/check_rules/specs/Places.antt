@@ -52,6 +52,8 @@ unfoldable mutual
   pub of_type : s.TypeExp → List Place
   of_type (s.Integer p) = p ∷ []
   of_type (s.Cardinal p) = p ∷ []
+  of_type (s.LongInteger p) = p ∷ []
+  of_type (s.LongCardinal p) = p ∷ []
   of_type (s.Boolean p) = p ∷ []
   of_type (s.Character p) = p ∷ []
   of_type (s.String p) = p ∷ []

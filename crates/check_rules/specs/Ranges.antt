@@ -1,14 +1,14 @@
--- What checking finds of an expression, what its value is for, and the check of a value that is given to a target (rule of
--- this project: a negative INTEGER for a CARDINAL, a CARDINAL above 32767 for an INTEGER, a value outside a subrange).
+-- What checking finds of an expression, what its value is for, and the check or conversion of a value that is given to a target
+-- (rule of this project: a number that is not among those of the target's number type, and a value outside a subrange).
 use Rattle.std.specs.Prelude.{ℕ, Bool, true, false, ◌||◌, List, Option, Some, None, Ok, if◌then◌else◌, nat_le, min}
 use Rattle.mesa_base.specs.declared.place.Place.{Place}
 use Rattle.check_rules.specs.Typed as t
-use Rattle.check_rules.specs.Typed.{Base, Signed, Unsigned, Range, Every, From}
+use Rattle.check_rules.specs.Typed.{Base, Signed, Unsigned, Range, Every, From, Conversion, Kept, Widened, Narrowed, InCommon}
 use Rattle.check_rules.specs.Steps.{Checked, refuse}
 use Rattle.check_rules.specs.declared.fault.Cause.TheVariants.{TypeMismatch}
--- an expression's value and type, whether it is a number literal that takes the type of another operand, and what it gave
+-- an expression's value and type, whether it is a number literal that may take the type of another operand, and what it gave
 -- where it is a call or raise
-use Rattle.interface_records.specs.PlainTypes.{PlainField, PlainType, base_of, bounds, conforms, is_cardinal, is_integer, sign_of}
+use Rattle.interface_records.specs.PlainTypes.{PlainField, PlainType, base_of, bounds, conforms, is_cardinal, is_integer, is_long, sign_of}
 
 pub record Typed : Type 0 where
   pub value : t.Expr
@@ -64,11 +64,41 @@ is_number_base None = false
 unfoldable pub range_for : PlainType → PlainType → Range
 range_for from to = range_by (bounds to) (sign_of from) (sign_of to) (is_number_base (base_of to))
 
+-- Where one of the two types is LONG the value is converted, unless both are the same. From a LONG type to another one it is
+-- checked by its own base, then made a word, and that is checked by the target's.
+abbrev pub crossing : Base → Base → Conversion
+crossing Signed Signed = Kept
+crossing Unsigned Unsigned = Kept
+crossing _ _ = InCommon
+
+abbrev pub subrange_of : Base → Option (ℕ × ℕ) → Range
+subrange_of base (Some b) = From base b.0 b.1
+subrange_of base None = Every
+
+abbrev pub conversion_by : (from_long to_long : Bool) → PlainType → PlainType → Conversion
+conversion_by false false from to = Kept
+conversion_by false true from to = Widened (sign_of from) (sign_of to)
+conversion_by true false from to = Narrowed (sign_of from) (sign_of to) (subrange_of (sign_of to) (bounds to))
+conversion_by true true from to = crossing (sign_of from) (sign_of to)
+
+unfoldable pub conversion_for : PlainType → PlainType → Conversion
+conversion_for from to = conversion_by (is_long from) (is_long to) from to
+
+-- a value with its conversion; where it is not converted, with its check
+abbrev pub converted : Conversion → Range → t.Expr → t.Expr
+converted Kept r e = checked r e
+converted (Widened from to) r e = t.Converted (Widened from to) e
+converted (Narrowed from to range) r e = t.Converted (Narrowed from to range) e
+converted InCommon r e = t.Converted InCommon e
+
+unfoldable pub given_as : PlainType → PlainType → t.Expr → t.Expr
+given_as from to e = converted (conversion_for from to) (range_for from to) e
+
 abbrev pub fitted_if : Bool → PlainType → Place → Typed → Checked Typed
-fitted_if true target place r = Ok (typed target (checked (range_for r.kind target) r.value))
+fitted_if true target place r = Ok (typed target (given_as r.kind target r.value))
 fitted_if false target place r = refuse TypeMismatch place
 
--- a value that must conform to its target, with its check
+-- a value that must conform to its target, with its check or conversion
 unfoldable pub finish : Aim → Typed → Checked Typed
 finish (Into target place) r = fitted_if (conforms r.kind target) target place r
 finish _ r = Ok r

@@ -13,7 +13,7 @@ use Rattle.check_rules.specs.Names.{of_interface}
 use Rattle.check_rules.specs.Parts.{Found, field_named, and_suffix, and_part}
 use Rattle.check_rules.specs.Ranges.{Typed, typed, range_between, Aim, Free, Into, Several}
 use Rattle.check_rules.specs.declared.fault.Cause.TheVariants.{UnknownName, TypeMismatch, WrongCount}
-use Rattle.interface_records.specs.PlainTypes.{PlainField, PlainItem, PlainType, array_parts, base_of, bounds, elements_of, fields, is_text, one_base, sign_of, words_of, words_of_fields}
+use Rattle.interface_records.specs.PlainTypes.{PlainField, PlainItem, PlainType, array_parts, base_of, bounds, elements_of, fields, is_long, is_text, one_ordinal_base, sign_of, words_of, words_of_fields}
 
 pub data Reached : Type 0 where
   -- a variable or a part of one
@@ -30,9 +30,14 @@ pub data Use : Type 0 where
   Store : Use
   Perform : Use
 
+-- a constant's value, of one word or LONG
+abbrev pub constant_value : (is_long : Bool) → ℕ → t.Expr
+constant_value true n = t.LongNumber n
+constant_value false n = t.Number n
+
 unfoldable pub reached : Meaning → Reached
 reached (m.Variable h k) = Variable h t.NoSuffix k
-reached (m.Constant k n) = Value 1 (t.Number n) k
+reached (m.Constant k n) = Value (words_of k) (constant_value (is_long k) n) k
 reached (m.TextConstant n) = Value 2 (t.Literal n) v.String
 reached m = Named m
 
@@ -128,12 +133,12 @@ index_range from to = range_by_signs (sign_of from) (sign_of to) (bounds to)
 abbrev pub index_of : PlainType → PlainType → Typed → t.Suffixes → t.Suffixes
 index_of index element i = t.Index (index_range i.kind index) (first_word (bounds index)) (elements_of index) (words_of element) i.value
 
--- an index that begins at `start`
+-- an index that begins at `start`; no LONG value is one
 unfoldable pub at_index : Bracketed → Place → Typed → Checked Reached
 at_index (InArray h ss index element) start i =
-    and_then (only (one_base (base_of i.kind) (base_of index)) TypeMismatch start) (λ _. Ok (Variable h (and_suffix ss (index_of index element i)) element))
+    and_then (only (one_ordinal_base (base_of i.kind) (base_of index)) TypeMismatch start) (λ _. Ok (Variable h (and_suffix ss (index_of index element i)) element))
 at_index (InText n e) start i =
-    and_then (only (one_base (base_of i.kind) (Some v.Integer)) TypeMismatch start) (λ _. Ok (Value n (t.ByteOf e i.value) v.Character))
+    and_then (only (one_ordinal_base (base_of i.kind) (Some v.Integer)) TypeMismatch start) (λ _. Ok (Value n (t.ByteOf e i.value) v.Character))
 
 -- what a constructor of a type is made of
 pub data Shape : Type 0 where

@@ -1,17 +1,17 @@
 -- Rules of statements that look at no part of the text again (Language Manual, chapters 4, 7 and 8).
-use Rattle.std.specs.Prelude.{ℕ, ◌+◌, Bool, true, false, ◌&&◌, not, List, [], ◌∷◌, ◌++◌, length, map, Option, Some, None, Ok, if◌then◌else◌, nat_eq, nat_le, is_some}
+use Rattle.std.specs.Prelude.{ℕ, ◌+◌, Bool, true, false, ◌&&◌, ◌||◌, not, List, [], ◌∷◌, ◌++◌, length, map, Option, Some, None, Ok, if◌then◌else◌, nat_eq, nat_le}
 use Rattle.mesa_base.specs.declared.limits.TheConstants.{GLOBAL_WORDS}
 use Rattle.mesa_base.specs.declared.place.Place.{Place}
 use Rattle.mesa_types.specs.Shapes.{join, one, count_in, words_in_all}
 use Rattle.syntax_trees.specs.Syntax as s
 use Rattle.check_rules.specs.Typed as t
-use Rattle.check_rules.specs.Typed.{Home, Global, Local, Base, Given, Relation}
+use Rattle.check_rules.specs.Typed.{Home, Global, Local, Base, Given, Range, Conversion, Kept, Widened, Narrowed, InCommon, Relation}
 use Rattle.mesa_base.specs.declared.identifier.Identifier.{Identifier}
 use Rattle.syntax_trees.specs.declared.syntax.RepeatLabels.{RepeatLabels}
 use Rattle.syntax_trees.specs.declared.syntax.RepeatLabels.TheVariants as repeat
 use Rattle.mesa_types.specs.Constants.{constant}
-use Rattle.check_rules.specs.Operators.{Meeting, related, number_type, turned, Sort, Number, sort_of}
-use Rattle.check_rules.specs.Ranges.{Typed, checked, range_for, Arguments}
+use Rattle.check_rules.specs.Operators.{Meeting, Relating, Longs, Words, relating, related, number_type, turned, Sort, Number, sort_of, fitted, by_itself, selecting, selecting_itself, beside}
+use Rattle.check_rules.specs.Ranges.{Typed, checked, range_for, conversion_for, Arguments}
 use Rattle.check_rules.specs.Scopes.{Scope, with_name, nothing}
 use Rattle.check_rules.specs.Meanings.{Meaning, Variable, Constant, TextConstant}
 use Rattle.check_rules.specs.Around.{Around, in_statement, ArmLabel, parameters_of}
@@ -21,7 +21,7 @@ use Rattle.check_rules.specs.Steps.{State, Check, Checked, and_then, ◌>>=◌, 
 use Rattle.check_rules.specs.Names.{settle}
 use Rattle.check_rules.specs.declared.fault.Cause.TheVariants.{TypeMismatch, NotConstant, TwiceDeclared, GlobalsTooLarge}
 -- a statement with a number, where a phrase belongs to it
-use Rattle.interface_records.specs.PlainTypes.{PlainField, PlainType, base_of, conforms, fields, is_text, kind_of, kinds_of, sign_of}
+use Rattle.interface_records.specs.PlainTypes.{PlainField, PlainType, base_of, conforms, fields, is_long, is_ordinal, is_text, kind_of, kinds_of, sign_of}
 
 abbrev pub numbered : Around → Bool → (Around → Check t.Stmt) → Check t.Stmt
 numbered a true rule = rule (in_statement a) >>= (λ s. pure (t.Marked a.marked s))
@@ -39,10 +39,16 @@ returned_by fs a j x = t.ReturnWith a.arms (length a.takes) x.places x.values
 abbrev pub returned : Around → t.Stmt → Arguments → t.Stmt
 returned a j x = returned_by a.gives a j x
 
--- Interval ends, as the operands of one operation or of IN.
+-- no LONG value stands here
+unfoldable pub not_long : Place → Typed → Checked (Unit {0})
+not_long p x = only (not (is_long x.kind)) TypeMismatch p
+
+-- Interval ends, as the operands of one operation or of IN, and where they begin.
 pub record Ends : Type 0 where
   pub open_low : Bool
+  pub low_place : Place
   pub low : Typed
+  pub high_place : Place
   pub high : Typed
   pub open_high : Bool
 
@@ -52,26 +58,73 @@ between i = t.Between i.low.value i.open_low i.high.value i.open_high
 abbrev pub bases : PlainType → Ends → t.Bases
 bases k i = record { number = sign_of k; first = sign_of i.low.kind; last = sign_of i.high.kind }
 
-abbrev pub is_meeting : Option Meeting → Bool
+abbrev pub is_meeting : Option Relating → Bool
 is_meeting (Some m) = true
 is_meeting None = false
 
 abbrev pub are_related : Typed → Typed → Bool
-are_related a c = is_meeting (related a.kind a.literal c.kind c.literal)
+are_related a c = is_meeting (relating a.kind a.literal c.kind c.literal)
 
-abbrev pub lies_in : Typed → Ends → Bool
-lies_in a i = are_related a i.low && are_related a i.high
+-- operands that fit, of an operation at p; they begin at l and at q
+abbrev pub meets : Place → Place → Typed → Place → Typed → Checked (Unit {0})
+meets p l a q c = only (are_related a c) TypeMismatch (beside p l (sort_of a.kind) q (sort_of c.kind))
+
+-- what begins at l is to lie between two bounds, by IN at p
+unfoldable pub meets_bounds : Place → Place → Typed → Ends → Checked (Unit {0})
+meets_bounds p l a i = and_then (meets p l a i.low_place i.low) (λ _. meets p l a i.high_place i.high)
+
+-- IN is over LONG numbers where one of the three is LONG
+unfoldable pub is_long_interval : Typed → Ends → Bool
+is_long_interval a i = is_long a.kind || (is_long i.low.kind || is_long i.high.kind)
+
+unfoldable pub by_itself_of : Typed → t.Expr
+by_itself_of a = fitted (by_itself (sort_of a.kind) a.literal) a.value
+
+abbrev pub long_between : Ends → t.Interval
+long_between i = t.Between (by_itself_of i.low) i.open_low (by_itself_of i.high) i.open_high
+
+-- the literals of one word that take a LONG type count one word more each
+abbrev pub lengthening : Typed → ℕ
+lengthening a = if a.literal && not (is_long a.kind) then 1 else 0
+
+abbrev pub lengthening_if : Bool → ℕ → ℕ
+lengthening_if true n = n
+lengthening_if false n = 0
+
+unfoldable pub longer_number : Typed → Ends → ℕ
+longer_number a i = lengthening_if (is_long_interval a i) (lengthening a)
+
+unfoldable pub longer_bounds : Typed → Ends → ℕ
+longer_bounds a i = lengthening_if (is_long_interval a i) (lengthening i.low + lengthening i.high)
 
 -- SELECT
-abbrev pub test_by : Relation → Typed → Typed → Meeting → t.Tests → t.Tests
-test_by o sel e m = t.IfRelated m.left m.base o (checked m.right e.value)
+abbrev pub test_by : Relation → Typed → Typed → Relating → t.Tests → t.Tests
+test_by o sel e (Words m) = t.IfRelated m.left m.base o (checked m.right e.value)
+test_by o sel e (Longs m) = t.IfRelatedLong (selecting m.base (sort_of sel.kind) sel.literal) m.base o (fitted m.right e.value)
 
-unfoldable pub tested : Bool → Relation → Place → Typed → Typed → Checked (t.Tests → t.Tests)
-tested negated o p sel e =
-    and_then (or_refuse (related sel.kind sel.literal e.kind e.literal) TypeMismatch p) (λ m. Ok (test_by (turned negated o) sel e m))
+-- a test at p, of a selector that begins at l; its right side begins at q
+unfoldable pub tested : Bool → Relation → Place → Place → Typed → Place → Typed → Checked (t.Tests → t.Tests)
+tested negated o p l sel q e =
+    and_then (or_refuse (relating sel.kind sel.literal e.kind e.literal) TypeMismatch (beside p l (sort_of sel.kind) q (sort_of e.kind))) (λ m.
+    Ok (test_by (turned negated o) sel e m))
 
-unfoldable pub tested_inside : Bool → Place → Typed → Ends → Checked (t.Tests → t.Tests)
-tested_inside negated p sel i = and_then (only (lies_in sel i) TypeMismatch p) (λ _. Ok (t.IfWithin negated (bases sel.kind i) (between i)))
+abbrev pub test_inside_by : Bool → Bool → Typed → Ends → t.Tests → t.Tests
+test_inside_by false negated sel i = t.IfWithin negated (bases sel.kind i) (between i)
+test_inside_by true negated sel i = t.IfWithinLong negated (selecting_itself (sort_of sel.kind)) (bases sel.kind i) (long_between i)
+
+unfoldable pub tested_inside : Bool → Place → Place → Typed → Ends → Checked (t.Tests → t.Tests)
+tested_inside negated p l sel i = and_then (meets_bounds p l sel i) (λ _. Ok (test_inside_by (is_long_interval sel i) negated sel i))
+
+-- a LONG selector is held in two hidden words, another one in one
+abbrev pub selected_by : Bool → t.Expr → t.Cases → t.Stmt
+selected_by true e cs = t.SelectLong e cs
+selected_by false e cs = t.Select e cs
+
+unfoldable pub selected : Typed → t.Cases → t.Stmt
+selected sel cs = selected_by (is_long sel.kind) sel.value cs
+
+abbrev pub held_words : Typed → ℕ
+held_words sel = if is_long sel.kind then 2 else 1
 
 -- FOR and THROUGH: the bounds of a loop, and how its numbers are read
 pub record Rounds : Type 0 where
@@ -90,16 +143,20 @@ rounds_by i m = record {
   interval = t.Between (checked m.left i.low.value) i.open_low (checked m.right i.high.value) i.open_high;
 }
 
+-- no bound is LONG
 unfoldable pub rounds : Place → Ends → Checked Rounds
-rounds p i = and_then (or_refuse (related i.low.kind i.low.literal i.high.kind i.high.literal) TypeMismatch p) (λ m. Ok (rounds_by i m))
+rounds p i =
+    and_then (not_long i.low_place i.low) (λ _.
+    and_then (not_long i.high_place i.high) (λ _.
+    and_then (or_refuse (related i.low.kind i.low.literal i.high.kind i.high.literal) TypeMismatch p) (λ m. Ok (rounds_by i m))))
 
--- the variable of a FOR
+-- the variable of a FOR, which is no LONG one
 pub record Counter : Type 0 where
   pub home : Home
   pub kind : PlainType
 
 abbrev pub counter : Place → Meaning → Checked Counter
-counter p (Variable h k) = and_then (only (is_some (base_of k)) TypeMismatch p) (λ _. Ok (record { home = h; kind = k }))
+counter p (Variable h k) = and_then (only (is_ordinal k) TypeMismatch p) (λ _. Ok (record { home = h; kind = k }))
 counter p _ = refuse TypeMismatch p
 
 unfoldable pub given : Place → Counter → Rounds → Checked Given
@@ -142,10 +199,17 @@ record_fields false k = None
 unfoldable pub source : Place → Typed → Checked Source
 source p x = source_by p x.value (record_fields (is_one x.gave) x.kind) x.gave
 
+-- a target checks what it takes, or converts it
+abbrev pub target_by : Conversion → Range → Found → Target → t.Targets → t.Targets
+target_by Kept r f x = t.AndTarget (part_of f) x.home x.suffixes r
+target_by (Widened from to) r f x = t.AndConverted (part_of f) x.home x.suffixes (Widened from to)
+target_by (Narrowed from to range) r f x = t.AndConverted (part_of f) x.home x.suffixes (Narrowed from to range)
+target_by InCommon r f x = t.AndConverted (part_of f) x.home x.suffixes InCommon
+
 unfoldable pub extracted : Place → Found → Target → Checked (t.Targets → t.Targets)
 extracted p f x =
     and_then (only (conforms f.kind x.kind) TypeMismatch p) (λ _.
-    Ok (t.AndTarget (part_of f) x.home x.suffixes (range_for f.kind x.kind)))
+    Ok (target_by (conversion_for f.kind x.kind) (range_for f.kind x.kind) f x))
 
 -- Variables, with numbers in the order in which they are declared.
 abbrev pub home_of : Bool → ℕ → Home
@@ -228,7 +292,7 @@ pub record Held : Type 0 where
 abbrev pub held : t.Phrase → t.Stmts → t.Stmts → Held
 held w ds ss = record { phrase = w; statements = join_stmts ds ss }
 
--- a constant has an ordinal type, or is a string literal's name in a PROGRAM
+-- a constant has an ordinal type or a LONG type, or is a string literal's name in a PROGRAM
 unfoldable pub is_text_literal : s.Expr → Bool
 is_text_literal (s.StringLiteral p bytes) = true
 is_text_literal (s.Parenthesis p e) = is_text_literal e

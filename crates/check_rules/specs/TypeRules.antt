@@ -1,5 +1,5 @@
 -- Types as they are written (Language Manual, chapter 3): subranges, elements, limits, origins by number.
-use Rattle.std.specs.Prelude.{ℕ, ◌+◌, ◌-◌, Bool, true, false, ◌&&◌, List, [], ◌∷◌, length, filter, Option, Some, None, Ok, if◌then◌else◌, nat_le, nat_lt, is_some, not}
+use Rattle.std.specs.Prelude.{ℕ, ◌+◌, ◌-◌, Bool, true, false, ◌&&◌, List, [], ◌∷◌, length, filter, Option, Some, None, Ok, if◌then◌else◌, nat_le, nat_lt, not}
 use Rattle.mesa_base.specs.declared.limits.TheConstants.{TYPE_WORDS, TYPE_DEPTH, ENUMERATION_ELEMENTS}
 use Rattle.mesa_base.specs.declared.place.Place.{Place}
 use Rattle.check_rules.specs.Typed as t
@@ -19,7 +19,7 @@ use Rattle.check_rules.specs.Names.{is_declared, element_in}
 use Rattle.check_rules.specs.Steps.{Check, Checked, and_then, pure, refuse, only, or_refuse}
 use Rattle.check_rules.specs.declared.fault.Cause.TheVariants.{TwiceDeclared, TypeMismatch, NotConstant, TypeTooLarge}
 -- a record or enumeration is that of its declaration: how many of them begin before it in the text
-use Rattle.interface_records.specs.PlainTypes.{PlainType, base_of, bounds, depth_of, is_text, same, sign_of, words_of}
+use Rattle.interface_records.specs.PlainTypes.{PlainType, base_of, depth_of, is_text, same, sign_of, words_of}
 
 abbrev pub origin : Known → Place → Origin
 origin known p = record { «module» = known.name; stamp = known.stamp; number = length (filter (λ n. nat_lt n p.token) known.origins) }
@@ -43,7 +43,7 @@ abbrev pub literal_word : Bool → t.Expr → Option ℕ
 literal_word true (t.Literal n) = Some 0
 literal_word _ e = constant e
 
--- the word of a bound; a string literal is a constant too, and of no interval
+-- the word of a bound; a string literal is a constant too, and of no interval, and neither is a LONG value
 unfoldable pub bound : Place → Typed → Checked ℕ
 bound p x = or_refuse (literal_word (is_text x.kind) x.value) NotConstant p
 

@@ -1,5 +1,5 @@
 -- The words of the typed tree, gathered.
-pub use Rattle.mesa_types.specs.Typed.{Kind, Ordinal, Texts, Array, Record, Kinds, NoKinds, AndKind, Expr, Number, Literal, Variable, FieldOf, LengthOf, ByteOf, Checked, Operate, Negate, Relate, Within, Not, AllOf, SomeOf, Construct, Call, Raise, Exprs, NoExprs, AndExpr, Suffixes, NoSuffix, Field, Index, Operations, NoOperation, Then, Interval, Between, Phrase, NoPhrase, Catch, Arms, NoArms, AndArm, Stmt, Null, Marked, Declare, DeclareAs, Assign, Extract, Perform, If, Select, Block, Repeat, For, Jump, ReturnWith, Resume, Reject, Retry, Continue, Stmts, NoStmts, AndStmt, Targets, NoTargets, AndTarget, Cases, Otherwise, AndCase, Tests, NoTests, IfRelated, IfWithin, Exits, NoExits, AndExit, Loop, LoopOf, Finish, NoFinish, Finished, Condition, Always, While, Until, Body, Procedure, Module, Endless}
+pub use Rattle.mesa_types.specs.Typed.{Kind, Ordinal, Longs, Texts, Array, Record, Kinds, NoKinds, AndKind, Expr, Number, LongNumber, Literal, Variable, FieldOf, LengthOf, ByteOf, Checked, Converted, Operate, OperateLong, Negate, NegateLong, Relate, RelateLong, Within, WithinLong, Not, AllOf, SomeOf, Construct, Call, Raise, Exprs, NoExprs, AndExpr, Suffixes, NoSuffix, Field, Index, Operations, NoOperation, Then, Interval, Between, Phrase, NoPhrase, Catch, Arms, NoArms, AndArm, Stmt, Null, Marked, Declare, DeclareAs, Assign, Extract, Perform, If, Select, SelectLong, Block, Repeat, For, Jump, ReturnWith, Resume, Reject, Retry, Continue, Stmts, NoStmts, AndStmt, Targets, NoTargets, AndTarget, AndConverted, Cases, Otherwise, AndCase, Tests, NoTests, IfRelated, IfWithin, IfRelatedLong, IfWithinLong, Exits, NoExits, AndExit, Loop, LoopOf, Finish, NoFinish, Finished, Condition, Always, While, Until, Body, Procedure, Module, Endless}
 pub use Rattle.mesa_types.specs.declared.typed_parts.Home.{Home}
 pub use Rattle.mesa_types.specs.declared.typed_parts.Home.TheVariants.{Global, Local}
 pub use Rattle.mesa_types.specs.declared.typed_parts.Base.{Base}
@@ -8,6 +8,8 @@ pub use Rattle.mesa_types.specs.declared.typed_parts.Bases.{Bases}
 pub use Rattle.mesa_types.specs.declared.typed_parts.Part.{Part}
 pub use Rattle.mesa_types.specs.declared.typed_parts.Range.{Range}
 pub use Rattle.mesa_types.specs.declared.typed_parts.Range.TheVariants.{Every, From}
+pub use Rattle.mesa_types.specs.declared.typed_parts.Conversion.{Conversion}
+pub use Rattle.mesa_types.specs.declared.typed_parts.Conversion.TheVariants.{Kept, Widened, Narrowed, InCommon}
 pub use Rattle.mesa_types.specs.declared.typed_parts.Operator.{Operator}
 pub use Rattle.mesa_types.specs.declared.typed_parts.Operator.TheVariants.{Add, Subtract, Multiply, Divide, Modulo, AddToCharacter, SubtractFromCharacter}
 pub use Rattle.mesa_base.specs.declared.relation.Relation.{Relation}

@@ -4,7 +4,7 @@ use Rattle.syntax_trees.specs.Syntax as s
 use Rattle.mesa_base.specs.declared.limits.TheConstants.{GREATEST_NUMBER, GREATEST_CHARACTER, DISTINCT_STRINGS}
 use Rattle.mesa_base.specs.declared.place.Place.{Place}
 use Rattle.check_rules.specs.Typed as t
-use Rattle.check_rules.specs.Typed.{Range, Relation}
+use Rattle.check_rules.specs.Typed.{Every, Kept, Relation}
 use Rattle.interface_records.specs.PlainTypes as v
 use Rattle.mesa_types.specs.declared.faces.ItemKind.{ItemKind}
 use Rattle.mesa_types.specs.declared.faces.ItemKind.TheVariants as item
@@ -15,20 +15,27 @@ use Rattle.syntax_trees.specs.declared.syntax.Sign.{Sign}
 use Rattle.syntax_trees.specs.declared.syntax.Sign.TheVariants.{Positive, Negative}
 use Rattle.check_rules.specs.Meanings.{Meaning}
 use Rattle.check_rules.specs.Meanings as m
-use Rattle.check_rules.specs.Operators.{Sort, Number, Truth, Meeting, Applied, sort_of, operation, related, turned, number_type}
-use Rattle.check_rules.specs.Ranges.{Typed, typed, Aim, Free, Into, Several, checked, Arguments}
-use Rattle.check_rules.specs.Parts.{complete, places_of}
+use Rattle.check_rules.specs.Operators.{Sort, Number, LongNumber, Truth, Fit, By, Application, OfWords, OfLongs, Relating, Longs, Words, sort_of, operation, relating, turned, number_type, long_type, fitted, beside}
+use Rattle.check_rules.specs.Ranges.{Typed, typed, Aim, Free, Into, Several, checked, finish, Arguments}
+use Rattle.check_rules.specs.Parts.{and_operation, complete, places_of}
 use Rattle.check_rules.specs.Reached.{Reached, Results, Shape, OfFields, OfElements, NoShape, shape_of}
-use Rattle.check_rules.specs.Statements.{Ends, bases, between, lies_in}
-use Rattle.check_rules.specs.Steps.{Check, Checked, and_then, ◌>>=◌, pure, fail, refuse, or_refuse, only, ensure, spend}
+use Rattle.check_rules.specs.Statements.{Ends, not_long, bases, between, long_between, is_long_interval, by_itself_of, meets_bounds}
+use Rattle.check_rules.specs.Steps.{Check, Checked, and_then, ◌>>=◌, pure, fail, refuse, or_refuse, ensure, spend}
 use Rattle.check_rules.specs.declared.fault.Cause.TheVariants.{TypeMismatch, WrongCount, GlobalsTooLarge}
--- a literal up to 32767 takes the type of another operand; a larger one is CARDINAL
 use Rattle.interface_records.specs.PlainTypes.{PlainField, PlainItem, PlainType, words_of, words_of_fields}
 
+abbrev pub literal_of : PlainType → t.Expr → Typed
+literal_of kind value = record { value = value; kind = kind; literal = true; gave = None }
+
+-- A literal by itself: up to 32767 it is INTEGER, up to 65535 CARDINAL, up to 2147483647 LONG INTEGER, above LONG CARDINAL. Where it
+-- meets another operand it may take that one's type: up to 32767 that of any number, up to 65535 that of a LONG one, up to
+-- 2147483647 LONG CARDINAL.
 unfoldable pub number : ℕ → Typed
 number n =
-    if nat_le n 32767 then record { value = t.Number n; kind = v.Integer; literal = true; gave = None }
-    else typed v.Cardinal (t.Number (min n GREATEST_NUMBER))
+    if nat_le n 32767 then literal_of v.Integer (t.Number n)
+    else (if nat_le n 65535 then literal_of v.Cardinal (t.Number n)
+    else (if nat_le n 2147483647 then literal_of v.LongInteger (t.LongNumber n)
+    else typed v.LongCardinal (t.LongNumber (min n GREATEST_NUMBER))))
 
 -- a character, by its code
 unfoldable pub letter : ℕ → Typed
@@ -58,26 +65,35 @@ not_of p a = if is_truth a.kind then Ok (truth (t.Not a.value)) else refuse Type
 abbrev pub signed_by : Sign → Place → t.Expr → Sort → Checked Typed
 signed_by Positive p e (Number b) = Ok (typed (number_type b) e)
 signed_by Negative p e (Number b) = Ok (typed (number_type b) (t.Negate e))
+signed_by Positive p e (LongNumber b) = Ok (typed (long_type b) e)
+signed_by Negative p e (LongNumber b) = Ok (typed (long_type b) (t.NegateLong e))
 signed_by _ p e _ = refuse TypeMismatch p
 
 unfoldable pub signed : Sign → Place → Typed → Checked Typed
 signed sign p a = signed_by sign p a.value (sort_of a.kind)
 
-abbrev pub related_value : Relation → t.Expr → t.Expr → Meeting → Typed
-related_value o d e meeting = truth (t.Relate meeting.base o (checked meeting.left d) (checked meeting.right e))
+abbrev pub related_value : Relation → t.Expr → t.Expr → Relating → Typed
+related_value o d e (Words m) = truth (t.Relate m.base o (checked m.left d) (checked m.right e))
+related_value o d e (Longs m) = truth (t.RelateLong m.base o (fitted m.left d) (fitted m.right e))
 
-unfoldable pub compared : Bool → Relation → Place → Typed → Typed → Checked Typed
-compared negated o p d e =
-    and_then (or_refuse (related d.kind d.literal e.kind e.literal) TypeMismatch p) (λ m. Ok (related_value (turned negated o) d.value e.value m))
+-- a relation at p between operands that begin at l and at r
+unfoldable pub compared : Bool → Relation → Place → Place → Typed → Place → Typed → Checked Typed
+compared negated o p l d r e =
+    and_then (or_refuse (relating d.kind d.literal e.kind e.literal) TypeMismatch (beside p l (sort_of d.kind) r (sort_of e.kind))) (λ m.
+    Ok (related_value (turned negated o) d.value e.value m))
 
 abbrev pub negated_by : Bool → t.Expr → t.Expr
 negated_by true e = t.Not e
 negated_by false e = e
 
--- IN takes ordinals of one base, and checks no mixed operation
-unfoldable pub within : Bool → Place → Typed → Ends → Checked Typed
-within negated p a i =
-    and_then (only (lies_in a i) TypeMismatch p) (λ _. Ok (truth (negated_by negated (t.Within (bases a.kind i) a.value (between i)))))
+-- IN takes ordinals of one base, or numbers of any type, and checks no mixed operation; a number that begins at l
+abbrev pub within_by : Bool → Typed → Ends → t.Expr
+within_by false a i = t.Within (bases a.kind i) a.value (between i)
+within_by true a i = t.WithinLong (bases a.kind i) (by_itself_of a) (long_between i)
+
+unfoldable pub within : Bool → Place → Place → Typed → Ends → Checked Typed
+within negated p l a i =
+    and_then (meets_bounds p l a i) (λ _. Ok (truth (negated_by negated (within_by (is_long_interval a i) a i))))
 
 -- the level of a run: sums and products, AND, or OR; a run of a text has a step
 pub data Level : Type 0 where
@@ -101,23 +117,44 @@ by_level Sums w x y z = x
 by_level Alls w x y z = y
 by_level Somes w x y z = z
 
--- a step of a run: the check of what stands to the left, the operator, its right side, and the type so far
+-- A run of sums or products so far: its first operand, or a run over words or over LONG numbers. An operator over numbers of the other
+-- length, or one for which what stands to the left must be converted, begins a run with that as its first operand.
+pub data Sum : Type 0 where
+  Begun : t.Expr → Sum
+  InWords : t.Expr → t.Operations → Sum
+  InLongs : t.Expr → t.Operations → Sum
+
+abbrev pub closed : Sum → t.Expr
+closed (Begun e) = e
+closed (InWords e os) = t.Operate e os
+closed (InLongs e os) = t.OperateLong e os
+
+abbrev pub then_word : Sum → (t.Operations → t.Operations) → Sum
+then_word (InWords e os) f = InWords e (and_operation os f)
+then_word (Begun e) f = InWords e (f t.NoOperation)
+then_word (InLongs e os) f = InWords (t.OperateLong e os) (f t.NoOperation)
+
+abbrev pub then_long : Sum → Fit → (t.Operations → t.Operations) → Sum
+then_long (InLongs e os) (By Kept) f = InLongs e (and_operation os f)
+then_long done fit f = InLongs (fitted fit (closed done)) (f t.NoOperation)
+
+-- with the type of it all
 pub record Done : Type 0 where
-  pub left : Range
-  pub operator : t.Operator
-  pub right : t.Expr
+  pub done : Sum
   pub kind : PlainType
 
-abbrev pub done_by : t.Expr → Applied → Done
-done_by e x = record { left = x.left; operator = x.operator; right = checked x.right e; kind = x.kind }
+abbrev pub done_by : Sum → t.Expr → Application → Done
+done_by done e (OfWords x) = record { done = then_word done (t.Then x.left x.operator (checked x.right e)); kind = x.kind }
+done_by done e (OfLongs x) = record { done = then_long done x.left (t.Then Every x.operator (fitted x.right e)); kind = x.kind }
 
-unfoldable pub step : Operator → Place → PlainType → Bool → Typed → Checked Done
-step o p kind literal r =
-    and_then (or_refuse (operation o (sort_of kind) literal (sort_of r.kind) r.literal) TypeMismatch p) (λ x. Ok (done_by r.value x))
+-- an operator at p behind a run that begins at l; its right side begins at q
+unfoldable pub step : Operator → Place → Place → Sum → PlainType → Bool → Place → Typed → Checked Done
+step o p l done kind literal q r =
+    and_then (or_refuse (operation o (sort_of kind) literal (sort_of r.kind) r.literal) TypeMismatch (beside p l (sort_of kind) q (sort_of r.kind))) (λ x.
+    Ok (done_by done r.value x))
 
--- a run of sums or products
-abbrev pub summed : Typed → t.Operations × PlainType → Typed
-summed a r = typed r.1 (t.Operate a.value r.0)
+abbrev pub summed : t.Expr × PlainType → Typed
+summed r = typed r.1 r.0
 
 -- an operand of AND or OR
 abbrev pub truth_operand : Bool → Place → Typed → Checked t.Expr
@@ -170,6 +207,10 @@ has_parts k q = by_shape (shape_of k) (λ fs. Ok tt) (λ n j. Ok tt) (refuse Typ
 abbrev pub bound_aim : Option PlainType → Place → Aim
 bound_aim (Some k) p = Into k p
 bound_aim None p = Free p
+
+-- no bound of a type is LONG, also where a LONG value would conform to that word's type
+unfoldable pub bound_of : Option PlainType → Place → Typed → Checked Typed
+bound_of base p x = and_then (not_long p x) (λ _. finish (bound_aim base p) x)
 
 -- a signal or error that is raised by the word of its declaration
 pub record Raises : Type 0 where

@@ -1,3 +1,4 @@
+//! Why checking refuses a text: a cause at a place, or want of memory.
 use mesa_base::{OutOfMemory, Place};
 use std::alloc::{AllocError, AllocFailed};
 

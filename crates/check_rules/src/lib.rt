@@ -1,8 +1,7 @@
-//! What a text means as a typed module or an interface, or its first fault: the definition, and its laws.
+//! What a text means as a typed module or an interface, or its first fault: the definition.
 #![tactic(auto)]
 
 mod fault;
-pub mod laws;
 
 pub use fault::{Cause, CheckFault};
 pub use interface_records::typed_answers;

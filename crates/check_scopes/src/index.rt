@@ -1,3 +1,4 @@
+//! Names with what each means, in one ordered index.
 ghost use Rattle.std.specs.Prelude.{◌≡◌, ◌+◌, true, Some, IfOk, OnOk, OnErr, IfSome, IfNone, is_some};
 ghost use Rattle.std.specs.Option.{option_copied};
 ghost use Rattle.check_scopes.specs.Scopes as spec;

@@ -1,3 +1,4 @@
+//! Marks of the items of imports, in a row for each import.
 ghost use Rattle.std.specs.Prelude.{◌≡◌, [], true, OnOk, OnErr, IfOk, slice_set};
 ghost use Rattle.check_scopes.specs.Marks as spec;
 

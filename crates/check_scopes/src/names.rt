@@ -1,3 +1,4 @@
+//! The names of one scope, each with what it means, which can be shared as they are.
 ghost use Rattle.std.specs.Prelude.{◌≡◌, IfOk, OnOk, OnErr, is_some};
 ghost use Rattle.std.specs.Option.{option_copied};
 ghost use Rattle.check_scopes.specs.Scopes as spec;

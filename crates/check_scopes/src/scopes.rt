@@ -1,3 +1,4 @@
+//! Scopes in one another: what a name means in the innermost one that has it, and what is declared in the innermost.
 ghost use Rattle.std.specs.Prelude.{◌≡◌, [], ◌∷◌, OnOk, OnErr, IfOk, IfNone, IfSome, is_some, map, reverse};
 ghost use Rattle.std.specs.Option.{option_copied};
 ghost use Rattle.check_scopes.specs.Scopes as spec;

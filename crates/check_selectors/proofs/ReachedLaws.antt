@@ -1,6 +1,5 @@
 -- One result, or others.
 use Rattle.std.proofs.Common.{◌≡◌, ◌≤◌, ◌<◌, false, List, [], ◌∷◌, length, get_or, map, Some, None, Ok, refl, sym, ap, ◌∙◌, arith}
-use Rattle.mesa_base.specs.declared.place.Place.{Place}
 use Rattle.mesa_types.specs.Typed as t
 use Rattle.mesa_types.specs.declared.types.FieldType.{FieldType, out-FieldType}
 use Rattle.interface_records.specs.PlainTypes.{PlainType, PlainField, plain, plain_field}

@@ -12,7 +12,8 @@ ghost use Rattle.check_selectors.specs.Views as view;
 use crate::reached::{Reached, variable};
 use check_rules::{Cause, CheckFault};
 use check_state::{
-    Typed, array_parts, base_of, bounds, elements_of, is_text, narrow, one_base, sign_of, size,
+    Typed, array_parts, base_of, bounds, elements_of, is_text, narrow, one_ordinal_base, sign_of,
+    size,
 };
 use check_values::range_for;
 use held_trees::{LetGo, both, boxed_pair, pushed};
@@ -93,7 +94,7 @@ fn extent(from: &TypeTree, index: &TypeTree, element: &TypeTree) -> Result<Exten
     })
 }
 
-/// The element of an array with this index, which begins at `start`.
+/// The element of an array with this index, which begins at `start` and is not LONG.
 #[tactic(auto, using(crate::proofs::SuffixLaws::index_more), unfolding(check_rules::specs::Reached::at_index))]
 fn in_array(
     start: Place,
@@ -105,7 +106,7 @@ fn in_array(
     ensures { GivesOnly view.reached (spec.at_index (spec.InArray home (view.suffixes suffixes) (plain of.0) (plain of.1)) start (typed i)) result }
 {
     let (index, element) = of;
-    if !one_base(base_of(&i.kind), base_of(&index)) {
+    if !one_ordinal_base(base_of(&i.kind), base_of(&index)) {
         ((suffixes, i), (index, element)).let_go();
         return Err(CheckFault::At(Cause::TypeMismatch, start));
     }
@@ -119,10 +120,10 @@ fn in_array(
 
 #[tactic(auto, using(check_state::proofs::TypeForms::type_forms))]
 fn is_number(kind: &TypeTree) -> bool
-    ensures { result ≡ v.one_base (v.base_of (plain kind.now)) (Some v.Integer) }
+    ensures { result ≡ v.one_ordinal_base (v.base_of (plain kind.now)) (Some v.Integer) }
 {
     let integer = TypeTree::Integer;
-    let is_number = one_base(base_of(kind), Some(&integer));
+    let is_number = one_ordinal_base(base_of(kind), Some(&integer));
     integer.let_go();
     is_number
 }
@@ -133,7 +134,7 @@ fn byte(text: Boxed<TypedExpr>, number: Boxed<TypedExpr>) -> TypedExpr
     TypedExpr::ByteOf(text, number)
 }
 
-/// The byte of a string with this index, which begins at `start`.
+/// The byte of a string with this index, which begins at `start` and is not LONG.
 #[tactic(auto, using(check_state::proofs::TypeForms::type_forms), unfolding(check_rules::specs::Reached::at_index))]
 fn in_text(
     alloc: Global,

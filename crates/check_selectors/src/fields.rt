@@ -271,7 +271,7 @@ pub fn field(
         }
         Reached::Named(Meaning::Interface(number)) => {
             let meaning = of_interface(alloc, around, state, number, name)?;
-            Ok(led_to(alloc, meaning))
+            Ok(led_to(alloc, meaning)?)
         }
         other => {
             other.let_go();

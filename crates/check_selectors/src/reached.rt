@@ -2,7 +2,7 @@
 ghost use Rattle.std.specs.Prelude.{◌≡◌, [], option_map, Some, IfOk};
 ghost use Rattle.mesa_types.specs.Plain.{expr};
 ghost use Rattle.mesa_types.specs.Typed as t;
-ghost use Rattle.interface_records.specs.PlainTypes.{plain, plain_item};
+ghost use Rattle.interface_records.specs.PlainTypes.{is_long, plain, plain_item, words_of};
 ghost use Rattle.check_rules.specs.Reached as spec;
 ghost use Rattle.check_state.specs.Gives.{Gives, GivesOnly};
 ghost use Rattle.check_state.specs.Views as words;
@@ -10,7 +10,8 @@ ghost use Rattle.check_selectors.specs.Views as view;
 
 use check_rules::{Cause, CheckFault};
 use check_state::{
-    Aim, Gave, Meaning, State, Typed, array_parts, elements_of, fields, fields_size, of_kind, size,
+    Aim, Gave, Meaning, State, Typed, array_parts, elements_of, fields, fields_size, is_long,
+    narrower, of_kind, size,
 };
 use held_trees::{LetGo, both, boxed};
 use mesa_base::{List, OutOfMemory, Place, Shared};
@@ -78,16 +79,37 @@ pub(crate) fn variable(home: Home, suffixes: Suffixes, words: u32) -> TypedExpr
     TypedExpr::Variable(home, suffixes, words)
 }
 
+/// A constant's value, of one word or LONG.
+fn constant_value(is_long: bool, value: u32) -> Result<TypedExpr, OutOfMemory>
+    ensures { IfOk result (λ made. expr made ≡ spec.constant_value is_long value) }
+{
+    if is_long {
+        Ok(TypedExpr::LongNumber(value))
+    } else {
+        Ok(TypedExpr::Number(narrower(value as usize)?))
+    }
+}
+
+fn constant(kind: TypeTree, value: u32) -> Result<Reached, OutOfMemory>
+    ensures { IfOk result (λ made. view.reached made ≡ spec.Value (words_of (plain kind)) (spec.constant_value (is_long (plain kind)) value) (plain kind)) }
+{
+    let words = size(&kind);
+    let (kind, words) = both(kind, words)?;
+    let value = constant_value(is_long(&kind), value);
+    let (kind, value) = both(kind, value)?;
+    Ok(Reached::Value(words, value, kind))
+}
+
 /// What a name leads to.
 #[tactic(auto, using(check_state::proofs::TypeForms::type_forms), unfolding(check_rules::specs::Reached::reached, crate::specs::Views::suffixes))]
-pub fn led_to(alloc: Global, meaning: Meaning) -> Reached
-    ensures { view.reached result ≡ spec.reached (words.meaning meaning) }
+pub fn led_to(alloc: Global, meaning: Meaning) -> Result<Reached, OutOfMemory>
+    ensures { IfOk result (λ made. view.reached made ≡ spec.reached (words.meaning meaning)) }
 {
     match meaning {
-        Meaning::Variable(home, kind) => Reached::Variable(home, List::new(alloc), kind),
-        Meaning::Constant(kind, word) => Reached::Value(1, TypedExpr::Number(word), kind),
-        Meaning::TextConstant(number) => Reached::Value(2, text(number), TypeTree::String),
-        other => Reached::Named(other),
+        Meaning::Variable(home, kind) => Ok(Reached::Variable(home, List::new(alloc), kind)),
+        Meaning::Constant(kind, value) => constant(kind, value),
+        Meaning::TextConstant(number) => Ok(Reached::Value(2, text(number), TypeTree::String)),
+        other => Ok(Reached::Named(other)),
     }
 }
 

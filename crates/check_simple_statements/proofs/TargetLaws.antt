@@ -4,7 +4,7 @@ use Rattle.std.specs.Prelude.{◌&&◌, ◌||◌, Option, Some, bytes_eq, cond, 
 use Rattle.std.proofs.lemmas.List.{drop_all, length-map, map-append, reverse-append, take_more}
 use Rattle.mesa_base.specs.declared.identifier.Identifier.{Identifier}
 use Rattle.mesa_base.specs.declared.place.Place.{Place}
-use Rattle.mesa_types.specs.Plain.{chain, target}
+use Rattle.mesa_types.specs.Plain.{chain, target, target_by}
 use Rattle.syntax_trees.specs.PlainSyntax as plain
 use Rattle.syntax_trees.specs.Syntax as s
 use Rattle.syntax_trees.specs.declared.syntax.Keyed.{Keyed}
@@ -12,6 +12,7 @@ use Rattle.syntax_trees.specs.declared.syntax.Left.{Left}
 use Rattle.mesa_types.specs.declared.typed_tree.Target.{Target as TypedTarget}
 use Rattle.mesa_types.specs.declared.types.FieldType.{FieldType}
 use Rattle.check_rules.specs.Typed as t
+use Rattle.check_rules.specs.Typed.{Conversion, Range}
 use Rattle.check_rules.specs.Around.{Around}
 use Rattle.check_rules.specs.Checking as spec
 use Rattle.std.specs.Cmp.Lexicographic.{nat_list_eq_equiv}
@@ -21,6 +22,8 @@ use Rattle.check_scopes.specs.declared.names.Names.{Names}
 use Rattle.check_rules.specs.Parts.{Found, are_fields, count_lefts, field_named, keys_of_lefts}
 use Rattle.interface_records.specs.PlainTypes.{PlainField, plain_field, words_of}
 use Rattle.check_rules.specs.Scopes.{has}
+use Rattle.check_rules.specs.Reached.{Target, part_of}
+use Rattle.check_rules.specs.Statements as rule
 use Rattle.check_rules.specs.Statements.{extracted}
 use Rattle.check_rules.specs.Steps.{Checked, State, and_then, ensure, only, or_refuse, refuse}
 use Rattle.check_rules.specs.declared.fault.Cause.TheVariants.{TwiceDeclared, WrongCount}
@@ -30,6 +33,13 @@ use Rattle.check_expressions.proofs.Folding.{in_turn}
 use Rattle.check_simple_statements.specs.Views as view
 use Rattle.check_simple_statements.specs.Rules.{keyed_target, next_target, target_for}
 use Rattle.check_simple_statements.proofs.Chains.{onto, before_rest, onto_one}
+
+-- a target of the code is the one of the rules
+pub targets_alike : (c : Conversion) (r : Range) (f : Found) (x : Target) → target_by c r (part_of f) x.home x.suffixes ≡ rule.target_by c r f x
+targets_alike t.Kept r f x = refl
+targets_alike (t.Widened from to) r f x = refl
+targets_alike (t.Narrowed from to range) r f x = refl
+targets_alike t.InCommon r f x = refl
 
 module _ (a : Around) (q : Place) where
   -- ---- in order

@@ -13,8 +13,9 @@ use Rattle.interface_records.specs.PlainTypes.{PlainField, words_of}
 use Rattle.check_rules.specs.Ranges.{Typed, Into, Several}
 use Rattle.check_rules.specs.Reached.{Perform, reached, performed}
 use Rattle.check_rules.specs.Scopes.{Scope}
-use Rattle.check_rules.specs.Statements.{By, Counted, Rounds, counter, given, rounds, extracted, returned, source, tested, tested_inside}
-use Rattle.check_rules.specs.Steps.{Check, Checked, and_then, ◌>>=◌, ensure, hide, lift, only, or_refuse, pure}
+use Rattle.check_rules.specs.Operators.{longer, sort_of}
+use Rattle.check_rules.specs.Statements.{By, Counted, Ends, Rounds, counter, given, longer_bounds, rounds, extracted, returned, source, tested, tested_inside}
+use Rattle.check_rules.specs.Steps.{Check, Checked, and_then, ◌>>=◌, ensure, hide, lift, only, or_refuse, pure, spend}
 use Rattle.check_rules.specs.declared.fault.Cause.TheVariants.{TwiceDeclared, WrongCount}
 use Rattle.check_operands.specs.Runs.{freely}
 
@@ -99,9 +100,22 @@ keyed_target a q fs taken x l = do
   f ← lift (or_refuse (field_named fs x) WrongCount x.place)
   target_for a q f l
 
+-- a test at p, of a selector that begins at l: a literal of one word that takes a LONG type counts one more
+abbrev pub against : Bool → t.Relation → Place → Place → Typed → Place → Typed → Check (t.Tests → t.Tests)
+against b o p l x q y = do
+  put ← lift (tested b o p l x q y)
+  _ ← spend (longer (sort_of x.kind) false (sort_of y.kind) y.literal)
+  pure put
+
+abbrev pub lying : Bool → Place → Place → Typed → Ends → Check (t.Tests → t.Tests)
+lying b p l x ends = do
+  put ← lift (tested_inside b p l x ends)
+  _ ← spend (longer_bounds x ends)
+  pure put
+
 -- the first of some tests
-unfoldable pub first_test : Around → Typed → s.Tests → Check (t.Tests → t.Tests)
-first_test a x s.NoTests = pure (λ ts. ts)
-first_test a x (s.Value e ts) = freely a e >>= (λ y. lift (tested false t.Equal (first e) x y))
-first_test a x (s.Compared b o p e ts) = freely a e >>= (λ y. lift (tested b o p x y))
-first_test a x (s.Inside b p i ts) = spec.interval a i >>= (λ ends. lift (tested_inside b p x ends))
+unfoldable pub first_test : Around → Place → Typed → s.Tests → Check (t.Tests → t.Tests)
+first_test a l x s.NoTests = pure (λ ts. ts)
+first_test a l x (s.Value e ts) = freely a e >>= (λ y. against false t.Equal (first e) l x (first e) y)
+first_test a l x (s.Compared b o p e ts) = freely a e >>= (λ y. against b o p l x (first e) y)
+first_test a l x (s.Inside b p i ts) = spec.interval a i >>= (λ ends. lying b p l x ends)

@@ -113,7 +113,7 @@ pub(crate) fn called<P: Phrases>(
     let meaning = named(checker.alloc, around, state, &left.name)?;
     let at = At {
         last: start,
-        reached: led_to(checker.alloc, meaning),
+        reached: led_to(checker.alloc, meaning)?,
     };
     let at = checker.walk(left.suffixes.as_slice(), around, state, Use::Perform, at)?;
     let At { last, reached } = at;

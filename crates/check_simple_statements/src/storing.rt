@@ -2,7 +2,6 @@
 ghost use Rattle.std.specs.Prelude.{◌≡◌, [], length, nat_eq, not, true, is_some, OnOk};
 ghost use Rattle.mesa_types.specs.Plain as tree;
 ghost use Rattle.syntax_trees.specs.PlainSyntax as plain;
-ghost use Rattle.mesa_types.specs.Typed as t;
 ghost use Rattle.check_scopes.specs.Scopes.{with_name};
 ghost use Rattle.check_scopes.specs.Shows.{means};
 ghost use Rattle.check_rules.specs.Checking as spec;
@@ -23,12 +22,14 @@ use check_expressions::{Checker, Phrases};
 use check_operands::At;
 use check_rules::{Cause, CheckFault};
 use check_scopes::Names;
-use check_selectors::check_values::range_for;
+use check_selectors::check_values::{conversion_for, range_for};
 use check_selectors::{Target, Use, led_to, stored};
 use check_state::{Around, State, conforms, named, narrow, size};
 use held_trees::{LetGo, both, pushed};
 use mesa_base::{Identifier, List, Place};
-use mesa_types::{FieldType, Home, Part, Range, Suffixes, Target as TypedTarget, Targets};
+use mesa_types::{
+    Conversion, FieldType, Home, Part, Range, Suffixes, Target as TypedTarget, Targets,
+};
 use std::alloc::Global;
 use syntax_trees::syntax::{Entries, Keyed, Left};
 
@@ -47,7 +48,7 @@ pub fn target<P: Phrases>(
     let meaning = named(checker.alloc, around, state, &left.name)?;
     let at = At {
         last: start,
-        reached: led_to(checker.alloc, meaning),
+        reached: led_to(checker.alloc, meaning)?,
     };
     let at = checker.walk(left.suffixes.as_slice(), around, state, Use::Store, at)?;
     let At { last, reached } = at;
@@ -55,20 +56,21 @@ pub fn target<P: Phrases>(
 }
 
 #[tactic(auto, unfolding(check_selectors::specs::Views::suffixes))]
-fn target_of(part: Part, to: (Home, Suffixes), check: Range) -> TypedTarget
-    ensures { tree.target result ≡ t.AndTarget part to.0 (reaching.suffixes to.1) check }
+fn target_of(part: Part, to: (Home, Suffixes), conversion: Conversion, check: Range) -> TypedTarget
+    ensures { tree.target result ≡ tree.target_by conversion check part to.0 (reaching.suffixes to.1) }
 {
     let (home, suffixes) = to;
     TypedTarget {
         part,
         home,
         suffixes,
+        conversion,
         check,
     }
 }
 
 /// The part of what is taken that goes to a target, which must fit.
-#[tactic(auto, unfolding(check_rules::specs::Statements::extracted))]
+#[tactic(auto, using(crate::proofs::TargetLaws::targets_alike), unfolding(check_rules::specs::Statements::extracted))]
 fn extracted(place: Place, from: Spot<'_>, to: Target) -> Result<TypedTarget, CheckFault>
     ensures { GivesOnly tree.target (rule.extracted place (known.spot from.entry) (reaching.target to)) result }
 {
@@ -78,6 +80,7 @@ fn extracted(place: Place, from: Spot<'_>, to: Target) -> Result<TypedTarget, Ch
         kind,
     } = to;
     let fits = conforms(from.kind, &kind);
+    let conversion = conversion_for(from.kind, &kind);
     let check = range_for(from.kind, &kind);
     kind.let_go();
     if !fits {
@@ -90,7 +93,7 @@ fn extracted(place: Place, from: Spot<'_>, to: Target) -> Result<TypedTarget, Ch
         offset: from.offset,
         words,
     };
-    Ok(target_of(part, (home, suffixes), check))
+    Ok(target_of(part, (home, suffixes), conversion, check))
 }
 
 #[tactic(auto, unfolding(crate::specs::Rules::target_for))]

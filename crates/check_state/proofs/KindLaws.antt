@@ -28,6 +28,8 @@ mutual
   shapes : (k : PlainType) → fold-TypeTree Shaped t.Kind shape_step field_kind_step (tree_of k) ≡ record { shape = kind_of k; elements = elements_of k }
   shapes v.Integer = shape_at TypeTree-F.Integer tree.rolls-Integer
   shapes v.Cardinal = shape_at TypeTree-F.Cardinal tree.rolls-Cardinal
+  shapes v.LongInteger = shape_at TypeTree-F.LongInteger tree.rolls-LongInteger
+  shapes v.LongCardinal = shape_at TypeTree-F.LongCardinal tree.rolls-LongCardinal
   shapes v.Boolean = shape_at TypeTree-F.Boolean tree.rolls-Boolean
   shapes v.Character = shape_at TypeTree-F.Character tree.rolls-Character
   shapes v.String = shape_at TypeTree-F.String tree.rolls-String

@@ -34,6 +34,8 @@ here_type : (y : TypeTree-F Such-Type Such-Field) → Type-law (roll-TypeTree (m
 unfolding tree_of
 here_type TypeTree-F.Integer = simp fold-roll-TypeTree (sym tree.rolls-Integer)
 here_type TypeTree-F.Cardinal = simp fold-roll-TypeTree (sym tree.rolls-Cardinal)
+here_type TypeTree-F.LongInteger = simp fold-roll-TypeTree (sym tree.rolls-LongInteger)
+here_type TypeTree-F.LongCardinal = simp fold-roll-TypeTree (sym tree.rolls-LongCardinal)
 here_type TypeTree-F.Boolean = simp fold-roll-TypeTree (sym tree.rolls-Boolean)
 here_type TypeTree-F.Character = simp fold-roll-TypeTree (sym tree.rolls-Character)
 here_type TypeTree-F.String = simp fold-roll-TypeTree (sym tree.rolls-String)

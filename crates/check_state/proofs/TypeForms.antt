@@ -20,6 +20,12 @@ of_integer = type_at TypeTree-F.Integer tree.rolls-Integer
 pub of_cardinal : plain tree.Cardinal ≡ v.Cardinal
 of_cardinal = type_at TypeTree-F.Cardinal tree.rolls-Cardinal
 
+pub of_long_integer : plain tree.LongInteger ≡ v.LongInteger
+of_long_integer = type_at TypeTree-F.LongInteger tree.rolls-LongInteger
+
+pub of_long_cardinal : plain tree.LongCardinal ≡ v.LongCardinal
+of_long_cardinal = type_at TypeTree-F.LongCardinal tree.rolls-LongCardinal
+
 pub of_boolean : plain tree.Boolean ≡ v.Boolean
 of_boolean = type_at TypeTree-F.Boolean tree.rolls-Boolean
 
@@ -57,4 +63,4 @@ pub record_fields : (o : Origin) (fs : List FieldType) → v.fields (plain (tree
 record_fields o fs = ap v.fields (of_record o fs) ∙ ap Some (field_parts (map plain_field fs))
 
 -- for functions that match on types
-pub ruleset type_forms = (of_integer, of_cardinal, of_boolean, of_character, of_string, of_enumeration, of_subrange, of_array, of_record)
+pub ruleset type_forms = (of_integer, of_cardinal, of_long_integer, of_long_cardinal, of_boolean, of_character, of_string, of_enumeration, of_subrange, of_array, of_record)

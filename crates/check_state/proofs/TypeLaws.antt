@@ -13,7 +13,7 @@ use Rattle.interface_records.specs.PlainTypes as v
 use Rattle.interface_records.specs.PlainTypes.{PlainType, Parts, PlainField, base_of, same, same_parts, same_names, same_name, same_origin, same_stamp, elements_of, plain, plain_field, plain_step, tree_of, trees_of}
 use Rattle.check_rules.proofs.SoundSame.{types_same}
 use Rattle.check_state.proofs.TypeBack.{back}
-use Rattle.check_state.proofs.TypeForms.{type_at, of_integer, of_cardinal, of_boolean, of_character, of_enumeration}
+use Rattle.check_state.proofs.TypeForms.{type_at, of_integer, of_cardinal, of_long_integer, of_long_cardinal, of_boolean, of_character, of_enumeration}
 
 -- ---- sameness
 
@@ -49,6 +49,8 @@ mutual
   self : (k : PlainType) → same k k ≡ true
   self v.Integer = refl
   self v.Cardinal = refl
+  self v.LongInteger = refl
+  self v.LongCardinal = refl
   self v.Boolean = refl
   self v.Character = refl
   self v.String = refl
@@ -80,6 +82,8 @@ elements_in : (y : TypeTree-F TypeTree FieldType) → (measure_step (map-TypeTre
     ≡ elements_of (plain_step (map-TypeTree TypeTree FieldType PlainType PlainField plain plain_field y))
 elements_in TypeTree-F.Integer = refl
 elements_in TypeTree-F.Cardinal = refl
+elements_in TypeTree-F.LongInteger = refl
+elements_in TypeTree-F.LongCardinal = refl
 elements_in TypeTree-F.Boolean = refl
 elements_in TypeTree-F.Character = refl
 elements_in TypeTree-F.String = refl
@@ -103,6 +107,8 @@ bases : (k : PlainType) → option_map plain (c.base_of (tree_of k)) ≡ base_of
 unfolding tree_of base_of
 bases v.Integer = ap (option_map plain) (base_at TypeTree-F.Integer tree.rolls-Integer) ∙ ap Some of_integer
 bases v.Cardinal = ap (option_map plain) (base_at TypeTree-F.Cardinal tree.rolls-Cardinal) ∙ ap Some of_cardinal
+bases v.LongInteger = ap (option_map plain) (base_at TypeTree-F.LongInteger tree.rolls-LongInteger) ∙ ap Some of_long_integer
+bases v.LongCardinal = ap (option_map plain) (base_at TypeTree-F.LongCardinal tree.rolls-LongCardinal) ∙ ap Some of_long_cardinal
 bases v.Boolean = ap (option_map plain) (base_at TypeTree-F.Boolean tree.rolls-Boolean) ∙ ap Some of_boolean
 bases v.Character = ap (option_map plain) (base_at TypeTree-F.Character tree.rolls-Character) ∙ ap Some of_character
 bases v.String = ap (option_map plain) (base_at TypeTree-F.String tree.rolls-String)

@@ -1,3 +1,4 @@
+//! The variables of a module or procedure so far, and how many words they take.
 ghost use Rattle.std.specs.Prelude.{◌≡◌, IfOk, OnOk, length};
 ghost use Rattle.mesa_types.specs.Plain.{kinds_of};
 ghost use Rattle.mesa_types.specs.Shapes.{count_in, join, one, words_in_all};

@@ -1,3 +1,4 @@
+//! What is known of a module: its name and stamp, its literals, its origins, and what its DIRECTORY offers.
 use crate::meaning::Meaning;
 use crate::origins::Origins;
 use crate::strings::Strings;

@@ -29,5 +29,6 @@ pub use strings::Strings;
 pub use typed::{Aim, Gave, Typed, of_kind};
 pub use types::{
     array_parts, base_of, bounds, conforms, elements_of, fields, fields_size, is_cardinal,
-    is_integer, is_text, one_base, same, sign_of, size, words_of_fields,
+    is_integer, is_long, is_ordinal, is_text, one_ordinal_base, same, sign_of, size,
+    words_of_fields,
 };

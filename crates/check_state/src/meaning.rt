@@ -1,3 +1,4 @@
+//! What a name may mean, and how a meaning is shared.
 ghost use Rattle.std.specs.Prelude.{◌≡◌, IfOk};
 
 use mesa_types::mesa_base::{OutOfMemory, Shared};
@@ -8,8 +9,8 @@ use std::alloc::Global;
 #[derive(Drop)]
 pub enum Meaning {
     Variable(Home, TypeTree),
-    /// A constant or an element of an enumeration, with its word.
-    Constant(TypeTree, u16),
+    /// A constant or an element of an enumeration, with its word, or, of a LONG type, its number as two words spell it.
+    Constant(TypeTree, u32),
     /// A string literal's name.
     TextConstant(u16),
     TypeName(TypeTree),
@@ -33,7 +34,7 @@ impl Meaning {
     {
         match self {
             Meaning::Variable(home, kind) => Ok(Meaning::Variable(*home, kind.copy(alloc)?)),
-            Meaning::Constant(kind, word) => Ok(Meaning::Constant(kind.copy(alloc)?, *word)),
+            Meaning::Constant(kind, value) => Ok(Meaning::Constant(kind.copy(alloc)?, *value)),
             Meaning::TextConstant(number) => Ok(Meaning::TextConstant(*number)),
             Meaning::TypeName(kind) => Ok(Meaning::TypeName(kind.copy(alloc)?)),
             Meaning::Procedure(callee, head) => Ok(Meaning::Procedure(*callee, head.share()?)),

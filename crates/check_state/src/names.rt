@@ -11,7 +11,7 @@ ghost use Rattle.check_state.specs.Views as view;
 use crate::around::Around;
 use crate::meaning::Meaning;
 use crate::state::State;
-use crate::types::base_of;
+use crate::types::is_ordinal;
 use check_rules::syntax_trees::syntax::{QualifiedName, TypeBase};
 use check_rules::{Cause, CheckFault};
 use interface_records::check_scopes::Names;
@@ -223,7 +223,7 @@ pub fn type_named(
 fn ordinal_type(place: Place, kind: TypeTree) -> Result<TypeTree, CheckFault>
     ensures { GivesOnly plain (spec.ordinal_type place (plain kind)) result }
 {
-    if base_of(&kind).is_some() {
+    if is_ordinal(&kind) {
         Ok(kind)
     } else {
         Err(CheckFault::At(Cause::TypeMismatch, place))

@@ -1,3 +1,4 @@
+//! Values of expressions with their types, and what a value is for.
 ghost use Rattle.std.specs.Prelude.{◌≡◌};
 ghost use Rattle.mesa_types.specs.Plain.{expr};
 ghost use Rattle.interface_records.specs.PlainTypes.{plain};

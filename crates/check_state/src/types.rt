@@ -21,6 +21,8 @@ pub fn is_integer(t: &TypeTree) -> bool
     match t {
         TypeTree::Integer => true,
         TypeTree::Cardinal
+        | TypeTree::LongInteger
+        | TypeTree::LongCardinal
         | TypeTree::Boolean
         | TypeTree::Character
         | TypeTree::String
@@ -38,6 +40,8 @@ pub fn is_cardinal(t: &TypeTree) -> bool
     match t {
         TypeTree::Cardinal => true,
         TypeTree::Integer
+        | TypeTree::LongInteger
+        | TypeTree::LongCardinal
         | TypeTree::Boolean
         | TypeTree::Character
         | TypeTree::String
@@ -56,6 +60,8 @@ pub fn is_text(t: &TypeTree) -> bool
         TypeTree::String => true,
         TypeTree::Integer
         | TypeTree::Cardinal
+        | TypeTree::LongInteger
+        | TypeTree::LongCardinal
         | TypeTree::Boolean
         | TypeTree::Character
         | TypeTree::Enumeration(_, _)
@@ -74,6 +80,8 @@ pub fn bounds(t: &TypeTree) -> Option<(u16, u16)>
         TypeTree::Subrange(_, first, last) => Some((*first, *last)),
         TypeTree::Integer
         | TypeTree::Cardinal
+        | TypeTree::LongInteger
+        | TypeTree::LongCardinal
         | TypeTree::Boolean
         | TypeTree::Character
         | TypeTree::String
@@ -92,6 +100,8 @@ pub fn array_parts(t: &TypeTree) -> Option<(&TypeTree, &TypeTree)>
         TypeTree::Array(index, element) => Some((index.get(), element.get())),
         TypeTree::Integer
         | TypeTree::Cardinal
+        | TypeTree::LongInteger
+        | TypeTree::LongCardinal
         | TypeTree::Boolean
         | TypeTree::Character
         | TypeTree::String
@@ -110,6 +120,8 @@ pub fn fields(t: &TypeTree) -> Option<&[FieldType]>
         TypeTree::Record(_, fields) => Some(fields.get().as_slice()),
         TypeTree::Integer
         | TypeTree::Cardinal
+        | TypeTree::LongInteger
+        | TypeTree::LongCardinal
         | TypeTree::Boolean
         | TypeTree::Character
         | TypeTree::String
@@ -119,7 +131,7 @@ pub fn fields(t: &TypeTree) -> Option<&[FieldType]>
     }
 }
 
-/// The base of an ordinal type; for a subrange that of the type whose values it has.
+/// The base of an ordinal type, for a subrange that of the type whose values it has; of a LONG type the type itself.
 #[tactic(auto, using(crate::proofs::TypeLaws::base_plain))]
 pub fn base_of(t: &TypeTree) -> Option<&TypeTree>
     ensures { option_map plain (option_copied result) ≡ spec.base_of (plain t.now) }
@@ -127,20 +139,90 @@ pub fn base_of(t: &TypeTree) -> Option<&TypeTree>
     interface_records::typed_answers::base(t)
 }
 
+#[tactic(auto, using(crate::proofs::TypeForms::type_forms))]
+fn is_long_integer(t: &TypeTree) -> bool
+    ensures { result ≡ spec.is_long_integer (plain t.now) }
+{
+    match t {
+        TypeTree::LongInteger => true,
+        TypeTree::Integer
+        | TypeTree::Cardinal
+        | TypeTree::LongCardinal
+        | TypeTree::Boolean
+        | TypeTree::Character
+        | TypeTree::String
+        | TypeTree::Enumeration(_, _)
+        | TypeTree::Subrange(_, _, _)
+        | TypeTree::Array(_, _)
+        | TypeTree::Record(_, _) => false,
+    }
+}
+
+#[tactic(auto, using(crate::proofs::TypeForms::type_forms))]
+fn is_long_cardinal(t: &TypeTree) -> bool
+    ensures { result ≡ spec.is_long_cardinal (plain t.now) }
+{
+    match t {
+        TypeTree::LongCardinal => true,
+        TypeTree::Integer
+        | TypeTree::Cardinal
+        | TypeTree::LongInteger
+        | TypeTree::Boolean
+        | TypeTree::Character
+        | TypeTree::String
+        | TypeTree::Enumeration(_, _)
+        | TypeTree::Subrange(_, _, _)
+        | TypeTree::Array(_, _)
+        | TypeTree::Record(_, _) => false,
+    }
+}
+
+/// Whether a type is one of the two LONG types, which are not ordinal.
+pub fn is_long(t: &TypeTree) -> bool
+    ensures { result ≡ spec.is_long (plain t.now) }
+{
+    is_long_integer(t) || is_long_cardinal(t)
+}
+
+fn is_ordinal_base(base: Option<&TypeTree>) -> bool
+    ensures { result ≡ spec.is_ordinal_base (option_map plain (option_copied base.entry)) }
+{
+    match base {
+        Some(base) => !is_long(base),
+        None => false,
+    }
+}
+
+/// Whether a type is ordinal.
+#[tactic(auto, unfolding(interface_records::specs::PlainTypes::is_ordinal))]
+pub fn is_ordinal(t: &TypeTree) -> bool
+    ensures { result ≡ spec.is_ordinal (plain t.now) }
+{
+    is_ordinal_base(base_of(t))
+}
+
+/// Whether a type is one of the four number types.
 fn is_number(t: &TypeTree) -> bool
     ensures { result ≡ spec.is_number (plain t.now) }
 {
-    is_integer(t) || is_cardinal(t)
+    is_integer(t) || is_cardinal(t) || is_long(t)
 }
 
-/// Whether there are two bases, and they are the same; INTEGER and CARDINAL count as one.
-pub fn one_base(a: Option<&TypeTree>, b: Option<&TypeTree>) -> bool
+/// Whether there are two bases, and they are the same; the four number types count as one.
+fn one_base(a: Option<&TypeTree>, b: Option<&TypeTree>) -> bool
     ensures { result ≡ spec.one_base (option_map plain (option_copied a.entry)) (option_map plain (option_copied b.entry)) }
 {
     match (a, b) {
         (Some(a), Some(b)) => is_number(a) && is_number(b) || same(a, b),
         (Some(_), None) | (None, _) => false,
     }
+}
+
+/// Whether there are two bases of ordinal types, and they are the same; INTEGER and CARDINAL count as one.
+pub fn one_ordinal_base(a: Option<&TypeTree>, b: Option<&TypeTree>) -> bool
+    ensures { result ≡ spec.one_ordinal_base (option_map plain (option_copied a.entry)) (option_map plain (option_copied b.entry)) }
+{
+    is_ordinal_base(a) && is_ordinal_base(b) && one_base(a, b)
 }
 
 /// Whether a value of the first type may be given to a target of the second.
@@ -155,13 +237,13 @@ fn sign_by(base: Option<&TypeTree>) -> Base
     ensures { result ≡ spec.sign_by (option_map plain (option_copied base.entry)) }
 {
     match base {
-        Some(base) if is_integer(base) => Base::Signed,
+        Some(base) if is_integer(base) || is_long_integer(base) => Base::Signed,
         Some(_) => Base::Unsigned,
         None => Base::Unsigned,
     }
 }
 
-/// How the words of a type are read as numbers.
+/// How the words of a type, or the two words of a LONG type, are read as numbers.
 #[tactic(auto, unfolding(interface_records::specs::PlainTypes::sign_of))]
 pub fn sign_of(t: &TypeTree) -> Base
     ensures { result ≡ spec.sign_of (plain t.now) }

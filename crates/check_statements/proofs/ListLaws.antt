@@ -3,6 +3,7 @@ use Rattle.std.proofs.Common.{◌≡◌, ℕ, List, [], ◌∷◌, ◌++◌, app
 use Rattle.std.specs.Prelude.{option_map}
 use Rattle.std.proofs.lemmas.List.{map-append}
 use Rattle.mesa_base.specs.declared.identifier.Identifier.{Identifier}
+use Rattle.mesa_base.specs.declared.place.Place.{Place}
 use Rattle.mesa_types.specs.Plain as tree
 use Rattle.syntax_trees.specs.PlainSyntax as plain
 use Rattle.syntax_trees.specs.declared.syntax.Case.{Case, out-Case}
@@ -33,24 +34,24 @@ use Rattle.check_statements.specs.declared.locals.Heads.{Heads}
 abbrev pub case_put : (t.Cases → t.Cases) → (t.Cases → t.Cases) → t.Cases → t.Cases
 case_put put more cs = put (more cs)
 
-unfoldable pub case_before : Around → Typed → Unit {0} → Case → Check ((t.Cases → t.Cases) → t.Cases → t.Cases)
-case_before a sel u x = one_case a sel x >>= (λ put. pure (case_put put))
+unfoldable pub case_before : Around → Place → Typed → Unit {0} → Case → Check ((t.Cases → t.Cases) → t.Cases → t.Cases)
+case_before a l sel u x = one_case a l sel x >>= (λ put. pure (case_put put))
 
-pub cases_are : (a : Around) (sel : Typed) (xs : List Case) (σ : State)
-    → spec.cases a sel (plain.cases xs) σ ≡ chained (case_before a sel) stays (λ cs. cs) tt xs σ
+pub cases_are : (a : Around) (l : Place) (sel : Typed) (xs : List Case) (σ : State)
+    → spec.cases a l sel (plain.cases xs) σ ≡ chained (case_before a l sel) stays (λ cs. cs) tt xs σ
 unfolding spec.check chained one_case case_before
-cases_are a sel [] σ = refl
-cases_are a sel (x ∷ xs) σ =
-    ap (λ f. spec.cases a sel (f (plain.cases xs)) σ) (parts_of_case x)
-    ∙ then_three (spec.tests a sel (plain.tests (out-Case x).tests) σ) (λ ts. spec.statement a (plain.statement (out-Case x).body) ts.1)
+cases_are a l sel [] σ = refl
+cases_are a l sel (x ∷ xs) σ =
+    ap (λ f. spec.cases a l sel (f (plain.cases xs)) σ) (parts_of_case x)
+    ∙ then_three (spec.tests a l sel (plain.tests (out-Case x).tests) σ) (λ ts. spec.statement a (plain.statement (out-Case x).body) ts.1)
     (λ ts b. Ok (t.AndCase ts.0 b.0, b.1))
-    (λ put. and_then (spec.cases a sel (plain.cases xs) put.1) (λ more. Ok (case_put put.0 more.0, more.1)))
-    ∙ then_two (one_case a sel x σ) (λ put. Ok (case_put put.0, put.1)) (before_rest (spec.cases a sel (plain.cases xs)))
-    ∙ ap (λ rest. and_then (case_before a sel tt x σ) (before_rest rest)) (λ i τ. cases_are a sel xs τ i)
+    (λ put. and_then (spec.cases a l sel (plain.cases xs) put.1) (λ more. Ok (case_put put.0 more.0, more.1)))
+    ∙ then_two (one_case a l sel x σ) (λ put. Ok (case_put put.0, put.1)) (before_rest (spec.cases a l sel (plain.cases xs)))
+    ∙ ap (λ rest. and_then (case_before a l sel tt x σ) (before_rest rest)) (λ i τ. cases_are a l sel xs τ i)
 
-pub case_given : (a : Around) (sel : Typed) (x : Case) (put : t.Cases → t.Cases) (σ τ : State) → one_case a sel x σ ≡ Ok (put, τ) → case_before a sel tt x σ ≡ Ok (case_put put, τ)
+pub case_given : (a : Around) (l : Place) (sel : Typed) (x : Case) (put : t.Cases → t.Cases) (σ τ : State) → one_case a l sel x σ ≡ Ok (put, τ) → case_before a l sel tt x σ ≡ Ok (case_put put, τ)
 unfolding case_before
-case_given a sel x put σ τ given = ap (λ m. and_then m (λ r. Ok (case_put r.0, r.1))) given
+case_given a l sel x put σ τ given = ap (λ m. and_then m (λ r. Ok (case_put r.0, r.1))) given
 
 -- ---- heads of declarations
 

@@ -5,7 +5,8 @@ use Rattle.check_rules.specs.Typed as t
 use Rattle.check_rules.specs.Around.{Around, in_round, in_statement, inside, with_labels}
 use Rattle.check_rules.specs.Checking as spec
 use Rattle.check_rules.specs.Scopes.{nothing}
-use Rattle.check_rules.specs.Statements.{Held, labels_of_exits, labels_of_repeats, looped}
+use Rattle.check_rules.specs.Parts.{first}
+use Rattle.check_rules.specs.Statements.{Held, held_words, labels_of_exits, labels_of_repeats, looped, selected}
 use Rattle.check_rules.specs.Steps.{Check, ◌>>=◌, pure, hide, in_scope}
 use Rattle.check_simple_statements.specs.check_operands.specs.Runs.{freely}
 use Rattle.check_simple_statements.specs.Rules.{truth_of}
@@ -30,10 +31,10 @@ if_inside a e body other = do
 unfoldable pub select_inside : Around → s.Expr → s.Cases → s.MaybeStatement → Check t.Stmt
 select_inside a e cs other = do
   x ← freely a e
-  _ ← hide 1
-  cs ← spec.cases a x cs
+  _ ← hide (held_words x)
+  cs ← spec.cases a (first e) x cs
   o ← spec.otherwise a other
-  pure (t.Select x.value (cs (t.Otherwise o)))
+  pure (selected x (cs (t.Otherwise o)))
 
 -- the body of a loop, which has this number, in the loop's ENABLE
 unfoldable pub round_in : Around → ℕ → s.Phrase → s.Statements → Check t.Stmt

@@ -1,6 +1,7 @@
 -- The rules of lists, one part of a list at a time.
 use Rattle.std.specs.Prelude.{List}
 use Rattle.mesa_base.specs.declared.identifier.Identifier.{Identifier}
+use Rattle.mesa_base.specs.declared.place.Place.{Place}
 use Rattle.syntax_trees.specs.PlainSyntax as plain
 use Rattle.syntax_trees.specs.declared.syntax.Case.{Case, out-Case}
 use Rattle.syntax_trees.specs.declared.syntax.Labeled.{Labeled}
@@ -13,9 +14,9 @@ use Rattle.check_rules.specs.Ranges.{Typed}
 use Rattle.check_rules.specs.Statements.{Headed}
 use Rattle.check_rules.specs.Steps.{Check, ◌>>=◌, pure}
 
-unfoldable pub one_case : Around → Typed → Case → Check (t.Cases → t.Cases)
-one_case a sel x = do
-  ts ← spec.tests a sel (plain.tests (out-Case x).tests)
+unfoldable pub one_case : Around → Place → Typed → Case → Check (t.Cases → t.Cases)
+one_case a l sel x = do
+  ts ← spec.tests a l sel (plain.tests (out-Case x).tests)
   b ← spec.statement a (plain.statement (out-Case x).body)
   pure (t.AndCase ts b)
 

@@ -2,10 +2,13 @@
 ghost use Rattle.std.specs.Prelude.{◌≡◌};
 ghost use Rattle.mesa_types.specs.Plain.{case, condition, expr, loop, phrase, stmt};
 ghost use Rattle.mesa_types.specs.Typed as t;
+ghost use Rattle.check_rules.specs.Statements as rule;
+ghost use Rattle.check_state.specs.Views as words;
 ghost use Rattle.check_simple_statements.specs.Views as clauses;
 ghost use Rattle.check_statement_lists.specs.Views as nested;
 ghost use Rattle.check_statements.specs.Views as views;
 
+use check_state::{Typed, is_long};
 use check_statement_lists::Left;
 use mesa_base::{Boxed, List};
 use mesa_types::{Case, Cases, Condition, Exits, Loop, Phrase, Stmts, Tests, TypedExpr, TypedStmt};
@@ -36,11 +39,18 @@ pub fn case_of(tests: Tests, body: TypedStmt) -> Case
     Case { tests, body }
 }
 
-#[tactic(auto, unfolding(crate::specs::Views::cases))]
-pub fn selection(selector: TypedExpr, cases: Cases, other: Boxed<TypedStmt>) -> TypedStmt
-    ensures { stmt result ≡ t.Select (expr selector) (views.cases cases (t.Otherwise (stmt other))) }
+/// A SELECT of a word or of a LONG number.
+#[tactic(auto, unfolding(check_rules::specs::Statements::selected, crate::specs::Views::cases))]
+pub fn selection(selector: Typed, cases: Cases, other: Boxed<TypedStmt>) -> TypedStmt
+    ensures { stmt result ≡ rule.selected (words.typed selector) (views.cases cases (t.Otherwise (stmt other))) }
 {
-    TypedStmt::Select(selector, cases, other)
+    let is_long = is_long(&selector.kind);
+    let value = selector.into_value();
+    if is_long {
+        TypedStmt::SelectLong(value, cases, other)
+    } else {
+        TypedStmt::Select(value, cases, other)
+    }
 }
 
 #[tactic(auto, unfolding(check_statement_lists::specs::Views::stmts, check_statement_lists::specs::Views::exits))]

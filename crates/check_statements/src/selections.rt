@@ -14,6 +14,7 @@ ghost use Rattle.check_statements.specs.Views as views;
 use crate::checker::StatementChecker;
 use crate::making::{case_of, choice, nothing, selection};
 use check_rules::CheckFault;
+use check_simple_statements::check_declared::held_words;
 use check_simple_statements::check_operands::first;
 use check_simple_statements::check_phrases::holds;
 use check_simple_statements::{Whole, cases_hold, tests, truth_of};
@@ -88,20 +89,21 @@ impl<N: Nested> StatementChecker<N> {
         whole.end(self.alloc(), state, made)
     }
 
-    /// The arms of a SELECT.
+    /// The arms of a SELECT whose selector begins at `start`.
     fn cases(
         &self,
         all: &[syntax::Case],
         around: &Around<'_>,
         state: &mut State,
+        start: Place,
         selector: &Typed,
     ) -> Result<Cases, CheckFault>
         requires { N.ask self.now.expressions.phrases.nested }
-        ensures { Gives views.cases (spec.cases (view.around around.now) (view.typed selector.now) (plain.cases all.now) (view.state state.old)) result (view.state state.new) }
+        ensures { Gives views.cases (spec.cases (view.around around.now) start (view.typed selector.now) (plain.cases all.now) (view.state state.old)) result (view.state state.new) }
     {
         let mut done = List::new(self.alloc());
         for one in all {
-            let (held, case) = both(done, self.case(one, around, state, selector))?;
+            let (held, case) = both(done, self.case(one, around, state, start, selector))?;
             done = pushed(held, case)?;
         }
         Ok(done)
@@ -114,13 +116,14 @@ impl<N: Nested> StatementChecker<N> {
         one: &syntax::Case,
         around: &Around<'_>,
         state: &mut State,
+        start: Place,
         selector: &Typed,
     ) -> Result<Case, CheckFault>
         requires { N.ask self.now.expressions.phrases.nested }
-        ensures { Gives tree.case (turns.one_case (view.around around.now) (view.typed selector.now) one.now (view.state state.old)) result (view.state state.new) }
+        ensures { Gives tree.case (turns.one_case (view.around around.now) start (view.typed selector.now) one.now (view.state state.old)) result (view.state state.new) }
     {
         let all = one.tests.as_slice();
-        let tests = tests(&self.expressions, all, around, state, selector)?;
+        let tests = tests(&self.expressions, all, around, state, start, selector)?;
         let (tests, body) = both(tests, self.nested(&one.body, around, state))?;
         Ok(case_of(tests, body))
     }
@@ -138,12 +141,14 @@ impl<N: Nested> StatementChecker<N> {
         requires { N.ask self.now.expressions.phrases.nested }
         ensures { Gives tree.stmt (rules.select_inside (view.around around.now) (plain.expr selector.now) (plain.cases cases.now) (plain.maybe_statement other.now) (view.state state.old)) result (view.state state.new) }
     {
-        let aim = Aim::Free(first(selector));
-        let selector = self.expressions.check(selector, around, state, aim)?;
-        let (selector, _) = both(selector, state.hide(1))?;
-        let cases = self.cases(cases, around, state, &selector);
-        let (selector, cases) = both(selector, cases)?;
-        let held = (selector.into_value(), cases);
+        let start = first(selector);
+        let selector = self
+            .expressions
+            .check(selector, around, state, Aim::Free(start))?;
+        let words = held_words(&selector);
+        let (selector, _) = both(selector, state.hide(words))?;
+        let cases = self.cases(cases, around, state, start, &selector);
+        let held = both(selector, cases)?;
         let (held, other) = both(held, self.otherwise(other, around, state))?;
         let ((selector, cases), other) = both(held, boxed(self.alloc(), other))?;
         Ok(selection(selector, cases, other))

@@ -37,6 +37,8 @@ mutual
   depths : (k : PlainType) → types.depth_of (tree_of k) ≡ depth_of k
   depths v.Integer = depth_at TypeTree-F.Integer tree.rolls-Integer
   depths v.Cardinal = depth_at TypeTree-F.Cardinal tree.rolls-Cardinal
+  depths v.LongInteger = depth_at TypeTree-F.LongInteger tree.rolls-LongInteger
+  depths v.LongCardinal = depth_at TypeTree-F.LongCardinal tree.rolls-LongCardinal
   depths v.Boolean = depth_at TypeTree-F.Boolean tree.rolls-Boolean
   depths v.Character = depth_at TypeTree-F.Character tree.rolls-Character
   depths v.String = depth_at TypeTree-F.String tree.rolls-String

@@ -18,7 +18,7 @@ use mesa_types::{Base, TypeTree, TypedExpr};
 use std::alloc::Global;
 use typed_answers::{constant, truth};
 
-fn literal_word(is_text: bool, value: &TypedExpr) -> Option<u16>
+fn literal_word(is_text: bool, value: &TypedExpr) -> Option<u32>
     ensures { result ≡ spec.literal_word is_text (expr value.now) }
 {
     match value {
@@ -29,7 +29,7 @@ fn literal_word(is_text: bool, value: &TypedExpr) -> Option<u16>
 
 /// The word of a bound, which is a constant.
 #[tactic(auto, unfolding(check_rules::specs::TypeRules::bound))]
-pub fn bound(place: Place, value: &Typed) -> Result<u16, CheckFault>
+pub fn bound(place: Place, value: &Typed) -> Result<u32, CheckFault>
     ensures { GivesOnly (λ n. n) (spec.bound place (typed value.now)) result }
 {
     match literal_word(is_text(&value.kind), &value.value) {
@@ -38,7 +38,7 @@ pub fn bound(place: Place, value: &Typed) -> Result<u16, CheckFault>
     }
 }
 
-fn fits_integer(base: Base, word: u16) -> bool
+fn fits_integer(base: Base, word: u32) -> bool
     ensures { result ≡ spec.fits_integer base word }
 {
     match base {
@@ -47,7 +47,7 @@ fn fits_integer(base: Base, word: u16) -> bool
     }
 }
 
-fn fits_cardinal(base: Base, word: u16) -> bool
+fn fits_cardinal(base: Base, word: u32) -> bool
     ensures { result ≡ spec.fits_cardinal base word }
 {
     match base {
@@ -87,9 +87,9 @@ fn same_base(
 fn base_of_bounds(
     alloc: Global,
     low: &TypeTree,
-    first: u16,
+    first: u32,
     high: &TypeTree,
-    last: u16,
+    last: u32,
 ) -> Result<Option<TypeTree>, OutOfMemory>
     ensures { IfOk result (λ base. option_map plain base ≡ spec.base_of_bounds (plain low.now) first (plain high.now) last) }
 {
@@ -116,9 +116,9 @@ pub fn interval_base(
     alloc: Global,
     said: Option<&TypeTree>,
     low: &TypeTree,
-    first: u16,
+    first: u32,
     high: &TypeTree,
-    last: u16,
+    last: u32,
 ) -> Result<Option<TypeTree>, OutOfMemory>
     ensures { IfOk result (λ base. option_map plain base ≡ spec.interval_base (option_map plain (option_copied said.entry)) (plain low.now) first (plain high.now) last) }
 {
@@ -130,37 +130,37 @@ pub fn interval_base(
 
 /// A word as a plain number, plus 32,768.
 #[tactic(auto, unfolding(mesa_types::specs::Operators::shifted))]
-fn shifted(base: Base, number: u16) -> u32
+fn shifted(base: Base, number: u32) -> u64
     ensures value { result ≡ word.shifted base number }
-    ensures small { result < 98304 }
+    ensures small { result < 4295000064 }
 {
     match base {
-        Base::Signed => (u32::from(number) + 32768) % 65536,
-        Base::Unsigned => u32::from(number) + 32768,
+        Base::Signed => (u64::from(number) + 32768) % 65536,
+        Base::Unsigned => u64::from(number) + 32768,
     }
 }
 
-fn is_not_empty(base: Base, open_low: bool, first: u16, last: u16, open_high: bool) -> bool
+fn is_not_empty(base: Base, open_low: bool, first: u32, last: u32, open_high: bool) -> bool
     ensures { result ≡ nat_le (word.shifted base first + word.truth open_low + word.truth open_high) (word.shifted base last) }
 {
-    let left_out = u32::from(truth(open_low)) + u32::from(truth(open_high));
+    let left_out = u64::from(truth(open_low)) + u64::from(truth(open_high));
     shifted(base, first) + left_out <= shifted(base, last)
 }
 
 /// The first value of an interval: a bound that is left out leaves the next one.
 #[tactic(auto, unfolding(mesa_types::specs::Operators::wrap, mesa_types::specs::Operators::truth))]
-fn first_word(bound: u16, is_open: bool) -> u16
+fn first_word(bound: u32, is_open: bool) -> u16
     ensures { result ≡ word.wrap (bound + word.truth is_open) }
 {
-    ((u32::from(bound) + u32::from(truth(is_open))) % 65536) as u16
+    ((u64::from(bound) + u64::from(truth(is_open))) % 65536) as u16
 }
 
 /// The last value of an interval.
 #[tactic(auto, unfolding(mesa_types::specs::Operators::wrap, mesa_types::specs::Operators::truth))]
-fn last_word(bound: u16, is_open: bool) -> u16
+fn last_word(bound: u32, is_open: bool) -> u16
     ensures { result ≡ word.wrap (bound + 65536 - word.truth is_open) }
 {
-    ((u32::from(bound) + 65536 - u32::from(truth(is_open))) % 65536) as u16
+    ((u64::from(bound) + 65536 - u64::from(truth(is_open))) % 65536) as u16
 }
 
 #[tactic(auto, using(check_state::proofs::TypeForms::type_forms))]
@@ -182,8 +182,8 @@ pub fn subrange(
     alloc: Global,
     base: TypeTree,
     open_low: bool,
-    first: u16,
-    last: u16,
+    first: u32,
+    last: u32,
     open_high: bool,
 ) -> Result<TypeTree, CheckFault>
     ensures { GivesOnly plain (spec.subrange place (plain base) open_low first last open_high) result }

@@ -18,7 +18,7 @@ use std::alloc::Global;
 #[tactic(auto, unfolding(crate::specs::Elements::element, check_state::specs::Views::around))]
 fn element(
     name: &Identifier,
-    number: u16,
+    number: u32,
     alloc: Global,
     around: &Around<'_>,
     state: &mut State,
@@ -49,7 +49,7 @@ fn few_elements(
     ensures { Gives (λ _. tt) (spec.elements (view.around around.now) (plain kind.now) 0 names.now (view.state state.old)) result (view.state state.new) }
 {
     for i in 0..names.len() {
-        element(&names[i], i as u16, alloc, around, state, kind)?;
+        element(&names[i], i as u32, alloc, around, state, kind)?;
     }
     Ok(())
 }

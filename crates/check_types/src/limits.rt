@@ -7,7 +7,7 @@ ghost use Rattle.check_state.specs.Gives.{GivesOnly};
 ghost use Rattle.check_values.specs.Views as view;
 
 use check_rules::{Cause, CheckFault};
-use check_state::{base_of, bounds};
+use check_state::{bounds, is_ordinal};
 use check_values::{Sort, sort_of};
 use mesa_base::Place;
 use mesa_base::limits::{TYPE_DEPTH, TYPE_WORDS};
@@ -45,14 +45,15 @@ fn is_index_by(sort: Sort, is_subrange: bool) -> bool
 {
     match sort {
         Sort::Number(_) => is_subrange,
+        Sort::LongNumber(_) => false,
         Sort::Letter | Sort::Truth | Sort::Other => true,
     }
 }
 
-/// Whether a type is BOOLEAN, CHARACTER, an enumeration or a subrange.
+/// Whether a type is BOOLEAN, CHARACTER, an enumeration or a subrange; a LONG type is none.
 #[tactic(auto, unfolding(check_rules::specs::TypeRules::is_index))]
 pub fn is_index(kind: &TypeTree) -> bool
     ensures { result ≡ spec.is_index (plain kind.now) }
 {
-    base_of(kind).is_some() && is_index_by(sort_of(kind), bounds(kind).is_some())
+    is_ordinal(kind) && is_index_by(sort_of(kind), bounds(kind).is_some())
 }

@@ -1,1 +1,3 @@
+pub mod LongForms
 pub mod NumberForms
+pub mod OperationLaws

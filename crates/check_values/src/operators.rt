@@ -15,6 +15,7 @@ use check_state::{base_of, same};
 #[derive(Clone, Copy)]
 pub enum Sort {
     Number(Base),
+    LongNumber(Base),
     Letter,
     Truth,
     Other,
@@ -46,6 +47,8 @@ fn sort_of_base(base: Option<&TypeTree>) -> Sort
         Some(of) => match of {
             TypeTree::Integer => Sort::Number(Base::Signed),
             TypeTree::Cardinal => Sort::Number(Base::Unsigned),
+            TypeTree::LongInteger => Sort::LongNumber(Base::Signed),
+            TypeTree::LongCardinal => Sort::LongNumber(Base::Unsigned),
             TypeTree::Character => Sort::Letter,
             TypeTree::Boolean => Sort::Truth,
             TypeTree::String
@@ -159,16 +162,16 @@ fn on_letter(operator: syntax::Operator, right: Sort) -> Option<Applied>
     }
 }
 
-/// What an operator is between operands of these sorts, where they fit.
-#[tactic(auto, unfolding(check_rules::specs::Operators::operation))]
-pub fn operation(
+/// What an operator over words is between operands of these sorts, where they fit.
+#[tactic(auto, unfolding(check_rules::specs::Operators::word_operation))]
+pub fn word_operation(
     operator: syntax::Operator,
     left: Sort,
     left_is_literal: bool,
     right: Sort,
     right_is_literal: bool,
 ) -> Option<Applied>
-    ensures { option_map view.applied result ≡ spec.operation operator (view.sort left) left_is_literal (view.sort right) right_is_literal }
+    ensures { option_map view.applied result ≡ spec.word_operation operator (view.sort left) left_is_literal (view.sort right) right_is_literal }
 {
     match (left, right) {
         (Sort::Number(left), Sort::Number(right)) => {
@@ -195,7 +198,7 @@ fn of_one_base(left: Option<&TypeTree>, right: Option<&TypeTree>) -> Option<Meet
     }
 }
 
-/// How two operands of a relation meet, where they are ordinals of one base.
+/// How two operands of a relation meet, where they are ordinals of one base and no LONG numbers.
 #[tactic(auto, unfolding(check_rules::specs::Operators::related))]
 pub fn related(
     left: &TypeTree,
@@ -207,6 +210,7 @@ pub fn related(
 {
     match (sort_of(left), sort_of(right)) {
         (Sort::Number(a), Sort::Number(b)) => Some(meet(a, left_is_literal, b, right_is_literal)),
+        (Sort::LongNumber(_), _) | (_, Sort::LongNumber(_)) => None,
         _ => of_one_base(base_of(left), base_of(right)),
     }
 }

@@ -1,4 +1,4 @@
-//! The check of a value that is given to a target.
+//! The check or conversion of a value that is given to a target.
 ghost use Rattle.std.specs.Prelude.{◌≡◌, option_map, IfOk};
 ghost use Rattle.std.specs.Option.{option_copied};
 ghost use Rattle.check_rules.specs.mesa_types.specs.Plain.{expr};
@@ -7,10 +7,11 @@ ghost use Rattle.check_rules.specs.Ranges as spec;
 ghost use Rattle.check_state.specs.Gives.{GivesOnly};
 ghost use Rattle.check_state.specs.Views as view;
 
+use crate::conversions::{conversion_for, made_by};
 use crate::operators::in_common;
 use check_rules::held_trees::{LetGo, both, boxed};
 use check_rules::mesa_base::{OutOfMemory, Place};
-use check_rules::mesa_types::{Base, Range, TypeTree, TypedExpr};
+use check_rules::mesa_types::{Base, Conversion, Range, TypeTree, TypedExpr};
 use check_rules::{Cause, CheckFault};
 use check_state::{
     Aim, Typed, base_of, bounds, conforms, is_cardinal, is_integer, of_kind, sign_of,
@@ -84,16 +85,35 @@ pub fn range_for(from: &TypeTree, to: &TypeTree) -> Range
     )
 }
 
-fn fitted(alloc: Global, target: &TypeTree, r: Typed) -> Result<Typed, OutOfMemory>
-    ensures { IfOk result (λ made. view.typed made ≡ spec.typed (plain target.now) (spec.checked (spec.range_for (plain r.kind) (plain target.now)) (expr r.value))) }
+/// The value with its conversion, or with its check where it is not converted.
+fn converted(
+    alloc: Global,
+    conversion: Conversion,
+    range: Range,
+    value: TypedExpr,
+) -> Result<TypedExpr, OutOfMemory>
+    ensures { IfOk result (λ made. expr made ≡ spec.converted conversion range (expr value)) }
 {
+    match conversion {
+        Conversion::Kept => checked(alloc, range, value),
+        Conversion::Widened(_, _) | Conversion::Narrowed(_, _, _) | Conversion::InCommon => {
+            made_by(alloc, conversion, value)
+        }
+    }
+}
+
+#[tactic(auto, unfolding(check_rules::specs::Ranges::given_as))]
+fn fitted(alloc: Global, target: &TypeTree, r: Typed) -> Result<Typed, OutOfMemory>
+    ensures { IfOk result (λ made. view.typed made ≡ spec.typed (plain target.now) (spec.given_as (plain r.kind) (plain target.now) (expr r.value))) }
+{
+    let conversion = conversion_for(&r.kind, target);
     let range = range_for(&r.kind, target);
-    let value = checked(alloc, range, r.into_value())?;
+    let value = converted(alloc, conversion, range, r.into_value())?;
     let (value, kind) = both(value, target.copy(alloc))?;
     Ok(of_kind(kind, value))
 }
 
-/// A value that must conform to its target, with its check.
+/// A value that must conform to its target, with its check or conversion.
 #[tactic(auto, unfolding(check_rules::specs::Ranges::finish))]
 pub fn finish(alloc: Global, aim: Aim<'_>, r: Typed) -> Result<Typed, CheckFault>
     ensures { GivesOnly view.typed (spec.finish (view.aim aim.entry) (view.typed r)) result }

@@ -14,7 +14,8 @@ use Rattle.interface_records.specs.PlainTypes as v
 use Rattle.interface_records.specs.PlainTypes.{PlainType}
 use Rattle.check_rules.specs.Steps.{State, ◌>>=◌, and_then, pure, lift, ensure, or_refuse}
 use Rattle.check_rules.specs.TypeRules.{bound, elements, few, interval_base, is_index, limited, subrange}
-use Rattle.check_rules.specs.Values.{bound_aim}
+use Rattle.check_rules.specs.Ranges.{Free}
+use Rattle.check_rules.specs.Values.{bound_of}
 use Rattle.check_rules.specs.declared.fault.Cause.TheVariants.{TypeMismatch}
 use Rattle.check_expressions.proofs.Folding.{in_turn}
 use Rattle.check_written_types.specs.Forms as forms
@@ -26,6 +27,14 @@ type_integer a p = refl
 pub type_cardinal : (a : Around) (p : Place) → spec.type_exp a (s.Cardinal p) ≡ pure v.Cardinal
 unfolding spec.check
 type_cardinal a p = refl
+
+pub type_long_integer : (a : Around) (p : Place) → spec.type_exp a (s.LongInteger p) ≡ pure v.LongInteger
+unfolding spec.check
+type_long_integer a p = refl
+
+pub type_long_cardinal : (a : Around) (p : Place) → spec.type_exp a (s.LongCardinal p) ≡ pure v.LongCardinal
+unfolding spec.check
+type_long_cardinal a p = refl
 
 pub type_boolean : (a : Around) (p : Place) → spec.type_exp a (s.Boolean p) ≡ pure v.Boolean
 unfolding spec.check
@@ -67,7 +76,7 @@ unfolding spec.check
 type_record a p fs = refl
 
 -- for the function that matches on types
-pub ruleset clauses = (type_integer, type_cardinal, type_boolean, type_character, type_string, type_called, type_enumeration, type_subrange, type_array, type_record)
+pub ruleset clauses = (type_integer, type_cardinal, type_long_integer, type_long_cardinal, type_boolean, type_character, type_string, type_called, type_enumeration, type_subrange, type_array, type_record)
 
 pub named_is : (a : Around) (fs : s.NamedFields) → spec.fields_of a (s.WithNames fs) ≡ spec.named_fields a [] fs
 unfolding spec.check
@@ -79,9 +88,11 @@ unnamed_is a ts = refl
 
 pub interval_is : (a : Around) (base : Option PlainType) (p : Place) (open_low : Bool) (low high : s.Expr) (open_high : Bool)
     → spec.of_interval a base (s.Between p open_low low high open_high) ≡ (do
-      x ← spec.check (in_constant (first low) a) (bound_aim base (first low)) low
+      i ← spec.check (in_constant (first low) a) (Free (first low)) low
+      x ← lift (bound_of base (first low) i)
       m ← lift (bound (first low) x)
-      y ← spec.check (in_constant (first high) a) (bound_aim base (first high)) high
+      j ← spec.check (in_constant (first high) a) (Free (first high)) high
+      y ← lift (bound_of base (first high) j)
       n ← lift (bound (first high) y)
       k ← lift (or_refuse (interval_base base x.kind m y.kind n) TypeMismatch p)
       lift (subrange p k open_low m n open_high))

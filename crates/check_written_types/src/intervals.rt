@@ -5,18 +5,21 @@ ghost use Rattle.syntax_trees.specs.PlainSyntax as syntax;
 ghost use Rattle.check_rules.specs.Checking as spec;
 ghost use Rattle.check_rules.specs.Parts as parts;
 ghost use Rattle.interface_records.specs.PlainTypes.{plain};
-ghost use Rattle.check_state.specs.Gives.{Gives};
+ghost use Rattle.check_rules.specs.Values as values;
+ghost use Rattle.check_state.specs.Gives.{Gives, GivesOnly};
 ghost use Rattle.check_state.specs.Views as words;
 ghost use Rattle.check_written_types.specs.Forms as form;
 
+use check_expressions::check_operands::check_values::{finish, not_long};
 use check_expressions::check_operands::{aim_for, first, first_of_interval};
 use check_expressions::{Checker, Phrases};
 use check_rules::{Cause, CheckFault};
-use check_state::{Around, State, word_base};
+use check_state::{Aim, Around, State, Typed, word_base};
 use check_types::{bound, interval_base, subrange};
 use held_trees::{LetGo, both};
 use mesa_base::Place;
 use mesa_types::TypeTree;
+use std::alloc::Global;
 use syntax_trees::syntax::{Interval, TypeBase, TypeExp};
 
 fn first_of_base(base: &TypeBase, interval: &Interval) -> Place
@@ -41,6 +44,8 @@ pub fn first_of_type(e: &TypeExp) -> Place
         TypeExp::Subrange(base, interval) => first_of_base(base, interval),
         TypeExp::Integer(place)
         | TypeExp::Cardinal(place)
+        | TypeExp::LongInteger(place)
+        | TypeExp::LongCardinal(place)
         | TypeExp::Boolean(place)
         | TypeExp::Character(place)
         | TypeExp::String(place)
@@ -50,8 +55,23 @@ pub fn first_of_type(e: &TypeExp) -> Place
     }
 }
 
-/// The type of an interval whose bounds are of this type, if one is said. Bounds are constants; they have one base, which is
-/// that of the type that is said, and leave one value at least.
+/// A bound, given to the type that is said; none is LONG, also where a LONG value would conform to that type.
+#[tactic(auto, unfolding(check_rules::specs::Values::bound_of))]
+fn bound_of(
+    alloc: Global,
+    said: Option<&TypeTree>,
+    start: Place,
+    found: Typed,
+) -> Result<Typed, CheckFault>
+    ensures { GivesOnly words.typed (values.bound_of (option_map plain (option_copied said.entry)) start (words.typed found)) result }
+{
+    let fits = not_long(start, &found);
+    let (found, _) = both(found, fits)?;
+    finish(alloc, aim_for(said, start), found)
+}
+
+/// The type of an interval whose bounds are of this type, if one is said. Bounds are constants and not LONG; they have one base,
+/// which is that of the type that is said, and leave one value at least.
 #[tactic(auto, using(syntax_trees::proofs::PlainForms::parts, crate::proofs::Clauses::interval_is))]
 pub fn of_interval<P: Phrases>(
     interval: &Interval,
@@ -66,13 +86,15 @@ pub fn of_interval<P: Phrases>(
     let alloc = checker.alloc;
     let start = first(interval.low.get());
     let inner = around.in_constant(start);
-    let low = checker.check(interval.low.get(), &inner, state, aim_for(said, start))?;
+    let low = checker.check(interval.low.get(), &inner, state, Aim::Free(start))?;
+    let low = bound_of(alloc, said, start, low)?;
     let word = bound(start, &low);
     let (low, first_word) = both(low, word)?;
     let start = first(interval.high.get());
     let inner = around.in_constant(start);
-    let high = checker.check(interval.high.get(), &inner, state, aim_for(said, start));
+    let high = checker.check(interval.high.get(), &inner, state, Aim::Free(start));
     let (low, high) = both(low, high)?;
+    let (low, high) = both(low, bound_of(alloc, said, start, high))?;
     let word = bound(start, &high);
     let ((low, high), last_word) = both((low, high), word)?;
     let base = interval_base(alloc, said, &low.kind, first_word, &high.kind, last_word);

@@ -35,6 +35,8 @@ pub fn type_exp<P: Phrases>(
     match e {
         TypeExp::Integer(_) => Ok(TypeTree::Integer),
         TypeExp::Cardinal(_) => Ok(TypeTree::Cardinal),
+        TypeExp::LongInteger(_) => Ok(TypeTree::LongInteger),
+        TypeExp::LongCardinal(_) => Ok(TypeTree::LongCardinal),
         TypeExp::Boolean(_) => Ok(TypeTree::Boolean),
         TypeExp::Character(_) => Ok(TypeTree::Character),
         TypeExp::String(_) => Ok(TypeTree::String),

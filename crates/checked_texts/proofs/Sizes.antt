@@ -18,7 +18,7 @@ use Rattle.interface_records.specs.declared.interface.Interface.{Interface}
 use Rattle.check_rules.specs.CheckedModule.{checked}
 use Rattle.check_rules.specs.Laws.{IsOfTextSize}
 use Rattle.check_rules.specs.Steps.{Checked}
-use Rattle.check_rules.proofs.KeptModule.{few_nodes}
+use Rattle.typing_laws.proofs.KeptModule.{few_nodes}
 use Rattle.written_trees.specs.Laws.{IsTreeOf}
 
 few_tokens : {text : List ℕ} {at : ℕ} {tokens : List Token} → Reaches text at tokens → length tokens ≤ at

@@ -1,7 +1,8 @@
+//! The laws of texts: each comes to one thing at most, and what files can spell of it.
 ghost use Rattle.checked_texts.specs.Laws.{DefinedInterfacesCanBeSpelled, DefinitionsComeToOne, FaultsComeInOrder, ProgramsComeToOne, ReadModulesCanBeKept, StampsNeedNoInterface, TextsBeginOnce, TextsHaveOneTree};
 
-use check_rules::laws::spelled_interfaces_are_in_order;
 use checking_laws::laws::used_items_are_few;
+use typing_laws::laws::spelled_interfaces_are_in_order;
 use written_trees::{
     checked_texts_are_sound, checked_texts_can_be_spelled, checked_texts_have_names,
 };

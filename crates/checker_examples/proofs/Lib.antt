@@ -4,6 +4,9 @@ mod Generated
 mod Interfaces
 mod Limits
 mod LongHeads
+mod LongNodes
+mod LongTrees
+mod LongTypes
 mod Mixtures
 mod Names
 mod Orders

@@ -14,12 +14,13 @@ use Rattle.check_rules.specs.Scopes.{nothing, has}
 use Rattle.check_rules.specs.Meanings.{TypeName, Procedure}
 use Rattle.check_rules.specs.Steps.{Check, ◌>>=◌, pure, lift}
 use Rattle.check_rules.specs.Around.{Around, inside, in_constant, with_labels, in_round, in_arm}
-use Rattle.check_rules.specs.Parts.{first, first_of_interval, first_of_type, first_name, last_of, names_of, field_named, kinds, kind_by, count, keys, count_lefts, keys_of_lefts, are_fields, complete, places_of, and_operation}
+use Rattle.check_rules.specs.Parts.{first, first_of_interval, first_of_type, first_name, last_of, names_of, field_named, kinds, kind_by, count, keys, count_lefts, keys_of_lefts, are_fields, complete, places_of}
 use Rattle.check_rules.specs.Ranges.{Typed, Aim, Free, Into, Several, finish}
-use Rattle.check_rules.specs.Values.{number, letter, truth, is_truth, by_level, Level, Bare, Sums, Alls, Somes, level_of, in_order, by_aim, bound_aim, Raises, raised}
+use Rattle.check_rules.specs.Operators.{longer, sort_of}
+use Rattle.check_rules.specs.Values.{number, letter, truth, is_truth, Sum, Begun, closed, by_level, Level, Bare, Sums, Alls, Somes, level_of, in_order, by_aim, Raises, raised}
 use Rattle.check_rules.specs.Reached.{Reached, Named, Value, Variable, Results, Use, Read, Store, Perform, reached, settled, shape_of, Target, may_apply}
 use Rattle.check_rules.specs.TypeRules.{origin, interval_base, is_index}
-use Rattle.check_rules.specs.Statements.{Ends, Headed, Variables, Counted, NotCounted, By, Controlled, Left, looped, held, labels_of_exits, labels_of_repeats, labels_of, Held, is_finished}
+use Rattle.check_rules.specs.Statements.{Ends, held_words, longer_bounds, longer_number, selected, Headed, Variables, Counted, NotCounted, By, Controlled, Left, looped, held, labels_of_exits, labels_of_repeats, labels_of, Held, is_finished}
 use Rattle.check_rules.specs.Phrases.{holds, in_left, in_raise, in_targets, in_cases, in_items, is_catch}
 use Rattle.check_rules.specs.Checking.{check, sums, truths, interval, walk, apply, one, construct, arguments, values, alike, keyed, raise, with_brackets, phrase, arms, type_exp, fields_of, named_fields, unnamed_fields, of_interval, statement, otherwise, statements, target, targets, targets_in_order, targets_by_key, cases, tests, control, counted, condition, repeats, exits, block, heads, head, initials, initial}
 use Rattle.check_rules.specs.declared.fault.Cause.TheVariants.{TypeMismatch, WrongCount, TwiceDeclared}
@@ -29,15 +30,8 @@ use Rattle.checking_laws.specs.Weights.{one_each}
 use Rattle.checking_laws.proofs.Uses as u
 use Rattle.checking_laws.proofs.Using.{Uses, Unused, bind, give, refusing, lifting, after, weaker, only_if, only_holds, some_or_refused, after_spending, after_hiding, within, inside_scope, seen_from, measuring}
 use Rattle.checking_laws.proofs.Names.{names_are_new, announced, has_settled, elements_used, named_used, qualified_used, type_named_used, word_base_used, arm_labels_used}
-use Rattle.checking_laws.proofs.Values.{Of, OfValues, OfArguments, NoneFor, Behind, weight, finished, not_given, signed_given, compared_given, within_given, step_given, operand_given, string_given, no_phrase_given, parts_given, value_used, field_used, indexed_given, text_given, at_index_given, shape_used, in_fields_used, by_keys_used, raises_given, stored_used, performed_used, reached_weight, settled_weight}
-use Rattle.checking_laws.proofs.Statements.{OfStatement, Before, in_repeat, limited_given, few_given, bound_given, subrange_given, numbered_used, whole_used, initial_used, exit_given, next_given, go_to_given, return_given, retry_given, continue_given, reject_given, resumed_given, returned_names, tested_given, inside_given, rounds_given, counter_given, given_given, source_given, extracted_given, declared_used, constant_meaning_given, entered, new_labels_given, NotAgain, left_names}
-
--- operations done, and more behind them
-operations_more : (os : t.Operations) (r : t.Range) (o : t.Operator) (e : t.Expr)
-    → u.in_operations (and_operation os (t.Then r o e)) ≡ u.in_operations os + u.in_expr e
-unfolding and_operation u.in_operations
-operations_more t.NoOperation r o e = omega arith
-operations_more (t.Then q p d os) r o e = omega (arith, operations_more os r o e)
+use Rattle.checking_laws.proofs.Values.{Of, OfValues, OfArguments, NoneFor, Behind, weight, finished, not_given, signed_given, compared_given, within_given, step_given, bound_of_given, operand_given, string_given, no_phrase_given, parts_given, value_used, field_used, indexed_given, text_given, at_index_given, shape_used, in_fields_used, by_keys_used, raises_given, stored_used, performed_used, reached_weight, settled_weight}
+use Rattle.checking_laws.proofs.Statements.{OfStatement, Before, in_repeat, limited_given, few_given, bound_given, subrange_given, numbered_used, whole_used, initial_used, exit_given, next_given, go_to_given, return_given, retry_given, continue_given, reject_given, resumed_given, returned_names, tested_given, inside_given, selected_names, rounds_given, counter_given, given_given, source_given, extracted_given, declared_used, constant_meaning_given, entered, new_labels_given, NotAgain, left_names}
 
 pub join_names : (ds ss : t.Stmts) → u.in_stmts (join_stmts ds ss) ≡ u.in_stmts ds + u.in_stmts ss
 unfolding join_stmts u.in_stmts
@@ -93,7 +87,7 @@ mutual
   check_used a aim (s.Run e ss) =
       bind (check_used a (Free (first e)) e) (λ x n q.
       bind {P = λ (r : Typed) m. (m ≤ tree.steps_weight one_each ss) × (u.in_expr x.value + m ≤ u.in_expr r.value)} (levels (level_of ss) (give (omega arith, omega arith))
-      (bind (sums_used a t.NoOperation x.kind x.literal ss) (λ r m w. give (omega arith, omega arith)))
+      (bind (sums_used a (first e) (Begun x.value) x.kind x.literal ss) (λ r m w. give (omega arith, omega arith)))
       (bind (truths_used a (is_truth x.kind) ss) (λ es m w. give (omega arith, omega arith)))
       (bind (truths_used a (is_truth x.kind) ss) (λ es m w. give (omega arith, omega arith)))) (λ r m w.
       lifting (finished aim r) (λ y i. (omega arith, omega arith))))
@@ -104,19 +98,21 @@ mutual
   check_used a aim (s.Compare d b o p e) =
       bind (check_used a (Free (first d)) d) (λ x n q.
       bind (check_used a (Free (first e)) e) (λ y m r.
-      after (compared_given b o p x y) (λ z w.
-      lifting (finished aim z) (λ y i. (omega arith, omega arith)))))
+      after (compared_given b o p (first d) x (first e) y) (λ z w.
+      after_spending (longer (sort_of x.kind) x.literal (sort_of y.kind) y.literal) (λ v. lift (finish aim z))
+      (lifting (finished aim z) (λ y i. (omega arith, omega arith))))))
   check_used a aim (s.Within e b p i) =
       bind (check_used a (Free (first e)) e) (λ x n q.
       bind (interval_used a i) (λ ends m r.
-      after (within_given b p x ends) (λ z w.
-      lifting (finished aim z) (λ y i. (omega arith, omega arith)))))
+      after (within_given b p (first e) x ends) (λ z w.
+      after_spending (longer_number x ends + longer_bounds x ends) (λ v. lift (finish aim z))
+      (lifting (finished aim z) (λ y i. (omega arith, omega arith))))))
   check_used a aim (s.Signed sign p e) =
       bind (check_used a (Free (first e)) e) (λ x n q.
       after (signed_given sign p x) (λ r w.
       lifting (finished aim r) (λ y i. (omega arith, omega arith))))
   check_used a aim (s.NumberLiteral p n) =
-      after_spending 1 (λ w. lift (finish aim (number n))) (lifting (finished aim (number n)) (λ y i. (omega arith, omega arith)))
+      after_spending (words_of (number n).kind) (λ w. lift (finish aim (number n))) (lifting (finished aim (number n)) (λ y i. (omega arith, omega arith)))
   check_used a aim (s.CharacterLiteral p n) =
       after_spending 1 (λ w. lift (finish aim (letter n))) (lifting (finished aim (letter n)) (λ y i. (omega arith, omega arith)))
   check_used a aim (s.StringLiteral p bytes) =
@@ -136,14 +132,14 @@ mutual
       bind (value_used aim x.0 x.1) (λ y m z.
       lifting (finished aim y) (λ y i. (omega arith, omega arith))))
 
-  pub sums_used : (a : Around) (done : t.Operations) (kind : PlainType) (literal : Bool) (ss : s.Operations)
-      → Uses (λ (r : t.Operations × PlainType) n. (n ≤ tree.steps_weight one_each ss) × (u.in_operations done + n ≤ u.in_operations r.0)) (sums a done kind literal ss)
-  sums_used a done kind literal s.NoOperation = give (omega arith, omega arith)
-  sums_used a done kind literal (s.AndOperation o p e ss) =
+  pub sums_used : (a : Around) (l : Place) (done : Sum) (kind : PlainType) (literal : Bool) (ss : s.Operations)
+      → Uses (λ (r : t.Expr × PlainType) n. (n ≤ tree.steps_weight one_each ss) × (u.in_expr (closed done) + n ≤ u.in_expr r.0)) (sums a l done kind literal ss)
+  sums_used a l done kind literal s.NoOperation = give (omega arith, omega arith)
+  sums_used a l done kind literal (s.AndOperation o p e ss) =
       bind (check_used a (Free (first e)) e) (λ r n q.
-      after (step_given o p kind literal r) (λ x w.
-      weaker (sums_used a (and_operation done (t.Then x.left x.operator x.right)) x.kind false ss) (λ z m y.
-      (omega arith, omega (arith, operations_more done x.left x.operator x.right)))))
+      after (step_given o p l done kind literal (first e) r) (λ x w.
+      after_spending (longer (sort_of kind) literal (sort_of r.kind) r.literal) (λ v. sums a l x.done x.kind false ss)
+      (weaker (sums_used a l x.done x.kind false ss) (λ z m y. (omega arith, omega arith)))))
 
   pub truths_used : (a : Around) (fits : Bool) (ss : s.Operations) → Uses (OfValues (tree.steps_weight one_each ss)) (truths a fits ss)
   truths_used a fits s.NoOperation = give (omega arith, omega arith)
@@ -294,6 +290,8 @@ mutual
   pub type_exp_used : (a : Around) (e : s.TypeExp) → Uses Unused (type_exp a e)
   type_exp_used a (s.Integer p) = give refl
   type_exp_used a (s.Cardinal p) = give refl
+  type_exp_used a (s.LongInteger p) = give refl
+  type_exp_used a (s.LongCardinal p) = give refl
   type_exp_used a (s.Boolean p) = give refl
   type_exp_used a (s.Character p) = give refl
   type_exp_used a (s.String p) = give refl
@@ -335,12 +333,14 @@ mutual
 
   pub of_interval_used : (a : Around) (base : Option PlainType) (i : s.Interval) → Uses Unused (of_interval a base i)
   of_interval_used a base (s.Between p open_low low high open_high) =
-      bind (check_used (in_constant (first low) a) (bound_aim base (first low)) low) (λ x n q.
+      bind (check_used (in_constant (first low) a) (Free (first low)) low) (λ i n q.
+      after (bound_of_given base (first low) i) (λ x v.
       after (bound_given (first low) x) (λ m w.
-      bind (check_used (in_constant (first high) a) (bound_aim base (first high)) high) (λ y k r.
+      bind (check_used (in_constant (first high) a) (Free (first high)) high) (λ j k r.
+      after (bound_of_given base (first high) j) (λ y c.
       after (bound_given (first high) y) (λ l z.
-      after (some_or_refused (interval_base base x.kind m y.kind l) TypeMismatch p tt) (λ j d.
-      lifting (subrange_given p j open_low m l open_high) (λ k i. omega arith))))))
+      after (some_or_refused (interval_base base x.kind m y.kind l) TypeMismatch p tt) (λ b d.
+      lifting (subrange_given p b open_low m l open_high) (λ k i. omega arith))))))))
 
   -- statements
   pub statement_used : (a : Around) (x : s.Statement) → Uses (OfStatement (tree.statement_weight one_each x)) (statement a x)
@@ -371,10 +371,10 @@ mutual
       give (omega arith, omega arith)))))
   statement_used a (s.Select p e cs other) = whole_used a p (holds e || in_cases cs) _ (λ a.
       bind (check_used a (Free (first e)) e) (λ x n q.
-      after_hiding 1 (λ w. cases a x cs >>= (λ f. otherwise a other >>= (λ o. pure (t.Select x.value (f (t.Otherwise o)))))) (
-      bind (cases_used a x cs) (λ f m w.
+      after_hiding (held_words x) (λ w. cases a (first e) x cs >>= (λ f. otherwise a other >>= (λ o. pure (selected x (f (t.Otherwise o)))))) (
+      bind (cases_used a (first e) x cs) (λ f m w.
       bind (otherwise_used a other) (λ o k z.
-      give (omega arith, omega (arith, w.1 (t.Otherwise o))))))))
+      give (omega arith, omega (arith, w.1 (t.Otherwise o), selected_names x (f (t.Otherwise o)))))))))
   statement_used a (s.Loop n p ph ss rs) =
       whole_used a (s.control_place n p) true _ {rule = λ a. control a n >>= (λ x.
       phrase (in_round (labels_of_repeats rs) a) ph >>= (λ w.
@@ -456,32 +456,35 @@ mutual
       bind (targets_by_key_used a q fs (key.name ∷ taken) ls) (λ ts m z.
       give (omega arith, omega (arith, y ts)))))))
 
-  pub cases_used : (a : Around) (x : Typed) (xs : s.Cases)
-      → Uses (λ (f : t.Cases → t.Cases) n. (n ≤ tree.cases_weight one_each xs) × ((cs : t.Cases) → n + u.in_cases cs ≤ u.in_cases (f cs))) (cases a x xs)
-  cases_used a x s.NoCases = give (omega arith, λ cs. omega arith)
-  cases_used a x (s.AndCase ts body rest) =
-      bind (tests_used a x ts) (λ us n q.
+  pub cases_used : (a : Around) (l : Place) (x : Typed) (xs : s.Cases)
+      → Uses (λ (f : t.Cases → t.Cases) n. (n ≤ tree.cases_weight one_each xs) × ((cs : t.Cases) → n + u.in_cases cs ≤ u.in_cases (f cs))) (cases a l x xs)
+  cases_used a l x s.NoCases = give (omega arith, λ cs. omega arith)
+  cases_used a l x (s.AndCase ts body rest) =
+      bind (tests_used a l x ts) (λ us n q.
       bind (statement_used a body) (λ b m w.
-      bind (cases_used a x rest) (λ more k z.
+      bind (cases_used a l x rest) (λ more k z.
       give (omega arith, λ cs. omega (arith, z.1 cs)))))
 
-  pub tests_used : (a : Around) (x : Typed) (xs : s.Tests) → Uses (λ (ts : t.Tests) n. (n ≤ tree.tests_weight one_each xs) × (n ≤ u.in_tests ts)) (tests a x xs)
-  tests_used a x s.NoTests = give (omega arith, omega arith)
-  tests_used a x (s.Value e ts) =
+  pub tests_used : (a : Around) (l : Place) (x : Typed) (xs : s.Tests) → Uses (λ (ts : t.Tests) n. (n ≤ tree.tests_weight one_each xs) × (n ≤ u.in_tests ts)) (tests a l x xs)
+  tests_used a l x s.NoTests = give (omega arith, omega arith)
+  tests_used a l x (s.Value e ts) =
       bind (check_used a (Free (first e)) e) (λ y n q.
-      after (tested_given false t.Equal (first e) x y) (λ put w.
-      bind (tests_used a x ts) (λ ts m z.
-      give (omega arith, omega (arith, w ts)))))
-  tests_used a x (s.Compared b o p e ts) =
+      after (tested_given false t.Equal (first e) l x (first e) y) (λ put w.
+      after_spending (longer (sort_of x.kind) false (sort_of y.kind) y.literal) (λ v. tests a l x ts >>= (λ us. pure (put us))) (
+      bind (tests_used a l x ts) (λ us m z.
+      give (omega arith, omega (arith, w us))))))
+  tests_used a l x (s.Compared b o p e ts) =
       bind (check_used a (Free (first e)) e) (λ y n q.
-      after (tested_given b o p x y) (λ put w.
-      bind (tests_used a x ts) (λ ts m z.
-      give (omega arith, omega (arith, w ts)))))
-  tests_used a x (s.Inside b p i ts) =
+      after (tested_given b o p l x (first e) y) (λ put w.
+      after_spending (longer (sort_of x.kind) false (sort_of y.kind) y.literal) (λ v. tests a l x ts >>= (λ us. pure (put us))) (
+      bind (tests_used a l x ts) (λ us m z.
+      give (omega arith, omega (arith, w us))))))
+  tests_used a l x (s.Inside b p i ts) =
       bind (interval_used a i) (λ ends n q.
-      after (inside_given b p x ends) (λ put w.
-      bind (tests_used a x ts) (λ ts m z.
-      give (omega arith, omega (arith, w ts)))))
+      after (inside_given b p l x ends) (λ put w.
+      after_spending (longer_bounds x ends) (λ v. tests a l x ts >>= (λ us. pure (put us))) (
+      bind (tests_used a l x ts) (λ us m z.
+      give (omega arith, omega (arith, w us))))))
 
   -- loops
   pub control_used : (a : Around) (x : s.Control)

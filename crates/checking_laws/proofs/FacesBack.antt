@@ -37,6 +37,8 @@ layer_back : (y : TypeTree-F Types Parts) → TypeBack (roll-TypeTree (map-TypeT
 unfolding tree_of
 layer_back TypeTree-F.Integer = simp fold-roll-TypeTree (sym tree.rolls-Integer)
 layer_back TypeTree-F.Cardinal = simp fold-roll-TypeTree (sym tree.rolls-Cardinal)
+layer_back TypeTree-F.LongInteger = simp fold-roll-TypeTree (sym tree.rolls-LongInteger)
+layer_back TypeTree-F.LongCardinal = simp fold-roll-TypeTree (sym tree.rolls-LongCardinal)
 layer_back TypeTree-F.Boolean = simp fold-roll-TypeTree (sym tree.rolls-Boolean)
 layer_back TypeTree-F.Character = simp fold-roll-TypeTree (sym tree.rolls-Character)
 layer_back TypeTree-F.String = simp fold-roll-TypeTree (sym tree.rolls-String)

@@ -1,5 +1,5 @@
 -- Names: one that is named marks one item at most, and only where it means an item of an import. A type marks none.
-use Rattle.std.specs.Prelude.{ℕ, ◌≡◌, ◌+◌, ◌≤◌, Bool, true, false, not, Option, Some, None, Ok, Err, List, [], ◌∷◌, map, is_some, slice_get}
+use Rattle.std.specs.Prelude.{ℕ, ◌≡◌, ◌+◌, ◌≤◌, Bool, true, false, not, Option, Some, None, Ok, Err, List, [], ◌∷◌, map, slice_get}
 use Rattle.std.proofs.Common.{refl, sym, subst, arith}
 use Rattle.mesa_base.specs.declared.place.Place.{Place}
 use Rattle.mesa_base.specs.declared.identifier.Identifier.{Identifier}
@@ -8,7 +8,7 @@ use Rattle.syntax_trees.specs.declared.syntax.Labels.{Labels}
 use Rattle.syntax_trees.specs.declared.syntax.Labels.TheVariants.{Any, Unwind, Signals}
 use Rattle.syntax_trees.specs.declared.syntax.TypeBase.{TypeBase}
 use Rattle.syntax_trees.specs.declared.syntax.TypeBase.TheVariants.{Unsaid, OfInteger, OfCardinal, OfCharacter, OfName}
-use Rattle.interface_records.specs.PlainTypes.{PlainType, base_of}
+use Rattle.interface_records.specs.PlainTypes.{PlainType, is_ordinal}
 use Rattle.check_rules.specs.Typed as t
 use Rattle.check_rules.specs.Meanings.{Meaning, Constant, TypeName, Procedure, Signal, Interface, Later, Headless, NotImported}
 use Rattle.check_rules.specs.Scopes.{find, has}
@@ -103,7 +103,7 @@ module _ (a : Around) where
   word_base_used (OfCardinal p) = give refl
   word_base_used (OfCharacter p) = give refl
   word_base_used (OfName q) = bind (type_named_used q) (λ k n w.
-      after (and_gives (only_if (is_some (base_of k)) TypeMismatch (last_of q).place tt) (λ x v. all_right {P = Anything} tt)) (λ k v. give (omega arith)))
+      after (and_gives (only_if (is_ordinal k) TypeMismatch (last_of q).place tt) (λ x v. all_right {P = Anything} tt)) (λ k v. give (omega arith)))
 
   signal_by_given : (p : Place) (m : Meaning) → Gives (λ (l : ArmLabel). linked m ≡ u.in_label (label_of l)) (signal_by p m)
   signal_by_given p (Signal (t.LinkedSignal k n) i) = all_right refl

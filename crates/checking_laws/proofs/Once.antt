@@ -7,8 +7,7 @@ use Rattle.interface_records.specs.PlainTypes.{PlainInterface}
 use Rattle.check_rules.specs.Scopes.{has}
 use Rattle.check_rules.specs.Directory.{listed, interface_at, place_in, put_some, those_of, names_in}
 use Rattle.check_rules.specs.declared.fault.Cause.TheVariants.{UnknownName, TwiceDeclared}
-use Rattle.check_rules.proofs.SoundSame.{bytes_same}
-use Rattle.check_rules.proofs.SoundDirectory.{bytes_itself}
+use Rattle.check_rules.proofs.SoundSame.{bytes_itself, bytes_same}
 use Rattle.checking_laws.proofs.Using.{Gives, all_right, and_gives, only_if, only_holds, gives_as}
 
 -- no name stands twice, or among these

@@ -1,5 +1,5 @@
 -- Rules of statements, types and declarations: what they give names the items that their parts name, and a constant none.
-use Rattle.std.specs.Prelude.{ℕ, ◌≡◌, ◌+◌, ◌≤◌, Bool, true, false, ◌&&◌, ◌||◌, Option, Some, None, Ok, List, [], ◌∷◌, length, map, is_some, if◌then◌else◌, nat_lt, nat_le}
+use Rattle.std.specs.Prelude.{ℕ, ◌≡◌, ◌+◌, ◌≤◌, Bool, true, false, ◌&&◌, ◌||◌, Option, Some, None, Ok, List, [], ◌∷◌, length, map, if◌then◌else◌, nat_lt, nat_le}
 use Rattle.std.proofs.Common.{refl, arith}
 use Rattle.mesa_base.specs.declared.limits.TheConstants.{TYPE_WORDS, TYPE_DEPTH, ENUMERATION_ELEMENTS, GLOBAL_WORDS}
 use Rattle.mesa_base.specs.declared.place.Place.{Place}
@@ -8,8 +8,8 @@ use Rattle.syntax_trees.specs.Syntax as s
 use Rattle.syntax_trees.specs.declared.syntax.RepeatLabels.{RepeatLabels}
 use Rattle.syntax_trees.specs.declared.syntax.RepeatLabels.TheVariants as repeat
 use Rattle.check_rules.specs.Typed as t
-use Rattle.check_rules.specs.Typed.{Relation, Home, Given}
-use Rattle.interface_records.specs.PlainTypes.{PlainType, PlainField, base_of, conforms, is_text, words_of, depth_of, sign_of}
+use Rattle.check_rules.specs.Typed.{Relation}
+use Rattle.interface_records.specs.PlainTypes.{PlainType, PlainField, base_of, conforms, is_long, is_ordinal, is_text, words_of, depth_of, sign_of}
 use Rattle.mesa_types.specs.Shapes.{words_in_all}
 use Rattle.mesa_types.specs.Constants.{constant}
 use Rattle.mesa_types.specs.Operators.{shifted, truth}
@@ -17,18 +17,18 @@ use Rattle.check_rules.specs.Meanings.{Meaning, Variable}
 use Rattle.check_rules.specs.Steps.{Check, ◌>>=◌, pure, only, or_refuse}
 use Rattle.check_rules.specs.Around.{Around, ArmHere, NoArm, InArm, ArmLabel, Seen, in_statement, is_unwinding, jump, leave_loop, exit_loop, next_round, go_to_seen, go_to, return, arm_for_raises, retry, continue, reject, all_resumable, all_give, results_of, resumed}
 use Rattle.check_rules.specs.Parts.{first_name, Found}
-use Rattle.check_rules.specs.Operators.{related}
-use Rattle.check_rules.specs.Ranges.{Typed, Arguments}
+use Rattle.check_rules.specs.Operators.{Relating, Words, Longs, beside, related, relating, sort_of, turned}
+use Rattle.check_rules.specs.Ranges.{Typed, Arguments, conversion_for, range_for}
 use Rattle.check_rules.specs.Reached.{Target}
 use Rattle.check_rules.specs.Names.{settle}
 use Rattle.check_rules.specs.TypeRules.{limited, few, bound, literal_word, subrange, subrange_if}
-use Rattle.check_rules.specs.Statements.{numbered, whole, returned, returned_by, Ends, lies_in, tested, tested_inside, Rounds, rounds, Counter, counter, given, Source, source, source_by, record_fields, is_one, extracted, variables, local, global, few_globals, meaning_of, enter_arm, Variables, declare, given_initial, is_text_literal, text_constant, constant_by, constant_meaning, Left, also_left, new_labels, is_finished}
+use Rattle.check_rules.specs.Statements.{numbered, whole, returned, returned_by, Ends, is_long_interval, selected, selected_by, test_by, test_inside_by, tested, tested_inside, Rounds, rounds, Counter, counter, given, Source, source, source_by, record_fields, is_one, extracted, target_by, variables, local, global, few_globals, meaning_of, enter_arm, Variables, declare, given_initial, is_text_literal, text_constant, constant_by, constant_meaning, Left, also_left, new_labels, is_finished}
 use Rattle.check_rules.specs.declared.fault.Cause.TheVariants.{TypeMismatch, NotResumable, NotConstant, GlobalsTooLarge, TypeTooLarge}
 use Rattle.checking_laws.proofs.Uses as u
 use Rattle.checking_laws.proofs.Marks.{marks}
 use Rattle.checking_laws.proofs.Constants.{constant_unused}
 use Rattle.checking_laws.proofs.Names.{linked, names_are_new, has_settled, passed}
-use Rattle.checking_laws.proofs.Values.{NoneFor, with_check}
+use Rattle.checking_laws.proofs.Values.{NoneFor, long_ends, meets_given, not_long_given, with_check, with_fit}
 use Rattle.checking_laws.proofs.Using.{by_if, some_or_refused, Gives, Uses, Unused, Anything, bind, give, and_gives, all_right, refused, only_if, after_top, within}
 
 -- a statement whose marks are at so many names, and named in it
@@ -150,27 +150,50 @@ pub returned_names : (a : Around) (j : t.Stmt) (x : Arguments) (n : ℕ) → n �
 returned_names a j x n h k = returned_by_names a.gives a j x n h k
 
 -- tests
-pub tested_given : (b : Bool) (o : Relation) (p : Place) (x e : Typed)
-    → Gives (λ (put : t.Tests → t.Tests). (ts : t.Tests) → u.in_tests (put ts) ≡ u.in_expr e.value + u.in_tests ts) (tested b o p x e)
-unfolding tested u.in_tests
-tested_given b o p x e = and_gives (some_or_refused (related x.kind x.literal e.kind e.literal) TypeMismatch p tt) (λ q w.
-    all_right (λ ts. omega (arith, with_check q.right e.value)))
+test_names : (o : Relation) (x e : Typed) (m : Relating) (ts : t.Tests) → u.in_tests (test_by o x e m ts) ≡ u.in_expr e.value + u.in_tests ts
+unfolding u.in_tests
+test_names o x e (Words m) ts = omega (arith, with_check m.right e.value)
+test_names o x e (Longs m) ts = omega (arith, with_fit m.right e.value)
 
-pub inside_given : (b : Bool) (p : Place) (x : Typed) (i : Ends)
+pub tested_given : (b : Bool) (o : Relation) (p l : Place) (x : Typed) (q : Place) (e : Typed)
+    → Gives (λ (put : t.Tests → t.Tests). (ts : t.Tests) → u.in_tests (put ts) ≡ u.in_expr e.value + u.in_tests ts) (tested b o p l x q e)
+unfolding tested
+tested_given b o p l x q e =
+    and_gives (some_or_refused (relating x.kind x.literal e.kind e.literal) TypeMismatch (beside p l (sort_of x.kind) q (sort_of e.kind)) tt) (λ m w.
+    all_right (λ ts. test_names (turned b o) x e m ts))
+
+inside_names : (long b : Bool) (x : Typed) (i : Ends) (ts : t.Tests)
+    → u.in_tests (test_inside_by long b x i ts) ≡ u.in_expr i.low.value + u.in_expr i.high.value + u.in_tests ts
+unfolding u.in_tests u.in_interval
+inside_names false b x i ts = omega arith
+inside_names true b x i ts = omega (arith, long_ends i)
+
+pub inside_given : (b : Bool) (p l : Place) (x : Typed) (i : Ends)
     → Gives (λ (put : t.Tests → t.Tests). (ts : t.Tests) → u.in_tests (put ts) ≡ u.in_expr i.low.value + u.in_expr i.high.value + u.in_tests ts)
-    (tested_inside b p x i)
-unfolding tested_inside u.in_tests u.in_interval
-inside_given b p x i = and_gives (only_if (lies_in x i) TypeMismatch p tt) (λ k w. all_right (λ ts. omega arith))
+    (tested_inside b p l x i)
+unfolding tested_inside
+inside_given b p l x i = and_gives (meets_given p l x i) (λ k w. all_right (λ ts. inside_names (is_long_interval x i) b x i ts))
+
+-- a SELECT, of a LONG number or another one
+select_names : (b : Bool) (e : t.Expr) (cs : t.Cases) → u.in_stmt (selected_by b e cs) ≡ u.in_expr e + u.in_cases cs
+unfolding u.in_stmt
+select_names true e cs = refl
+select_names false e cs = refl
+
+pub selected_names : (x : Typed) (cs : t.Cases) → u.in_stmt (selected x cs) ≡ u.in_expr x.value + u.in_cases cs
+unfolding selected
+selected_names x cs = select_names (is_long x.kind) x.value cs
 
 -- loops
 pub rounds_given : (p : Place) (i : Ends)
     → Gives (λ (r : Rounds). u.in_interval r.interval ≡ u.in_expr i.low.value + u.in_expr i.high.value) (rounds p i)
 unfolding rounds u.in_interval
-rounds_given p i = and_gives (some_or_refused (related i.low.kind i.low.literal i.high.kind i.high.literal) TypeMismatch p tt) (λ q w.
-    all_right (omega (arith, with_check q.left i.low.value, with_check q.right i.high.value)))
+rounds_given p i = and_gives (not_long_given i.low_place i.low) (λ k d. and_gives (not_long_given i.high_place i.high) (λ k d.
+    and_gives (some_or_refused (related i.low.kind i.low.literal i.high.kind i.high.literal) TypeMismatch p tt) (λ q w.
+    all_right (omega (arith, with_check q.left i.low.value, with_check q.right i.high.value)))))
 
 pub counter_given : (p : Place) (x : Meaning) → Gives (λ (c : Counter). linked x ≡ 0) (counter p x)
-counter_given p (Variable y k) = and_gives (only_if (is_some (base_of k)) TypeMismatch p tt) (λ x w. all_right refl)
+counter_given p (Variable y k) = and_gives (only_if (is_ordinal k) TypeMismatch p tt) (λ x w. all_right refl)
 counter_given p _ = refused tt
 
 pub given_given : (p : Place) (c : Counter) (r : Rounds) → Gives Anything (given p c r)
@@ -187,10 +210,18 @@ pub source_given : (p : Place) (x : Typed) → Gives (λ (y : Source). u.in_expr
 unfolding source
 source_given p x = source_by_given p x.value (record_fields (is_one x.gave) x.kind) x.gave
 
+target_names : (c : t.Conversion) (r : t.Range) (f : Found) (x : Target) (ts : t.Targets) → u.in_targets (target_by c r f x ts) ≡ u.in_suffixes x.suffixes + u.in_targets ts
+unfolding u.in_targets
+target_names t.Kept r f x ts = refl
+target_names (t.Widened a b) r f x ts = refl
+target_names (t.Narrowed a b c) r f x ts = refl
+target_names t.InCommon r f x ts = refl
+
 pub extracted_given : (p : Place) (f : Found) (x : Target)
     → Gives (λ (put : t.Targets → t.Targets). (ts : t.Targets) → u.in_targets (put ts) ≡ u.in_suffixes x.suffixes + u.in_targets ts) (extracted p f x)
-unfolding extracted u.in_targets
-extracted_given p f x = and_gives (only_if (conforms f.kind x.kind) TypeMismatch p tt) (λ k w. all_right (λ ts. refl))
+unfolding extracted
+extracted_given p f x = and_gives (only_if (conforms f.kind x.kind) TypeMismatch p tt) (λ k w.
+    all_right (λ ts. target_names (conversion_for f.kind x.kind) (range_for f.kind x.kind) f x ts))
 
 -- variables and constants
 variable_used : (a : Around) (b : Bool) (k : PlainType) → Uses Unused (if b then global k else local a k)

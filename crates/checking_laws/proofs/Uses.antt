@@ -24,16 +24,22 @@ in_labels (l ∷ ls) = in_label l + in_labels ls
 unfoldable mutual
   pub in_expr : t.Expr → ℕ
   in_expr (t.Number n) = 0
+  in_expr (t.LongNumber n) = 0
   in_expr (t.Literal k) = 0
   in_expr (t.Variable h ss words) = in_suffixes ss
   in_expr (t.FieldOf e parts) = in_expr e
   in_expr (t.LengthOf e) = in_expr e
   in_expr (t.ByteOf e i) = in_expr e + in_expr i
   in_expr (t.Checked r e) = in_expr e
+  in_expr (t.Converted c e) = in_expr e
   in_expr (t.Operate e os) = in_expr e + in_operations os
+  in_expr (t.OperateLong e os) = in_expr e + in_operations os
   in_expr (t.Negate e) = in_expr e
+  in_expr (t.NegateLong e) = in_expr e
   in_expr (t.Relate b o d e) = in_expr d + in_expr e
+  in_expr (t.RelateLong b o d e) = in_expr d + in_expr e
   in_expr (t.Within b e i) = in_expr e + in_interval i
+  in_expr (t.WithinLong b e i) = in_expr e + in_interval i
   in_expr (t.Not e) = in_expr e
   in_expr (t.AllOf es) = in_exprs es
   in_expr (t.SomeOf es) = in_exprs es
@@ -75,6 +81,7 @@ unfoldable mutual
   in_stmt (t.Perform e) = in_expr e
   in_stmt (t.If e body other) = in_expr e + in_stmt body + in_stmt other
   in_stmt (t.Select e cs) = in_expr e + in_cases cs
+  in_stmt (t.SelectLong e cs) = in_expr e + in_cases cs
   in_stmt (t.Block ph ss es) = in_phrase ph + in_stmts ss + in_exits es
   in_stmt (t.Repeat c l) = in_loop l
   in_stmt (t.For g down b i l) = in_interval i + in_loop l
@@ -92,6 +99,7 @@ unfoldable mutual
   pub in_targets : t.Targets → ℕ
   in_targets t.NoTargets = 0
   in_targets (t.AndTarget part h ss r ts) = in_suffixes ss + in_targets ts
+  in_targets (t.AndConverted part h ss c ts) = in_suffixes ss + in_targets ts
 
   pub in_cases : t.Cases → ℕ
   in_cases (t.Otherwise x) = in_stmt x
@@ -100,7 +108,9 @@ unfoldable mutual
   pub in_tests : t.Tests → ℕ
   in_tests t.NoTests = 0
   in_tests (t.IfRelated r b o e ts) = in_expr e + in_tests ts
+  in_tests (t.IfRelatedLong c b o e ts) = in_expr e + in_tests ts
   in_tests (t.IfWithin negated b i ts) = in_interval i + in_tests ts
+  in_tests (t.IfWithinLong negated c b i ts) = in_interval i + in_tests ts
 
   pub in_exits : t.Exits → ℕ
   in_exits t.NoExits = 0
@@ -144,16 +154,22 @@ mutual
 
   few_in_expr : (e : t.Expr) → in_expr e ≤ tn.expr_nodes e
   few_in_expr (t.Number n) = omega arith
+  few_in_expr (t.LongNumber n) = omega arith
   few_in_expr (t.Literal k) = omega arith
   few_in_expr (t.Variable h ss words) = omega (arith, few_in_suffixes ss)
   few_in_expr (t.FieldOf e parts) = omega (arith, few_in_expr e)
   few_in_expr (t.LengthOf e) = omega (arith, few_in_expr e)
   few_in_expr (t.ByteOf e i) = omega (arith, few_in_expr e, few_in_expr i)
   few_in_expr (t.Checked r e) = omega (arith, few_in_expr e)
+  few_in_expr (t.Converted c e) = omega (arith, few_in_expr e)
   few_in_expr (t.Operate e os) = omega (arith, few_in_expr e, few_in_operations os)
+  few_in_expr (t.OperateLong e os) = omega (arith, few_in_expr e, few_in_operations os)
   few_in_expr (t.Negate e) = omega (arith, few_in_expr e)
+  few_in_expr (t.NegateLong e) = omega (arith, few_in_expr e)
   few_in_expr (t.Relate b o d e) = omega (arith, few_in_expr d, few_in_expr e)
+  few_in_expr (t.RelateLong b o d e) = omega (arith, few_in_expr d, few_in_expr e)
   few_in_expr (t.Within b e i) = omega (arith, few_in_expr e, few_in_interval i)
+  few_in_expr (t.WithinLong b e i) = omega (arith, few_in_expr e, few_in_interval i)
   few_in_expr (t.Not e) = omega (arith, few_in_expr e)
   few_in_expr (t.AllOf es) = omega (arith, few_in_exprs es)
   few_in_expr (t.SomeOf es) = omega (arith, few_in_exprs es)
@@ -195,6 +211,7 @@ mutual
   few_in_stmt (t.Perform e) = omega (arith, few_in_expr e)
   few_in_stmt (t.If e body other) = omega (arith, few_in_expr e, few_in_stmt body, few_in_stmt other)
   few_in_stmt (t.Select e cs) = omega (arith, few_in_expr e, few_in_cases cs)
+  few_in_stmt (t.SelectLong e cs) = omega (arith, few_in_expr e, few_in_cases cs)
   few_in_stmt (t.Block ph ss es) = omega (arith, few_in_phrase ph, few_in_stmts ss, few_in_exits es)
   few_in_stmt (t.Repeat c l) = omega (arith, few_in_loop l)
   few_in_stmt (t.For g down b i l) = omega (arith, few_in_interval i, few_in_loop l)
@@ -212,6 +229,7 @@ mutual
   few_in_targets : (ts : t.Targets) → in_targets ts ≤ tn.targets_nodes ts
   few_in_targets t.NoTargets = omega arith
   few_in_targets (t.AndTarget part h ss r ts) = omega (arith, few_in_suffixes ss, few_in_targets ts)
+  few_in_targets (t.AndConverted part h ss c ts) = omega (arith, few_in_suffixes ss, few_in_targets ts)
 
   few_in_cases : (cs : t.Cases) → in_cases cs ≤ tn.cases_nodes cs
   few_in_cases (t.Otherwise x) = few_in_stmt x
@@ -220,7 +238,9 @@ mutual
   few_in_tests : (ts : t.Tests) → in_tests ts ≤ tn.tests_nodes ts
   few_in_tests t.NoTests = omega arith
   few_in_tests (t.IfRelated r b o e ts) = omega (arith, few_in_expr e, few_in_tests ts)
+  few_in_tests (t.IfRelatedLong c b o e ts) = omega (arith, few_in_expr e, few_in_tests ts)
   few_in_tests (t.IfWithin negated b i ts) = omega (arith, few_in_interval i, few_in_tests ts)
+  few_in_tests (t.IfWithinLong negated c b i ts) = omega (arith, few_in_interval i, few_in_tests ts)
 
   few_in_exits : (es : t.Exits) → in_exits es ≤ tn.exits_nodes es
   few_in_exits t.NoExits = omega arith

@@ -1,5 +1,5 @@
 -- Rules of values: what they give names the items that their parts name.
-use Rattle.std.specs.Prelude.{ℕ, ◌≡◌, ◌+◌, ◌≤◌, Bool, true, false, ◌&&◌, Option, Some, None, Ok, List, [], ◌∷◌, length, nat_eq, min}
+use Rattle.std.specs.Prelude.{ℕ, ◌≡◌, ◌+◌, ◌≤◌, Bool, true, false, not, ◌&&◌, Option, Some, None, Ok, List, [], ◌∷◌, length, nat_eq, min}
 use Rattle.std.proofs.Common.{refl, arith}
 use Rattle.mesa_base.specs.declared.place.Place.{Place}
 use Rattle.mesa_base.specs.declared.identifier.Identifier.{Identifier}
@@ -11,17 +11,17 @@ use Rattle.syntax_trees.specs.declared.syntax.Sign.TheVariants.{Positive, Negati
 use Rattle.check_rules.specs.Typed as t
 use Rattle.check_rules.specs.Typed.{Range, Every, From, Relation, Home}
 use Rattle.interface_records.specs.PlainTypes as v
-use Rattle.interface_records.specs.PlainTypes.{PlainType, PlainField, words_of_fields, elements_of, base_of, bounds, conforms, fields, is_text, array_parts, words_of, one_base}
+use Rattle.interface_records.specs.PlainTypes.{PlainType, PlainField, words_of_fields, elements_of, base_of, bounds, conforms, fields, is_text, array_parts, words_of, is_long, one_ordinal_base}
 use Rattle.check_rules.specs.Meanings as m
 use Rattle.check_rules.specs.Meanings.{Meaning}
 use Rattle.check_rules.specs.Steps.{Check, Checked, ◌>>=◌, pure, refuse}
 use Rattle.check_rules.specs.Around.{Around}
-use Rattle.check_rules.specs.Parts.{Found, field_named, and_suffix, and_part, complete, places_of}
-use Rattle.check_rules.specs.Operators.{Sort, Number, Letter, Truth, Other, sort_of, operation, related}
-use Rattle.check_rules.specs.Ranges.{Typed, typed, Aim, Free, Into, Several, Arguments, checked, range_for, fitted_if, finish}
-use Rattle.check_rules.specs.Values.{string, number_in, is_truth, not_of, signed, signed_by, compared, within, negated_by, Done, step, truth_operand, no_phrase, has_parts, in_order, by_shape, made, in_fields, by_keys, Raises, is_kind, raises_by, raised}
-use Rattle.check_rules.specs.Reached.{Reached, Results, Value, Variable, Named, reached, settled, results, value, is_length, length_of, field_of_fields, field_in, field_of_variable, part_of, field_of_value, field, Bracketed, InArray, InText, text_at, indexed_by, indexed, index_range, first_word, at_index, Shape, OfFields, OfElements, NoShape, shape_of, Target, stored, performed}
-use Rattle.check_rules.specs.Statements.{Ends, between, bases, lies_in}
+use Rattle.check_rules.specs.Parts.{Found, field_named, and_operation, and_suffix, and_part, complete, places_of}
+use Rattle.check_rules.specs.Operators.{Sort, Number, LongNumber, Letter, Truth, Other, Fit, AsLiteral, By, Application, OfWords, OfLongs, Relating, Words, Longs, beside, fitted, lengthened, sort_of, operation, relating, turned}
+use Rattle.check_rules.specs.Ranges.{Typed, typed, Aim, Free, Into, Several, Arguments, checked, conversion_for, converted, given_as, range_for, fitted_if, finish}
+use Rattle.check_rules.specs.Values.{string, number_in, is_truth, not_of, signed, signed_by, compared, related_value, within, within_by, negated_by, Done, Sum, Begun, InWords, InLongs, closed, done_by, then_long, then_word, bound_aim, bound_of, step, truth_operand, no_phrase, has_parts, in_order, by_shape, made, in_fields, by_keys, Raises, is_kind, raises_by, raised}
+use Rattle.check_rules.specs.Reached.{Reached, Results, Value, Variable, Named, constant_value, reached, settled, results, value, is_length, length_of, field_of_fields, field_in, field_of_variable, part_of, field_of_value, field, Bracketed, InArray, InText, text_at, indexed_by, indexed, index_range, first_word, at_index, Shape, OfFields, OfElements, NoShape, shape_of, Target, stored, performed}
+use Rattle.check_rules.specs.Statements.{Ends, are_related, between, bases, by_itself_of, is_long_interval, long_between, meets_bounds, not_long}
 use Rattle.check_rules.specs.declared.fault.Cause.TheVariants.{UnknownName, TypeMismatch, WrongCount, GlobalsTooLarge}
 use Rattle.checking_laws.proofs.Uses as u
 use Rattle.checking_laws.proofs.Names.{linked, of_interface_used}
@@ -47,6 +47,39 @@ unfolding u.in_expr
 with_check Every e = refl
 with_check (From b x y) e = refl
 
+-- a conversion names what its operand names, and so does what makes an operand LONG
+with_conversion : (c : t.Conversion) (r : Range) (e : t.Expr) → u.in_expr (converted c r e) ≡ u.in_expr e
+unfolding u.in_expr
+with_conversion t.Kept r e = with_check r e
+with_conversion (t.Widened x y) r e = refl
+with_conversion (t.Narrowed x y z) r e = refl
+with_conversion t.InCommon r e = refl
+
+given_same : (from to : PlainType) (e : t.Expr) → u.in_expr (given_as from to e) ≡ u.in_expr e
+unfolding given_as
+given_same from to e = with_conversion (conversion_for from to) (range_for from to) e
+
+lengthened_same : (e : t.Expr) → u.in_expr (lengthened e) ≡ u.in_expr e
+unfolding u.in_expr
+lengthened_same (t.Number n) = refl
+lengthened_same _ = refl
+
+pub with_fit : (f : Fit) (e : t.Expr) → u.in_expr (fitted f e) ≡ u.in_expr e
+unfolding fitted u.in_expr
+with_fit AsLiteral e = lengthened_same e
+with_fit (By t.Kept) e = refl
+with_fit (By (t.Widened x y)) e = refl
+with_fit (By (t.Narrowed x y z)) e = refl
+with_fit (By t.InCommon) e = refl
+
+itself_same : (x : Typed) → u.in_expr (by_itself_of x) ≡ u.in_expr x.value
+unfolding by_itself_of
+itself_same x = with_fit _ x.value
+
+pub long_ends : (i : Ends) → u.in_interval (long_between i) ≡ u.in_expr i.low.value + u.in_expr i.high.value
+unfolding u.in_interval
+long_ends i = omega (arith, itself_same i.low, itself_same i.high)
+
 -- suffixes and parts, and one more behind them
 suffix_more : (ss : t.Suffixes) (n o : ℕ) → u.in_suffixes (and_suffix ss (t.Field n o)) ≡ u.in_suffixes ss
 unfolding and_suffix u.in_suffixes
@@ -66,10 +99,15 @@ unfolding u.in_expr
 part_more (t.FieldOf e ps) p = refl
 part_more _ p = refl
 
+value_weight : (b : Bool) (n : ℕ) → u.in_expr (constant_value b n) ≡ 0
+unfolding u.in_expr
+value_weight true n = refl
+value_weight false n = refl
+
 pub reached_weight : (x : Meaning) → weight (reached x) ≡ linked x
 unfolding reached u.in_expr u.in_suffixes
 reached_weight (m.Variable h k) = refl
-reached_weight (m.Constant k n) = refl
+reached_weight (m.Constant k n) = value_weight (is_long k) n
 reached_weight (m.TextConstant n) = refl
 reached_weight _ = refl
 
@@ -83,7 +121,7 @@ settled_weight (Named x) = refl
 
 -- what is finished for its aim
 fitted_given : (b : Bool) (k : PlainType) (p : Place) (x : Typed) → Gives (Names (u.in_expr x.value)) (fitted_if b k p x)
-fitted_given true k p x = all_right (with_check (range_for x.kind k) x.value)
+fitted_given true k p x = all_right (given_same x.kind k x.value)
 fitted_given false k p x = refused tt
 
 pub finished : (aim : Aim) (x : Typed) → Gives (Names (u.in_expr x.value)) (finish aim x)
@@ -100,6 +138,8 @@ signed_by_given : (sign : Sign) (p : Place) (e : t.Expr) (a : Sort) → Gives (N
 unfolding u.in_expr
 signed_by_given Positive p e (Number b) = all_right refl
 signed_by_given Negative p e (Number b) = all_right refl
+signed_by_given Positive p e (LongNumber b) = all_right refl
+signed_by_given Negative p e (LongNumber b) = all_right refl
 signed_by_given Positive p e Letter = refused tt
 signed_by_given Positive p e Truth = refused tt
 signed_by_given Positive p e Other = refused tt
@@ -111,11 +151,17 @@ pub signed_given : (sign : Sign) (p : Place) (x : Typed) → Gives (Names (u.in_
 unfolding signed
 signed_given sign p x = signed_by_given sign p x.value (sort_of x.kind)
 
-pub compared_given : (b : Bool) (o : Relation) (p : Place) (x y : Typed)
-    → Gives (Names (u.in_expr x.value + u.in_expr y.value)) (compared b o p x y)
-unfolding compared u.in_expr
-compared_given b o p x y = and_gives (some_or_refused (related x.kind x.literal y.kind y.literal) TypeMismatch p tt) (λ q w.
-    all_right (omega (arith, with_check q.left x.value, with_check q.right y.value)))
+related_given : (o : Relation) (d e : t.Expr) (m : Relating) → Gives (Names (u.in_expr d + u.in_expr e)) (Ok (related_value o d e m))
+unfolding u.in_expr
+related_given o d e (Words m) = all_right (omega (arith, with_check m.left d, with_check m.right e))
+related_given o d e (Longs m) = all_right (omega (arith, with_fit m.left d, with_fit m.right e))
+
+pub compared_given : (b : Bool) (o : Relation) (p l : Place) (x : Typed) (r : Place) (y : Typed)
+    → Gives (Names (u.in_expr x.value + u.in_expr y.value)) (compared b o p l x r y)
+unfolding compared
+compared_given b o p l x r y =
+    and_gives (some_or_refused (relating x.kind x.literal y.kind y.literal) TypeMismatch (beside p l (sort_of x.kind) r (sort_of y.kind)) tt) (λ m w.
+    related_given (turned b o) x.value y.value m)
 
 negated_same : (b : Bool) (e : t.Expr) → u.in_expr (negated_by b e) ≡ u.in_expr e
 unfolding u.in_expr
@@ -127,18 +173,69 @@ within_same : (b : t.Bases) (e : t.Expr) (i : Ends)
 unfolding u.in_expr u.in_interval
 within_same b e i = refl
 
-pub within_given : (b : Bool) (p : Place) (x : Typed) (i : Ends)
-    → Gives (Names (u.in_expr x.value + (u.in_expr i.low.value + u.in_expr i.high.value))) (within b p x i)
-unfolding within
-within_given b p x i = and_gives (only_if (lies_in x i) TypeMismatch p tt) (λ k w.
-    all_right (omega (arith, negated_same b (t.Within (bases x.kind i) x.value (between i)), within_same (bases x.kind i) x.value i)))
+by_length_same : (b : Bool) (x : Typed) (i : Ends)
+    → u.in_expr (within_by b x i) ≡ u.in_expr x.value + (u.in_expr i.low.value + u.in_expr i.high.value)
+unfolding u.in_expr
+by_length_same false x i = within_same (bases x.kind i) x.value i
+by_length_same true x i = omega (arith, itself_same x, long_ends i)
 
-pub step_given : (o : Operator) (p : Place) (k : PlainType) (literal : Bool) (r : Typed)
-    → Gives (λ (d : Done). u.in_expr d.right ≡ u.in_expr r.value) (step o p k literal r)
+pub meets_given : (p l : Place) (x : Typed) (i : Ends) → Gives Anything (meets_bounds p l x i)
+unfolding meets_bounds
+meets_given p l x i = and_gives (only_if (are_related x i.low) TypeMismatch (beside p l (sort_of x.kind) i.low_place (sort_of i.low.kind)) tt) (λ k w.
+    only_if (are_related x i.high) TypeMismatch (beside p l (sort_of x.kind) i.high_place (sort_of i.high.kind)) tt)
+
+pub within_given : (b : Bool) (p l : Place) (x : Typed) (i : Ends)
+    → Gives (Names (u.in_expr x.value + (u.in_expr i.low.value + u.in_expr i.high.value))) (within b p l x i)
+unfolding within
+within_given b p l x i = and_gives (meets_given p l x i) (λ k w.
+    all_right (omega (arith, negated_same b (within_by (is_long_interval x i) x i), by_length_same (is_long_interval x i) x i)))
+
+-- operations done, and more behind them
+operations_more : (os : t.Operations) (r : t.Range) (o : t.Operator) (e : t.Expr)
+    → u.in_operations (and_operation os (t.Then r o e)) ≡ u.in_operations os + u.in_expr e
+unfolding and_operation u.in_operations
+operations_more t.NoOperation r o e = omega arith
+operations_more (t.Then q p d os) r o e = omega (arith, operations_more os r o e)
+
+word_more : (done : Sum) (r : Range) (o : t.Operator) (e : t.Expr) → u.in_expr (closed (then_word done (t.Then r o e))) ≡ u.in_expr (closed done) + u.in_expr e
+unfolding u.in_expr
+word_more (Begun d) r o e = omega arith
+word_more (InWords d os) r o e = omega (arith, operations_more os r o e)
+word_more (InLongs d os) r o e = omega arith
+
+fresh_long : (d : t.Expr) (f : Fit) (o : t.Operator) (e : t.Expr) → u.in_expr (t.OperateLong (fitted f d) (t.Then Every o e t.NoOperation)) ≡ u.in_expr d + u.in_expr e
+unfolding u.in_expr
+fresh_long d f o e = omega (arith, with_fit f d)
+
+long_more : (done : Sum) (f : Fit) (o : t.Operator) (e : t.Expr) → u.in_expr (closed (then_long done f (t.Then Every o e))) ≡ u.in_expr (closed done) + u.in_expr e
+unfolding u.in_expr
+long_more (Begun d) f o e = fresh_long d f o e
+long_more (InWords d os) f o e = fresh_long (t.Operate d os) f o e
+long_more (InLongs d os) AsLiteral o e = fresh_long (t.OperateLong d os) AsLiteral o e
+long_more (InLongs d os) (By t.Kept) o e = omega (arith, operations_more os Every o e)
+long_more (InLongs d os) (By (t.Widened x y)) o e = fresh_long (t.OperateLong d os) (By (t.Widened x y)) o e
+long_more (InLongs d os) (By (t.Narrowed x y z)) o e = fresh_long (t.OperateLong d os) (By (t.Narrowed x y z)) o e
+long_more (InLongs d os) (By t.InCommon) o e = fresh_long (t.OperateLong d os) (By t.InCommon) o e
+
+done_same : (done : Sum) (e : t.Expr) (x : Application) → u.in_expr (closed (done_by done e x).done) ≡ u.in_expr (closed done) + u.in_expr e
+done_same done e (OfWords x) = omega (arith, word_more done x.left x.operator (checked x.right e), with_check x.right e)
+done_same done e (OfLongs x) = omega (arith, long_more done x.left x.operator (fitted x.right e), with_fit x.right e)
+
+pub step_given : (o : Operator) (p l : Place) (done : Sum) (k : PlainType) (literal : Bool) (q : Place) (r : Typed)
+    → Gives (λ (d : Done). u.in_expr (closed d.done) ≡ u.in_expr (closed done) + u.in_expr r.value) (step o p l done k literal q r)
 unfolding step
-step_given o p k literal r =
-    and_gives (some_or_refused (operation o (sort_of k) literal (sort_of r.kind) r.literal) TypeMismatch p tt) (λ q w.
-    all_right (with_check q.right r.value))
+step_given o p l done k literal q r =
+    and_gives (some_or_refused (operation o (sort_of k) literal (sort_of r.kind) r.literal) TypeMismatch (beside p l (sort_of k) q (sort_of r.kind)) tt) (λ x w.
+    all_right (done_same done r.value x))
+
+-- a bound of a type
+pub not_long_given : (p : Place) (x : Typed) → Gives Anything (not_long p x)
+unfolding not_long
+not_long_given p x = only_if (not (is_long x.kind)) TypeMismatch p tt
+
+pub bound_of_given : (base : Option PlainType) (p : Place) (x : Typed) → Gives (Names (u.in_expr x.value)) (bound_of base p x)
+unfolding bound_of
+bound_of_given base p x = and_gives (not_long_given p x) (λ k w. finished (bound_aim base p) x)
 
 pub operand_given : (fits : Bool) (p : Place) (r : Typed) → Gives (λ (e : t.Expr). u.in_expr e ≡ u.in_expr r.value) (truth_operand fits p r)
 operand_given fits p r = by_if (fits && is_truth r.kind) (all_right refl) (refused tt)
@@ -223,9 +320,9 @@ indexed_given last h ss k = indexed_by_given last h ss k (array_parts k)
 pub at_index_given : (b : Bracketed) (start : Place) (i : Typed)
     → Gives (λ r. weight r ≡ weight_of_bracketed b + u.in_expr i.value) (at_index b start i)
 unfolding at_index u.in_expr
-at_index_given (InArray h ss index element) start i = and_gives (only_if (one_base (base_of i.kind) (base_of index)) TypeMismatch start tt) (λ k w.
+at_index_given (InArray h ss index element) start i = and_gives (only_if (one_ordinal_base (base_of i.kind) (base_of index)) TypeMismatch start tt) (λ k w.
     all_right (index_more ss (index_range i.kind index) (first_word (bounds index)) (elements_of index) (words_of element) i.value))
-at_index_given (InText n e) start i = and_gives (only_if (one_base (base_of i.kind) (Some v.Integer)) TypeMismatch start tt) (λ k w. all_right refl)
+at_index_given (InText n e) start i = and_gives (only_if (one_ordinal_base (base_of i.kind) (Some v.Integer)) TypeMismatch start tt) (λ k w. all_right refl)
 
 -- constructors
 pub shape_used : {A : Type 0} {P : A → ℕ → Type 0} (sh : Shape) {x : List PlainField → Check A} {y : ℕ → PlainType → Check A} {z : Check A}

@@ -53,6 +53,8 @@ mutual
   in_type (s.Record p fs) = in_fields fs
   in_type (s.Integer p) = omega arith
   in_type (s.Cardinal p) = omega arith
+  in_type (s.LongInteger p) = omega arith
+  in_type (s.LongCardinal p) = omega arith
   in_type (s.Boolean p) = omega arith
   in_type (s.Character p) = omega arith
   in_type (s.String p) = omega arith

@@ -1,3 +1,5 @@
+//! The laws of the grammar: tokens have one answer, and a tree has at most one node for each of them.
+
 ghost use Rattle.std.specs.Prelude.{◌≤◌, length};
 ghost use Rattle.cmesa_grammar.specs.Answer.{OneAnswer, ParsesConfiguration};
 ghost use Rattle.cmesa_grammar.specs.Nodes.{nodes};

@@ -7,8 +7,8 @@ use Rattle.mesa_types.specs.declared.typed_parts.Callee.{Callee}
 use Rattle.mesa_types.specs.declared.typed_parts.Callee.TheVariants.{OwnProcedure, LinkedProcedure}
 use Rattle.mesa_types.specs.declared.typed_parts.Raised.{Raised}
 use Rattle.mesa_types.specs.declared.typed_parts.Raised.TheVariants.{OwnSignal, LinkedSignal, TheBoundsFault, TheZeroDivisor, TheUnnamed}
-use Rattle.mesa_types.specs.Typed.{Expr, Number, Literal, Variable, FieldOf, LengthOf, ByteOf, Checked, Operate, Negate, Relate, Within, Not, AllOf, SomeOf, Construct, Call, Raise, Exprs, NoExprs, AndExpr, Suffixes, NoSuffix, Field, Index, Operations, NoOperation, Then, Interval, Between, Phrase, NoPhrase, Catch, Arms, NoArms, AndArm, Stmt, Null, Marked, Declare, DeclareAs, Assign, Extract, Perform, If, Select, Block, Repeat, For, Jump, ReturnWith, Resume, Reject, Retry, Continue, Stmts, NoStmts, AndStmt, Targets, NoTargets, AndTarget, Cases, Otherwise, AndCase, Tests, NoTests, IfRelated, IfWithin, Exits, NoExits, AndExit, Loop, LoopOf, Finish, NoFinish, Finished, Condition, Always, While, Until}
-use Rattle.mesa_types.specs.Counts.{hidden, hidden_expr, hidden_exprs, hidden_suffixes, hidden_interval, hidden_phrase, hidden_stmts, hidden_targets, hidden_tests, hidden_exits, hidden_condition, words_of}
+use Rattle.mesa_types.specs.Typed.{Expr, Number, LongNumber, Literal, Variable, FieldOf, LengthOf, ByteOf, Checked, Converted, Operate, OperateLong, Negate, NegateLong, Relate, RelateLong, Within, WithinLong, Not, AllOf, SomeOf, Construct, Call, Raise, Exprs, NoExprs, AndExpr, Suffixes, NoSuffix, Field, Index, Operations, NoOperation, Then, Interval, Between, Phrase, NoPhrase, Catch, Arms, NoArms, AndArm, Stmt, Null, Marked, Declare, DeclareAs, Assign, Extract, Perform, If, Select, SelectLong, Block, Repeat, For, Jump, ReturnWith, Resume, Reject, Retry, Continue, Stmts, NoStmts, AndStmt, Targets, NoTargets, AndTarget, AndConverted, Cases, Otherwise, AndCase, Tests, NoTests, IfRelated, IfWithin, IfRelatedLong, IfWithinLong, Exits, NoExits, AndExit, Loop, LoopOf, Finish, NoFinish, Finished, Condition, Always, While, Until}
+use Rattle.mesa_types.specs.Counts.{hidden, hidden_expr, hidden_exprs, hidden_suffixes, hidden_interval, hidden_phrase, hidden_stmts, hidden_targets, hidden_tests, hidden_exits, hidden_condition, words_of, words_after}
 use Rattle.mesa_types.specs.Shapes.{words_in}
 use Rattle.mesa_types.specs.declared.faces.Import.{Import}
 use Rattle.code_forms.specs.Jumps.{JumpsRightly}
@@ -16,14 +16,14 @@ use Rattle.code_forms.specs.Routine.{Routine}
 use Rattle.code_rules.specs.CodeFor.{words_taken, words_over}
 use Rattle.code_rules.specs.Links.{call_code, raise_code}
 use Rattle.code_rules.specs.Loops.{Counter, NoCounter, CountedIn, next_slot}
-use Rattle.code_rules.specs.OwnCode.{lift_code, check_code, arrange_code}
+use Rattle.code_rules.specs.OwnCode.{lift_code, check_code, conversion_code, arrange_code}
 use Rattle.code_rules.specs.Reading.{Coded, scratch}
 use Rattle.code_rules.specs.Slots.{fields_of, sizes}
 use Rattle.code_blocks.specs.Blocks as tree
 use Rattle.code_blocks.specs.Blocks.{Statement, Labels, Here, Does, Calls, Both, Ends, Out, Goes, Rounds, Enables, ArmBlocks, NoArmBlock, AndArmBlock, ◌▹◌}
 use Rattle.code_blocks.specs.Own.{AreOwn}
-use Rattle.code_blocks.specs.Translation.{Forms, by_value, turned, answer, has_index, within_of, start_of, head_code, gives_next, past_else, past_cases, past_exits, enabled, is_last, is_endless, unless, forms, values, operands, bounds, operations, path, caught_by, arm_blocks, block, blocks, targets, selected, cases, tests, exits, loop, condition, finish}
-use Rattle.code_blocks.proofs.Own.{own_both, pop_own, lift_own, field_own, check_own, index_own, comparison_own, relation_own, operator_own, within_own, arrange_own, load_own, store_own, load_within_own, store_within_own, zero_own, spread_own, start_own, give_own, step_own}
+use Rattle.code_blocks.specs.Translation.{Forms, by_value, turned, answer, has_index, within_of, long_within_of, start_of, head_code, gives_next, past_else, past_cases, past_exits, enabled, is_last, is_endless, unless, forms, values, operands, bounds, operations, long_operations, path, caught_by, arm_blocks, block, blocks, targets, selected, cases, tests, exits, loop, condition, finish}
+use Rattle.code_blocks.proofs.Own.{own_both, pop_own, lift_own, field_own, check_own, conversion_own, index_own, comparison_own, long_comparison_own, relation_own, long_relation_own, operator_own, long_operator_own, within_own, long_within_own, arrange_own, load_own, store_own, load_within_own, store_within_own, zero_own, spread_own, start_own, give_own, step_own}
 
 -- with so many parts around
 abbrev mutual
@@ -69,6 +69,9 @@ answer_closed jumps word jumped n h = ((h, ((tt, tt), omega arith)), (tt, tt))
 within_of_own : (t : ℕ) (bases : Bases) (range : Interval) → AreOwn (within_of t bases range)
 within_of_own t bases (Between x p y q) = within_own t bases p q
 
+long_within_of_own : (t : ℕ) (bases : Bases) (range : Interval) → AreOwn (long_within_of t bases range)
+long_within_of_own t bases (Between x p y q) = long_within_own t bases p q
+
 start_of_own : (z : ℕ) (b : Base) (range : Interval) → AreOwn (start_of z b range)
 start_of_own z b (Between x p y q) = start_own z b p q
 
@@ -90,6 +93,7 @@ past_else_closed (Extract b ts e) part n lt = lt
 past_else_closed (Perform e) part n lt = lt
 past_else_closed (If e s t) part n lt = lt
 past_else_closed (Select e cs) part n lt = lt
+past_else_closed (SelectLong e cs) part n lt = lt
 past_else_closed (Block ph ss es) part n lt = lt
 past_else_closed (Repeat c l) part n lt = lt
 past_else_closed (For g down base range l) part n lt = lt
@@ -131,6 +135,7 @@ module _ (P : Coded) where
   mutual
     forms_closed : (z : ℕ) (e : Expr) → FormsClosed (forms P z e)
     forms_closed z (Number n) = by_value_closed _ (λ m. (tt, tt))
+    forms_closed z (LongNumber n) = by_value_closed _ (λ m. (tt, (tt, tt)))
     forms_closed z (Literal k) = by_value_closed _ (λ m. (tt, tt))
     forms_closed z (Variable h s words) =
         by_value_closed _ (λ m. if_closed (has_index s) _ _ m ((tt, tt), (path_closed z s m, (load_within_own P h words, tt))) (load_own P h (fields_of s) words, tt))
@@ -139,12 +144,21 @@ module _ (P : Coded) where
     forms_closed z (ByteOf e index) =
         by_value_closed _ (λ m. ((forms_closed z e).value m, ((forms_closed (z + hidden_expr e) index).value m, (tt, tt))))
     forms_closed z (Checked r e) = by_value_closed _ (λ m. ((forms_closed z e).value m, check_own r))
+    forms_closed z (Converted c e) = by_value_closed _ (λ m. ((forms_closed z e).value m, conversion_own c))
     forms_closed z (Operate e os) = by_value_closed _ (λ m. ((forms_closed z e).value m, operations_closed (z + hidden_expr e) os m))
+    forms_closed z (OperateLong e os) = by_value_closed _ (λ m. ((forms_closed z e).value m, long_operations_closed (z + hidden_expr e) os m))
     forms_closed z (Negate e) = by_value_closed _ (λ m. ((forms_closed z e).value m, (tt, tt)))
+    forms_closed z (NegateLong e) = by_value_closed _ (λ m. ((forms_closed z e).value m, (tt, tt)))
     forms_closed z (Relate base o d e) = record {
       value = λ m. ((forms_closed z d).value m, ((forms_closed (z + hidden_expr d) e).value m, relation_own base o));
       jump = λ sense part m lt. ((forms_closed z d).value m, ((forms_closed (z + hidden_expr d) e).value m, (comparison_own base o, lt)));
     }
+    forms_closed z (RelateLong base o d e) = record {
+      value = λ m. ((forms_closed z d).value m, ((forms_closed (z + hidden_expr d) e).value m, long_relation_own base o));
+      jump = λ sense part m lt. ((forms_closed z d).value m, ((forms_closed (z + hidden_expr d) e).value m, (long_comparison_own base o, lt)));
+    }
+    forms_closed z (WithinLong bases e range) = by_value_closed _ (λ m.
+        ((forms_closed z e).value m, (bounds_closed (z + hidden_expr e) range m, long_within_of_own (scratch P) bases range)))
     forms_closed z (Within bases e range) = by_value_closed _ (λ m.
         ((forms_closed z e).value m, (bounds_closed (z + hidden_expr e) range m, within_of_own (scratch P) bases range)))
     forms_closed z (Not e) = record {
@@ -182,6 +196,11 @@ module _ (P : Coded) where
     operations_closed z (Then r o e os) m =
         (check_own r, ((forms_closed z e).value m, (operator_own (scratch P) o, operations_closed (z + hidden_expr e) os m)))
 
+    long_operations_closed : (z : ℕ) (os : Operations) (m : ℕ) → Closed (long_operations P z os) m
+    long_operations_closed z NoOperation m = tt
+    long_operations_closed z (Then r o e os) m =
+        ((forms_closed z e).value m, (long_operator_own o, long_operations_closed (z + hidden_expr e) os m))
+
     path_closed : (z : ℕ) (s : Suffixes) (m : ℕ) → Closed (path P z s) m
     path_closed z NoSuffix m = tt
     path_closed z (Field n offset s) m = path_closed z s m
@@ -214,7 +233,8 @@ module _ (P : Coded) where
       ),
       block_closed (z + (hidden_expr e + hidden s)) t (suc m),
     )
-    block_closed z (Select e cs) m = ((forms_closed (z + 1) e).value m, selected_closed (z + (1 + hidden_expr e)) z (words_of e) cs m)
+    block_closed z (Select e cs) m = ((forms_closed (z + 1) e).value m, selected_closed (z + (1 + hidden_expr e)) z 1 (words_of e) cs m)
+    block_closed z (SelectLong e cs) m = ((forms_closed (z + 2) e).value m, selected_closed (z + (2 + hidden_expr e)) z 2 (words_of e) cs m)
     block_closed z (Block ph ss es) m =
         exits_closed (z + (hidden_phrase ph + hidden_stmts ss)) es _ (suc m) (omega arith) (
           enabled_closed (caught_by P z ph) _ (suc m) (caught_closed z ph) (blocks_closed (z + hidden_phrase ph) ss (suc m)),
@@ -256,10 +276,26 @@ module _ (P : Coded) where
               (own_both (check_code r) _ (check_own r) (store_own P h (fields_of s) p.words, tt)),
           targets_closed z all (p ∷ taken) ts m,
         )
+    targets_closed z all taken (AndConverted p h s c ts) m =
+        if_closed (has_index s) _ _ m (
+          (tt, tt),
+          (
+            path_closed z s m,
+            (
+              own_both (lift_code p.words (suc (words_over all taken p))) _ (lift_own p.words (suc (words_over all taken p)))
+                  (own_both (conversion_code c) _ (conversion_own c) (store_within_own P h (words_after c), tt)),
+              targets_closed (z + hidden_suffixes s) all (p ∷ taken) ts m,
+            ),
+          ),
+        ) (
+          own_both (lift_code p.words (words_over all taken p)) _ (lift_own p.words (words_over all taken p))
+              (own_both (conversion_code c) _ (conversion_own c) (store_own P h (fields_of s) (words_after c), tt)),
+          targets_closed z all (p ∷ taken) ts m,
+        )
 
-    selected_closed : (z x words : ℕ) (cs : Cases) (m : ℕ) → Closed (selected P z x words cs) m
-    selected_closed z x words (Otherwise s) m = (pop_own words, block_closed z s m)
-    selected_closed z x words (AndCase ts s cs) m = (
+    selected_closed : (z x held words : ℕ) (cs : Cases) (m : ℕ) → Closed (selected P z x held words cs) m
+    selected_closed z x held words (Otherwise s) m = (pop_own words, block_closed z s m)
+    selected_closed z x held words (AndCase ts s cs) m = (
       (tt, tt),
       (
         ((
@@ -288,6 +324,14 @@ module _ (P : Coded) where
     )
     tests_closed z x (IfWithin negated bases range ts) m lt = (
       ((tt, tt), (bounds_closed z range m, (within_of_own (scratch P) bases range, last_part (is_last ts) m lt))),
+      unless_closed (is_last ts) _ m (tests_closed (z + hidden_interval range) x ts m lt),
+    )
+    tests_closed z x (IfRelatedLong c base o e ts) m lt = (
+      ((tt, conversion_own c), ((forms_closed z e).value m, (long_comparison_own base o, last_part (is_last ts) m lt))),
+      unless_closed (is_last ts) _ m (tests_closed (z + hidden_expr e) x ts m lt),
+    )
+    tests_closed z x (IfWithinLong negated c bases range ts) m lt = (
+      ((tt, conversion_own c), (bounds_closed z range m, (long_within_of_own (scratch P) bases range, last_part (is_last ts) m lt))),
       unless_closed (is_last ts) _ m (tests_closed (z + hidden_interval range) x ts m lt),
     )
 

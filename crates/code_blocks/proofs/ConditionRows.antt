@@ -2,23 +2,23 @@
 use Rattle.std.proofs.Common.{◌≡◌, refl, sym, subst, ℕ, suc, ◌+◌, List, [], ◌∷◌, ◌++◌, Bool, true, false, not, arith}
 use Rattle.mesa_types.specs.declared.typed_parts.Base.{Base}
 use Rattle.mesa_base.specs.declared.relation.Relation.{Relation}
-use Rattle.mesa_types.specs.Typed.{Kinds, Expr, Relate, Not, AllOf, SomeOf, Exprs, NoExprs, AndExpr}
+use Rattle.mesa_types.specs.Typed.{Kinds, Expr, Relate, RelateLong, Not, AllOf, SomeOf, Exprs, NoExprs, AndExpr}
 use Rattle.mesa_types.specs.Operators.{differ}
 use Rattle.mesa_types.specs.Counts.{hidden_expr}
-use Rattle.mesa_types.specs.Sound.{Scope, a_word, ExprIn, WordsIn}
+use Rattle.mesa_types.specs.Sound.{Scope, a_word, a_long, ExprIn, WordsIn}
 use Rattle.code_forms.specs.declared.instruction.Instruction.{Instruction}
 use Rattle.code_forms.specs.declared.instruction.Instruction.TheVariants as i
-use Rattle.code_rules.specs.CodeFor.{BranchCode, OperandsCode, all_of, some_of, on_value, on_negation, on_relation, unless_all, if_all, if_some, unless_some, no_operands, and_operand}
-use Rattle.code_rules.specs.OwnCode.{comparison, is_opposite}
+use Rattle.code_rules.specs.CodeFor.{BranchCode, OperandsCode, all_of, some_of, on_value, on_negation, on_relation, on_long_relation, unless_all, if_all, if_some, unless_some, no_operands, and_operand}
+use Rattle.code_rules.specs.OwnCode.{comparison, long_comparison, is_opposite}
 use Rattle.code_rules.specs.Reading.{Coded, Place, Own, past, beyond}
 use Rattle.code_blocks.specs.Blocks.{Leap, Here, Anyhow, Where, Does, Ends, Out, ◌▹◌}
 use Rattle.code_blocks.specs.Own.{bytes_in, left_of, AreOwn}
 use Rattle.code_blocks.specs.Sizes.{leap_to, size}
-use Rattle.code_blocks.specs.Translation.{turned, answer, where_related, forms, operands}
+use Rattle.code_blocks.specs.Translation.{turned, answer, where_related, where_long_related, forms, operands}
 use Rattle.code_blocks.specs.Writing.{Env, in_part, end_at}
 use Rattle.code_blocks.proofs.Known.{Known}
 use Rattle.code_blocks.proofs.Lying.{Laid, laid, both_lie, part_lies, own_lies, out_lies, own_join}
-use Rattle.code_blocks.proofs.Own.{all_fixed, comparison_own}
+use Rattle.code_blocks.proofs.Own.{all_fixed, comparison_own, long_comparison_own}
 use Rattle.code_blocks.proofs.Values.{jump_depth, operands_depth}
 use Rattle.code_blocks.proofs.ExpressionRows.{L, next, Value, Jumped, Operands, past_value}
 
@@ -57,6 +57,18 @@ module _ (S : Laid) where
         let f = c + size (forms U (w.slot + hidden_expr d) e).value in
         on_relation c f (v E w known a c x.0 refl) (u E (past d w) known c f y.0 refl)
         (own_then_out (past e (past d w)) (comparison base o) (Where (differ (is_opposite o) sense)) part target E f b (comparison_own base o) at y.1
+        (omega (arith, eq)))
+
+    pub on_long_relation_row : (base : Base) (o : Relation) (d e : Expr) → ExprIn Γ d a_long → ExprIn Γ e a_long → Value S Γ d → Value S Γ e
+        → Jumped S Γ (RelateLong base o d e)
+    on_long_relation_row base o d e h g v u sense part target E w known a b at l eq =
+        let jump = where_long_related base o sense part in
+        let x = past_value S Γ d a_long h ((forms U (w.slot + hidden_expr d) e).value ▹ jump) E w a l in
+        let c = a + size (forms U w.slot d).value in
+        let y = past_value S Γ e a_long g jump E (past d w) c x.1 in
+        let f = c + size (forms U (w.slot + hidden_expr d) e).value in
+        on_long_relation c f (v E w known a c x.0 refl) (u E (past d w) known c f y.0 refl)
+        (own_then_out (past e (past d w)) (long_comparison base o) (Where (differ (is_opposite o) sense)) part target E f b (long_comparison_own base o) at y.1
         (omega (arith, eq)))
 
     pub on_negation_row : (e : Expr) → Jumped S Γ e → Jumped S Γ (Not e)

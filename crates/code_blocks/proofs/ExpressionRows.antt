@@ -2,20 +2,21 @@
 use Rattle.std.proofs.Common.{◌≡◌, refl, sym, ap, ◌∙◌, subst, ℕ, suc, ◌+◌, ◌-◌, List, [], ◌∷◌, Bool, true, false, if◌then◌else◌, arith}
 use Rattle.mesa_types.specs.declared.typed_parts.Base.{Base}
 use Rattle.mesa_types.specs.declared.typed_parts.Bases.{Bases}
+use Rattle.mesa_types.specs.declared.typed_parts.Conversion.{Conversion}
 use Rattle.mesa_types.specs.declared.typed_parts.Home.{Home}
 use Rattle.mesa_types.specs.declared.typed_parts.Home.TheVariants.{Global, Local}
 use Rattle.mesa_types.specs.declared.typed_parts.Operator.{Operator}
 use Rattle.mesa_types.specs.declared.typed_parts.Part.{Part}
 use Rattle.mesa_types.specs.declared.typed_parts.Range.{Range}
 use Rattle.mesa_base.specs.declared.relation.Relation.{Relation}
-use Rattle.mesa_types.specs.Typed.{Kind, Kinds, Expr, Number, Literal, Variable, FieldOf, LengthOf, ByteOf, Checked, Operate, Negate, Relate, Within, Not, Construct, Exprs, NoExprs, AndExpr, Suffixes, NoSuffix, Field, Index, Operations, NoOperation, Then, Between, Texts}
+use Rattle.mesa_types.specs.Typed.{Kind, Kinds, Expr, Number, LongNumber, Literal, Variable, FieldOf, LengthOf, ByteOf, Checked, Converted, Operate, OperateLong, Negate, NegateLong, Relate, RelateLong, Within, WithinLong, Not, Construct, Exprs, NoExprs, AndExpr, Suffixes, NoSuffix, Field, Index, Operations, NoOperation, Then, Between, Texts}
 use Rattle.mesa_types.specs.Counts.{hidden_expr, words_of, words_given, last_words}
 use Rattle.mesa_types.specs.Shapes.{one}
-use Rattle.mesa_types.specs.Sound.{Scope, a_word, FieldsIn, ExprIn, ExprsIn, SuffixesIn}
+use Rattle.mesa_types.specs.Sound.{Scope, a_word, a_long, FieldsIn, ExprIn, ExprsIn, SuffixesIn}
 use Rattle.code_forms.specs.declared.instruction.Instruction.{Instruction}
 use Rattle.code_forms.specs.declared.instruction.Instruction.TheVariants as i
-use Rattle.code_rules.specs.CodeFor.{ExprCode, ExprsCode, BoundsCode, OperationsCode, PathCode, BranchCode, OperandsCode, number, literal, variable, element, field_of, length_of, byte_of, checked, operate, negate, relate, within, negation, construct, no_values, and_value, bounds, no_operation, operation, here, field, index, words_before_last}
-use Rattle.code_rules.specs.OwnCode.{check_code, field_code, relation_code, operator_code, within_code, arrange_code, index_code}
+use Rattle.code_rules.specs.CodeFor.{ExprCode, ExprsCode, BoundsCode, OperationsCode, LongOperationsCode, PathCode, BranchCode, OperandsCode, number, long_number, literal, variable, element, field_of, length_of, byte_of, checked, converted, operate, operate_long, negate, negate_long, relate, relate_long, within, within_long, negation, construct, no_values, and_value, bounds, no_operation, operation, no_long_operation, long_operation, here, field, index, words_before_last}
+use Rattle.code_rules.specs.OwnCode.{check_code, long_code, conversion_code, field_code, relation_code, long_relation_code, operator_code, long_operator_code, within_code, long_within_code, arrange_code, index_code}
 use Rattle.code_rules.specs.Reading.{Coded, Place, Own, past, past_all, deeper, beyond, scratch}
 use Rattle.code_rules.proofs.Depths.{own_code_keeps_words}
 use Rattle.code_rules.specs.Slots.{load, load_within, fields_of, sizes, HasIndex, HasNoIndex}
@@ -28,8 +29,8 @@ use Rattle.code_blocks.specs.Translation as t
 use Rattle.code_blocks.specs.Writing.{Env, end_at}
 use Rattle.code_blocks.proofs.Known.{Known}
 use Rattle.code_blocks.proofs.Lying.{Laid, laid, Lies, both_lie, own_lies}
-use Rattle.code_blocks.proofs.Own.{field_own, check_own, index_own, relation_own, operator_own, within_own, arrange_own, load_own, load_within_own}
-use Rattle.code_blocks.proofs.Values.{none, word_is, one_is, fields_fit, own_left, behind, value_depth, values_depth, path_depth}
+use Rattle.code_blocks.proofs.Own.{field_own, check_own, conversion_own, index_own, relation_own, long_relation_own, operator_own, long_operator_own, within_own, long_within_own, arrange_own, load_own, load_within_own}
+use Rattle.code_blocks.proofs.Values.{none, word_is, long_is, one_is, fields_fit, own_left, behind, value_depth, values_depth, path_depth}
 
 -- whether there is an index
 
@@ -93,6 +94,11 @@ module _ (S : Laid) where
     Run os = (E : Env) (w : Place) (d : ℕ) → w.depth ≡ d + 1 → Known Γ E.points w.points → (a b : ℕ) → L (t.operations U w.slot os) E w a
         → b ≡ a + size (t.operations U w.slot os) → OperationsCode P w os a b
 
+    -- where the two words of a LONG number are
+    abbrev pub LongRun : Operations → Type 0
+    LongRun os = (E : Env) (w : Place) (d : ℕ) → w.depth ≡ d + 2 → Known Γ E.points w.points → (a b : ℕ) → L (t.long_operations U w.slot os) E w a
+        → b ≡ a + size (t.long_operations U w.slot os) → LongOperationsCode P w os a b
+
     abbrev pub Path : Suffixes → Type 0
     Path s = (E : Env) (w : Place) (d : ℕ) → w.depth ≡ d + 1 → Known Γ E.points w.points → (a b : ℕ) → L (path U w.slot s) E w a
         → b ≡ a + size (path U w.slot s) → PathCode P w s a b
@@ -114,6 +120,9 @@ module _ (S : Laid) where
     pub number_row : (n : ℕ) → Value (Number n)
     number_row n E w known a b l eq = number (own_lies S w (i.Lit n ∷ []) E a b (tt, tt) l eq)
 
+    pub long_number_row : (n : ℕ) → Value (LongNumber n)
+    long_number_row n E w known a b l eq = long_number (own_lies S w (long_code n) E a b (tt, (tt, tt)) l eq)
+
     pub literal_row : (k : ℕ) → Value (Literal k)
     literal_row k E w known a b l eq = literal (own_lies S w (i.Str (suc k) ∷ []) E a b (tt, tt) l eq)
 
@@ -133,6 +142,23 @@ module _ (S : Laid) where
     checked_row range e h v E w known a b l eq =
         let x = value_then e a_word h v (check_code range) (check_own range) E w known a b l eq in
         checked x.0 x.1 x.2
+
+    pub converted_row : (conversion : Conversion) (e : Expr) (ks : Kinds) → ExprIn Γ e ks → Value e → Value (Converted conversion e)
+    converted_row conversion e ks h v E w known a b l eq =
+        let x = value_then e ks h v (conversion_code conversion) (conversion_own conversion) E w known a b l eq in
+        converted x.0 x.1 x.2
+
+    pub negate_long_row : (e : Expr) → ExprIn Γ e a_long → Value e → Value (NegateLong e)
+    negate_long_row e h v E w known a b l eq =
+        let x = value_then e a_long h v (i.NegD ∷ []) (tt, tt) E w known a b l eq in
+        negate_long x.0 x.1 x.2
+
+    pub relate_long_row : (base : Base) (o : Relation) (d e : Expr) → ExprIn Γ d a_long → ExprIn Γ e a_long → Value d → Value e → Value (RelateLong base o d e)
+    relate_long_row base o d e h g v u E w known a b l eq =
+        let x = past_value d a_long h ((forms U (w.slot + hidden_expr d) e).value ▹ Does (long_relation_code base o)) E w a l in
+        let c = a + size (forms U w.slot d).value in
+        let y = value_then e a_long g u (long_relation_code base o) (long_relation_own base o) E (past d w) known c b x.1 (omega (arith, eq)) in
+        relate_long c y.0 (v E w known a c x.0 refl) y.1 y.2
 
     pub negate_row : (e : Expr) → ExprIn Γ e a_word → Value e → Value (Negate e)
     negate_row e h v E w known a b l eq =
@@ -210,6 +236,28 @@ module _ (S : Laid) where
         (own_lies S (past e w) (operator_code (scratch U) o) E f g (operator_own (scratch U) o) z.0 refl)
         (u E (beyond (hidden_expr e) w) d one known g b z.1 (omega (arith, eq)))
 
+    pub operate_long_row : (e : Expr) (os : Operations) → ExprIn Γ e a_long → Value e → LongRun os → Value (OperateLong e os)
+    operate_long_row e os h v u E w known a b l eq =
+        let x = past_value e a_long h (t.long_operations U (w.slot + hidden_expr e) os) E w a l in
+        let c = a + size (forms U w.slot e).value in
+        operate_long c (v E w known a c x.0 refl) (u E (past e w) w.depth (ap (λ n. w.depth + n) (long_is Γ e h)) known c b x.1 (omega (arith, eq)))
+
+    pub no_long_operation_row : LongRun NoOperation
+    no_long_operation_row E w d two known a b l eq = subst (λ z. LongOperationsCode P w NoOperation a z) {x = a} {y = b} (omega (arith, eq)) no_long_operation
+
+    pub long_operation_row : (range : Range) (o : Operator) (e : Expr) (os : Operations) → ExprIn Γ e a_long → Value e → LongRun os → LongRun (Then range o e os)
+    long_operation_row range o e os h v u E w d two known a b l eq =
+        let rest = t.long_operations U (w.slot + hidden_expr e) os in
+        let y = past_value e a_long h (Does (long_operator_code o) ▹ rest) E w a l in
+        let f = a + size (forms U w.slot e).value in
+        let operated : left_of (long_operator_code o) (w.depth + words_of e) ≡ w.depth =
+        own_left (long_operator_code o) {n = d + 4} (omega (arith, two, long_is Γ e h)) (own_code_keeps_words.long_operator none o d) ∙ sym two in
+        let z = next (Does (long_operator_code o)) rest E (past e w) f w.depth y.1 operated in
+        let g = f + bytes_in (long_operator_code o) in
+        long_operation f g (v E w known a f y.0 refl)
+        (own_lies S (past e w) (long_operator_code o) E f g (long_operator_own o) z.0 refl)
+        (u E (beyond (hidden_expr e) w) d two known g b z.1 (omega (arith, eq)))
+
     pub here_row : Path NoSuffix
     here_row E w d one known a b l eq = subst (λ z. PathCode P w NoSuffix a z) {x = a} {y = b} (omega (arith, eq)) here
 
@@ -229,21 +277,21 @@ module _ (S : Laid) where
         (own_lies S (past e w) (index_code range first n words) E c f (index_own range first n words) y.0 refl)
         (p E (beyond (hidden_expr e) w) d one known f b y.1 (omega (arith, eq)))
 
-    pub bounds_row : (x y : Expr) (p q : Bool) → ExprIn Γ x a_word → Value x → Value y → (E : Env) (w : Place) → Known Γ E.points w.points → (a b : ℕ)
+    pub bounds_row : (x y : Expr) (p q : Bool) (ks : Kinds) → ExprIn Γ x ks → Value x → Value y → (E : Env) (w : Place) → Known Γ E.points w.points → (a b : ℕ)
         → L (t.bounds U w.slot (Between x p y q)) E w a → b ≡ a + size (t.bounds U w.slot (Between x p y q)) → BoundsCode P w x y a b
-    bounds_row x y p q h v u E w known a b l eq =
-        let m = past_value x a_word h (forms U (w.slot + hidden_expr x) y).value E w a l in
+    bounds_row x y p q ks h v u E w known a b l eq =
+        let m = past_value x ks h (forms U (w.slot + hidden_expr x) y).value E w a l in
         let c = a + size (forms U w.slot x).value in
         bounds c (v E w known a c m.0 refl) (u E (past x w) known c b m.1 (omega (arith, eq)))
 
     -- behind two bounds
-    pub past_bounds : (x y : Expr) (p q : Bool) → ExprIn Γ x a_word → ExprIn Γ y a_word → (c : tree.Block) (E : Env) (w : Place) (a : ℕ)
+    pub past_bounds : (x y : Expr) (p q : Bool) (ks : Kinds) → ExprIn Γ x ks → ExprIn Γ y ks → (c : tree.Block) (E : Env) (w : Place) (a : ℕ)
         → L (t.bounds U w.slot (Between x p y q) ▹ c) E w a
         → L (t.bounds U w.slot (Between x p y q)) E w a × L c E (past y (past x w)) (a + size (t.bounds U w.slot (Between x p y q)))
-    past_bounds x y p q h g c E w a l =
+    past_bounds x y p q ks h g c E w a l =
         next (t.bounds U w.slot (Between x p y q)) c E w a (w.depth + words_of x + words_of y) l
-        (behind (forms U (w.slot + hidden_expr x) y).value (value_depth U Γ x a_word h w.slot w.depth)
-        (value_depth U Γ y a_word g (w.slot + hidden_expr x) (w.depth + words_of x)))
+        (behind (forms U (w.slot + hidden_expr x) y).value (value_depth U Γ x ks h w.slot w.depth)
+        (value_depth U Γ y ks g (w.slot + hidden_expr x) (w.depth + words_of x)))
 
     pub within_row : (bases : Bases) (e x y : Expr) (p q : Bool) → ExprIn Γ e a_word → ExprIn Γ x a_word → ExprIn Γ y a_word → Value e → Value x → Value y
         → Value (Within bases e (Between x p y q))
@@ -252,10 +300,22 @@ module _ (S : Laid) where
         let range = t.bounds U (w.slot + hidden_expr e) (Between x p y q) in
         let m = past_value e a_word h (range ▹ Does is) E w a l in
         let c = a + size (forms U w.slot e).value in
-        let n = past_bounds x y p q g k (Does is) E (past e w) c m.1 in
+        let n = past_bounds x y p q a_word g k (Does is) E (past e w) c m.1 in
         let d = c + size range in
-        within c d (v E w known a c m.0 refl) (bounds_row x y p q g u o E (past e w) known c d n.0 refl)
+        within c d (v E w known a c m.0 refl) (bounds_row x y p q a_word g u o E (past e w) known c d n.0 refl)
         (own_lies S (past y (past x (past e w))) is E d b (within_own (scratch U) bases p q) n.1 (omega (arith, eq)))
+
+    pub within_long_row : (bases : Bases) (e x y : Expr) (p q : Bool) → ExprIn Γ e a_long → ExprIn Γ x a_long → ExprIn Γ y a_long → Value e → Value x → Value y
+        → Value (WithinLong bases e (Between x p y q))
+    within_long_row bases e x y p q h g k v u o E w known a b l eq =
+        let is = long_within_code (scratch U) bases p q in
+        let range = t.bounds U (w.slot + hidden_expr e) (Between x p y q) in
+        let m = past_value e a_long h (range ▹ Does is) E w a l in
+        let c = a + size (forms U w.slot e).value in
+        let n = past_bounds x y p q a_long g k (Does is) E (past e w) c m.1 in
+        let d = c + size range in
+        within_long c d (v E w known a c m.0 refl) (bounds_row x y p q a_long g u o E (past e w) known c d n.0 refl)
+        (own_lies S (past y (past x (past e w))) is E d b (long_within_own (scratch U) bases p q) n.1 (omega (arith, eq)))
 
     pub no_values_row : Values NoExprs
     no_values_row E w known a b l eq = subst (λ z. ExprsCode P w NoExprs a z) {x = a} {y = b} (omega (arith, eq)) no_values

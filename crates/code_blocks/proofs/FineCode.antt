@@ -3,6 +3,8 @@ use Rattle.std.proofs.Common.{◌≡◌, refl, ap, ◌∙◌, ℕ, zero, suc, �
 use Rattle.mesa_types.specs.declared.typed_parts.Base.{Base}
 use Rattle.mesa_types.specs.declared.typed_parts.Base.TheVariants.{Signed, Unsigned}
 use Rattle.mesa_types.specs.declared.typed_parts.Bases.{Bases}
+use Rattle.mesa_types.specs.declared.typed_parts.Conversion.{Conversion}
+use Rattle.mesa_types.specs.declared.typed_parts.Conversion.TheVariants.{Kept, Widened, Narrowed, InCommon}
 use Rattle.mesa_types.specs.declared.typed_parts.Given.{Given}
 use Rattle.mesa_types.specs.declared.typed_parts.Given.TheVariants.{NoVariable, GivenTo}
 use Rattle.mesa_types.specs.declared.typed_parts.Home.{Home}
@@ -14,20 +16,20 @@ use Rattle.mesa_types.specs.declared.typed_parts.Range.TheVariants.{Every, From}
 use Rattle.mesa_base.specs.declared.relation.Relation.{Relation}
 use Rattle.mesa_base.specs.declared.relation.Relation.TheVariants.{Equal, NotEqual, Less, AtMost, Greater, AtLeast}
 use Rattle.mesa_types.specs.Typed.{Exprs, Interval, Between}
-use Rattle.mesa_types.specs.Counts.{words_given}
+use Rattle.mesa_types.specs.Counts.{words_given, words_before}
 use Rattle.code_forms.specs.declared.instruction.Instruction.{Instruction}
 use Rattle.code_forms.specs.declared.instruction.Instruction.TheVariants as i
 use Rattle.code_rules.specs.Loops.{Counter, NoCounter, CountedIn, start_code, some_code, up_code, down_code, when, give_code, step_code}
-use Rattle.code_rules.specs.OwnCode.{pop_code, lift_code, drop_code, field_code, check_code, from_code, index_code, less, comparison, is_opposite, not_if, relation_code, operator_code, less_code, bound_code, within_code, total, size_for, size_after, without, rolls, arrange_from, arrange_code}
+use Rattle.code_rules.specs.OwnCode.{pop_code, lift_code, drop_code, long_code, field_code, check_code, widen_code, narrow_code, conversion_code, from_code, index_code, less, comparison, less_long, long_comparison, is_opposite, not_if, relation_code, long_relation_code, operator_code, long_operator_code, less_code, bound_code, within_code, long_less_code, long_bound_code, long_within_code, total, size_for, size_after, without, rolls, arrange_from, arrange_code}
 use Rattle.code_rules.specs.Reading.{Coded}
 use Rattle.code_rules.specs.Slots.{load, store, load_within, store_within, zero_code, copy_code, spread_code, sizes}
 use Rattle.code_blocks.specs.Own.{left_of}
-use Rattle.code_blocks.specs.Translation.{within_of, start_of}
+use Rattle.code_blocks.specs.Translation.{within_of, long_within_of, start_of}
 use Rattle.code_blocks.proofs.ExtractRows.{lift_left, check_left}
 use Rattle.code_blocks.proofs.Fine.{Fine, AllFine, fine_at, fine_both}
 use Rattle.code_blocks.proofs.StatementDepths.{pop_left}
 use Rattle.code_blocks.proofs.Own.{left_both}
-use Rattle.code_blocks.proofs.Values.{none, comparison_left, total_given}
+use Rattle.code_blocks.proofs.Values.{none, comparison_left, long_comparison_left, total_given}
 
 -- one code behind another that leaves so many words
 behind : (is js : List Instruction) (d n : ℕ) → AllFine is d → left_of is d ≡ n → AllFine js n → AllFine (is ++ js) d
@@ -54,6 +56,35 @@ pub check_fine : (r : Range) (d : ℕ) → 1 ≤ d → AllFine (check_code r) d
 check_fine Every d h = tt
 check_fine (From Signed first last) d h = (h, tt)
 check_fine (From Unsigned first last) d h = (h, tt)
+
+pub long_fine : (n d : ℕ) → AllFine (long_code n) d
+long_fine n d = (omega arith, (omega arith, tt))
+
+widen_fine : (a b : Base) (d : ℕ) → 1 ≤ d → AllFine (widen_code a b) d
+widen_fine Signed Signed d h = (h, tt)
+widen_fine Signed Unsigned d h = (h, (omega arith, tt))
+widen_fine Unsigned Signed d h = (h, tt)
+widen_fine Unsigned Unsigned d h = (h, tt)
+
+narrow_fine : (a b : Base) (d : ℕ) → 2 ≤ d → AllFine (narrow_code a b) d
+narrow_fine Signed Signed d h = (h, tt)
+narrow_fine Signed Unsigned d h = (h, tt)
+narrow_fine Unsigned Signed d h = (h, (omega arith, tt))
+narrow_fine Unsigned Unsigned d h = (h, tt)
+
+narrow_left : (a b : Base) (d : ℕ) → 2 ≤ d → left_of (narrow_code a b) d ≡ d - 1
+narrow_left Signed Signed d h = omega (arith, h)
+narrow_left Signed Unsigned d h = omega (arith, h)
+narrow_left Unsigned Signed d h = omega (arith, h)
+narrow_left Unsigned Unsigned d h = omega (arith, h)
+
+pub conversion_fine : (c : Conversion) (d : ℕ) → words_before c ≤ d → AllFine (conversion_code c) d
+unfolding words_before
+conversion_fine Kept d h = tt
+conversion_fine (Widened a b) d h = widen_fine a b d h
+conversion_fine (Narrowed a b r) d h =
+    behind (narrow_code a b) (check_code r) d (d - 1) (narrow_fine a b d h) (narrow_left a b d h) (check_fine r (d - 1) (omega (arith, h)))
+conversion_fine InCommon d h = (h, tt)
 
 from_fine : (first d : ℕ) → 1 ≤ d → AllFine (from_code first) d
 from_fine zero d h = tt
@@ -83,6 +114,29 @@ comparison_fine b AtLeast d = (less_fine b (d + 2) (omega arith), tt)
 not_fine : (b : Bool) (d : ℕ) → 1 ≤ d → AllFine (not_if b) d
 not_fine true d h = (h, tt)
 not_fine false d h = tt
+
+less_long_fine : (b : Base) (d : ℕ) → 4 ≤ d → Fine (less_long b) d
+less_long_fine Signed d h = h
+less_long_fine Unsigned d h = h
+
+pub long_comparison_fine : (b : Base) (o : Relation) (d : ℕ) → AllFine (long_comparison b o) (d + 4)
+long_comparison_fine b Equal d = (omega arith, tt)
+long_comparison_fine b NotEqual d = (omega arith, tt)
+long_comparison_fine b Less d = (less_long_fine b (d + 4) (omega arith), tt)
+long_comparison_fine b AtMost d = (omega arith, (less_long_fine b _ (omega arith), tt))
+long_comparison_fine b Greater d = (omega arith, (less_long_fine b _ (omega arith), tt))
+long_comparison_fine b AtLeast d = (less_long_fine b (d + 4) (omega arith), tt)
+
+pub long_operator_fine : (o : Operator) (d : ℕ) → AllFine (long_operator_code o) (d + 4)
+long_operator_fine operator.Add d = (omega arith, tt)
+long_operator_fine operator.Subtract d = (omega arith, tt)
+long_operator_fine operator.Multiply d = (omega arith, tt)
+long_operator_fine (operator.Divide Signed) d = (omega arith, tt)
+long_operator_fine (operator.Divide Unsigned) d = (omega arith, tt)
+long_operator_fine (operator.Modulo Signed) d = (omega arith, tt)
+long_operator_fine (operator.Modulo Unsigned) d = (omega arith, tt)
+long_operator_fine (operator.AddToCharacter b) d = (omega arith, tt)
+long_operator_fine (operator.SubtractFromCharacter b) d = (omega arith, tt)
 
 pub operator_fine : (t : ℕ) (o : Operator) (d : ℕ) → AllFine (operator_code t o) (d + 2)
 operator_fine t operator.Add d = (omega arith, tt)
@@ -137,6 +191,44 @@ within_fine t bases p q d =
 
 pub within_of_fine : (t : ℕ) (bases : Bases) (range : Interval) (d : ℕ) → AllFine (within_of t bases range) (d + 3)
 within_of_fine t bases (Between x p y q) d = within_fine t bases p q d
+
+long_less_fine : (b : Base) (s : ℕ) (c : Base) (u d : ℕ) → AllFine (long_less_code b s c u) d
+long_less_fine Signed s Signed u d = (omega arith, (omega arith, (omega arith, tt)))
+long_less_fine Unsigned s Unsigned u d = (omega arith, (omega arith, (omega arith, tt)))
+long_less_fine Signed s Unsigned u d =
+    (omega arith, (omega arith, (omega arith, (omega arith, (omega arith, (omega arith, (omega arith, (omega arith, (omega arith, (omega arith, (omega arith, tt)))))))))))
+long_less_fine Unsigned s Signed u d =
+    (omega arith, (omega arith, (omega arith, (omega arith, (omega arith, (omega arith, (omega arith, (omega arith, (omega arith, tt)))))))))
+
+long_less_left : (b : Base) (s : ℕ) (c : Base) (u d : ℕ) → left_of (long_less_code b s c u) d ≡ d + 1
+long_less_left Signed s Signed u d = omega arith
+long_less_left Signed s Unsigned u d = omega arith
+long_less_left Unsigned s Signed u d = omega arith
+long_less_left Unsigned s Unsigned u d = omega arith
+
+long_bound_fine : (is_open : Bool) (b : Base) (s : ℕ) (c : Base) (u d : ℕ) → AllFine (long_bound_code is_open b s c u) d
+long_bound_fine true b s c u d = long_less_fine b s c u d
+long_bound_fine false b s c u d =
+    behind (long_less_code c u b s) _ d (d + 1) (long_less_fine c u b s d) (long_less_left c u b s d) (omega arith, tt)
+
+long_bound_left : (is_open : Bool) (b : Base) (s : ℕ) (c : Base) (u d : ℕ) → left_of (long_bound_code is_open b s c u) d ≡ d + 1
+long_bound_left true b s c u d = long_less_left b s c u d
+long_bound_left false b s c u d =
+    left_both (long_less_code c u b s) (i.Not ∷ []) d ∙ ap (λ n. n - 1 + 1) (long_less_left c u b s d) ∙ omega arith
+
+long_within_fine : (t : ℕ) (bases : Bases) (p q : Bool) (d : ℕ) → AllFine (long_within_code t bases p q) (d + 6)
+long_within_fine t bases p q d =
+    let rest = long_bound_code q bases.number t bases.last (t + 4) ++ i.Mul ∷ [] in (
+      omega arith,
+      fine_at (long_bound_code p bases.first (t + 2) bases.number t ++ rest) {n = d} (omega arith)
+          (behind (long_bound_code p bases.first (t + 2) bases.number t) rest d (d + 1) (long_bound_fine p bases.first (t + 2) bases.number t d)
+          (long_bound_left p bases.first (t + 2) bases.number t d)
+          (behind (long_bound_code q bases.number t bases.last (t + 4)) (i.Mul ∷ []) (d + 1) (d + 1 + 1)
+          (long_bound_fine q bases.number t bases.last (t + 4) (d + 1)) (long_bound_left q bases.number t bases.last (t + 4) (d + 1)) (omega arith, tt))),
+    )
+
+pub long_within_of_fine : (t : ℕ) (bases : Bases) (range : Interval) (d : ℕ) → AllFine (long_within_of t bases range) (d + 6)
+long_within_of_fine t bases (Between x p y q) d = long_within_fine t bases p q d
 
 -- keyed lists
 
@@ -283,3 +375,8 @@ step_fine (CountedIn z g true) d = (omega arith, (omega arith, (omega arith, (om
 pub relation_fine : (b : Base) (o : Relation) (d : ℕ) → AllFine (relation_code b o) (d + 2)
 relation_fine b o d =
     behind (comparison b o) (not_if (is_opposite o)) (d + 2) (d + 1) (comparison_fine b o d) (comparison_left none b o d) (not_fine (is_opposite o) (d + 1) (omega arith))
+
+pub long_relation_fine : (b : Base) (o : Relation) (d : ℕ) → AllFine (long_relation_code b o) (d + 4)
+long_relation_fine b o d =
+    behind (long_comparison b o) (not_if (is_opposite o)) (d + 4) (d + 1) (long_comparison_fine b o d) (long_comparison_left none b o d)
+    (not_fine (is_opposite o) (d + 1) (omega arith))

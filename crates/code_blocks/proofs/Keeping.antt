@@ -1,10 +1,10 @@
 -- The block of a sound statement leaves the operand stack as it was.
 use Rattle.std.proofs.Common.{◌≡◌, refl, ap, ◌∙◌, ℕ, ◌+◌, ◌-◌, [], ◌∷◌, ◌++◌, Bool, true, false, if◌then◌else◌, arith}
 use Rattle.mesa_types.specs.declared.typed_parts.Home.{Home}
-use Rattle.mesa_types.specs.Typed.{Kind, Kinds, Ordinal, Record, Expr, Suffixes, Stmt, Null, Marked, Declare, DeclareAs, Assign, Extract, Perform, If, Select, Block, Repeat, For, Jump, ReturnWith, Resume, Reject, Retry, Continue, Stmts, NoStmts, AndStmt, Cases, Otherwise, AndCase, Loop, LoopOf}
+use Rattle.mesa_types.specs.Typed.{Kind, Kinds, Ordinal, Record, Expr, Suffixes, Stmt, Null, Marked, Declare, DeclareAs, Assign, Extract, Perform, If, Select, SelectLong, Block, Repeat, For, Jump, ReturnWith, Resume, Reject, Retry, Continue, Stmts, NoStmts, AndStmt, Cases, Otherwise, AndCase, Loop, LoopOf}
 use Rattle.mesa_types.specs.Counts.{hidden, hidden_expr, hidden_suffixes, hidden_interval, words_of, words_given}
 use Rattle.mesa_types.specs.Shapes.{words_in, words_in_all, one}
-use Rattle.mesa_types.specs.Sound.{Scope, ExprIn, Selects, StmtIn, StmtsIn, CasesIn}
+use Rattle.mesa_types.specs.Sound.{Scope, ExprIn, a_long, Selects, CasesTake, StmtIn, StmtsIn, CasesIn}
 use Rattle.code_forms.specs.declared.instruction.Instruction.TheVariants as i
 use Rattle.code_rules.specs.OwnCode.{pop_code, arrange_code}
 use Rattle.code_rules.specs.Reading.{Coded}
@@ -16,7 +16,13 @@ use Rattle.code_blocks.specs.Translation.{has_index, at_element, start_of, forms
 use Rattle.mesa_types.proofs.WordSizes.{sizes_agree}
 use Rattle.code_blocks.proofs.ExtractRows.{HaveWords, extract_keeps}
 use Rattle.code_blocks.proofs.StatementDepths.{pop_left, start_left, zero_left, spread_left, store_left, store_within_left, arranged_taken}
-use Rattle.code_blocks.proofs.Values.{one_is, behind, value_depth, values_depth, bounds_depth, path_depth}
+use Rattle.code_blocks.proofs.Values.{one_is, long_is, behind, value_depth, values_depth, bounds_depth, path_depth}
+
+-- what the tests of a selector of a word take
+pub selects_take : (k : Kind) (cs : Cases) → Selects k cs → CasesTake Ordinal cs
+unfolding Selects CasesTake
+selects_take k (Otherwise s) h = tt
+selects_take k (AndCase ts s cs) h = h.1
 
 module _ (U : Coded) where
   -- a statement that stores a value in a variable or a part of one
@@ -41,8 +47,22 @@ module _ (U : Coded) where
   unfolding words_in
   ordinal_word Γ e k h is = one_is Γ e k h ∙ ap words_in is
 
+  -- where a selector is tested, its words are those that are held
+  abbrev pub Holds : (held words : ℕ) → Cases → Type 0
+  Holds held words (Otherwise s) = Unit {0}
+  Holds held words (AndCase ts s cs) = words ≡ held
+
+  pub selects_held : (Γ : Scope) (e : Expr) (k : Kind) (cs : Cases) → ExprIn Γ e (one k) → Selects k cs → Holds 1 (words_of e) cs
+  unfolding Selects
+  selects_held Γ e k (Otherwise s) h sel = tt
+  selects_held Γ e k (AndCase ts s cs) h sel = ordinal_word Γ e k h sel.0
+
+  pub selects_long : (cs : Cases) {words : ℕ} → words ≡ 2 → Holds 2 words cs
+  selects_long (Otherwise s) is = tt
+  selects_long (AndCase ts s cs) is = is
+
   mutual
-    unfolding StmtIn StmtsIn CasesIn Selects
+    unfolding StmtIn StmtsIn CasesIn
 
     pub keeps : (Γ : Scope) → HaveWords Γ → (s : Stmt) → StmtIn Γ s → (z d : ℕ) → depth_behind (block U z s) d ≡ d
     keeps Γ g Null h z d = refl
@@ -59,8 +79,11 @@ module _ (U : Coded) where
     keeps Γ g (Perform e) h z d = ap (left_of (pop_code (words_of e))) (value_depth U Γ e h.2 h.3 z d) ∙ pop_left (words_of e) d
     keeps Γ g (If e s t) h z d = refl
     keeps Γ g (Select e cs) h z d =
-        behind (selected U (z + (1 + hidden_expr e)) z (words_of e) cs) (value_depth U Γ e (one h.0) h.2 (z + 1) d)
-        (keeps_selected Γ g e h.0 cs h.2 h.3 h.4 (z + (1 + hidden_expr e)) z d)
+        behind (selected U (z + (1 + hidden_expr e)) z 1 (words_of e) cs) (value_depth U Γ e (one h.0) h.2 (z + 1) d)
+        (keeps_selected Γ g 1 (words_of e) cs (selects_held Γ e h.0 cs h.2 h.3) h.4 (z + (1 + hidden_expr e)) z d)
+    keeps Γ g (SelectLong e cs) h z d =
+        behind (selected U (z + (2 + hidden_expr e)) z 2 (words_of e) cs) (value_depth U Γ e a_long h.1 (z + 2) d)
+        (keeps_selected Γ g 2 (words_of e) cs (selects_long cs (long_is Γ e h.1)) h.3 (z + (2 + hidden_expr e)) z d)
     keeps Γ g (Block ph ss es) h z d = refl
     keeps Γ g (Repeat c l) h z d = looped z d _ l
     keeps Γ g (For v down base range l) h z d =
@@ -77,10 +100,10 @@ module _ (U : Coded) where
     keeps Γ g (Retry n) h z d = refl
     keeps Γ g (Continue n) h z d = refl
 
-    keeps_selected : (Γ : Scope) → HaveWords Γ → (e : Expr) (k : Kind) (cs : Cases) → ExprIn Γ e (one k) → Selects k cs → CasesIn Γ cs → (z x d : ℕ)
-        → depth_behind (selected U z x (words_of e) cs) (d + words_of e) ≡ d
-    keeps_selected Γ g e k (Otherwise s) h sel c z x d = behind (block U z s) (pop_left (words_of e) d) (keeps Γ g s c z d)
-    keeps_selected Γ g e k (AndCase ts s cs) h sel c z x d = omega (arith, ordinal_word Γ e k h sel)
+    keeps_selected : (Γ : Scope) → HaveWords Γ → (held words : ℕ) (cs : Cases) → Holds held words cs → CasesIn Γ cs → (z x d : ℕ)
+        → depth_behind (selected U z x held words cs) (d + words) ≡ d
+    keeps_selected Γ g held words (Otherwise s) is c z x d = behind (block U z s) (pop_left words d) (keeps Γ g s c z d)
+    keeps_selected Γ g held words (AndCase ts s cs) is c z x d = omega (arith, is)
 
   pub keeps_all : (Γ : Scope) → HaveWords Γ → (ss : Stmts) → StmtsIn Γ ss → (z d : ℕ) → depth_behind (blocks U z ss) d ≡ d
   unfolding StmtsIn

@@ -212,13 +212,13 @@ module _ (S : Laid) where
       let range = Between x p y q in
       let start = start_code z base p q in
       let rest = t.loop U (z + (3 + hidden_interval range)) (CountedIn z g down) l in
-      let m = past_bounds S Γ x y p q hx hy (Does start ▹ rest) E (beyond 3 w) a lies in
+      let m = past_bounds S Γ x y p q a_word hx hy (Does start ▹ rest) E (beyond 3 w) a lies in
       let c = a + size (t.bounds U (z + 3) range) in
       let one : words_of x ≡ 1 = word_is Γ x hx in
       let two : words_of y ≡ 1 = word_is Γ y hy in
       let n = next S (Does start) rest E (past y (past x w)) c w.depth m.1 (own_left start {n = w.depth + 2} (omega (arith, one, two))
       (own_code_keeps_words.started none z base p q w.depth)) in
       let d = c + bytes_in start in
-      count c d (bounds_row S Γ x y p q hx vx vy E (beyond 3 w) known a c m.0 refl)
+      count c d (bounds_row S Γ x y p q a_word hx vx vy E (beyond 3 w) known a c m.0 refl)
       (own_lies S (past y (past x w)) start E c d (start_own z base p q) n.0 refl)
       (looped z E (beyond (3 + hidden_interval range) w) known d b n.1 (omega (arith, eq)))

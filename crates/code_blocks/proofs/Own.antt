@@ -3,6 +3,8 @@ use Rattle.std.proofs.Common.{◌≡◌, refl, ap, ◌∙◌, ℕ, zero, suc, �
 use Rattle.mesa_types.specs.declared.typed_parts.Base.{Base}
 use Rattle.mesa_types.specs.declared.typed_parts.Base.TheVariants.{Signed, Unsigned}
 use Rattle.mesa_types.specs.declared.typed_parts.Bases.{Bases}
+use Rattle.mesa_types.specs.declared.typed_parts.Conversion.{Conversion}
+use Rattle.mesa_types.specs.declared.typed_parts.Conversion.TheVariants.{Kept, Widened, Narrowed, InCommon}
 use Rattle.mesa_types.specs.declared.typed_parts.Given.{Given}
 use Rattle.mesa_types.specs.declared.typed_parts.Given.TheVariants.{NoVariable, GivenTo}
 use Rattle.mesa_types.specs.declared.typed_parts.Home.{Home}
@@ -21,7 +23,7 @@ use Rattle.code_forms.specs.Depths.{depth_after}
 use Rattle.code_forms.specs.Routine.{Routine, effect_words}
 use Rattle.code_rules.specs.Laws.{left_by}
 use Rattle.code_rules.specs.Loops.{Counter, NoCounter, CountedIn, start_code, some_code, up_code, down_code, when, give_code, step_code}
-use Rattle.code_rules.specs.OwnCode.{pop_code, lift_code, drop_code, field_code, check_code, from_code, index_code, less, comparison, is_opposite, not_if, relation_code, operator_code, less_code, bound_code, within_code, size_for, size_after, without, rolls, arrange_from, arrange_code}
+use Rattle.code_rules.specs.OwnCode.{pop_code, lift_code, drop_code, field_code, check_code, widen_code, narrow_code, conversion_code, from_code, index_code, less, comparison, less_long, long_comparison, is_opposite, not_if, relation_code, long_relation_code, operator_code, long_operator_code, less_code, bound_code, within_code, long_less_code, long_bound_code, long_within_code, size_for, size_after, without, rolls, arrange_from, arrange_code}
 use Rattle.code_rules.specs.Reading.{Coded}
 use Rattle.code_rules.specs.Slots.{load, store, load_within, store_within, clear, zero_code, copy_code, spread_code}
 use Rattle.code_blocks.specs.Own.{alone, left_of, IsFixed, IsOwn, AreOwn}
@@ -140,6 +142,24 @@ check_own Every = tt
 check_own (From Signed first last) = (tt, tt)
 check_own (From Unsigned first last) = (tt, tt)
 
+widen_own : (a b : Base) → AreOwn (widen_code a b)
+widen_own Signed Signed = (tt, tt)
+widen_own Signed Unsigned = (tt, (tt, tt))
+widen_own Unsigned Signed = (tt, tt)
+widen_own Unsigned Unsigned = (tt, tt)
+
+narrow_own : (a b : Base) → AreOwn (narrow_code a b)
+narrow_own Signed Signed = (tt, tt)
+narrow_own Signed Unsigned = (tt, tt)
+narrow_own Unsigned Signed = (tt, (tt, tt))
+narrow_own Unsigned Unsigned = (tt, tt)
+
+pub conversion_own : (c : Conversion) → AreOwn (conversion_code c)
+conversion_own Kept = tt
+conversion_own (Widened a b) = widen_own a b
+conversion_own (Narrowed a b r) = own_both (narrow_code a b) _ (narrow_own a b) (check_own r)
+conversion_own InCommon = (tt, tt)
+
 from_own : (first : ℕ) → AreOwn (from_code first)
 from_own zero = tt
 from_own (suc n) = (tt, (tt, tt))
@@ -165,6 +185,32 @@ not_own false = tt
 
 pub relation_own : (b : Base) (o : Relation) → AreOwn (relation_code b o)
 relation_own b o = own_both (comparison b o) _ (comparison_own b o) (not_own (is_opposite o))
+
+less_long_own : (b : Base) → IsOwn (less_long b)
+less_long_own Signed = tt
+less_long_own Unsigned = tt
+
+pub long_comparison_own : (b : Base) (o : Relation) → AreOwn (long_comparison b o)
+long_comparison_own b Equal = (tt, tt)
+long_comparison_own b NotEqual = (tt, tt)
+long_comparison_own b Less = (less_long_own b, tt)
+long_comparison_own b AtMost = (tt, (less_long_own b, tt))
+long_comparison_own b Greater = (tt, (less_long_own b, tt))
+long_comparison_own b AtLeast = (less_long_own b, tt)
+
+pub long_relation_own : (b : Base) (o : Relation) → AreOwn (long_relation_code b o)
+long_relation_own b o = own_both (long_comparison b o) _ (long_comparison_own b o) (not_own (is_opposite o))
+
+pub long_operator_own : (o : Operator) → AreOwn (long_operator_code o)
+long_operator_own operator.Add = (tt, tt)
+long_operator_own operator.Subtract = (tt, tt)
+long_operator_own operator.Multiply = (tt, tt)
+long_operator_own (operator.Divide Signed) = (tt, tt)
+long_operator_own (operator.Divide Unsigned) = (tt, tt)
+long_operator_own (operator.Modulo Signed) = (tt, tt)
+long_operator_own (operator.Modulo Unsigned) = (tt, tt)
+long_operator_own (operator.AddToCharacter b) = (tt, tt)
+long_operator_own (operator.SubtractFromCharacter b) = (tt, tt)
 
 pub operator_own : (t : ℕ) (o : Operator) → AreOwn (operator_code t o)
 operator_own t operator.Add = (tt, tt)
@@ -194,6 +240,23 @@ within_own t bases p q = (
   tt,
   own_both (bound_code p bases.first (t + 1) bases.number t) _ (bound_own p bases.first (t + 1) bases.number t)
       (own_both (bound_code q bases.number t bases.last (t + 2)) _ (bound_own q bases.number t bases.last (t + 2)) (tt, tt)),
+)
+
+long_less_own : (b : Base) (s : ℕ) (c : Base) (u : ℕ) → AreOwn (long_less_code b s c u)
+long_less_own Signed s Signed u = (tt, (tt, (tt, tt)))
+long_less_own Unsigned s Unsigned u = (tt, (tt, (tt, tt)))
+long_less_own Signed s Unsigned u = (tt, (tt, (tt, (tt, (tt, (tt, (tt, (tt, (tt, (tt, (tt, tt)))))))))))
+long_less_own Unsigned s Signed u = (tt, (tt, (tt, (tt, (tt, (tt, (tt, (tt, (tt, tt)))))))))
+
+long_bound_own : (is_open : Bool) (b : Base) (s : ℕ) (c : Base) (u : ℕ) → AreOwn (long_bound_code is_open b s c u)
+long_bound_own true b s c u = long_less_own b s c u
+long_bound_own false b s c u = own_both (long_less_code c u b s) _ (long_less_own c u b s) (tt, tt)
+
+pub long_within_own : (t : ℕ) (bases : Bases) (p q : Bool) → AreOwn (long_within_code t bases p q)
+long_within_own t bases p q = (
+  tt,
+  own_both (long_bound_code p bases.first (t + 2) bases.number t) _ (long_bound_own p bases.first (t + 2) bases.number t)
+      (own_both (long_bound_code q bases.number t bases.last (t + 4)) _ (long_bound_own q bases.number t bases.last (t + 4)) (tt, tt)),
 )
 
 rolls_own : (q count : ℕ) (places sizes : List ℕ) (moved : ℕ) → AreOwn (rolls q count places sizes moved)

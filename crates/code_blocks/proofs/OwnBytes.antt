@@ -3,6 +3,8 @@ use Rattle.std.proofs.Common.{◌≡◌, refl, ℕ, zero, suc, ◌+◌, ◌*◌,
 use Rattle.mesa_types.specs.declared.typed_parts.Base.{Base}
 use Rattle.mesa_types.specs.declared.typed_parts.Base.TheVariants.{Signed, Unsigned}
 use Rattle.mesa_types.specs.declared.typed_parts.Bases.{Bases}
+use Rattle.mesa_types.specs.declared.typed_parts.Conversion.{Conversion}
+use Rattle.mesa_types.specs.declared.typed_parts.Conversion.TheVariants.{Kept, Widened, Narrowed, InCommon}
 use Rattle.mesa_types.specs.declared.typed_parts.Given.{Given}
 use Rattle.mesa_types.specs.declared.typed_parts.Given.TheVariants.{NoVariable, GivenTo}
 use Rattle.mesa_types.specs.declared.typed_parts.Home.{Home}
@@ -18,7 +20,7 @@ use Rattle.code_forms.specs.declared.instruction.Instruction.{Instruction}
 use Rattle.code_forms.specs.declared.instruction.Instruction.TheVariants as i
 use Rattle.code_forms.specs.Instructions.{bytes_of}
 use Rattle.code_rules.specs.Loops.{Counter, NoCounter, CountedIn, start_code, some_code, up_code, down_code, when, give_code, step_code}
-use Rattle.code_rules.specs.OwnCode.{pop_code, lift_code, drop_code, field_code, check_code, from_code, index_code, less, comparison, is_opposite, not_if, jump_where, relation_code, operator_code, less_code, bound_code, within_code, size_for, size_after, without, rolls, arrange_from, arrange_code}
+use Rattle.code_rules.specs.OwnCode.{pop_code, lift_code, drop_code, field_code, check_code, widen_code, narrow_code, conversion_code, from_code, index_code, less, comparison, less_long, long_comparison, is_opposite, not_if, jump_where, relation_code, long_relation_code, operator_code, long_operator_code, less_code, bound_code, within_code, long_less_code, long_bound_code, long_within_code, size_for, size_after, without, rolls, arrange_from, arrange_code}
 use Rattle.code_rules.specs.Reading.{Coded}
 use Rattle.code_rules.specs.Slots.{load, store, load_within, store_within, clear, zero_code, copy_code, spread_code}
 use Rattle.code_blocks.specs.Own.{bytes_in}
@@ -49,6 +51,29 @@ check_bytes Every = omega arith
 check_bytes (From Signed first last) = omega arith
 check_bytes (From Unsigned first last) = omega arith
 
+widen_bytes : (a b : Base) → bytes_in (widen_code a b) ≤ 2
+widen_bytes Signed Signed = omega arith
+widen_bytes Signed Unsigned = omega arith
+widen_bytes Unsigned Signed = omega arith
+widen_bytes Unsigned Unsigned = omega arith
+
+narrow_bytes : (a b : Base) → bytes_in (narrow_code a b) ≤ 2
+narrow_bytes Signed Signed = omega arith
+narrow_bytes Signed Unsigned = omega arith
+narrow_bytes Unsigned Signed = omega arith
+narrow_bytes Unsigned Unsigned = omega arith
+
+range_bytes : (r : Range) → bytes_in (check_code r) ≤ 5
+range_bytes Every = omega arith
+range_bytes (From Signed first last) = omega arith
+range_bytes (From Unsigned first last) = omega arith
+
+pub conversion_bytes : (c : Conversion) → bytes_in (conversion_code c) ≤ 7
+conversion_bytes Kept = omega arith
+conversion_bytes (Widened a b) = omega (arith, widen_bytes a b)
+conversion_bytes (Narrowed a b r) = both (narrow_code a b) _ 2 5 (narrow_bytes a b) (range_bytes r)
+conversion_bytes InCommon = omega arith
+
 from_bytes : (first : ℕ) → bytes_in (from_code first) ≤ 4
 from_bytes zero = omega arith
 from_bytes (suc n) = omega arith
@@ -75,6 +100,21 @@ not_bytes false = omega arith
 pub relation_bytes : (b : Base) (o : Relation) → bytes_in (relation_code b o) ≤ 7
 relation_bytes b o = both (comparison b o) _ 6 1 (comparison_bytes b o) (not_bytes (is_opposite o))
 
+less_long_bytes : (b : Base) → bytes_of (less_long b) ≡ 1
+less_long_bytes Signed = refl
+less_long_bytes Unsigned = refl
+
+pub long_comparison_bytes : (b : Base) (o : Relation) → bytes_in (long_comparison b o) ≤ 6
+long_comparison_bytes b Equal = omega arith
+long_comparison_bytes b NotEqual = omega arith
+long_comparison_bytes b Less = omega (arith, less_long_bytes b)
+long_comparison_bytes b AtMost = omega (arith, less_long_bytes b)
+long_comparison_bytes b Greater = omega (arith, less_long_bytes b)
+long_comparison_bytes b AtLeast = omega (arith, less_long_bytes b)
+
+pub long_relation_bytes : (b : Base) (o : Relation) → bytes_in (long_relation_code b o) ≤ 7
+long_relation_bytes b o = both (long_comparison b o) _ 6 1 (long_comparison_bytes b o) (not_bytes (is_opposite o))
+
 pub where_bytes : (sense : Bool) (target : ℕ) → bytes_of (jump_where sense target) ≡ 5
 where_bytes true target = refl
 where_bytes false target = refl
@@ -91,6 +131,17 @@ operator_bytes t (operator.AddToCharacter Signed) = omega arith
 operator_bytes t (operator.AddToCharacter Unsigned) = omega arith
 operator_bytes t (operator.SubtractFromCharacter Signed) = omega arith
 operator_bytes t (operator.SubtractFromCharacter Unsigned) = omega arith
+
+pub long_operator_bytes : (o : Operator) → bytes_in (long_operator_code o) ≤ 1
+long_operator_bytes operator.Add = omega arith
+long_operator_bytes operator.Subtract = omega arith
+long_operator_bytes operator.Multiply = omega arith
+long_operator_bytes (operator.Divide Signed) = omega arith
+long_operator_bytes (operator.Divide Unsigned) = omega arith
+long_operator_bytes (operator.Modulo Signed) = omega arith
+long_operator_bytes (operator.Modulo Unsigned) = omega arith
+long_operator_bytes (operator.AddToCharacter b) = omega arith
+long_operator_bytes (operator.SubtractFromCharacter b) = omega arith
 
 plainly_less_bytes : (b : Base) (s : ℕ) (c : Base) (u : ℕ) → bytes_in (less_code b s c u) ≤ 24
 plainly_less_bytes Signed s Signed u = omega arith
@@ -111,6 +162,27 @@ within_bytes t bases p q =
       arith,
       both first tail 25 26 (bound_bytes p bases.first (t + 1) bases.number t)
           (both last (i.Mul ∷ []) 25 1 (bound_bytes q bases.number t bases.last (t + 2)) (omega arith)),
+    )
+
+long_less_bytes : (b : Base) (s : ℕ) (c : Base) (u : ℕ) → bytes_in (long_less_code b s c u) ≤ 27
+long_less_bytes Signed s Signed u = omega arith
+long_less_bytes Unsigned s Unsigned u = omega arith
+long_less_bytes Signed s Unsigned u = omega arith
+long_less_bytes Unsigned s Signed u = omega arith
+
+long_bound_bytes : (is_open : Bool) (b : Base) (s : ℕ) (c : Base) (u : ℕ) → bytes_in (long_bound_code is_open b s c u) ≤ 28
+long_bound_bytes true b s c u = omega (arith, long_less_bytes b s c u)
+long_bound_bytes false b s c u = both (long_less_code c u b s) _ 27 1 (long_less_bytes c u b s) (omega arith)
+
+pub long_within_bytes : (t : ℕ) (bases : Bases) (p q : Bool) → bytes_in (long_within_code t bases p q) ≤ 62
+long_within_bytes t bases p q =
+    let first = long_bound_code p bases.first (t + 2) bases.number t in
+    let last = long_bound_code q bases.number t bases.last (t + 4) in
+    let tail = last ++ i.Mul ∷ [] in
+    omega (
+      arith,
+      both first tail 28 29 (long_bound_bytes p bases.first (t + 2) bases.number t)
+          (both last (i.Mul ∷ []) 28 1 (long_bound_bytes q bases.number t bases.last (t + 4)) (omega arith)),
     )
 
 rolls_bytes : (q count : ℕ) (places sizes : List ℕ) (moved : ℕ) → bytes_in (rolls q count places sizes moved) ≤ 5 * count

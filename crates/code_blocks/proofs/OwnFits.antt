@@ -5,6 +5,8 @@ use Rattle.std.specs.Prelude.{◌≢◌}
 use Rattle.mesa_types.specs.declared.typed_parts.Base.{Base}
 use Rattle.mesa_types.specs.declared.typed_parts.Base.TheVariants.{Signed, Unsigned}
 use Rattle.mesa_types.specs.declared.typed_parts.Bases.{Bases}
+use Rattle.mesa_types.specs.declared.typed_parts.Conversion.{Conversion}
+use Rattle.mesa_types.specs.declared.typed_parts.Conversion.TheVariants.{Kept, Widened, Narrowed, InCommon}
 use Rattle.mesa_types.specs.declared.typed_parts.Operator.{Operator}
 use Rattle.mesa_types.specs.declared.typed_parts.Operator.TheVariants as operator
 use Rattle.mesa_types.specs.declared.typed_parts.Range.{Range}
@@ -17,8 +19,8 @@ use Rattle.code_forms.specs.declared.region.Region.{Region}
 use Rattle.code_forms.specs.declared.region.Region.TheVariants.{Body}
 use Rattle.code_forms.specs.Routine.{Routine}
 use Rattle.code_rules.specs.Loops.{Counter, NoCounter, CountedIn, start_code, some_code, up_code, down_code, when, step_code}
-use Rattle.code_rules.specs.OwnCode.{pop_code, lift_code, drop_code, field_code, check_code, from_code, index_code, less, comparison, is_opposite, not_if, relation_code, operator_code, less_code, bound_code, within_code, size_for, size_after, without, rolls, arrange_from, arrange_code}
-use Rattle.code_blocks.specs.Translation.{within_of, start_of}
+use Rattle.code_rules.specs.OwnCode.{pop_code, lift_code, drop_code, field_code, check_code, widen_code, narrow_code, conversion_code, from_code, index_code, less, comparison, less_long, long_comparison, is_opposite, not_if, relation_code, long_relation_code, operator_code, long_operator_code, less_code, bound_code, within_code, long_less_code, long_bound_code, long_within_code, size_for, size_after, without, rolls, arrange_from, arrange_code}
+use Rattle.code_blocks.specs.Translation.{within_of, long_within_of, start_of}
 use Rattle.code_blocks.proofs.Fits.{FitsIn, AllFit, all_fit_both, all_fit_if}
 
 module _ (r : Routine) (depth : ℕ) where
@@ -54,6 +56,24 @@ module _ (r : Routine) (depth : ℕ) where
   check_fits (From Signed first last) = (any, tt)
   check_fits (From Unsigned first last) = (any, tt)
 
+  widen_fits : (a b : Base) → Fit (widen_code a b)
+  widen_fits Signed Signed = (any, tt)
+  widen_fits Signed Unsigned = (any, (any, tt))
+  widen_fits Unsigned Signed = (any, tt)
+  widen_fits Unsigned Unsigned = (any, tt)
+
+  narrow_fits : (a b : Base) → Fit (narrow_code a b)
+  narrow_fits Signed Signed = (any, tt)
+  narrow_fits Signed Unsigned = (any, tt)
+  narrow_fits Unsigned Signed = (any, (any, tt))
+  narrow_fits Unsigned Unsigned = (any, tt)
+
+  pub conversion_fits : (c : Conversion) → Fit (conversion_code c)
+  conversion_fits Kept = tt
+  conversion_fits (Widened a b) = widen_fits a b
+  conversion_fits (Narrowed a b range) = both (narrow_code a b) _ (narrow_fits a b) (check_fits range)
+  conversion_fits InCommon = (any, tt)
+
   from_fits : (first : ℕ) → Fit (from_code first)
   from_fits zero = tt
   from_fits (suc n) = (any, (any, tt))
@@ -79,6 +99,32 @@ module _ (r : Routine) (depth : ℕ) where
 
   pub relation_fits : (b : Base) (o : Relation) → Fit (relation_code b o)
   relation_fits b o = both (comparison b o) _ (comparison_fits b o) (not_fits (is_opposite o))
+
+  less_long_fits : (b : Base) → FitsIn r depth (less_long b)
+  less_long_fits Signed = any
+  less_long_fits Unsigned = any
+
+  pub long_comparison_fits : (b : Base) (o : Relation) → Fit (long_comparison b o)
+  long_comparison_fits b Equal = (any, tt)
+  long_comparison_fits b NotEqual = (any, tt)
+  long_comparison_fits b Less = (less_long_fits b, tt)
+  long_comparison_fits b AtMost = (any, (less_long_fits b, tt))
+  long_comparison_fits b Greater = (any, (less_long_fits b, tt))
+  long_comparison_fits b AtLeast = (less_long_fits b, tt)
+
+  pub long_relation_fits : (b : Base) (o : Relation) → Fit (long_relation_code b o)
+  long_relation_fits b o = both (long_comparison b o) _ (long_comparison_fits b o) (not_fits (is_opposite o))
+
+  pub long_operator_fits : (o : Operator) → Fit (long_operator_code o)
+  long_operator_fits operator.Add = (any, tt)
+  long_operator_fits operator.Subtract = (any, tt)
+  long_operator_fits operator.Multiply = (any, tt)
+  long_operator_fits (operator.Divide Signed) = (any, tt)
+  long_operator_fits (operator.Divide Unsigned) = (any, tt)
+  long_operator_fits (operator.Modulo Signed) = (any, tt)
+  long_operator_fits (operator.Modulo Unsigned) = (any, tt)
+  long_operator_fits (operator.AddToCharacter b) = (any, tt)
+  long_operator_fits (operator.SubtractFromCharacter b) = (any, tt)
 
   rolls_fit : (q count : ℕ) (places sizes : List ℕ) (moved : ℕ) → Fit (rolls q count places sizes moved)
   rolls_fit q zero places sizes moved = tt
@@ -137,6 +183,31 @@ module _ (r : Routine) (depth : ℕ) where
 
   pub within_of_fits : (t : ℕ) (bases : Bases) (range : Interval) → t + 16 ≤ r.frame → Fit (within_of t bases range)
   within_of_fits t bases (Between x p y q) room = within_fits t bases p q room
+
+  long_less_fits : (b : Base) (s : ℕ) (c : Base) (u : ℕ) → s + 2 ≤ r.frame → u + 2 ≤ r.frame → Fit (long_less_code b s c u)
+  long_less_fits Signed s Signed u x y = (λ g some. x, (λ g some. y, (any, tt)))
+  long_less_fits Unsigned s Unsigned u x y = (λ g some. x, (λ g some. y, (any, tt)))
+  long_less_fits Signed s Unsigned u x y =
+      (λ g some. x, (any, (any, (any, (any, (λ g some. x, (λ g some. y, (any, (any, (any, (any, tt)))))))))))
+  long_less_fits Unsigned s Signed u x y =
+      (λ g some. y, (any, (any, (any, (any, (λ g some. x, (λ g some. y, (any, (any, tt)))))))))
+
+  long_bound_fits : (is_open : Bool) (b : Base) (s : ℕ) (c : Base) (u : ℕ) → s + 2 ≤ r.frame → u + 2 ≤ r.frame → Fit (long_bound_code is_open b s c u)
+  long_bound_fits true b s c u x y = long_less_fits b s c u x y
+  long_bound_fits false b s c u x y = both (long_less_code c u b s) _ (long_less_fits c u b s y x) (any, tt)
+
+  long_within_fits : (t : ℕ) (bases : Bases) (p q : Bool) → t + 16 ≤ r.frame → Fit (long_within_code t bases p q)
+  long_within_fits t bases p q room =
+      let x : t + 2 ≤ r.frame = omega (arith, room) in
+      let y : t + 2 + 2 ≤ r.frame = omega (arith, room) in
+      let z : t + 4 + 2 ≤ r.frame = omega (arith, room) in (
+        λ g some. omega (arith, room),
+        both (long_bound_code p bases.first (t + 2) bases.number t) _ (long_bound_fits p bases.first (t + 2) bases.number t y x)
+            (both (long_bound_code q bases.number t bases.last (t + 4)) _ (long_bound_fits q bases.number t bases.last (t + 4) x z) (any, tt)),
+      )
+
+  pub long_within_of_fits : (t : ℕ) (bases : Bases) (range : Interval) → t + 16 ≤ r.frame → Fit (long_within_of t bases range)
+  long_within_of_fits t bases (Between x p y q) room = long_within_fits t bases p q room
 
   -- the three hidden words of a counted loop, from slot z on
 

@@ -3,6 +3,8 @@ use Rattle.std.proofs.Common.{◌≡◌, refl, ℕ, zero, suc, ◌+◌, ◌≤�
 use Rattle.mesa_types.specs.declared.typed_parts.Base.{Base}
 use Rattle.mesa_types.specs.declared.typed_parts.Base.TheVariants.{Signed, Unsigned}
 use Rattle.mesa_types.specs.declared.typed_parts.Bases.{Bases}
+use Rattle.mesa_types.specs.declared.typed_parts.Conversion.{Conversion}
+use Rattle.mesa_types.specs.declared.typed_parts.Conversion.TheVariants.{Kept, Widened, Narrowed, InCommon}
 use Rattle.mesa_types.specs.declared.typed_parts.Given.{Given}
 use Rattle.mesa_types.specs.declared.typed_parts.Given.TheVariants.{NoVariable, GivenTo}
 use Rattle.mesa_types.specs.declared.typed_parts.Home.{Home}
@@ -17,33 +19,41 @@ use Rattle.mesa_types.specs.Typed.{Interval, Between}
 use Rattle.code_forms.specs.declared.instruction.Instruction.{Instruction}
 use Rattle.code_forms.specs.declared.instruction.Instruction.TheVariants as i
 use Rattle.code_rules.specs.Loops.{Counter, NoCounter, CountedIn, start_code, some_code, up_code, down_code, when, give_code, step_code}
-use Rattle.code_rules.specs.OwnCode.{pop_code, lift_code, drop_code, field_code, check_code, from_code, index_code, comparison, is_opposite, not_if, relation_code, operator_code, less_code, bound_code, within_code, total, size_for, size_after, without, rolls, arrange_from, arrange_code}
+use Rattle.code_rules.specs.OwnCode.{pop_code, lift_code, drop_code, field_code, check_code, widen_code, narrow_code, conversion_code, from_code, index_code, comparison, long_comparison, is_opposite, not_if, relation_code, long_relation_code, operator_code, long_operator_code, less_code, bound_code, within_code, long_less_code, long_bound_code, long_within_code, total, size_for, size_after, without, rolls, arrange_from, arrange_code}
 use Rattle.code_rules.specs.Reading.{Coded}
 use Rattle.code_rules.specs.Slots.{store, zero_code, copy_code, spread_code}
-use Rattle.code_blocks.specs.Translation.{within_of, start_of}
+use Rattle.code_blocks.specs.Translation.{within_of, long_within_of, start_of}
 use Rattle.code_blocks.proofs.ExtractRows.{lift_left}
 use Rattle.code_blocks.proofs.FineCode.{after_fits, left_over}
 use Rattle.code_blocks.proofs.Shallow.{OwnShallow, own_to, own_both, puts_in, puts_both, rises}
+use Rattle.code_blocks.proofs.StatementDepths.{pop_left}
 
 pub pop_puts : (n : ℕ) → puts_in (pop_code n) ≡ 0
 pop_puts zero = refl
 pop_puts (suc n) = refl
 
-pub lift_puts : (n k : ℕ) → puts_in (lift_code n k) ≤ n + k
-lift_puts n zero = omega arith
-lift_puts n (suc k) = omega arith
-
-drop_puts : (n k : ℕ) → puts_in (drop_code n k) ≤ n + k
-drop_puts zero k = omega arith
-drop_puts (suc n) k = omega (arith, puts_both (lift_code (suc n) k) (i.Pop (suc n) ∷ []), lift_puts (suc n) k)
-
-pub field_puts : (before words after : ℕ) → puts_in (field_code before words after) ≤ before + words
-field_puts before words after = omega (arith, puts_both (pop_code after) (drop_code before words), pop_puts after, drop_puts before words)
-
 pub check_puts : (range : Range) → puts_in (check_code range) ≤ 1
 check_puts Every = omega arith
 check_puts (From Signed first last) = omega arith
 check_puts (From Unsigned first last) = omega arith
+
+widen_puts : (a b : Base) → puts_in (widen_code a b) ≤ 4
+widen_puts Signed Signed = omega arith
+widen_puts Signed Unsigned = omega arith
+widen_puts Unsigned Signed = omega arith
+widen_puts Unsigned Unsigned = omega arith
+
+narrow_puts : (a b : Base) → puts_in (narrow_code a b) ≤ 3
+narrow_puts Signed Signed = omega arith
+narrow_puts Signed Unsigned = omega arith
+narrow_puts Unsigned Signed = omega arith
+narrow_puts Unsigned Unsigned = omega arith
+
+pub conversion_puts : (c : Conversion) → puts_in (conversion_code c) ≤ 4
+conversion_puts Kept = omega arith
+conversion_puts (Widened a b) = widen_puts a b
+conversion_puts (Narrowed a b range) = omega (arith, puts_both (narrow_code a b) (check_code range), narrow_puts a b, check_puts range)
+conversion_puts InCommon = omega arith
 
 from_puts : (first : ℕ) → puts_in (from_code first) ≤ 2
 from_puts zero = omega arith
@@ -87,6 +97,34 @@ operator_puts t (operator.AddToCharacter Unsigned) = omega arith
 operator_puts t (operator.SubtractFromCharacter Signed) = omega arith
 operator_puts t (operator.SubtractFromCharacter Unsigned) = omega arith
 
+pub long_comparison_puts : (b : Base) (o : Relation) → puts_in (long_comparison b o) ≤ 5
+long_comparison_puts Signed Equal = omega arith
+long_comparison_puts Signed NotEqual = omega arith
+long_comparison_puts Signed Less = omega arith
+long_comparison_puts Signed AtMost = omega arith
+long_comparison_puts Signed Greater = omega arith
+long_comparison_puts Signed AtLeast = omega arith
+long_comparison_puts Unsigned Equal = omega arith
+long_comparison_puts Unsigned NotEqual = omega arith
+long_comparison_puts Unsigned Less = omega arith
+long_comparison_puts Unsigned AtMost = omega arith
+long_comparison_puts Unsigned Greater = omega arith
+long_comparison_puts Unsigned AtLeast = omega arith
+
+pub long_relation_puts : (b : Base) (o : Relation) → puts_in (long_relation_code b o) ≤ 6
+long_relation_puts b o = omega (arith, puts_both (long_comparison b o) (not_if (is_opposite o)), long_comparison_puts b o, not_puts (is_opposite o))
+
+pub long_operator_puts : (o : Operator) → puts_in (long_operator_code o) ≤ 2
+long_operator_puts operator.Add = omega arith
+long_operator_puts operator.Subtract = omega arith
+long_operator_puts operator.Multiply = omega arith
+long_operator_puts (operator.Divide Signed) = omega arith
+long_operator_puts (operator.Divide Unsigned) = omega arith
+long_operator_puts (operator.Modulo Signed) = omega arith
+long_operator_puts (operator.Modulo Unsigned) = omega arith
+long_operator_puts (operator.AddToCharacter b) = omega arith
+long_operator_puts (operator.SubtractFromCharacter b) = omega arith
+
 less_code_puts : (b : Base) (s : ℕ) (c : Base) (u : ℕ) → puts_in (less_code b s c u) ≤ 10
 less_code_puts Signed s Signed u = omega arith
 less_code_puts Unsigned s Unsigned u = omega arith
@@ -105,6 +143,25 @@ within_puts t bases p q =
 
 pub within_of_puts : (t : ℕ) (bases : Bases) (range : Interval) → puts_in (within_of t bases range) ≤ 23
 within_of_puts t bases (Between x p y q) = within_puts t bases p q
+
+long_less_puts : (b : Base) (s : ℕ) (c : Base) (u : ℕ) → puts_in (long_less_code b s c u) ≤ 14
+long_less_puts Signed s Signed u = omega arith
+long_less_puts Unsigned s Unsigned u = omega arith
+long_less_puts Signed s Unsigned u = omega arith
+long_less_puts Unsigned s Signed u = omega arith
+
+long_bound_puts : (is_open : Bool) (b : Base) (s : ℕ) (c : Base) (u : ℕ) → puts_in (long_bound_code is_open b s c u) ≤ 15
+long_bound_puts true b s c u = omega (arith, long_less_puts b s c u)
+long_bound_puts false b s c u = omega (arith, puts_both (long_less_code c u b s) (i.Not ∷ []), long_less_puts c u b s)
+
+long_within_puts : (t : ℕ) (bases : Bases) (p q : Bool) → puts_in (long_within_code t bases p q) ≤ 31
+long_within_puts t bases p q =
+    let x = long_bound_code p bases.first (t + 2) bases.number t in
+    let y = long_bound_code q bases.number t bases.last (t + 4) in
+    omega (arith, puts_both x (y ++ i.Mul ∷ []), puts_both y (i.Mul ∷ []), long_bound_puts p bases.first (t + 2) bases.number t, long_bound_puts q bases.number t bases.last (t + 4))
+
+pub long_within_of_puts : (t : ℕ) (bases : Bases) (range : Interval) → puts_in (long_within_of t bases range) ≤ 31
+long_within_of_puts t bases (Between x p y q) = long_within_puts t bases p q
 
 -- loops
 
@@ -180,6 +237,20 @@ spread_shallow P (Global n ∷ hs) words d most le =
 pub lift_shallow : (n k m most : ℕ) → m ≤ most → OwnShallow (lift_code n k) m most
 lift_shallow n zero m most le = tt
 lift_shallow n (suc k) m most le = (le, tt)
+
+drop_shallow : (n k m most : ℕ) → n + k ≤ m → m ≤ most → OwnShallow (drop_code n k) m most
+drop_shallow zero k m most fits le = tt
+drop_shallow (suc n) k m most fits le =
+    own_both (lift_code (suc n) k) (i.Pop (suc n) ∷ []) m most (lift_shallow (suc n) k m most le) (omega (arith, lift_left (suc n) k m fits, le), tt)
+
+-- of a value, so many words after so many
+pub field_shallow : (before words after d most : ℕ) → d + before + words + after ≤ most
+    → OwnShallow (field_code before words after) (d + before + words + after) most
+field_shallow before words after d most le =
+    own_both (pop_code after) (drop_code before words) (d + before + words + after) most
+    (rises (pop_code after) (d + before + words + after) most (omega (arith, le, pop_puts after)))
+    (own_to (drop_code before words) _ (d + before + words) most (pop_left after (d + before + words))
+    (drop_shallow before words (d + before + words) most (omega arith) (omega (arith, le))))
 
 rolls_shallow : (q count : ℕ) (places sizes : List ℕ) (moved m most : ℕ) → total sizes + moved ≤ m → m ≤ most
     → OwnShallow (rolls q count places sizes moved) m most

@@ -1,11 +1,11 @@
 -- The code of the block of a sound construct stands for the construct.
 use Rattle.std.proofs.Common.{◌≡◌, refl, sym, subst, ℕ, ◌+◌, List, [], ◌∷◌, true, false, arith}
 use Rattle.mesa_types.specs.declared.typed_parts.Label.{Label}
-use Rattle.mesa_types.specs.Typed.{Kind, Record, Kinds, Start, After, Expr, Number, Literal, Variable, FieldOf, LengthOf, ByteOf, Checked, Operate, Negate, Relate, Within, Not, AllOf, SomeOf, Construct, Call, Raise, Exprs, NoExprs, AndExpr, Suffixes, NoSuffix, Field, Index, Operations, NoOperation, Then, Between, Phrase, NoPhrase, Catch, Arms, NoArms, AndArm, Stmt, Null, Marked, Declare, DeclareAs, Assign, Extract, Perform, If, Select, Block, Repeat, Endless, Counting, For, Jump, ReturnWith, Resume, Reject, Retry, Continue, Stmts, NoStmts, AndStmt, Targets, NoTargets, AndTarget, Cases, Otherwise, AndCase, Tests, NoTests, IfRelated, IfWithin, Exits, NoExits, AndExit, Loop, LoopOf, Finish, NoFinish, Finished, Condition, Always, While, Until, Texts}
+use Rattle.mesa_types.specs.Typed.{Kind, Ordinal, Longs, Record, Kinds, Start, After, Expr, Number, LongNumber, Literal, Variable, FieldOf, LengthOf, ByteOf, Checked, Converted, Operate, OperateLong, Negate, NegateLong, Relate, RelateLong, Within, WithinLong, Not, AllOf, SomeOf, Construct, Call, Raise, Exprs, NoExprs, AndExpr, Suffixes, NoSuffix, Field, Index, Operations, NoOperation, Then, Between, Phrase, NoPhrase, Catch, Arms, NoArms, AndArm, Stmt, Null, Marked, Declare, DeclareAs, Assign, Extract, Perform, If, Select, SelectLong, Block, Repeat, Endless, Counting, For, Jump, ReturnWith, Resume, Reject, Retry, Continue, Stmts, NoStmts, AndStmt, Targets, NoTargets, AndTarget, AndConverted, Cases, Otherwise, AndCase, Tests, NoTests, IfRelated, IfWithin, IfRelatedLong, IfWithinLong, Exits, NoExits, AndExit, Loop, LoopOf, Finish, NoFinish, Finished, Condition, Always, While, Until, Texts}
 use Rattle.mesa_types.specs.Counts.{hidden}
 use Rattle.mesa_types.specs.Shapes.{one}
 use Rattle.mesa_types.specs.Sound as sound
-use Rattle.mesa_types.specs.Sound.{Scope, a_word, CountIn, Selects, Reaches, ExprIn, ExprsIn, WordsIn, SuffixesIn, OperationsIn, IntervalIn, PhraseIn, ArmsIn, StmtIn, StmtsIn, TargetsIn, CasesIn, TestsIn, ExitsIn, LoopIn, FinishIn, ConditionIn}
+use Rattle.mesa_types.specs.Sound.{Scope, a_word, a_long, CountIn, TestsTake, CasesTake, Selects, Reaches, ExprIn, ExprsIn, WordsIn, SuffixesIn, OperationsIn, LongOperationsIn, IntervalIn, LongIntervalIn, PhraseIn, ArmsIn, StmtIn, StmtsIn, TargetsIn, CasesIn, TestsIn, ExitsIn, LoopIn, FinishIn, ConditionIn}
 use Rattle.code_forms.specs.declared.instruction.Instruction.TheVariants as i
 use Rattle.code_rules.specs.CodeFor.{no_arms, and_arm}
 use Rattle.code_rules.specs.Loops.{Counter, NoCounter, CountedIn}
@@ -19,11 +19,12 @@ use Rattle.code_blocks.proofs.ExtractRows.{HaveWords, Paths, extract_row}
 use Rattle.code_blocks.proofs.Keeping.{record_words, keeps, keeps_all}
 use Rattle.code_blocks.proofs.Known.{known_in_arm}
 use Rattle.code_blocks.proofs.Lying.{Laid, laid, own_lies}
-use Rattle.code_blocks.proofs.ExpressionRows.{next, Value, Jumped, Values, Operands, Run, Path, number_row, literal_row, length_row, byte_row, checked_row, negate_row, negation_row, relate_row, variable_row, field_row, operate_row, no_operation_row, operation_row, here_row, field_path_row, index_row, within_row, no_values_row, and_value_row, construct_row}
-use Rattle.code_blocks.proofs.ConditionRows.{on_value_row, on_relation_row, on_negation_row, no_operands_row, and_operand_row, all_jump_row, some_jump_row, all_of_row, some_of_row}
+use Rattle.code_blocks.proofs.Values.{makes_long}
+use Rattle.code_blocks.proofs.ExpressionRows.{next, Value, Jumped, Values, Operands, Run, LongRun, Path, number_row, long_number_row, literal_row, length_row, byte_row, checked_row, converted_row, negate_row, negate_long_row, negation_row, relate_row, relate_long_row, variable_row, field_row, operate_row, operate_long_row, no_operation_row, operation_row, no_long_operation_row, long_operation_row, here_row, field_path_row, index_row, within_row, within_long_row, no_values_row, and_value_row, construct_row}
+use Rattle.code_blocks.proofs.ConditionRows.{on_value_row, on_relation_row, on_long_relation_row, on_negation_row, no_operands_row, and_operand_row, all_jump_row, some_jump_row, all_of_row, some_of_row}
 use Rattle.code_blocks.proofs.CallRows.{Held, Armed, Phrased, call_row, raise_row}
 use Rattle.code_blocks.proofs.StatementRows.{Stands, AllStand, marked_row, null_row, declare_row, declare_as_row, perform_row, assign_row, if_row, jump_row, retry_row, continue_row, reject_row, resume_row, return_row, no_statements_row, and_statement_row}
-use Rattle.code_blocks.proofs.CaseRows.{Tested, Cased, no_test_row, related_row, lies_row, otherwise_row, and_case_row, select_row, select_none_row}
+use Rattle.code_blocks.proofs.CaseRows.{Tested, Cased, no_test_row, related_row, lies_row, long_related_row, long_lies_row, otherwise_row, and_case_row, select_row, select_none_row, select_long_row, select_long_none_row}
 use Rattle.code_blocks.proofs.LabelRows.{ExitsStand}
 use Rattle.code_blocks.proofs.BlockRows.{block_row}
 use Rattle.code_blocks.proofs.LoopRows.{Asked, Done, Looped, rounds_row, loop_row, for_row}
@@ -54,10 +55,11 @@ module _ (S : Laid) (held : Held S) where
       (rest E (beyond (hidden s) w) known b lie.1)
 
   mutual
-    unfolding ExprIn ExprsIn WordsIn SuffixesIn OperationsIn IntervalIn PhraseIn ArmsIn StmtIn StmtsIn TargetsIn CasesIn TestsIn ExitsIn LoopIn FinishIn ConditionIn CountIn Selects a_word sound.in_arm sound.in_marked sound.in_labelled
+    unfolding ExprIn ExprsIn WordsIn SuffixesIn OperationsIn LongOperationsIn IntervalIn LongIntervalIn PhraseIn ArmsIn StmtIn StmtsIn TargetsIn CasesIn TestsIn ExitsIn LoopIn FinishIn ConditionIn CountIn Selects CasesTake TestsTake a_word sound.in_arm sound.in_marked sound.in_labelled
 
     pub forms_stand : (Γ : Scope) → HaveWords Γ → (e : Expr) (ks : Kinds) → ExprIn Γ e ks → Both Γ e
     forms_stand Γ g (Number n) ks h = let v = number_row S Γ n in record { value = v; jump = on_value_row S Γ (Number n) ks h v }
+    forms_stand Γ g (LongNumber n) ks h = let v = long_number_row S Γ n in record { value = v; jump = on_value_row S Γ (LongNumber n) ks h v }
     forms_stand Γ g (Literal k) ks h = let v = literal_row S Γ k in record { value = v; jump = on_value_row S Γ (Literal k) ks h v }
     forms_stand Γ g (Variable v s words) ks h =
         let u = variable_row S Γ v s words h.0 h.1 h.3 (path_stands Γ g s h.0 h.1 h.3) in
@@ -74,20 +76,37 @@ module _ (S : Laid) (held : Held S) where
     forms_stand Γ g (Checked r e) ks h =
         let v = checked_row S Γ r e h.1 (forms_stand Γ g e a_word h.1).value in
         record { value = v; jump = on_value_row S Γ (Checked r e) ks h v }
+    forms_stand Γ g (Converted c e) ks h =
+        let v = converted_row S Γ c e (one h.1) h.4 (forms_stand Γ g e (one h.1) h.4).value in
+        record { value = v; jump = on_value_row S Γ (Converted c e) ks h v }
     forms_stand Γ g (Operate e os) ks h =
         let v = operate_row S Γ e os h.0 (forms_stand Γ g e a_word h.0).value (run_stands Γ g os h.1) in
         record { value = v; jump = on_value_row S Γ (Operate e os) ks h v }
+    forms_stand Γ g (OperateLong e os) ks h =
+        let v = operate_long_row S Γ e os h.0 (forms_stand Γ g e a_long h.0).value (long_run_stands Γ g os h.1) in
+        record { value = v; jump = on_value_row S Γ (OperateLong e os) ks h v }
     forms_stand Γ g (Negate e) ks h =
         let v = negate_row S Γ e h.0 (forms_stand Γ g e a_word h.0).value in
         record { value = v; jump = on_value_row S Γ (Negate e) ks h v }
+    forms_stand Γ g (NegateLong e) ks h =
+        let v = negate_long_row S Γ e h.0 (forms_stand Γ g e a_long h.0).value in
+        record { value = v; jump = on_value_row S Γ (NegateLong e) ks h v }
     forms_stand Γ g (Relate b o d e) ks h =
         let v = (forms_stand Γ g d a_word h.0).value in
         let u = (forms_stand Γ g e a_word h.1).value in
         record { value = relate_row S Γ b o d e h.0 h.1 v u; jump = on_relation_row S Γ b o d e h.0 h.1 v u }
+    forms_stand Γ g (RelateLong b o d e) ks h =
+        let v = (forms_stand Γ g d a_long h.0).value in
+        let u = (forms_stand Γ g e a_long h.1).value in
+        record { value = relate_long_row S Γ b o d e h.0 h.1 v u; jump = on_long_relation_row S Γ b o d e h.0 h.1 v u }
     forms_stand Γ g (Within bases e (Between x p y q)) ks h =
         let v = within_row S Γ bases e x y p q h.0 (h.1).0 (h.1).1 (forms_stand Γ g e a_word h.0).value (forms_stand Γ g x a_word (h.1).0).value
         (forms_stand Γ g y a_word (h.1).1).value in
         record { value = v; jump = on_value_row S Γ (Within bases e (Between x p y q)) ks h v }
+    forms_stand Γ g (WithinLong bases e (Between x p y q)) ks h =
+        let v = within_long_row S Γ bases e x y p q h.0 (h.1).0 (h.1).1 (forms_stand Γ g e a_long h.0).value (forms_stand Γ g x a_long (h.1).0).value
+        (forms_stand Γ g y a_long (h.1).1).value in
+        record { value = v; jump = on_value_row S Γ (WithinLong bases e (Between x p y q)) ks h v }
     forms_stand Γ g (Not e) ks h =
         let f = forms_stand Γ g e a_word h.0 in
         record { value = negation_row S Γ e h.0 f.value; jump = on_negation_row S Γ e f.jump }
@@ -118,6 +137,10 @@ module _ (S : Laid) (held : Held S) where
     pub run_stands : (Γ : Scope) → HaveWords Γ → (os : Operations) → OperationsIn Γ os → Run S Γ os
     run_stands Γ g NoOperation h = no_operation_row S Γ
     run_stands Γ g (Then r o e os) h = operation_row S Γ r o e os h.1 (forms_stand Γ g e a_word h.1).value (run_stands Γ g os h.2)
+
+    long_run_stands : (Γ : Scope) → HaveWords Γ → (os : Operations) → LongOperationsIn Γ os → LongRun S Γ os
+    long_run_stands Γ g NoOperation h = no_long_operation_row S Γ
+    long_run_stands Γ g (Then r o e os) h = long_operation_row S Γ r o e os h.2 (forms_stand Γ g e a_long h.2).value (long_run_stands Γ g os h.3)
 
     pub path_stands : (Γ : Scope) → HaveWords Γ → (s : Suffixes) (j k : Kind) → SuffixesIn Γ s j k → Path S Γ s
     path_stands Γ g NoSuffix j k h = here_row S Γ
@@ -151,8 +174,12 @@ module _ (S : Laid) (held : Held S) where
     stands Γ g (If e s t) h = if_row S Γ e s t h.1 (forms_stand Γ g e a_word h.1).jump (keeps U Γ g s h.2) (stands Γ g s h.2) (stands Γ g t h.3)
     stands Γ g (Select e (Otherwise s)) h = select_none_row S Γ e (one h.0) s h.2 (forms_stand Γ g e (one h.0) h.2).value (stands Γ g s h.4)
     stands Γ g (Select e (AndCase ts s cs)) h =
-        select_row S Γ e ts s cs (subst (λ k. ExprIn Γ e (one k)) h.3 h.2) (forms_stand Γ g e (one h.0) h.2).value
-        (and_case_row S Γ ts s cs (tests_stand Γ g ts (h.4).1) (keeps U Γ g s (h.4).2) (stands Γ g s (h.4).2) (cases_stand Γ g cs (h.4).3))
+        select_row S Γ e ts s cs (subst (λ k. ExprIn Γ e (one k)) (h.3).0 h.2) (forms_stand Γ g e (one h.0) h.2).value
+        (and_case_row S Γ ts s cs (tests_stand Γ g Ordinal ts (h.4).1 (h.3).1.0) (keeps U Γ g s (h.4).2) (stands Γ g s (h.4).2) (cases_stand Γ g Ordinal cs (h.4).3 (h.3).1.1))
+    stands Γ g (SelectLong e (Otherwise s)) h = select_long_none_row S Γ e a_long s h.1 (forms_stand Γ g e a_long h.1).value (stands Γ g s h.3)
+    stands Γ g (SelectLong e (AndCase ts s cs)) h =
+        select_long_row S Γ e ts s cs h.1 (forms_stand Γ g e a_long h.1).value
+        (and_case_row S Γ ts s cs (tests_stand Γ g Longs ts (h.3).1 (h.2).0) (keeps U Γ g s (h.3).2) (stands Γ g s (h.3).2) (cases_stand Γ g Longs cs (h.3).3 (h.2).1))
     stands Γ g (Block ph ss es) h =
         let Γ1 = sound.in_labelled h.0 es Γ in
         block_row S held Γ ph ss es h.0 h.1 (phrase_stands Γ1 g ph h.2) (all_stand Γ1 g ss h.3) (keeps_all U Γ1 g ss h.3) (exits_stand Γ g es h.4)
@@ -175,18 +202,24 @@ module _ (S : Laid) (held : Held S) where
     paths_stand : (Γ : Scope) (g : HaveWords Γ) → (ts : Targets) (ks : Kinds) → TargetsIn Γ ts ks → Paths S Γ g ks ts
     paths_stand Γ g NoTargets ks h = tt
     paths_stand Γ g (AndTarget p v s r ts) ks h = (path_stands Γ g s h.1 h.0 h.5, paths_stand Γ g ts ks h.7)
+    paths_stand Γ g (AndConverted p v s c ts) ks h = (path_stands Γ g s h.2 h.1 h.8, paths_stand Γ g ts ks h.9)
 
-    cases_stand : (Γ : Scope) → HaveWords Γ → (cs : Cases) → CasesIn Γ cs → Cased S Γ cs
-    cases_stand Γ g (Otherwise s) h = otherwise_row S Γ s (stands Γ g s h)
-    cases_stand Γ g (AndCase ts s cs) h =
-        and_case_row S Γ ts s cs (tests_stand Γ g ts h.1) (keeps U Γ g s h.2) (stands Γ g s h.2) (cases_stand Γ g cs h.3)
+    cases_stand : (Γ : Scope) → HaveWords Γ → (k : Kind) (cs : Cases) → CasesIn Γ cs → CasesTake k cs → Cased S Γ cs
+    cases_stand Γ g k (Otherwise s) h take = otherwise_row S Γ s (stands Γ g s h)
+    cases_stand Γ g k (AndCase ts s cs) h take =
+        and_case_row S Γ ts s cs (tests_stand Γ g k ts h.1 take.0) (keeps U Γ g s h.2) (stands Γ g s h.2) (cases_stand Γ g k cs h.3 take.1)
 
-    tests_stand : (Γ : Scope) → HaveWords Γ → (ts : Tests) → TestsIn Γ ts → Tested S Γ ts
-    tests_stand Γ g NoTests h = no_test_row S Γ
-    tests_stand Γ g (IfRelated r base o e ts) h = related_row S Γ r base o e ts h.1 (forms_stand Γ g e a_word h.1).value (tests_stand Γ g ts h.2)
-    tests_stand Γ g (IfWithin negated bases (Between x p y q) ts) h =
+    tests_stand : (Γ : Scope) → HaveWords Γ → (k : Kind) (ts : Tests) → TestsIn Γ ts → TestsTake k ts → Tested S Γ ts
+    tests_stand Γ g k NoTests h take = no_test_row S Γ
+    tests_stand Γ g k (IfRelated r base o e ts) h take = related_row S Γ r base o e ts h.1 (forms_stand Γ g e a_word h.1).value (tests_stand Γ g k ts h.2 take.1)
+    tests_stand Γ g k (IfWithin negated bases (Between x p y q) ts) h take =
         lies_row S Γ negated bases x y p q ts (h.0).0 (h.0).1 (forms_stand Γ g x a_word (h.0).0).value (forms_stand Γ g y a_word (h.0).1).value
-        (tests_stand Γ g ts h.1)
+        (tests_stand Γ g k ts h.1 take.1)
+    tests_stand Γ g k (IfRelatedLong c base o e ts) h take =
+        long_related_row S Γ c base o e ts (makes_long c k take.0) h.0 (forms_stand Γ g e a_long h.0).value (tests_stand Γ g k ts h.1 take.1)
+    tests_stand Γ g k (IfWithinLong negated c bases (Between x p y q) ts) h take =
+        long_lies_row S Γ negated c bases x y p q ts (makes_long c k take.0) (h.0).0 (h.0).1 (forms_stand Γ g x a_long (h.0).0).value (forms_stand Γ g y a_long (h.0).1).value
+        (tests_stand Γ g k ts h.1 take.1)
 
     exits_stand : (Γ : Scope) → HaveWords Γ → (es : Exits) → ExitsIn Γ es → ExitsStand S Γ es
     exits_stand Γ g NoExits h = tt

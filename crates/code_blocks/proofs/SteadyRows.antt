@@ -8,9 +8,11 @@ use Rattle.mesa_types.specs.declared.faces.ItemKind.{ItemKind}
 use Rattle.mesa_types.specs.declared.faces.ItemKind.TheVariants as item
 use Rattle.mesa_types.specs.declared.typed_parts.Callee.{Callee}
 use Rattle.mesa_types.specs.declared.typed_parts.Callee.TheVariants.{OwnProcedure, LinkedProcedure}
+use Rattle.mesa_types.specs.declared.typed_parts.Conversion.{Conversion}
 use Rattle.mesa_types.specs.declared.typed_parts.Raised.{Raised}
 use Rattle.mesa_types.specs.declared.typed_parts.Raised.TheVariants.{OwnSignal, LinkedSignal, TheBoundsFault, TheZeroDivisor, TheUnnamed}
 use Rattle.mesa_types.specs.declared.typed_parts.Range.{Range}
+use Rattle.mesa_types.specs.Counts.{words_before, words_after}
 use Rattle.mesa_types.specs.Links.{imported, IsUsed}
 use Rattle.mesa_types.specs.Plain.{kinds_of}
 use Rattle.mesa_types.specs.Shapes.{words_in_all}
@@ -23,16 +25,17 @@ use Rattle.code_forms.specs.Depths.{forward_target, backward_target, outward_tar
 use Rattle.code_forms.specs.Routine.{Routine, moves, goes_on, words, words_there, signal_words, link_words, is_error, is_error_signal, is_error_link}
 use Rattle.code_rules.specs.Links.{link_number, call_code, raise_code}
 use Rattle.code_rules.specs.Modules.{words_of_fields, kind_code, signal_code, link_code}
-use Rattle.code_rules.specs.OwnCode.{lift_code, check_code}
+use Rattle.code_rules.specs.OwnCode.{lift_code, check_code, conversion_code}
+use Rattle.code_rules.proofs.Depths.{own_code_keeps_words}
 use Rattle.code_blocks.specs.Blocks.{Block, Labels, Here, Anyhow, Ends, Out, Rounds, ArmBlocks, NoArmBlock, AndArmBlock, ◌▹◌}
 use Rattle.code_blocks.specs.Sizes.{depth_behind}
 use Rattle.code_blocks.specs.Translation.{turned, answer, enabled}
 use Rattle.code_blocks.specs.Writing.{end_at}
 use Rattle.code_blocks.proofs.ExtractRows.{lift_left, check_left}
 use Rattle.code_blocks.proofs.Fine.{AllFine, Plain, fine_at, fine_both}
-use Rattle.code_blocks.proofs.FineCode.{lift_fine, check_fine}
+use Rattle.code_blocks.proofs.FineCode.{lift_fine, check_fine, conversion_fine}
 use Rattle.code_blocks.proofs.Steady.{HasOut, Steady, ArmsSteady}
-use Rattle.code_blocks.proofs.Values.{behind}
+use Rattle.code_blocks.proofs.Values.{behind, none, own_left}
 
 -- What a procedure's code may name is what the module names.
 pub record Named (r : Routine) (own : List Import) (procedures signals : List Item) (imports : List Import) : Type 0 where
@@ -175,3 +178,12 @@ brought_fine n k g x m fits some fine =
     fine_both (lift_code n k) (check_code g ++ x ∷ []) m (lift_fine n k m fits)
     (fine_at (check_code g ++ x ∷ []) (lift_left n k m fits)
     (fine_both (check_code g) (x ∷ []) m (check_fine g m some) (fine_at (x ∷ []) (check_left g m some) fine)))
+
+-- it is brought to the top, converted and stored
+pub converted_fine : (n k : ℕ) (c : Conversion) (x : Instruction) (d : ℕ) → n ≡ words_before c → k ≤ d → AllFine (x ∷ []) (d + words_after c)
+    → AllFine (lift_code n k ++ (conversion_code c ++ x ∷ [])) (d + n)
+converted_fine n k c x d size h fine =
+    fine_both (lift_code n k) (conversion_code c ++ x ∷ []) (d + n) (lift_fine n k (d + n) (omega (arith, h)))
+    (fine_at (conversion_code c ++ x ∷ []) (lift_left n k (d + n) (omega (arith, h)))
+    (fine_both (conversion_code c) (x ∷ []) (d + n) (conversion_fine c (d + n) (omega (arith, size)))
+    (fine_at (x ∷ []) (own_left (conversion_code c) {n = d + words_before c} (ap (λ z. d + z) size) (own_code_keeps_words.conversion none c d)) fine)))

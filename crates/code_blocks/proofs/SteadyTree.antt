@@ -1,14 +1,14 @@
 -- The blocks of a sound construct are steady.
 use Rattle.std.proofs.Common.{◌≡◌, refl, sym, ap, ◌∙◌, subst, ℕ, ◌+◌, ◌-◌, ◌≤◌, inl, inr, List, [], ◌∷◌, Bool, true, false, not, if◌then◌else◌, arith}
 use Rattle.mesa_types.specs.declared.typed_parts.Home.{Home}
-use Rattle.mesa_types.specs.Counts.{hidden, hidden_expr, hidden_exprs, hidden_interval, hidden_phrase, hidden_stmts, hidden_targets, hidden_tests, hidden_exits, hidden_condition, words_of, words_given, last_words}
+use Rattle.mesa_types.specs.Counts.{hidden, hidden_expr, hidden_exprs, hidden_interval, hidden_phrase, hidden_stmts, hidden_targets, hidden_tests, hidden_exits, hidden_condition, words_of, words_given, words_before, last_words}
 use Rattle.mesa_types.specs.Nodes.{count_of}
 use Rattle.mesa_types.specs.Operators.{differ}
 use Rattle.mesa_types.specs.Plain.{kinds_of}
 use Rattle.mesa_types.specs.Shapes.{words_in, words_in_all, one}
 use Rattle.mesa_types.specs.Sound as sound
-use Rattle.mesa_types.specs.Sound.{Scope, AllDiffer, a_word, Selects, taken, ExprIn, ExprsIn, WordsIn, SuffixesIn, OperationsIn, IntervalIn, PhraseIn, ArmsIn, StmtIn, StmtsIn, TargetsIn, CasesIn, TestsIn, ExitsIn, LoopIn, FinishIn, ConditionIn}
-use Rattle.mesa_types.specs.Typed.{Kind, Texts, Record, Kinds, NoKinds, Expr, Number, Literal, Variable, FieldOf, LengthOf, ByteOf, Checked, Operate, Negate, Relate, Within, Not, AllOf, SomeOf, Construct, Call, Raise, Exprs, NoExprs, AndExpr, Suffixes, NoSuffix, Field, Index, Operations, NoOperation, Then, Interval, Between, Phrase, NoPhrase, Catch, Arms, NoArms, AndArm, Stmt, Null, Marked, Declare, DeclareAs, Assign, Extract, Perform, If, Select, Block, Repeat, For, Jump, ReturnWith, Resume, Reject, Retry, Continue, Stmts, NoStmts, AndStmt, Targets, NoTargets, AndTarget, Cases, Otherwise, AndCase, Tests, NoTests, IfRelated, IfWithin, Exits, NoExits, AndExit, Loop, LoopOf, Finish, NoFinish, Finished, Condition, Always, While, Until}
+use Rattle.mesa_types.specs.Sound.{Scope, AllDiffer, a_word, a_long, TestsTake, CasesTake, taken, ExprIn, ExprsIn, WordsIn, SuffixesIn, OperationsIn, LongOperationsIn, IntervalIn, LongIntervalIn, PhraseIn, ArmsIn, StmtIn, StmtsIn, TargetsIn, CasesIn, TestsIn, ExitsIn, LoopIn, FinishIn, ConditionIn}
+use Rattle.mesa_types.specs.Typed.{Kind, Texts, Ordinal, Longs, Record, Kinds, NoKinds, Expr, Number, LongNumber, Literal, Variable, FieldOf, LengthOf, ByteOf, Checked, Converted, Operate, OperateLong, Negate, NegateLong, Relate, RelateLong, Within, WithinLong, Not, AllOf, SomeOf, Construct, Call, Raise, Exprs, NoExprs, AndExpr, Suffixes, NoSuffix, Field, Index, Operations, NoOperation, Then, Interval, Between, Phrase, NoPhrase, Catch, Arms, NoArms, AndArm, Stmt, Null, Marked, Declare, DeclareAs, Assign, Extract, Perform, If, Select, SelectLong, Block, Repeat, For, Jump, ReturnWith, Resume, Reject, Retry, Continue, Stmts, NoStmts, AndStmt, Targets, NoTargets, AndTarget, AndConverted, Cases, Otherwise, AndCase, Tests, NoTests, IfRelated, IfWithin, IfRelatedLong, IfWithinLong, Exits, NoExits, AndExit, Loop, LoopOf, Finish, NoFinish, Finished, Condition, Always, While, Until}
 use Rattle.mesa_types.proofs.Arranged.{arranged_words}
 use Rattle.mesa_types.proofs.WordSizes.{sizes_agree}
 use Rattle.code_forms.specs.declared.instruction.Instruction.TheVariants as i
@@ -17,7 +17,7 @@ use Rattle.code_rules.specs.CodeFor.{words_before_last}
 use Rattle.code_rules.specs.Links.{call_code, raise_code}
 use Rattle.code_rules.specs.Loops.{Counter, NoCounter, CountedIn, step_code}
 use Rattle.code_rules.specs.Modules.{words_of_fields}
-use Rattle.code_rules.specs.OwnCode.{field_code, check_code, index_code, comparison, relation_code, operator_code, arrange_code}
+use Rattle.code_rules.specs.OwnCode.{field_code, check_code, conversion_code, index_code, comparison, long_comparison, relation_code, long_relation_code, operator_code, long_operator_code, arrange_code}
 use Rattle.code_rules.specs.Reading.{Coded, scratch}
 use Rattle.code_rules.specs.Slots.{load, load_within, fields_of, local_slot, sizes, zero_code}
 use Rattle.code_rules.proofs.Depths.{own_code_keeps_words}
@@ -25,21 +25,25 @@ use Rattle.code_blocks.specs.Blocks as tree
 use Rattle.code_blocks.specs.Blocks.{Labels, Here, Where, Does, Ends, Out, Rounds, ◌▹◌}
 use Rattle.code_blocks.specs.Own.{left_of}
 use Rattle.code_blocks.specs.Sizes.{depth_behind}
-use Rattle.code_blocks.specs.Translation.{has_index, at_element, within_of, start_of, where_related, head_code, gives_next, past_else, past_cases, past_exits, enabled, is_last, if_last, a_case, is_endless, unless, forms, values, operands, bounds, operations, path, caught_by, arm_blocks, block, blocks, targets, selected, cases, tests, exits, loop, condition, finish}
+use Rattle.code_blocks.specs.Translation.{has_index, at_element, within_of, long_within_of, start_of, where_related, where_long_related, head_code, gives_next, past_else, past_cases, past_exits, enabled, is_last, if_last, a_case, is_endless, unless, forms, values, operands, bounds, operations, long_operations, path, caught_by, arm_blocks, block, blocks, targets, selected, cases, tests, exits, loop, condition, finish}
 use Rattle.code_blocks.specs.Writing.{end_at}
 use Rattle.code_blocks.proofs.ExtractRows.{HaveWords, check_left, none_taken_yet}
 use Rattle.code_blocks.proofs.Fine.{Plain, fine_at, fine_both}
-use Rattle.code_blocks.proofs.FineCode.{pop_fine, field_fine, check_fine, index_fine, comparison_fine, relation_fine, operator_fine, within_of_fine, arrange_fine, start_of_fine, load_fine, load_within_fine, zero_fine, spread_fine}
-use Rattle.code_blocks.proofs.Keeping.{record_words, ordinal_word, keeps}
+use Rattle.code_blocks.proofs.FineCode.{pop_fine, field_fine, check_fine, conversion_fine, index_fine, comparison_fine, long_comparison_fine, relation_fine, long_relation_fine, operator_fine, long_operator_fine, within_of_fine, long_within_of_fine, arrange_fine, start_of_fine, load_fine, load_within_fine, zero_fine, spread_fine}
+use Rattle.code_blocks.proofs.Keeping.{selects_take, record_words, Holds, selects_held, selects_long, keeps}
 use Rattle.code_blocks.proofs.StatementDepths.{pop_left, start_left, zero_left}
 use Rattle.code_blocks.proofs.Steady.{HasOut, Steady, ArmsSteady}
-use Rattle.code_blocks.proofs.SteadyParts.{word_behind, past_else_rests, past_cases_rests, past_exits_rests, unless_rests, a_case_rests, head_rests, step_rests, gives_rests, stored_steady, related_rests, within_rests, PathsSteady, targets_steady}
+use Rattle.code_blocks.proofs.SteadyParts.{word_behind, long_behind, past_else_rests, past_cases_rests, past_exits_rests, unless_rests, a_case_rests, head_rests, step_rests, gives_rests, stored_steady, related_rests, long_related_rests, within_rests, long_within_rests, PathsSteady, targets_steady}
 use Rattle.code_blocks.proofs.SteadyRows.{Named, call_plain, raise_plain, at, turned_steady, turned_out, answer_steady, Rests, rest_both, rest_here, rest_out, rest_labels, rest_rounds, rest_enabled}
-use Rattle.code_blocks.proofs.Values.{none, text_is, one_is, fields_fit, behind, own_left, comparison_left, arranged, value_depth, values_depth, bounds_depth, path_depth, two_values, jump_depth, operands_depth}
+use Rattle.code_blocks.proofs.Values.{none, text_is, long_is, one_is, words_converted, makes_long, fields_fit, behind, own_left, comparison_left, long_comparison_left, arranged, value_depth, values_depth, bounds_depth, long_bounds_depth, path_depth, two_values, two_longs, jump_depth, operands_depth}
 
 word_some : (ks : Kinds) → ks ≡ a_word → ks ≡ NoKinds → ⊥
 unfolding a_word one
 word_some ks e f = let g : a_word ≡ NoKinds = sym e ∙ f in cc
+
+long_some : a_long ≡ NoKinds → ⊥
+unfolding a_long one
+long_some e = cc
 
 one_some : (k : Kind) → one k ≡ NoKinds → ⊥
 unfolding one
@@ -57,16 +61,22 @@ module _ (U : Coded) (r : Routine) where
 
     jump_out : (Γ : Scope) (e : Expr) (ks : Kinds) → ExprIn Γ e ks → (sense : Bool) (part z : ℕ) → HasOut ((forms U z e).jump sense part) part
     jump_out Γ (Number n) ks h sense part z = inr refl
+    jump_out Γ (LongNumber n) ks h sense part z = inr refl
     jump_out Γ (Literal k) ks h sense part z = inr refl
     jump_out Γ (Variable v s words) ks h sense part z = inr refl
     jump_out Γ (FieldOf e parts) ks h sense part z = inr refl
     jump_out Γ (LengthOf e) ks h sense part z = inr refl
     jump_out Γ (ByteOf e index) ks h sense part z = inr refl
     jump_out Γ (Checked g e) ks h sense part z = inr refl
+    jump_out Γ (Converted c e) ks h sense part z = inr refl
     jump_out Γ (Operate e os) ks h sense part z = inr refl
+    jump_out Γ (OperateLong e os) ks h sense part z = inr refl
     jump_out Γ (Negate e) ks h sense part z = inr refl
+    jump_out Γ (NegateLong e) ks h sense part z = inr refl
     jump_out Γ (Relate b o x y) ks h sense part z = inr (inr (inr refl))
+    jump_out Γ (RelateLong b o x y) ks h sense part z = inr (inr (inr refl))
     jump_out Γ (Within bases e range) ks h sense part z = inr refl
+    jump_out Γ (WithinLong bases e range) ks h sense part z = inr refl
     jump_out Γ (Not e) ks h sense part z = jump_out Γ e a_word h.0 (not sense) part z
     jump_out Γ (AllOf es) ks h sense part z = turned_out r sense (operands U z es false) part (operands_out Γ es h.1 h.0 false part z)
     jump_out Γ (SomeOf es) ks h sense part z = turned_out r (not sense) (operands U z es true) part (operands_out Γ es h.1 h.0 true part z)
@@ -130,12 +140,15 @@ module _ (U : Coded) (r : Routine) where
       (a_case_rests r test yes (past_cases cs 1) (0 ∷ ends) t b (past_cases_rests r cs 1 (0 ∷ 0 ∷ ends) refl)) more
 
   mutual
-    unfolding ExprIn ExprsIn WordsIn SuffixesIn OperationsIn IntervalIn PhraseIn ArmsIn StmtIn StmtsIn TargetsIn CasesIn TestsIn ExitsIn LoopIn FinishIn ConditionIn Selects sound.in_arm sound.in_marked sound.in_labelled
+    unfolding ExprIn ExprsIn WordsIn SuffixesIn OperationsIn LongOperationsIn IntervalIn LongIntervalIn PhraseIn ArmsIn StmtIn StmtsIn TargetsIn CasesIn TestsIn ExitsIn LoopIn FinishIn ConditionIn CasesTake TestsTake sound.in_arm sound.in_marked sound.in_labelled
 
     forms_steady : (Γ : Scope) → Names Γ → HaveWords Γ → (e : Expr) (ks : Kinds) → ExprIn Γ e ks → Both e ks
     forms_steady Γ t g (Number n) ks h =
         let v : Value (Number n) ks = λ z d ends safe. (omega arith, tt) in
         record { value = v; jump = jump_by Γ (Number n) ks h v }
+    forms_steady Γ t g (LongNumber n) ks h =
+        let v : Value (LongNumber n) ks = λ z d ends safe. (omega arith, (omega arith, tt)) in
+        record { value = v; jump = jump_by Γ (LongNumber n) ks h v }
     forms_steady Γ t g (Literal k) ks h =
         let v : Value (Literal k) ks = λ z d ends safe. (omega arith, tt) in
         record { value = v; jump = jump_by Γ (Literal k) ks h v }
@@ -182,6 +195,14 @@ module _ (U : Coded) (r : Routine) where
           check_fine c (depth_behind (forms U z e).value d) (omega (arith, word_behind U Γ e h.1 z d)),
         ) in
         record { value = v; jump = jump_by Γ (Checked c e) ks h v }
+    forms_steady Γ t g (Converted c e) ks h =
+        let f = forms_steady Γ t g e (one h.1) h.4 in
+        let v : Value (Converted c e) ks = λ z d ends safe. (
+          f.value z d ends (λ x. absurd (one_some h.1 x)),
+          conversion_fine c (depth_behind (forms U z e).value d)
+              (omega (arith, value_depth U Γ e (one h.1) h.4 z d, one_is Γ e h.1 h.4, (words_converted c h.1 h.2 h.3).0)),
+        ) in
+        record { value = v; jump = jump_by Γ (Converted c e) ks h v }
     forms_steady Γ t g (Operate e os) ks h =
         let f = forms_steady Γ t g e a_word h.0 in
         let run = run_steady Γ t g os h.1 in
@@ -190,6 +211,21 @@ module _ (U : Coded) (r : Routine) where
           at r (operations U (z + hidden_expr e) os) ends (word_behind U Γ e h.0 z d) (run (z + hidden_expr e) d ends),
         ) in
         record { value = v; jump = jump_by Γ (Operate e os) ks h v }
+    forms_steady Γ t g (OperateLong e os) ks h =
+        let f = forms_steady Γ t g e a_long h.0 in
+        let run = long_run_steady Γ t g os h.1 in
+        let v : Value (OperateLong e os) ks = λ z d ends safe. (
+          f.value z d ends (λ x. absurd (long_some x)),
+          at r (long_operations U (z + hidden_expr e) os) ends (long_behind U Γ e h.0 z d) (run (z + hidden_expr e) d ends),
+        ) in
+        record { value = v; jump = jump_by Γ (OperateLong e os) ks h v }
+    forms_steady Γ t g (NegateLong e) ks h =
+        let f = forms_steady Γ t g e a_long h.0 in
+        let v : Value (NegateLong e) ks = λ z d ends safe. (
+          f.value z d ends (λ x. absurd (long_some x)),
+          (omega (arith, long_behind U Γ e h.0 z d), tt),
+        ) in
+        record { value = v; jump = jump_by Γ (NegateLong e) ks h v }
     forms_steady Γ t g (Negate e) ks h =
         let f = forms_steady Γ t g e a_word h.0 in
         let v : Value (Negate e) ks = λ z d ends safe. (
@@ -234,6 +270,43 @@ module _ (U : Coded) (r : Routine) where
           ),
         ) in
         record { value = v; jump = jump_by Γ (Within bases e range) ks h v }
+    forms_steady Γ t g (RelateLong b o x y) ks h =
+        let f = forms_steady Γ t g x a_long h.0 in
+        let n = forms_steady Γ t g y a_long h.1 in
+        record {
+          value = λ z d ends safe. (
+            f.value z d ends (λ q. absurd (long_some q)),
+            (
+              at r (forms U (z + hidden_expr x) y).value ends (long_behind U Γ x h.0 z d)
+                  (n.value (z + hidden_expr x) (d + 2) ends (λ q. absurd (long_some q))),
+              fine_at (long_relation_code b o) (two_longs U Γ x y h.0 h.1 z d) (long_relation_fine b o d),
+            ),
+          );
+          jump = λ is sense part z d ends same.
+              let both = two_longs U Γ x y h.0 h.1 z d in
+              let left = ap (left_of (long_comparison b o)) both ∙ long_comparison_left U b o d in (
+                f.value z d ends (λ q. absurd (long_some q)),
+                (
+                  at r (forms U (z + hidden_expr x) y).value ends (long_behind U Γ x h.0 z d)
+                      (n.value (z + hidden_expr x) (d + 2) ends (λ q. absurd (long_some q))),
+                  (fine_at (long_comparison b o) both (long_comparison_fine b o d), (omega (arith, left), omega (arith, left, same))),
+                ),
+              );
+        }
+    forms_steady Γ t g (WithinLong bases e range) ks h =
+        let f = forms_steady Γ t g e a_long h.0 in
+        let s = long_bounds_steady Γ t g range h.1 in
+        let v : Value (WithinLong bases e range) ks = λ z d ends safe.
+        let y = z + hidden_expr e in
+        let first = long_behind U Γ e h.0 z d in (
+          f.value z d ends (λ q. absurd (long_some q)),
+          (
+            at r (bounds U y range) ends first (s y (d + 2) ends),
+            fine_at (long_within_of (scratch U) bases range) {n = d + 6}
+                (behind (bounds U y range) first (long_bounds_depth U Γ range h.1 y (d + 2)) ∙ omega arith) (long_within_of_fine (scratch U) bases range d),
+          ),
+        ) in
+        record { value = v; jump = jump_by Γ (WithinLong bases e range) ks h v }
     forms_steady Γ t g (Not e) ks h =
         let f = forms_steady Γ t g e a_word h.0 in
         record {
@@ -336,6 +409,33 @@ module _ (U : Coded) (r : Routine) where
           f.value z d ends (λ e. absurd (word_some a_word refl e)),
           at r (forms U (z + hidden_expr x) y).value ends (word_behind U Γ x h.0 z d)
               (n.value (z + hidden_expr x) (d + 1) ends (λ e. absurd (word_some a_word refl e))),
+        )
+
+    long_bounds_steady : (Γ : Scope) → Names Γ → HaveWords Γ → (range : Interval) → LongIntervalIn Γ range
+        → (z d : ℕ) (ends : List ℕ) → Steady r (bounds U z range) d ends
+    long_bounds_steady Γ t g (Between x p y q) h =
+        let f = forms_steady Γ t g x a_long h.0 in
+        let n = forms_steady Γ t g y a_long h.1 in
+        λ z d ends. (
+          f.value z d ends (λ e. absurd (long_some e)),
+          at r (forms U (z + hidden_expr x) y).value ends (long_behind U Γ x h.0 z d)
+              (n.value (z + hidden_expr x) (d + 2) ends (λ e. absurd (long_some e))),
+        )
+
+    long_run_steady : (Γ : Scope) → Names Γ → HaveWords Γ → (os : Operations) → LongOperationsIn Γ os
+        → (z d : ℕ) (ends : List ℕ) → Steady r (long_operations U z os) (d + 2) ends
+    long_run_steady Γ t g NoOperation h = λ z d ends. tt
+    long_run_steady Γ t g (Then c o e os) h =
+        let f = forms_steady Γ t g e a_long h.2 in
+        let s = long_run_steady Γ t g os h.3 in
+        λ z d ends.
+        let w : depth_behind (forms U z e).value (d + 2) ≡ d + 4 = long_behind U Γ e h.2 z (d + 2) ∙ omega arith in (
+          f.value z (d + 2) ends (λ x. absurd (long_some x)),
+          (
+            fine_at (long_operator_code o) w (long_operator_fine o d),
+            at r (long_operations U (z + hidden_expr e) os) ends (own_left (long_operator_code o) w (own_code_keeps_words.long_operator none o d))
+                (s (z + hidden_expr e) d ends),
+          ),
         )
 
     run_steady : (Γ : Scope) → Names Γ → HaveWords Γ → (os : Operations) → OperationsIn Γ os
@@ -464,14 +564,25 @@ module _ (U : Coded) (r : Routine) where
         (y (z + (hidden_expr e + hidden s)) (0 ∷ ends)))
     rests Γ t g (Select e cs) h =
         let f = forms_steady Γ t g e (one h.0) h.2 in
-        let x = selected_rests Γ t g e h.0 cs h.2 h.3 h.4 in
+        let x = selected_rests Γ t g 1 (words_of e) Ordinal cs (selects_held U Γ e h.0 cs h.2 h.3) (selects_take h.0 cs h.3) h.4 in
         λ z ends. (
           (
             f.value (z + 1) 0 ends (λ y. refl),
-            at r (selected U (z + (1 + hidden_expr e)) z (words_of e) cs) ends (value_depth U Γ e (one h.0) h.2 (z + 1) 0)
+            at r (selected U (z + (1 + hidden_expr e)) z 1 (words_of e) cs) ends (value_depth U Γ e (one h.0) h.2 (z + 1) 0)
                 (x (z + (1 + hidden_expr e)) z ends),
           ),
           keeps U Γ g (Select e cs) h z 0,
+        )
+    rests Γ t g (SelectLong e cs) h =
+        let f = forms_steady Γ t g e a_long h.1 in
+        let x = selected_rests Γ t g 2 (words_of e) Longs cs (selects_long U cs (long_is Γ e h.1)) h.2 h.3 in
+        λ z ends. (
+          (
+            f.value (z + 2) 0 ends (λ y. refl),
+            at r (selected U (z + (2 + hidden_expr e)) z 2 (words_of e) cs) ends (value_depth U Γ e a_long h.1 (z + 2) 0)
+                (x (z + (2 + hidden_expr e)) z ends),
+          ),
+          keeps U Γ g (SelectLong e cs) h z 0,
         )
     rests Γ t g (Block ph ss es) h =
         let Γ1 = sound.in_labelled h.0 es Γ in
@@ -549,57 +660,78 @@ module _ (U : Coded) (r : Routine) where
         → PathsSteady r U ts
     paths_steady Γ t g NoTargets ks h = tt
     paths_steady Γ t g (AndTarget p v s c ts) ks h = (path_steady Γ t g s h.1 h.0 h.5, paths_steady Γ t g ts ks h.7)
+    paths_steady Γ t g (AndConverted p v s c ts) ks h = (path_steady Γ t g s h.2 h.1 h.8, paths_steady Γ t g ts ks h.9)
 
-    selected_rests : (Γ : Scope) → Names Γ → HaveWords Γ → (e : Expr) (k : Kind) (cs : Cases) → ExprIn Γ e (one k)
-        → Selects k cs → CasesIn Γ cs → (z x : ℕ) (ends : List ℕ) → Steady r (selected U z x (words_of e) cs) (0 + words_of e) ends
-    selected_rests Γ t g e k (Otherwise s) h sel c =
+    selected_rests : (Γ : Scope) → Names Γ → HaveWords Γ → (held words : ℕ) (k : Kind) (cs : Cases) → Holds U held words cs
+        → CasesTake k cs → CasesIn Γ cs → (z x : ℕ) (ends : List ℕ) → Steady r (selected U z x held words cs) (0 + words) ends
+    selected_rests Γ t g held words k (Otherwise s) is take c =
         let y = rests Γ t g s c in
-        λ z x ends. (pop_fine (words_of e) (0 + words_of e) (omega arith), at r (block U z s) ends (pop_left (words_of e) 0) (y z ends).0)
-    selected_rests Γ t g e k (AndCase ts s cs) h sel c =
-        let y = tests_rest Γ t g ts c.1 in
+        λ z x ends. (pop_fine words (0 + words) (omega arith), at r (block U z s) ends (pop_left words 0) (y z ends).0)
+    selected_rests Γ t g held words k (AndCase ts s cs) is take c =
+        let y = tests_rest Γ t g k ts take.0 c.1 in
         let b = rests Γ t g s c.2 in
-        let more = cases_rest Γ t g cs c.3 in
+        let more = cases_rest Γ t g k cs take.1 c.3 in
         λ z x ends.
-        let word = ordinal_word U Γ e k h sel in
         let inner = a_case (tests U z x ts) (block U (z + hidden_tests ts) s) (past_cases cs 1) ▹ cases U (z + (hidden_tests ts + hidden s)) x cs in (
-          (omega (arith, word), tt),
-          at r (Ends (Here 0) inner) ends (omega (arith, word))
+          (omega (arith, is), tt),
+          at r (Ends (Here 0) inner) ends (omega (arith, is))
               (rest_here r inner ends (case_rest ts s cs z x ends (y z x (0 ∷ ends)) (b (z + hidden_tests ts) (0 ∷ 0 ∷ ends)) (more (z + (hidden_tests ts + hidden s)) x ends))).0,
         )
 
-    cases_rest : (Γ : Scope) → Names Γ → HaveWords Γ → (cs : Cases) → CasesIn Γ cs → (z x : ℕ) (ends : List ℕ)
+    cases_rest : (Γ : Scope) → Names Γ → HaveWords Γ → (k : Kind) (cs : Cases) → CasesTake k cs → CasesIn Γ cs → (z x : ℕ) (ends : List ℕ)
         → Rests r (cases U z x cs) (0 ∷ ends)
-    cases_rest Γ t g (Otherwise s) h =
+    cases_rest Γ t g k (Otherwise s) take h =
         let y = rests Γ t g s h in
         λ z x ends. y z (0 ∷ ends)
-    cases_rest Γ t g (AndCase ts s cs) h =
-        let y = tests_rest Γ t g ts h.1 in
+    cases_rest Γ t g k (AndCase ts s cs) take h =
+        let y = tests_rest Γ t g k ts take.0 h.1 in
         let b = rests Γ t g s h.2 in
-        let more = cases_rest Γ t g cs h.3 in
+        let more = cases_rest Γ t g k cs take.1 h.3 in
         λ z x ends.
         case_rest ts s cs z x ends (y z x (0 ∷ ends)) (b (z + hidden_tests ts) (0 ∷ 0 ∷ ends)) (more (z + (hidden_tests ts + hidden s)) x ends)
 
-    tests_rest : (Γ : Scope) → Names Γ → HaveWords Γ → (ts : Tests) → TestsIn Γ ts → (z x : ℕ) (ends : List ℕ)
+    tests_rest : (Γ : Scope) → Names Γ → HaveWords Γ → (k : Kind) (ts : Tests) → TestsTake k ts → TestsIn Γ ts → (z x : ℕ) (ends : List ℕ)
         → Rests r (tests U z x ts) (0 ∷ 0 ∷ ends)
-    tests_rest Γ t g NoTests h = λ z x ends. rest_out r 1 (0 ∷ 0 ∷ ends) refl
-    tests_rest Γ t g (IfRelated c base o e ts) h =
+    tests_rest Γ t g k NoTests take h = λ z x ends. rest_out r 1 (0 ∷ 0 ∷ ends) refl
+    tests_rest Γ t g k (IfRelated c base o e ts) take h =
         let f = forms_steady Γ t g e a_word h.1 in
-        let y = tests_rest Γ t g ts h.2 in
+        let y = tests_rest Γ t g k ts take.1 h.2 in
         λ z x ends.
         let two = 0 ∷ 0 ∷ ends in
         let more = tests U (z + hidden_expr e) x ts in
         rest_both r (Does (i.LoadL x 1 ∷ check_code c) ▹ (forms U z e).value ▹ where_related base o (not (is_last ts)) (if_last ts)) (unless (is_last ts) more) two
         (related_rests r U Γ z x c base o e (not (is_last ts)) (is_last ts) ends h.1 (f.value z 1 two (λ q. absurd (word_some a_word refl q))))
         (unless_rests r (is_last ts) more two (y (z + hidden_expr e) x ends))
-    tests_rest Γ t g (IfWithin negated bases range ts) h =
+    tests_rest Γ t g k (IfWithin negated bases range ts) take h =
         let s = bounds_steady Γ t g range h.0 in
-        let y = tests_rest Γ t g ts h.1 in
+        let y = tests_rest Γ t g k ts take.1 h.1 in
         λ z x ends.
         let two = 0 ∷ 0 ∷ ends in
         let more = tests U (z + hidden_interval range) x ts in
         let sense = differ negated (not (is_last ts)) in
         rest_both r (Does (i.LoadL x 1 ∷ []) ▹ bounds U z range ▹ Does (within_of (scratch U) bases range) ▹ Out (Where sense) (if_last ts))
         (unless (is_last ts) more) two (within_rests r U Γ z x bases range sense (is_last ts) ends h.0 (s z 1 two))
+        (unless_rests r (is_last ts) more two (y (z + hidden_interval range) x ends))
+    tests_rest Γ t g k (IfRelatedLong c base o e ts) take h =
+        let f = forms_steady Γ t g e a_long h.0 in
+        let y = tests_rest Γ t g k ts take.1 h.1 in
+        λ z x ends.
+        let two = 0 ∷ 0 ∷ ends in
+        let more = tests U (z + hidden_expr e) x ts in
+        rest_both r (Does (i.LoadL x (words_before c) ∷ conversion_code c) ▹ (forms U z e).value ▹ where_long_related base o (not (is_last ts)) (if_last ts))
+        (unless (is_last ts) more) two
+        (long_related_rests r U Γ z x c base o e (not (is_last ts)) (is_last ts) ends (makes_long c k take.0) h.0 (f.value z 2 two (λ q. absurd (long_some q))))
+        (unless_rests r (is_last ts) more two (y (z + hidden_expr e) x ends))
+    tests_rest Γ t g k (IfWithinLong negated c bases range ts) take h =
+        let s = long_bounds_steady Γ t g range h.0 in
+        let y = tests_rest Γ t g k ts take.1 h.1 in
+        λ z x ends.
+        let two = 0 ∷ 0 ∷ ends in
+        let more = tests U (z + hidden_interval range) x ts in
+        let sense = differ negated (not (is_last ts)) in
+        rest_both r (Does (i.LoadL x (words_before c) ∷ conversion_code c) ▹ bounds U z range ▹ Does (long_within_of (scratch U) bases range)
+        ▹ Out (Where sense) (if_last ts))
+        (unless (is_last ts) more) two (long_within_rests r U Γ z x c bases range sense (is_last ts) ends (makes_long c k take.0) h.0 (s z 2 two))
         (unless_rests r (is_last ts) more two (y (z + hidden_interval range) x ends))
 
     exits_rest : (Γ : Scope) → Names Γ → HaveWords Γ → (es : Exits) → ExitsIn Γ es

@@ -1,33 +1,36 @@
 -- The blocks of a sound body fit its procedure: they name what is there, and their jumps lead to points around them.
 use Rattle.std.proofs.Common.{◌≡◌, sym, ap, ◌∙◌, subst, ℕ, suc, ◌+◌, ◌-◌, ◌≤◌, List, [], ◌∷◌, All, Bool, true, false, not, arith}
+use Rattle.mesa_types.specs.declared.typed_parts.Conversion.{Conversion}
 use Rattle.mesa_types.specs.declared.typed_parts.Given.TheVariants.{NoVariable, GivenTo}
 use Rattle.mesa_types.specs.declared.typed_parts.Goal.{Goal}
 use Rattle.mesa_types.specs.declared.typed_parts.Goal.TheVariants.{PastStatement, ToLabel, ToReturn}
 use Rattle.mesa_types.specs.declared.typed_parts.Home.{Home}
 use Rattle.mesa_types.specs.declared.typed_parts.Part.{Part}
-use Rattle.mesa_types.specs.Typed.{Kind, Ordinal, Record, Kinds, Start, After, Leave, point_of, Expr, Number, Literal, Variable, FieldOf, LengthOf, ByteOf, Checked, Operate, Negate, Relate, Within, Not, AllOf, SomeOf, Construct, Call, Raise, Exprs, NoExprs, AndExpr, Suffixes, NoSuffix, Field, Index, Operations, NoOperation, Then, Interval, Between, Phrase, NoPhrase, Catch, Arms, NoArms, AndArm, Stmt, Null, Marked, Declare, DeclareAs, Assign, Extract, Perform, If, Select, Block, Repeat, Endless, Counting, For, Jump, ReturnWith, Resume, Reject, Retry, Continue, Stmts, NoStmts, AndStmt, Targets, NoTargets, AndTarget, Cases, Otherwise, AndCase, Tests, NoTests, IfRelated, IfWithin, Exits, NoExits, AndExit, Loop, LoopOf, Finish, NoFinish, Finished, Condition, Always, While, Until, Texts}
+use Rattle.mesa_types.specs.Typed.{Kind, Ordinal, Longs, Record, Kinds, Start, After, Leave, point_of, Expr, Number, LongNumber, Literal, Variable, FieldOf, LengthOf, ByteOf, Checked, Converted, Operate, OperateLong, Negate, NegateLong, Relate, RelateLong, Within, WithinLong, Not, AllOf, SomeOf, Construct, Call, Raise, Exprs, NoExprs, AndExpr, Suffixes, NoSuffix, Field, Index, Operations, NoOperation, Then, Interval, Between, Phrase, NoPhrase, Catch, Arms, NoArms, AndArm, Stmt, Null, Marked, Declare, DeclareAs, Assign, Extract, Perform, If, Select, SelectLong, Block, Repeat, Endless, Counting, For, Jump, ReturnWith, Resume, Reject, Retry, Continue, Stmts, NoStmts, AndStmt, Targets, NoTargets, AndTarget, AndConverted, Cases, Otherwise, AndCase, Tests, NoTests, IfRelated, IfWithin, IfRelatedLong, IfWithinLong, Exits, NoExits, AndExit, Loop, LoopOf, Finish, NoFinish, Finished, Condition, Always, While, Until, Texts}
 use Rattle.mesa_types.specs.Counts.{hidden, hidden_expr, hidden_exprs, hidden_suffixes, hidden_operations, hidden_interval, hidden_phrase, hidden_arms, hidden_stmts, hidden_targets, hidden_cases, hidden_tests, hidden_exits, hidden_loop, hidden_finish, hidden_condition, words_of, words_given}
+use Rattle.mesa_types.specs.Counts as counts
 use Rattle.mesa_types.specs.Shapes.{words_in, words_before, one}
 use Rattle.mesa_types.specs.Sound as sound
-use Rattle.mesa_types.specs.Sound.{Scope, a_word, VariableIn, Reaches, LabelsIn, GivenIn, CountIn, Selects, ExprIn, ExprsIn, WordsIn, SuffixesIn, OperationsIn, IntervalIn, PhraseIn, ArmsIn, StmtIn, StmtsIn, TargetsIn, CasesIn, TestsIn, ExitsIn, LoopIn, FinishIn, ConditionIn}
+use Rattle.mesa_types.specs.Sound.{Scope, a_word, a_long, VariableIn, Reaches, LabelsIn, GivenIn, CountIn, Converts, TestsTake, CasesTake, ExprIn, ExprsIn, WordsIn, SuffixesIn, OperationsIn, LongOperationsIn, IntervalIn, LongIntervalIn, PhraseIn, ArmsIn, StmtIn, StmtsIn, TargetsIn, CasesIn, TestsIn, ExitsIn, LoopIn, FinishIn, ConditionIn}
 use Rattle.mesa_types.proofs.Arranged.{arranged_words}
 use Rattle.mesa_types.proofs.WordSizes.{sizes_agree}
 use Rattle.code_forms.specs.Routine.{Routine}
 use Rattle.code_rules.specs.CodeFor.{words_taken, words_over}
 use Rattle.code_rules.specs.Loops.{Counter, NoCounter, CountedIn, next_slot}
-use Rattle.code_rules.specs.OwnCode.{lift_code, check_code, arrange_code}
+use Rattle.code_rules.specs.OwnCode.{lift_code, check_code, conversion_code, arrange_code}
 use Rattle.code_rules.specs.Points.{in_marked, in_arm}
 use Rattle.code_rules.specs.Reading.{Coded, scratch}
 use Rattle.code_rules.specs.Slots.{local_slot, zero_code, copy_code, spread_code, fields_of, sizes}
 use Rattle.code_blocks.specs.Blocks as tree
 use Rattle.code_blocks.specs.Blocks.{◌▹◌}
-use Rattle.code_blocks.specs.Translation.{has_index, head_code, gives_next, past_else, past_cases, past_exits, is_last, is_endless, forms, values, operands, bounds, operations, path, caught_by, arm_blocks, block, blocks, targets, selected, cases, tests, exits, loop, condition, finish}
+use Rattle.code_blocks.specs.Translation.{has_index, head_code, gives_next, past_else, past_cases, past_exits, is_last, is_endless, forms, values, operands, bounds, operations, long_operations, path, caught_by, arm_blocks, block, blocks, targets, selected, cases, tests, exits, loop, condition, finish}
 use Rattle.code_blocks.proofs.ExtractRows.{variable_has}
 use Rattle.code_blocks.proofs.Fits.{Ways, NotBack, AllFit, Fits, ArmsFit, all_fit_both, FormsFit, by_value_fits, if_fits, unless_fits, turned_fits, enabled_fits}
+use Rattle.code_blocks.proofs.Keeping.{selects_take}
 use Rattle.code_blocks.proofs.Meeting.{Meets, AreNew, seen_all, comes, is_in_arm, meets_marked, meets_arm, meets_still, meets_labelled, are_new, new_behind}
 use Rattle.code_blocks.proofs.NamesFit.{Names, part_within, fields_within, scratch_there, load_fits, store_fits, clear_fits, load_within_fits, store_within_fits, call_fits, raise_fits, arm_fine}
-use Rattle.code_blocks.proofs.OwnFits.{any, pop_fits, lift_fits, field_fits, check_fits, index_fits, comparison_fits, relation_fits, arrange_fits, operator_fits, within_of_fits, start_of_fits, HasRoom, step_fits}
-use Rattle.code_blocks.proofs.Values.{one_is}
+use Rattle.code_blocks.proofs.OwnFits.{any, pop_fits, lift_fits, field_fits, check_fits, conversion_fits, index_fits, comparison_fits, long_comparison_fits, relation_fits, long_relation_fits, arrange_fits, operator_fits, long_operator_fits, within_of_fits, long_within_of_fits, start_of_fits, HasRoom, step_fits}
+use Rattle.code_blocks.proofs.Values.{one_is, words_converted}
 
 goal_not_back : (goal : Goal) (arms : ℕ) → NotBack (point_of goal) arms
 unfolding point_of
@@ -37,6 +40,23 @@ goal_not_back ToReturn arms = tt
 
 all_behind : {X : Type 0} (Q : X → Type 0) (x : X) (xs : List X) → All Q (x ∷ xs) → All Q xs
 all_behind Q x xs h n d lt = h (suc n) d (omega (arith, lt))
+
+-- the words of a selector, by its kind, are held in slots from x on
+
+word_held : (x : ℕ) {n : ℕ} → x + 1 ≤ n → x + words_in Ordinal ≤ n
+unfolding words_in
+word_held x h = h
+
+long_held : (x : ℕ) {n : ℕ} → x + 2 ≤ n → x + words_in Longs ≤ n
+unfolding words_in
+long_held x h = h
+
+held_word : (x : ℕ) {n : ℕ} (k : Kind) → k ≡ Ordinal → x + words_in k ≤ n → x + 1 ≤ n
+unfolding words_in
+held_word x k is h = omega (arith, h, ap words_in is)
+
+held_converted : (x : ℕ) {n : ℕ} (k : Kind) (c : Conversion) → Converts c k Longs → x + words_in k ≤ n → x + counts.words_before c ≤ n
+held_converted x k c is h = omega (arith, h, (words_converted c k Longs is).0)
 
 -- what only jumps fits anywhere
 past_else_fits : (r : Routine) (depth : ℕ) (ways : Ways) (s : Stmt) (part : ℕ) → Fits r (past_else s part) depth ways
@@ -49,6 +69,7 @@ past_else_fits r depth ways (Extract b ts e) part = tt
 past_else_fits r depth ways (Perform e) part = tt
 past_else_fits r depth ways (If e s t) part = tt
 past_else_fits r depth ways (Select e cs) part = tt
+past_else_fits r depth ways (SelectLong e cs) part = tt
 past_else_fits r depth ways (Block ph ss es) part = tt
 past_else_fits r depth ways (Repeat c l) part = tt
 past_else_fits r depth ways (For g down base range l) part = tt
@@ -158,11 +179,12 @@ module _ (P : Coded) (r : Routine) where
     )
 
   mutual
-    unfolding ExprIn ExprsIn WordsIn SuffixesIn OperationsIn IntervalIn PhraseIn ArmsIn StmtIn StmtsIn TargetsIn CasesIn TestsIn ExitsIn LoopIn FinishIn ConditionIn CountIn Selects a_word sound.in_arm sound.in_marked sound.in_labelled hidden hidden_expr hidden_exprs hidden_suffixes hidden_operations hidden_interval hidden_phrase hidden_arms hidden_stmts hidden_targets hidden_cases hidden_tests hidden_exits hidden_loop hidden_finish hidden_condition
+    unfolding ExprIn ExprsIn WordsIn SuffixesIn OperationsIn LongOperationsIn IntervalIn LongIntervalIn PhraseIn ArmsIn StmtIn StmtsIn TargetsIn CasesIn TestsIn ExitsIn LoopIn FinishIn ConditionIn CountIn CasesTake TestsTake a_word a_long sound.in_arm sound.in_marked sound.in_labelled hidden hidden_expr hidden_exprs hidden_suffixes hidden_operations hidden_interval hidden_phrase hidden_arms hidden_stmts hidden_targets hidden_cases hidden_tests hidden_exits hidden_loop hidden_finish hidden_condition
 
     forms_fit : (Γ : Scope) (ways : Ways) → Here Γ ways → (z : ℕ) (e : Expr) (ks : Kinds) → z + hidden_expr e ≤ r.frame → ExprIn Γ e ks
         → FormsFit r Γ.depth ways (forms P z e)
     forms_fit Γ ways here z (Number n) ks room h = by_value_fits r Γ.depth ways _ (any r Γ.depth, tt)
+    forms_fit Γ ways here z (LongNumber n) ks room h = by_value_fits r Γ.depth ways _ (any r Γ.depth, (any r Γ.depth, tt))
     forms_fit Γ ways here z (Literal k) ks room h =
         by_value_fits r Γ.depth ways _ (λ g some. (omega arith, omega (arith, h.0, (names Γ ways here).all_strings)), tt)
     forms_fit Γ ways here z (Variable v s words) ks room h = by_value_fits r Γ.depth ways _ (
@@ -185,10 +207,18 @@ module _ (P : Coded) (r : Routine) where
     )
     forms_fit Γ ways here z (Checked range e) ks room h =
         by_value_fits r Γ.depth ways _ ((forms_fit Γ ways here z e a_word room h.1).value, check_fits r Γ.depth range)
+    forms_fit Γ ways here z (Converted c e) ks room h =
+        by_value_fits r Γ.depth ways _ ((forms_fit Γ ways here z e (one h.1) room h.4).value, conversion_fits r Γ.depth c)
     forms_fit Γ ways here z (Operate e os) ks room h = by_value_fits r Γ.depth ways _ (
       (forms_fit Γ ways here z e a_word (omega (arith, room)) h.0).value,
       run_fits Γ ways here (z + hidden_expr e) os (omega (arith, room)) h.1,
     )
+    forms_fit Γ ways here z (OperateLong e os) ks room h = by_value_fits r Γ.depth ways _ (
+      (forms_fit Γ ways here z e a_long (omega (arith, room)) h.0).value,
+      long_run_fits Γ ways here (z + hidden_expr e) os (omega (arith, room)) h.1,
+    )
+    forms_fit Γ ways here z (NegateLong e) ks room h =
+        by_value_fits r Γ.depth ways _ ((forms_fit Γ ways here z e a_long room h.0).value, (any r Γ.depth, tt))
     forms_fit Γ ways here z (Negate e) ks room h =
         by_value_fits r Γ.depth ways _ ((forms_fit Γ ways here z e a_word room h.0).value, (any r Γ.depth, tt))
     forms_fit Γ ways here z (Relate base o d e) ks room h =
@@ -203,6 +233,20 @@ module _ (P : Coded) (r : Routine) where
       (
         bounds_fit Γ ways here (z + hidden_expr e) range (omega (arith, room)) h.1,
         within_of_fits r Γ.depth (scratch P) bases range (scratch_there P r Γ (names Γ ways here) Γ.depth),
+      ),
+    )
+    forms_fit Γ ways here z (RelateLong base o d e) ks room h =
+        let x = (forms_fit Γ ways here z d a_long (omega (arith, room)) h.0).value in
+        let y = (forms_fit Γ ways here (z + hidden_expr d) e a_long (omega (arith, room)) h.1).value in
+        record {
+          value = (x, (y, long_relation_fits r Γ.depth base o));
+          jump = λ sense part. (x, (y, (long_comparison_fits r Γ.depth base o, tt)));
+        }
+    forms_fit Γ ways here z (WithinLong bases e range) ks room h = by_value_fits r Γ.depth ways _ (
+      (forms_fit Γ ways here z e a_long (omega (arith, room)) h.0).value,
+      (
+        long_bounds_fit Γ ways here (z + hidden_expr e) range (omega (arith, room)) h.1,
+        long_within_of_fits r Γ.depth (scratch P) bases range (scratch_there P r Γ (names Γ ways here) Γ.depth),
       ),
     )
     forms_fit Γ ways here z (Not e) ks room h =
@@ -260,6 +304,21 @@ module _ (P : Coded) (r : Routine) where
     bounds_fit Γ ways here z (Between x p y q) room h = (
       (forms_fit Γ ways here z x a_word (omega (arith, room)) h.0).value,
       (forms_fit Γ ways here (z + hidden_expr x) y a_word (omega (arith, room)) h.1).value,
+    )
+
+    long_bounds_fit : (Γ : Scope) (ways : Ways) → Here Γ ways → (z : ℕ) (range : Interval) → z + hidden_interval range ≤ r.frame → LongIntervalIn Γ range
+        → Fits r (bounds P z range) Γ.depth ways
+    long_bounds_fit Γ ways here z (Between x p y q) room h = (
+      (forms_fit Γ ways here z x a_long (omega (arith, room)) h.0).value,
+      (forms_fit Γ ways here (z + hidden_expr x) y a_long (omega (arith, room)) h.1).value,
+    )
+
+    long_run_fits : (Γ : Scope) (ways : Ways) → Here Γ ways → (z : ℕ) (os : Operations) → z + hidden_operations os ≤ r.frame → LongOperationsIn Γ os
+        → Fits r (long_operations P z os) Γ.depth ways
+    long_run_fits Γ ways here z NoOperation room h = tt
+    long_run_fits Γ ways here z (Then range o e os) room h = (
+      (forms_fit Γ ways here z e a_long (omega (arith, room)) h.2).value,
+      (long_operator_fits r Γ.depth o, long_run_fits Γ ways here (z + hidden_expr e) os (omega (arith, room)) h.3),
     )
 
     run_fits : (Γ : Scope) (ways : Ways) → Here Γ ways → (z : ℕ) (os : Operations) → z + hidden_operations os ≤ r.frame → OperationsIn Γ os
@@ -341,7 +400,13 @@ module _ (P : Coded) (r : Routine) where
     )
     block_fits Γ ways here z (Select e cs) room h = (
       (forms_fit Γ ways here (z + 1) e (one h.0) (omega (arith, room)) h.2).value,
-      selected_fits Γ ways here (z + (1 + hidden_expr e)) z (words_of e) cs (omega (arith, room)) (omega (arith, room)) h.4,
+      selected_fits Γ ways here (z + (1 + hidden_expr e)) z 1 (words_of e) Ordinal cs (omega (arith, room)) (word_held z (omega (arith, room)))
+          (omega (arith, room)) (selects_take h.0 cs h.3) h.4,
+    )
+    block_fits Γ ways here z (SelectLong e cs) room h = (
+      (forms_fit Γ ways here (z + 2) e a_long (omega (arith, room)) h.1).value,
+      selected_fits Γ ways here (z + (2 + hidden_expr e)) z 2 (words_of e) Longs cs (omega (arith, room)) (long_held z (omega (arith, room)))
+          (omega (arith, room)) h.2 h.3,
     )
     block_fits Γ ways here z (Block ph ss es) room h =
         let Γ1 = sound.in_labelled h.0 es Γ in
@@ -410,51 +475,95 @@ module _ (P : Coded) (r : Routine) where
               (store_fits P r Γ (names Γ ways here) Γ.depth v h.1 (fields_of s) p.words h.4 (apart Γ ways here s h.1 h.0 p.words none h.5 h.3), tt)),
           targets_fit Γ ways here z all (p ∷ taken) ts ks (omega (arith, room)) h.7,
         ))
+    targets_fit Γ ways here z all taken (AndConverted p v s c ts) ks room h =
+        let words : counts.words_after c ≡ words_in h.1 = sym (words_converted c h.0 h.1 h.6).1 in
+        if_fits r Γ.depth ways (has_index s) _ _
+        (λ is. (
+          (any r Γ.depth, tt),
+          (
+            path_fits Γ ways here z s h.2 h.1 (omega (arith, room)) h.8,
+            (
+              all_fit_both r Γ.depth (lift_code p.words (suc (words_over all taken p))) _ (lift_fits r Γ.depth p.words (suc (words_over all taken p)))
+                  (all_fit_both r Γ.depth (conversion_code c) _ (conversion_fits r Γ.depth c) (
+                    store_within_fits P r Γ (names Γ ways here) Γ.depth v h.2 (counts.words_after c) h.7
+                        (within Γ ways here v s h.2 h.1 (counts.words_after c) h.7 h.8 words),
+                    tt,
+                  )),
+              targets_fit Γ ways here (z + hidden_suffixes s) all (p ∷ taken) ts ks (omega (arith, room)) h.9,
+            ),
+          ),
+        ))
+        (λ none. (
+          all_fit_both r Γ.depth (lift_code p.words (words_over all taken p)) _ (lift_fits r Γ.depth p.words (words_over all taken p))
+              (all_fit_both r Γ.depth (conversion_code c) _ (conversion_fits r Γ.depth c) (
+                store_fits P r Γ (names Γ ways here) Γ.depth v h.2 (fields_of s) (counts.words_after c) h.7
+                    (apart Γ ways here s h.2 h.1 (counts.words_after c) none h.8 words),
+                tt,
+              )),
+          targets_fit Γ ways here z all (p ∷ taken) ts ks (omega (arith, room)) h.9,
+        ))
 
-    selected_fits : (Γ : Scope) (ways : Ways) → Here Γ ways → (z x words : ℕ) (cs : Cases) → x + 1 ≤ r.frame → z + hidden_cases cs ≤ r.frame → CasesIn Γ cs
-        → Fits r (selected P z x words cs) Γ.depth ways
-    selected_fits Γ ways here z x words (Otherwise s) held room h = (pop_fits r Γ.depth words, block_fits Γ ways here z s room h)
-    selected_fits Γ ways here z x words (AndCase ts s cs) held room h = (
-      (λ g some. held, tt),
+    selected_fits : (Γ : Scope) (ways : Ways) → Here Γ ways → (z x held words : ℕ) (k : Kind) (cs : Cases) → x + held ≤ r.frame → x + words_in k ≤ r.frame
+        → z + hidden_cases cs ≤ r.frame → CasesTake k cs → CasesIn Γ cs → Fits r (selected P z x held words cs) Γ.depth ways
+    selected_fits Γ ways here z x held words k (Otherwise s) stored there room take h = (pop_fits r Γ.depth words, block_fits Γ ways here z s room h)
+    selected_fits Γ ways here z x held words k (AndCase ts s cs) stored there room take h = (
+      (λ g some. stored, tt),
       (
         (
-          tests_fit Γ ways here z x ts held (omega (arith, room)) h.1,
+          tests_fit Γ ways here z x k ts there (omega (arith, room)) take.0 h.1,
           (block_fits Γ ways here (z + hidden_tests ts) s (omega (arith, room)) h.2, past_cases_fits r Γ.depth ways cs 1),
         ),
-        cases_fit Γ ways here (z + (hidden_tests ts + hidden s)) x cs held (omega (arith, room)) h.3,
+        cases_fit Γ ways here (z + (hidden_tests ts + hidden s)) x k cs there (omega (arith, room)) take.1 h.3,
       ),
     )
 
-    cases_fit : (Γ : Scope) (ways : Ways) → Here Γ ways → (z x : ℕ) (cs : Cases) → x + 1 ≤ r.frame → z + hidden_cases cs ≤ r.frame → CasesIn Γ cs
-        → Fits r (cases P z x cs) Γ.depth ways
-    cases_fit Γ ways here z x (Otherwise s) held room h = block_fits Γ ways here z s room h
-    cases_fit Γ ways here z x (AndCase ts s cs) held room h = (
+    cases_fit : (Γ : Scope) (ways : Ways) → Here Γ ways → (z x : ℕ) (k : Kind) (cs : Cases) → x + words_in k ≤ r.frame → z + hidden_cases cs ≤ r.frame
+        → CasesTake k cs → CasesIn Γ cs → Fits r (cases P z x cs) Γ.depth ways
+    cases_fit Γ ways here z x k (Otherwise s) there room take h = block_fits Γ ways here z s room h
+    cases_fit Γ ways here z x k (AndCase ts s cs) there room take h = (
       (
-        tests_fit Γ ways here z x ts held (omega (arith, room)) h.1,
+        tests_fit Γ ways here z x k ts there (omega (arith, room)) take.0 h.1,
         (block_fits Γ ways here (z + hidden_tests ts) s (omega (arith, room)) h.2, past_cases_fits r Γ.depth ways cs 1),
       ),
-      cases_fit Γ ways here (z + (hidden_tests ts + hidden s)) x cs held (omega (arith, room)) h.3,
+      cases_fit Γ ways here (z + (hidden_tests ts + hidden s)) x k cs there (omega (arith, room)) take.1 h.3,
     )
 
-    tests_fit : (Γ : Scope) (ways : Ways) → Here Γ ways → (z x : ℕ) (ts : Tests) → x + 1 ≤ r.frame → z + hidden_tests ts ≤ r.frame → TestsIn Γ ts
-        → Fits r (tests P z x ts) Γ.depth ways
-    tests_fit Γ ways here z x NoTests held room h = tt
-    tests_fit Γ ways here z x (IfRelated range base o e ts) held room h = (
+    tests_fit : (Γ : Scope) (ways : Ways) → Here Γ ways → (z x : ℕ) (k : Kind) (ts : Tests) → x + words_in k ≤ r.frame → z + hidden_tests ts ≤ r.frame
+        → TestsTake k ts → TestsIn Γ ts → Fits r (tests P z x ts) Γ.depth ways
+    tests_fit Γ ways here z x k NoTests there room take h = tt
+    tests_fit Γ ways here z x k (IfRelated range base o e ts) there room take h = (
       (
-        (λ g some. held, check_fits r Γ.depth range),
+        (λ g some. held_word x k take.0 there, check_fits r Γ.depth range),
         ((forms_fit Γ ways here z e a_word (omega (arith, room)) h.1).value, (comparison_fits r Γ.depth base o, tt)),
       ),
-      unless_fits r Γ.depth ways (is_last ts) _ (tests_fit Γ ways here (z + hidden_expr e) x ts held (omega (arith, room)) h.2),
+      unless_fits r Γ.depth ways (is_last ts) _ (tests_fit Γ ways here (z + hidden_expr e) x k ts there (omega (arith, room)) take.1 h.2),
     )
-    tests_fit Γ ways here z x (IfWithin negated bases range ts) held room h = (
+    tests_fit Γ ways here z x k (IfWithin negated bases range ts) there room take h = (
       (
-        (λ g some. held, tt),
+        (λ g some. held_word x k take.0 there, tt),
         (
           bounds_fit Γ ways here z range (omega (arith, room)) h.0,
           (within_of_fits r Γ.depth (scratch P) bases range (scratch_there P r Γ (names Γ ways here) Γ.depth), tt),
         ),
       ),
-      unless_fits r Γ.depth ways (is_last ts) _ (tests_fit Γ ways here (z + hidden_interval range) x ts held (omega (arith, room)) h.1),
+      unless_fits r Γ.depth ways (is_last ts) _ (tests_fit Γ ways here (z + hidden_interval range) x k ts there (omega (arith, room)) take.1 h.1),
+    )
+    tests_fit Γ ways here z x k (IfRelatedLong c base o e ts) there room take h = (
+      (
+        (λ g some. held_converted x k c take.0 there, conversion_fits r Γ.depth c),
+        ((forms_fit Γ ways here z e a_long (omega (arith, room)) h.0).value, (long_comparison_fits r Γ.depth base o, tt)),
+      ),
+      unless_fits r Γ.depth ways (is_last ts) _ (tests_fit Γ ways here (z + hidden_expr e) x k ts there (omega (arith, room)) take.1 h.1),
+    )
+    tests_fit Γ ways here z x k (IfWithinLong negated c bases range ts) there room take h = (
+      (
+        (λ g some. held_converted x k c take.0 there, conversion_fits r Γ.depth c),
+        (
+          long_bounds_fit Γ ways here z range (omega (arith, room)) h.0,
+          (long_within_of_fits r Γ.depth (scratch P) bases range (scratch_there P r Γ (names Γ ways here) Γ.depth), tt),
+        ),
+      ),
+      unless_fits r Γ.depth ways (is_last ts) _ (tests_fit Γ ways here (z + hidden_interval range) x k ts there (omega (arith, room)) take.1 h.1),
     )
 
     exits_fit : (Γ : Scope) (ways : Ways) → Here Γ ways → (z : ℕ) (es : Exits) (before : tree.Block) → AreNew Γ es → z + hidden_exits es ≤ r.frame → ExitsIn Γ es

@@ -4,23 +4,26 @@ use Rattle.std.proofs.Common.{◌≡◌, refl, ap, ◌∙◌, ℕ, zero, suc, �
 use Rattle.mesa_base.specs.declared.limits.TheConstants.{OPERAND_WORDS}
 use Rattle.mesa_types.specs.declared.typed_parts.Given.{Given}
 use Rattle.mesa_types.specs.declared.typed_parts.Given.TheVariants.{NoVariable, GivenTo}
+use Rattle.mesa_types.specs.declared.typed_parts.Conversion.{Conversion}
+use Rattle.mesa_types.specs.declared.typed_parts.Conversion.TheVariants.{Kept, Widened, Narrowed, InCommon}
 use Rattle.mesa_types.specs.declared.typed_parts.Home.{Home}
 use Rattle.mesa_types.specs.declared.typed_parts.Home.TheVariants.{Global, Local}
 use Rattle.mesa_types.specs.declared.typed_parts.Part.{Part}
+use Rattle.mesa_types.specs.declared.typed_parts.Base.{Base}
 use Rattle.mesa_types.specs.declared.typed_parts.Base.TheVariants.{Signed, Unsigned}
 use Rattle.mesa_types.specs.declared.typed_parts.Range.{Range}
 use Rattle.mesa_types.specs.declared.typed_parts.Range.TheVariants.{Every, From}
-use Rattle.mesa_types.specs.Typed.{Kind, Record, Kinds, Expr, Number, Literal, Variable, FieldOf, LengthOf, ByteOf, Checked, Operate, Negate, Relate, Within, Not, AllOf, SomeOf, Construct, Call, Raise, Exprs, NoExprs, AndExpr, Suffixes, NoSuffix, Field, Index, Operations, NoOperation, Then, Interval, Between, Phrase, NoPhrase, Catch, Arms, NoArms, AndArm, Stmt, Null, Marked, Declare, DeclareAs, Assign, Extract, Perform, If, Select, Block, Repeat, Endless, Counting, For, Jump, ReturnWith, Resume, Reject, Retry, Continue, Stmts, NoStmts, AndStmt, Targets, NoTargets, AndTarget, Cases, Otherwise, AndCase, Tests, NoTests, IfRelated, IfWithin, Exits, NoExits, AndExit, Loop, LoopOf, Finish, NoFinish, Finished, Condition, Always, While, Until, Texts}
-use Rattle.mesa_types.specs.Counts.{hidden, hidden_expr, hidden_exprs, hidden_suffixes, hidden_interval, hidden_phrase, hidden_stmts, hidden_targets, hidden_tests, hidden_exits, hidden_condition, words_of, words_given, last_words, operands, operands_of, operands_in, operands_of_run, operands_of_interval, operands_of_targets, operands_of_tests, operands_of_cases, operands_of_condition, operands_of_loop, operands_of_stmt}
+use Rattle.mesa_types.specs.Typed.{Kind, Record, Longs, Ordinal, Kinds, Expr, Number, LongNumber, Literal, Variable, FieldOf, LengthOf, ByteOf, Checked, Converted, Operate, OperateLong, Negate, NegateLong, Relate, RelateLong, Within, WithinLong, Not, AllOf, SomeOf, Construct, Call, Raise, Exprs, NoExprs, AndExpr, Suffixes, NoSuffix, Field, Index, Operations, NoOperation, Then, Interval, Between, Phrase, NoPhrase, Catch, Arms, NoArms, AndArm, Stmt, Null, Marked, Declare, DeclareAs, Assign, Extract, Perform, If, Select, SelectLong, Block, Repeat, Endless, Counting, For, Jump, ReturnWith, Resume, Reject, Retry, Continue, Stmts, NoStmts, AndStmt, Targets, NoTargets, AndTarget, AndConverted, Cases, Otherwise, AndCase, Tests, NoTests, IfRelated, IfWithin, IfRelatedLong, IfWithinLong, Exits, NoExits, AndExit, Loop, LoopOf, Finish, NoFinish, Finished, Condition, Always, While, Until, Texts}
+use Rattle.mesa_types.specs.Counts.{hidden, hidden_expr, hidden_exprs, hidden_suffixes, hidden_interval, hidden_phrase, hidden_stmts, hidden_targets, hidden_tests, hidden_exits, hidden_condition, words_of, words_given, words_before, words_after, last_words, unnamed, operands, operands_of, operands_in, operands_of_run, operands_of_interval, operands_of_targets, operands_of_tests, operands_of_cases, operands_of_condition, operands_of_loop, operands_of_stmt}
 use Rattle.mesa_types.specs.Shapes.{words_in, words_in_all, one}
 use Rattle.mesa_types.specs.Sound as sound
-use Rattle.mesa_types.specs.Sound.{Scope, a_word, Fits, CountIn, Selects, VariableIn, ExprIn, ExprsIn, WordsIn, SuffixesIn, OperationsIn, IntervalIn, PhraseIn, ArmsIn, StmtIn, StmtsIn, TargetsIn, CasesIn, TestsIn, ExitsIn, LoopIn, FinishIn, ConditionIn}
+use Rattle.mesa_types.specs.Sound.{Scope, a_word, a_long, Fits, CountIn, TestsTake, CasesTake, Selects, VariableIn, ExprIn, ExprsIn, WordsIn, SuffixesIn, OperationsIn, LongOperationsIn, IntervalIn, LongIntervalIn, PhraseIn, ArmsIn, StmtIn, StmtsIn, TargetsIn, CasesIn, TestsIn, ExitsIn, LoopIn, FinishIn, ConditionIn}
 use Rattle.mesa_types.proofs.WordSizes.{sizes_agree, values_have_words}
 use Rattle.code_forms.specs.declared.instruction.Instruction.{Instruction}
 use Rattle.code_forms.specs.declared.instruction.Instruction.TheVariants as i
 use Rattle.code_rules.specs.CodeFor.{words_before_last, words_taken, words_over}
 use Rattle.code_rules.specs.Loops.{Counter, NoCounter, CountedIn, next_slot, give_code, step_code}
-use Rattle.code_rules.specs.OwnCode.{pop_code, lift_code, field_code, check_code, index_code, comparison, relation_code, operator_code, arrange_code}
+use Rattle.code_rules.specs.OwnCode.{pop_code, lift_code, field_code, check_code, narrow_code, conversion_code, index_code, comparison, long_comparison, relation_code, long_relation_code, operator_code, long_operator_code, arrange_code}
 use Rattle.code_rules.specs.Reading.{Coded, scratch}
 use Rattle.code_rules.specs.Slots.{local_slot, store, store_within, load, zero_code, spread_code, fields_of, sizes}
 use Rattle.code_rules.proofs.Depths.{own_code_keeps_words}
@@ -28,16 +31,16 @@ use Rattle.code_blocks.specs.Blocks as tree
 use Rattle.code_blocks.specs.Blocks.{ArmBlocks, NoArmBlock, AndArmBlock, ◌▹◌}
 use Rattle.code_blocks.specs.Own.{left_of}
 use Rattle.code_blocks.specs.Sizes.{depth_behind}
-use Rattle.code_blocks.specs.Translation.{Forms, by_value, has_index, within_of, start_of, turned, head_code, gives_next, past_else, past_cases, past_exits, enabled, a_case, is_last, is_endless, forms, values, operands as operand_jumps, bounds, operations, path, caught_by, arm_blocks, block, blocks, targets, cases, tests, exits, loop, condition, finish}
+use Rattle.code_blocks.specs.Translation.{Forms, by_value, has_index, within_of, long_within_of, start_of, turned, head_code, gives_next, past_else, past_cases, past_exits, enabled, a_case, is_last, is_endless, forms, values, operands as operand_jumps, bounds, operations, long_operations, path, caught_by, arm_blocks, block, blocks, targets, cases, tests, exits, loop, condition, finish}
 use Rattle.code_blocks.proofs.ExtractRows.{HaveWords, variable_has, part_has, check_left}
 use Rattle.code_blocks.proofs.Keeping.{record_words, ordinal_word, keeps, keeps_all}
-use Rattle.code_blocks.proofs.NamedWords.{unnamed_few, words_named, values_named, word_named}
+use Rattle.code_blocks.proofs.NamedWords.{unnamed_few, still_named, words_named, words_converted_few, values_named, word_named, long_named}
 use Rattle.code_blocks.proofs.NamesFit.{kind_lies}
 use Rattle.code_blocks.proofs.Own.{left_both}
-use Rattle.code_blocks.proofs.OwnShallow.{lift_shallow, pop_puts, field_puts, check_puts, index_puts, comparison_puts, relation_puts, operator_puts, within_of_puts, start_of_puts, give_puts, step_puts, zero_puts, spread_shallow, arrange_shallow}
+use Rattle.code_blocks.proofs.OwnShallow.{lift_shallow, pop_puts, field_shallow, check_puts, conversion_puts, index_puts, comparison_puts, long_comparison_puts, relation_puts, long_relation_puts, operator_puts, long_operator_puts, within_of_puts, long_within_of_puts, start_of_puts, give_puts, step_puts, zero_puts, spread_shallow, arrange_shallow}
 use Rattle.code_blocks.proofs.Shallow.{OwnShallow, Shallow, ArmsShallow, shallow_to, own_to, own_both, if_shallow, unless_shallow, enabled_shallow, rises}
 use Rattle.code_blocks.proofs.StatementDepths.{pop_left, start_left, zero_left, store_left, arranged_taken}
-use Rattle.code_blocks.proofs.Values.{none, one_is, word_is, text_is, fields_fit, total_given, own_left, behind, arranged, within_left, comparison_left, value_depth, values_depth, bounds_depth, path_depth, two_values, jump_depth, operands_depth}
+use Rattle.code_blocks.proofs.Values.{none, one_is, word_is, long_is, text_is, words_converted, makes_long, fields_fit, total_given, own_left, behind, arranged, within_left, long_within_left, comparison_left, long_comparison_left, value_depth, values_depth, bounds_depth, long_bounds_depth, path_depth, two_values, two_longs, jump_depth, operands_depth}
 
 module _ (U : Coded) (most : ℕ) (limit : 3 * OPERAND_WORDS + 48 ≤ most) where
   abbrev S : tree.Block → ℕ → Type 0
@@ -54,10 +57,13 @@ module _ (U : Coded) (most : ℕ) (limit : 3 * OPERAND_WORDS + 48 ≤ most) wher
   one_load : (h : Home) (offset words d : ℕ) → d ≤ most → OwnShallow (load U h offset words ∷ []) d most
   one_load h offset words d le = (le, tt)
 
-  -- one word of a sound expression comes behind the words before it
+  -- one word of a sound expression comes behind the words before it, or the two of a LONG one
   module _ (Γ : Scope) (g : HaveWords Γ) where
     word_behind : (e : Expr) → ExprIn Γ e a_word → (z d : ℕ) → depth_behind (forms U z e).value d ≡ d + 1
     word_behind e h z d = value_depth U Γ e a_word h z d ∙ ap (λ n. d + n) (word_is Γ e h)
+
+    long_behind : (e : Expr) → ExprIn Γ e a_long → (z d : ℕ) → depth_behind (forms U z e).value d ≡ d + 2
+    long_behind e h z d = value_depth U Γ e a_long h z d ∙ ap (λ n. d + n) (long_is Γ e h)
 
     named_words : (v : Home) (s : Suffixes) (j k : Kind) (words : ℕ) → VariableIn Γ v j → SuffixesIn Γ s j k → words ≡ words_in k → 0 < words
     named_words v s j k words at h e = omega (arith, e, values_have_words.of_kind k (part_has Γ s j k (variable_has Γ v j g at) h))
@@ -74,6 +80,7 @@ module _ (U : Coded) (most : ℕ) (limit : 3 * OPERAND_WORDS + 48 ≤ most) wher
   past_else_shallow (Perform e) part d le = le
   past_else_shallow (If e s t) part d le = le
   past_else_shallow (Select e cs) part d le = le
+  past_else_shallow (SelectLong e cs) part d le = le
   past_else_shallow (Block ph ss es) part d le = le
   past_else_shallow (Repeat c l) part d le = le
   past_else_shallow (For v down base range l) part d le = le
@@ -177,13 +184,78 @@ module _ (U : Coded) (most : ℕ) (limit : 3 * OPERAND_WORDS + 48 ≤ most) wher
         checked range (left_of (lift_code words k) m) (all + 1) (lifted words k m (all + 1) here fits) (omega arith),
       )
 
-  record Both (f : Forms) (n words : ℕ) : Type 0 where
-    value : (d b : ℕ) → d + 3 * n + 32 ≤ most + b → b ≤ 3 → b ≤ 3 * (words - 1) → S f.value d
+  -- a part that is converted
+
+  narrowed : (a b : Base) (m : ℕ) → left_of (narrow_code a b) m ≡ m - 2 + 1
+  narrowed Signed Signed m = omega arith
+  narrowed Signed Unsigned m = omega arith
+  narrowed Unsigned Signed m = omega arith
+  narrowed Unsigned Unsigned m = omega arith
+
+  converted : (c : Conversion) (m all : ℕ) → m ≤ all → words_before c ≤ all → left_of (conversion_code c) m ≤ all - words_before c + words_after c
+  unfolding words_before words_after
+  converted Kept m all le some = omega (arith, le, some)
+  converted (Widened Signed Signed) m all le some = omega (arith, le, some)
+  converted (Widened Signed Unsigned) m all le some = omega (arith, le, some)
+  converted (Widened Unsigned Signed) m all le some = omega (arith, le, some)
+  converted (Widened Unsigned Unsigned) m all le some = omega (arith, le, some)
+  converted (Narrowed a b range) m all le some =
+      omega (
+        arith,
+        left_both (narrow_code a b) (check_code range) m,
+        checked range (left_of (narrow_code a b) m) (all - 2 + 1) (omega (arith, le, some, narrowed a b m)) (omega arith),
+      )
+  converted InCommon m all le some = omega (arith, le, some)
+
+  converted_shallow : (n k : ℕ) (c : Conversion) (x : Instruction) (m all : ℕ) → m ≤ all → n + k ≤ all → words_before c ≤ all → all + 4 ≤ most
+      → OwnShallow (lift_code n k ++ (conversion_code c ++ x ∷ [])) m most
+  converted_shallow n k c x m all here fits some le =
+      let l = lifted n k m all here fits in
+      own_both (lift_code n k) _ m most (lift_shallow n k m most (omega (arith, here, le)))
+      (own_both (conversion_code c) (x ∷ []) _ most (rises (conversion_code c) _ most (omega (arith, l, conversion_puts c, le)))
+      (omega (arith, converted c _ all l some, (words_converted_few c).2, le), tt))
+
+  converted_left : (n k : ℕ) (c : Conversion) (x : Instruction) (m : ℕ)
+      → left_of (lift_code n k ++ (conversion_code c ++ x ∷ [])) m ≡ left_of (x ∷ []) (left_of (conversion_code c) (left_of (lift_code n k) m))
+  converted_left n k c x m =
+      left_both (lift_code n k) (conversion_code c ++ x ∷ []) m ∙ left_both (conversion_code c) (x ∷ []) (left_of (lift_code n k) m)
+
+  stored_words : (h : Home) (offset words m : ℕ) → left_of (store U h offset words ∷ []) m ≤ m - words
+  stored_words (Local n) offset words m = omega arith
+  stored_words (Global n) offset words m = omega arith
+
+  stored_words_within : (h : Home) (words m : ℕ) → left_of (store_within U h words ∷ []) m ≤ m - (words + 1)
+  stored_words_within (Local n) words m = omega arith
+  stored_words_within (Global n) words m = omega arith
+
+  plain_converted : (h : Home) (offset n k : ℕ) (c : Conversion) (m all : ℕ) → m ≤ all → n + k ≤ all → words_before c ≤ all
+      → left_of (lift_code n k ++ (conversion_code c ++ store U h offset (words_after c) ∷ [])) m ≤ all
+  plain_converted h offset n k c m all here fits some =
+      omega (
+        arith,
+        converted_left n k c (store U h offset (words_after c)) m,
+        stored_words h offset (words_after c) (left_of (conversion_code c) (left_of (lift_code n k) m)),
+        converted c (left_of (lift_code n k) m) all (lifted n k m all here fits) some,
+      )
+
+  within_converted : (h : Home) (n k : ℕ) (c : Conversion) (m all : ℕ) → m ≤ all + 1 → n + k ≤ all + 1 → words_before c ≤ all + 1
+      → left_of (lift_code n k ++ (conversion_code c ++ store_within U h (words_after c) ∷ [])) m ≤ all
+  within_converted h n k c m all here fits some =
+      omega (
+        arith,
+        converted_left n k c (store_within U h (words_after c)) m,
+        stored_words_within h (words_after c) (left_of (conversion_code c) (left_of (lift_code n k) m)),
+        converted c (left_of (lift_code n k) m) (all + 1) (lifted n k m (all + 1) here fits) some,
+      )
+
+  -- behind a name one operand may be not counted; three words of room are left over for it, where it has two words or more
+  record Both (f : Forms) (n words few : ℕ) : Type 0 where
+    value : (d b : ℕ) → d + 3 * n + 32 ≤ most + b → b ≤ 3 * few → b ≤ 3 * (words - 1) → S f.value d
     jump : (sense : Bool) (part d : ℕ) → d + 3 * n + 32 ≤ most → S (f.jump sense part) d
 
-  by_value_both : (b : tree.Block) (n words : ℕ) → ((d : ℕ) → depth_behind b d ≡ d + words) → words ≤ n
-      → ((d m : ℕ) → d + 3 * n + 32 ≤ most + m → m ≤ 3 → m ≤ 3 * (words - 1) → S b d) → Both (by_value b) n words
-  by_value_both b n words behind_it named v = record {
+  by_value_both : (b : tree.Block) (n words few : ℕ) → ((d : ℕ) → depth_behind b d ≡ d + words) → words ≤ 2 * n
+      → ((d m : ℕ) → d + 3 * n + 32 ≤ most + m → m ≤ 3 * few → m ≤ 3 * (words - 1) → S b d) → Both (by_value b) n words few
+  by_value_both b n words few behind_it named v = record {
     value = v;
     jump = λ sense part d le. (v d 0 (omega (arith, le)) (omega arith) (omega arith), omega (arith, behind_it d, named, le));
   }
@@ -195,14 +267,27 @@ module _ (U : Coded) (most : ℕ) (limit : 3 * OPERAND_WORDS + 48 ≤ most) wher
         let here = values_depth U Γ es ks h z d in
         arrange_shallow places (sizes es) _ most (omega (arith, here, total_given es)) (omega (arith, here, le))
 
-    pair_shallow : (z d : ℕ) (x y : Expr) → ExprIn Γ x a_word → ExprIn Γ y a_word → Both (forms U z x) (operands x) (words_of x)
-        → Both (forms U (z + hidden_expr x) y) (operands y) (words_of y) → d + 3 * (operands x + operands y) + 32 ≤ most
+    pair_shallow : (z d : ℕ) (x y : Expr) → ExprIn Γ x a_word → ExprIn Γ y a_word → Both (forms U z x) (operands x) (words_of x) (unnamed x)
+        → Both (forms U (z + hidden_expr x) y) (operands y) (words_of y) (unnamed y) → d + 3 * (operands x + operands y) + 32 ≤ most
         → S (forms U z x).value d × S (forms U (z + hidden_expr x) y).value (depth_behind (forms U z x).value d)
     pair_shallow z d x y h k bx by le = (
       bx.value d 0 (omega (arith, le)) (omega arith) (omega arith),
       to (forms U (z + hidden_expr x) y).value _ (d + 1) (word_behind Γ g x h z d)
           (by.value (d + 1) 0 (omega (arith, le, word_named Γ x h)) (omega arith) (omega arith)),
     )
+
+    long_pair_shallow : (z d : ℕ) (x y : Expr) → ExprIn Γ x a_long → ExprIn Γ y a_long → Both (forms U z x) (operands x) (words_of x) (unnamed x)
+        → Both (forms U (z + hidden_expr x) y) (operands y) (words_of y) (unnamed y) → d + 3 * (operands x + operands y) + 32 ≤ most
+        → S (forms U z x).value d × S (forms U (z + hidden_expr x) y).value (depth_behind (forms U z x).value d)
+    long_pair_shallow z d x y h k bx by le = (
+      bx.value d 0 (omega (arith, le)) (omega arith) (omega arith),
+      to (forms U (z + hidden_expr x) y).value _ (d + 2) (long_behind Γ g x h z d)
+          (by.value (d + 2) 0 (omega (arith, le, long_named Γ x h)) (omega arith) (omega arith)),
+    )
+
+    long_bounds_named : (range : Interval) → LongIntervalIn Γ range → 2 ≤ operands_of_interval range
+    unfolding LongIntervalIn operands_of_interval
+    long_bounds_named (Between x p y q) h = omega (arith, long_named Γ x h.0, long_named Γ y h.1)
 
     asked_left : (z : ℕ) (c : Condition) → ConditionIn Γ c → depth_behind (condition U z c) 0 ≡ 0
     unfolding ConditionIn
@@ -211,18 +296,20 @@ module _ (U : Coded) (most : ℕ) (limit : 3 * OPERAND_WORDS + 48 ≤ most) wher
     asked_left z (Until e) h = jump_depth U Γ e h true 0 z 0
 
   mutual
-    unfolding ExprIn ExprsIn WordsIn SuffixesIn OperationsIn IntervalIn PhraseIn ArmsIn StmtIn StmtsIn TargetsIn CasesIn TestsIn ExitsIn LoopIn FinishIn ConditionIn CountIn Selects Fits a_word sound.in_arm sound.in_marked sound.in_labelled words_of words_given operands operands_of operands_in operands_of_run operands_of_interval operands_of_targets operands_of_tests operands_of_cases operands_of_condition operands_of_loop operands_of_stmt
+    unfolding ExprIn ExprsIn WordsIn SuffixesIn OperationsIn LongOperationsIn IntervalIn LongIntervalIn PhraseIn ArmsIn StmtIn StmtsIn TargetsIn CasesIn TestsIn ExitsIn LoopIn FinishIn ConditionIn CountIn Selects CasesTake TestsTake Fits a_word a_long sound.in_arm sound.in_marked sound.in_labelled words_of words_given unnamed operands operands_of operands_in operands_of_run operands_of_interval operands_of_targets operands_of_tests operands_of_cases operands_of_condition operands_of_loop operands_of_stmt
 
-    -- of a value of two words or more, three words of room are left over
-    forms_shallow : (Γ : Scope) → HaveWords Γ → (z : ℕ) (e : Expr) (ks : Kinds) → ExprIn Γ e ks → Both (forms U z e) (operands e) (words_of e)
+    forms_shallow : (Γ : Scope) → HaveWords Γ → (z : ℕ) (e : Expr) (ks : Kinds) → ExprIn Γ e ks → Both (forms U z e) (operands e) (words_of e) (unnamed e)
     forms_shallow Γ g z (Number n) ks h =
-        by_value_both _ (operands (Number n)) (words_of (Number n)) (λ d. value_depth U Γ (Number n) ks h z d) (words_named Γ (Number n) ks h) (λ d b le few least.
+        by_value_both _ (operands (Number n)) (words_of (Number n)) (unnamed (Number n)) (λ d. value_depth U Γ (Number n) ks h z d) (words_named Γ (Number n) ks h) (λ d b le few least.
         (omega (arith, le, least), tt))
+    forms_shallow Γ g z (LongNumber n) ks h =
+        by_value_both _ (operands (LongNumber n)) (words_of (LongNumber n)) (unnamed (LongNumber n)) (λ d. value_depth U Γ (LongNumber n) ks h z d) (words_named Γ (LongNumber n) ks h) (λ d b le few least.
+        (omega (arith, le, few), (omega (arith, le, few), tt)))
     forms_shallow Γ g z (Literal k) ks h =
-        by_value_both _ (operands (Literal k)) (words_of (Literal k)) (λ d. value_depth U Γ (Literal k) ks h z d) (words_named Γ (Literal k) ks h) (λ d b le few least.
+        by_value_both _ (operands (Literal k)) (words_of (Literal k)) (unnamed (Literal k)) (λ d. value_depth U Γ (Literal k) ks h z d) (words_named Γ (Literal k) ks h) (λ d b le few least.
         (omega (arith, le, few), tt))
     forms_shallow Γ g z (Variable v s words) ks h =
-        by_value_both _ (operands (Variable v s words)) (words_of (Variable v s words)) (λ d. value_depth U Γ (Variable v s words) ks h z d) (words_named Γ (Variable v s words) ks h) (λ d b le few least.
+        by_value_both _ (operands (Variable v s words)) (words_of (Variable v s words)) (unnamed (Variable v s words)) (λ d. value_depth U Γ (Variable v s words) ks h z d) (words_named Γ (Variable v s words) ks h) (λ d b le few least.
         let some = named_words Γ g v s h.0 h.1 words h.2 h.3 h.4 in
         if_shallow (has_index s) _ _ d most
         (λ is. (
@@ -234,38 +321,32 @@ module _ (U : Coded) (most : ℕ) (limit : 3 * OPERAND_WORDS + 48 ≤ most) wher
         ))
         (λ none. (omega (arith, le, few), tt)))
     forms_shallow Γ g z (FieldOf e parts) ks h =
-        by_value_both _ (operands (FieldOf e parts)) (words_of (FieldOf e parts)) (λ d. value_depth U Γ (FieldOf e parts) ks h z d) (words_named Γ (FieldOf e parts) ks h) (λ d b le few least.
+        by_value_both _ (operands (FieldOf e parts)) (words_of (FieldOf e parts)) (unnamed (FieldOf e parts)) (λ d. value_depth U Γ (FieldOf e parts) ks h z d) (words_named Γ (FieldOf e parts) ks h) (λ d b le few least.
         let fit = fields_fit parts h.1 h.2 h.4 in
         let whole = one_is Γ e h.1 h.3 in
-        let named = words_named Γ e (one h.1) h.3 in (
-          (forms_shallow Γ g z e (one h.1) h.3).value d b le few (omega (arith, least, fit, whole)),
-          rises (field_code (words_before_last parts) (last_words parts) (words_of e - (words_before_last parts + last_words parts))) _ most
-              (omega (
-                arith,
-                value_depth U Γ e (one h.1) h.3 z d,
-                field_puts (words_before_last parts) (last_words parts) (words_of e - (words_before_last parts + last_words parts)),
-                fit,
-                whole,
-                named,
-                le,
-                few,
-              )),
+        let named = words_named Γ e (one h.1) h.3 in
+        let before = words_before_last parts in
+        let last = last_words parts in
+        let after = words_of e - (before + last) in (
+          (forms_shallow Γ g z e (one h.1) h.3).value d 0 (omega (arith, le, few)) (omega arith) (omega arith),
+          own_to (field_code before last after) _ (d + before + last + after) most (value_depth U Γ e (one h.1) h.3 z d ∙ omega (arith, fit, whole))
+              (field_shallow before last after d most (omega (arith, fit, whole, named, le, few))),
         ))
     forms_shallow Γ g z (LengthOf e) ks h =
-        by_value_both _ (operands (LengthOf e)) (words_of (LengthOf e)) (λ d. value_depth U Γ (LengthOf e) ks h z d) (words_named Γ (LengthOf e) ks h) (λ d b le few least.
+        by_value_both _ (operands (LengthOf e)) (words_of (LengthOf e)) (unnamed (LengthOf e)) (λ d. value_depth U Γ (LengthOf e) ks h z d) (words_named Γ (LengthOf e) ks h) (λ d b le few least.
         let two = text_is Γ e h.0 in
-        let named = words_named Γ e (one Texts) h.0 in (
-          (forms_shallow Γ g z e (one Texts) h.0).value d 3 (omega (arith, le, least, unnamed_few e)) (omega arith) (omega (arith, two)),
+        let named = still_named e two (words_named Γ e (one Texts) h.0) in (
+          (forms_shallow Γ g z e (one Texts) h.0).value d (3 * unnamed e) (omega (arith, le, few)) (omega arith) (omega (arith, two, unnamed_few e)),
           (omega (arith, value_depth U Γ e (one Texts) h.0 z d, two, named, le, least, unnamed_few e), tt),
         ))
     forms_shallow Γ g z (ByteOf e index) ks h =
-        by_value_both _ (operands (ByteOf e index)) (words_of (ByteOf e index)) (λ d. value_depth U Γ (ByteOf e index) ks h z d) (words_named Γ (ByteOf e index) ks h) (λ d b le few least.
+        by_value_both _ (operands (ByteOf e index)) (words_of (ByteOf e index)) (unnamed (ByteOf e index)) (λ d. value_depth U Γ (ByteOf e index) ks h z d) (words_named Γ (ByteOf e index) ks h) (λ d b le few least.
         let two = text_is Γ e h.0 in
-        let named = words_named Γ e (one Texts) h.0 in
+        let named = still_named e two (words_named Γ e (one Texts) h.0) in
         let here : depth_behind (forms U z e).value d ≡ d + 2 = value_depth U Γ e (one Texts) h.0 z d ∙ ap (λ n. d + n) two in
         let there : depth_behind (forms U (z + hidden_expr e) index).value (depth_behind (forms U z e).value d) ≡ d + 2 + 1 =
         behind (forms U (z + hidden_expr e) index).value here (word_behind Γ g index h.1 (z + hidden_expr e) (d + 2)) in (
-          (forms_shallow Γ g z e (one Texts) h.0).value d 3 (omega (arith, le, least, unnamed_few e)) (omega arith) (omega (arith, two)),
+          (forms_shallow Γ g z e (one Texts) h.0).value d (3 * unnamed e) (omega (arith, le, few)) (omega arith) (omega (arith, two, unnamed_few e)),
           (
             to (forms U (z + hidden_expr e) index).value _ (d + 2) here
                 ((forms_shallow Γ g (z + hidden_expr e) index a_word h.1).value (d + 2) 0 (omega (arith, le, least, unnamed_few e, two, named)) (omega arith) (omega arith)),
@@ -273,24 +354,51 @@ module _ (U : Coded) (most : ℕ) (limit : 3 * OPERAND_WORDS + 48 ≤ most) wher
           ),
         ))
     forms_shallow Γ g z (Checked range e) ks h =
-        by_value_both _ (operands (Checked range e)) (words_of (Checked range e)) (λ d. value_depth U Γ (Checked range e) ks h z d) (words_named Γ (Checked range e) ks h) (λ d b le few least. (
+        by_value_both _ (operands (Checked range e)) (words_of (Checked range e)) (unnamed (Checked range e)) (λ d. value_depth U Γ (Checked range e) ks h z d) (words_named Γ (Checked range e) ks h) (λ d b le few least. (
           (forms_shallow Γ g z e a_word h.1).value d 0 (omega (arith, le, least)) (omega arith) (omega arith),
           rises (check_code range) _ most (omega (arith, word_behind Γ g e h.1 z d, check_puts range, le, least)),
         ))
+    forms_shallow Γ g z (Converted c e) ks h =
+        by_value_both _ (operands (Converted c e)) (words_of (Converted c e)) (unnamed (Converted c e)) (λ d. value_depth U Γ (Converted c e) ks h z d) (words_named Γ (Converted c e) ks h) (λ d b le few least. (
+          (forms_shallow Γ g z e (one h.1) h.4).value d 0 (omega (arith, le, few)) (omega arith) (omega arith),
+          rises (conversion_code c) _ most
+              (omega (
+                arith,
+                value_depth U Γ e (one h.1) h.4 z d,
+                one_is Γ e h.1 h.4,
+                (words_converted c h.1 h.2 h.3).0,
+                (words_converted_few c).1,
+                conversion_puts c,
+                le,
+                few,
+              )),
+        ))
     forms_shallow Γ g z (Operate e os) ks h =
-        by_value_both _ (operands (Operate e os)) (words_of (Operate e os)) (λ d. value_depth U Γ (Operate e os) ks h z d) (words_named Γ (Operate e os) ks h) (λ d b le few least.
+        by_value_both _ (operands (Operate e os)) (words_of (Operate e os)) (unnamed (Operate e os)) (λ d. value_depth U Γ (Operate e os) ks h z d) (words_named Γ (Operate e os) ks h) (λ d b le few least.
         let some = word_named Γ e h.0 in (
           (forms_shallow Γ g z e a_word h.0).value d 0 (omega (arith, le, least)) (omega arith) (omega arith),
           to (operations U (z + hidden_expr e) os) _ (d + 1) (word_behind Γ g e h.0 z d)
               (run_shallow Γ g (z + hidden_expr e) d os h.1 (omega (arith, le, least, some))),
         ))
+    forms_shallow Γ g z (OperateLong e os) ks h =
+        by_value_both _ (operands (OperateLong e os)) (words_of (OperateLong e os)) (unnamed (OperateLong e os)) (λ d. value_depth U Γ (OperateLong e os) ks h z d) (words_named Γ (OperateLong e os) ks h) (λ d b le few least.
+        let some = long_named Γ e h.0 in (
+          (forms_shallow Γ g z e a_long h.0).value d 0 (omega (arith, le, few)) (omega arith) (omega arith),
+          to (long_operations U (z + hidden_expr e) os) _ (d + 2) (long_behind Γ g e h.0 z d)
+              (long_run_shallow Γ g (z + hidden_expr e) d os h.1 (omega (arith, le, few, some))),
+        ))
+    forms_shallow Γ g z (NegateLong e) ks h =
+        by_value_both _ (operands (NegateLong e)) (words_of (NegateLong e)) (unnamed (NegateLong e)) (λ d. value_depth U Γ (NegateLong e) ks h z d) (words_named Γ (NegateLong e) ks h) (λ d b le few least. (
+          (forms_shallow Γ g z e a_long h.0).value d 0 (omega (arith, le, few)) (omega arith) (omega arith),
+          (omega (arith, long_behind Γ g e h.0 z d, le, few), tt),
+        ))
     forms_shallow Γ g z (Negate e) ks h =
-        by_value_both _ (operands (Negate e)) (words_of (Negate e)) (λ d. value_depth U Γ (Negate e) ks h z d) (words_named Γ (Negate e) ks h) (λ d b le few least. (
+        by_value_both _ (operands (Negate e)) (words_of (Negate e)) (unnamed (Negate e)) (λ d. value_depth U Γ (Negate e) ks h z d) (words_named Γ (Negate e) ks h) (λ d b le few least. (
           (forms_shallow Γ g z e a_word h.0).value d 0 (omega (arith, le, least)) (omega arith) (omega arith),
           (omega (arith, word_behind Γ g e h.0 z d, le, least), tt),
         ))
     forms_shallow Γ g z (Within bases e range) ks h =
-        by_value_both _ (operands (Within bases e range)) (words_of (Within bases e range)) (λ d. value_depth U Γ (Within bases e range) ks h z d) (words_named Γ (Within bases e range) ks h) (λ d b le few least.
+        by_value_both _ (operands (Within bases e range)) (words_of (Within bases e range)) (unnamed (Within bases e range)) (λ d. value_depth U Γ (Within bases e range) ks h z d) (words_named Γ (Within bases e range) ks h) (λ d b le few least.
         let some = word_named Γ e h.0 in
         let here = word_behind Γ g e h.0 z d in
         let there : depth_behind (bounds U (z + hidden_expr e) range) (depth_behind (forms U z e).value d) ≡ d + 1 + 2 =
@@ -302,14 +410,29 @@ module _ (U : Coded) (most : ℕ) (limit : 3 * OPERAND_WORDS + 48 ≤ most) wher
             rises (within_of (scratch U) bases range) _ most (omega (arith, there, within_of_puts (scratch U) bases range, le, least)),
           ),
         ))
+    forms_shallow Γ g z (WithinLong bases e range) ks h =
+        by_value_both _ (operands (WithinLong bases e range)) (words_of (WithinLong bases e range)) (unnamed (WithinLong bases e range)) (λ d. value_depth U Γ (WithinLong bases e range) ks h z d) (words_named Γ (WithinLong bases e range) ks h) (λ d b le few least.
+        let some = long_named Γ e h.0 in
+        let more = long_bounds_named Γ g range h.1 in
+        let here = long_behind Γ g e h.0 z d in
+        let there : depth_behind (bounds U (z + hidden_expr e) range) (depth_behind (forms U z e).value d) ≡ d + 2 + 4 =
+        behind (bounds U (z + hidden_expr e) range) here (long_bounds_depth U Γ range h.1 (z + hidden_expr e) (d + 2)) in (
+          (forms_shallow Γ g z e a_long h.0).value d 0 (omega (arith, le, few)) (omega arith) (omega arith),
+          (
+            to (bounds U (z + hidden_expr e) range) _ (d + 2) here
+                (long_bounds_shallow Γ g (z + hidden_expr e) (d + 2) range h.1 (omega (arith, le, few, some))),
+            rises (long_within_of (scratch U) bases range) _ most
+                (omega (arith, there, long_within_of_puts (scratch U) bases range, le, few, some, more)),
+          ),
+        ))
     forms_shallow Γ g z (Construct places es) ks h =
-        by_value_both _ (operands (Construct places es)) (words_of (Construct places es)) (λ d. value_depth U Γ (Construct places es) ks h z d) (words_named Γ (Construct places es) ks h) (λ d b le few least.
+        by_value_both _ (operands (Construct places es)) (words_of (Construct places es)) (unnamed (Construct places es)) (λ d. value_depth U Γ (Construct places es) ks h z d) (words_named Γ (Construct places es) ks h) (λ d b le few least.
         let named = values_named Γ es h.1 h.5 in (
           values_shallow Γ g z d es h.1 h.5 (omega (arith, le, least, few)),
           arranged_shallow Γ g z d places es h.1 h.5 (omega (arith, named, le, few)),
         ))
     forms_shallow Γ g z (Call callee places es words ph) ks h =
-        by_value_both _ (operands (Call callee places es words ph)) (words_of (Call callee places es words ph)) (λ d. value_depth U Γ (Call callee places es words ph) ks h z d) (words_named Γ (Call callee places es words ph) ks h) (λ d b le few least.
+        by_value_both _ (operands (Call callee places es words ph)) (words_of (Call callee places es words ph)) (unnamed (Call callee places es words ph)) (λ d. value_depth U Γ (Call callee places es words ph) ks h z d) (words_named Γ (Call callee places es words ph) ks h) (λ d b le few least.
         let named = values_named Γ es h.1 h.3 in (
           values_shallow Γ g z d es h.1 h.3 (omega (arith, le, least, few)),
           (
@@ -321,7 +444,7 @@ module _ (U : Coded) (most : ℕ) (limit : 3 * OPERAND_WORDS + 48 ≤ most) wher
           ),
         ))
     forms_shallow Γ g z (Raise raised places es words ph) ks h =
-        by_value_both _ (operands (Raise raised places es words ph)) (words_of (Raise raised places es words ph)) (λ d. value_depth U Γ (Raise raised places es words ph) ks h z d) (words_named Γ (Raise raised places es words ph) ks h) (λ d b le few least.
+        by_value_both _ (operands (Raise raised places es words ph)) (words_of (Raise raised places es words ph)) (unnamed (Raise raised places es words ph)) (λ d. value_depth U Γ (Raise raised places es words ph) ks h z d) (words_named Γ (Raise raised places es words ph) ks h) (λ d b le few least.
         let named = values_named Γ es h.1 h.3 in (
           values_shallow Γ g z d es h.1 h.3 (omega (arith, le, least, few)),
           (
@@ -350,6 +473,28 @@ module _ (U : Coded) (most : ℕ) (limit : 3 * OPERAND_WORDS + 48 ≤ most) wher
                   (
                     rises (comparison base o) _ most (omega (arith, here, comparison_puts base o, le)),
                     omega (arith, ap (left_of (comparison base o)) here ∙ comparison_left U base o d, le),
+                  ),
+                ),
+              );
+        }
+    forms_shallow Γ g z (RelateLong base o x y) ks h =
+        let bx = forms_shallow Γ g z x a_long h.0 in
+        let by = forms_shallow Γ g (z + hidden_expr x) y a_long h.1 in
+        record {
+          value = λ d b le few least.
+              let both = long_pair_shallow Γ g z d x y h.0 h.1 bx by (omega (arith, le, few)) in (
+                both.0,
+                (both.1, rises (long_relation_code base o) _ most (omega (arith, two_longs U Γ x y h.0 h.1 z d, long_relation_puts base o, le, few))),
+              );
+          jump = λ sense part d le.
+              let both = long_pair_shallow Γ g z d x y h.0 h.1 bx by le in
+              let here = two_longs U Γ x y h.0 h.1 z d in (
+                both.0,
+                (
+                  both.1,
+                  (
+                    rises (long_comparison base o) _ most (omega (arith, here, long_comparison_puts base o, le)),
+                    omega (arith, ap (left_of (long_comparison base o)) here ∙ long_comparison_left U base o d, le),
                   ),
                 ),
               );
@@ -412,6 +557,12 @@ module _ (U : Coded) (most : ℕ) (limit : 3 * OPERAND_WORDS + 48 ≤ most) wher
         let both = pair_shallow Γ g z d x y h.0 h.1 (forms_shallow Γ g z x a_word h.0) (forms_shallow Γ g (z + hidden_expr x) y a_word h.1) le in
         (both.0, both.1)
 
+    long_bounds_shallow : (Γ : Scope) → HaveWords Γ → (z d : ℕ) (range : Interval) → LongIntervalIn Γ range → d + 3 * operands_of_interval range + 32 ≤ most
+        → S (bounds U z range) d
+    long_bounds_shallow Γ g z d (Between x p y q) h le =
+        let both = long_pair_shallow Γ g z d x y h.0 h.1 (forms_shallow Γ g z x a_long h.0) (forms_shallow Γ g (z + hidden_expr x) y a_long h.1) le in
+        (both.0, both.1)
+
     -- what stands to the left is on the operand stack
     run_shallow : (Γ : Scope) → HaveWords Γ → (z d : ℕ) (os : Operations) → OperationsIn Γ os → d + 1 + 3 * operands_of_run os + 32 ≤ most
         → S (operations U z os) (d + 1)
@@ -429,6 +580,19 @@ module _ (U : Coded) (most : ℕ) (limit : 3 * OPERAND_WORDS + 48 ≤ most) wher
                   (own_left (operator_code (scratch U) o) there (own_code_keeps_words.operator none (scratch U) o d))
                   (run_shallow Γ g (z + hidden_expr e) d os h.2 (omega (arith, le))),
             ),
+          ),
+        )
+
+    long_run_shallow : (Γ : Scope) → HaveWords Γ → (z d : ℕ) (os : Operations) → LongOperationsIn Γ os → d + 2 + 3 * operands_of_run os + 32 ≤ most
+        → S (long_operations U z os) (d + 2)
+    long_run_shallow Γ g z d NoOperation h le = tt
+    long_run_shallow Γ g z d (Then range o e os) h le =
+        let there : depth_behind (forms U z e).value (d + 2) ≡ d + 4 = long_behind Γ g e h.2 z (d + 2) ∙ omega arith in (
+          (forms_shallow Γ g z e a_long h.2).value (d + 2) 0 (omega (arith, le)) (omega arith) (omega arith),
+          (
+            rises (long_operator_code o) _ most (omega (arith, there, long_operator_puts o, le)),
+            to (long_operations U (z + hidden_expr e) os) _ (d + 2) (own_left (long_operator_code o) there (own_code_keeps_words.long_operator none o d))
+                (long_run_shallow Γ g (z + hidden_expr e) d os h.3 (omega (arith, le))),
           ),
         )
 
@@ -547,7 +711,7 @@ module _ (U : Coded) (most : ℕ) (limit : 3 * OPERAND_WORDS + 48 ≤ most) wher
           ),
         )
     block_shallow Γ g z (Select e (AndCase ts s cs)) h =
-        let one_word : words_of e ≡ 1 = ordinal_word U Γ e h.0 h.2 h.3 in
+        let one_word : words_of e ≡ 1 = ordinal_word U Γ e h.0 h.2 (h.3).0 in
         let here = value_depth U Γ e (one h.0) h.2 (z + 1) 0 in
         let none : left_of (i.StoreL z 1 ∷ []) (depth_behind (forms U (z + 1) e).value 0) ≡ 0 = omega (arith, here, one_word) in
         let z1 = z + (1 + hidden_expr e) in
@@ -557,13 +721,44 @@ module _ (U : Coded) (most : ℕ) (limit : 3 * OPERAND_WORDS + 48 ≤ most) wher
             (omega (arith, here, one_word, limit), tt),
             to rest _ 0 none (
               (
-                tests_shallow Γ g z1 z ts (omega (arith, h.1)) (h.4).1,
+                tests_shallow Γ g z1 z Ordinal ts (omega (arith, h.1)) ((h.3).1).0 (h.4).1,
                 (
                   block_shallow Γ g (z1 + hidden_tests ts) s (h.4).2,
                   past_cases_shallow cs 1 _ (omega (arith, keeps U Γ g s (h.4).2 (z1 + hidden_tests ts) 0)),
                 ),
               ),
-              cases_shallow Γ g (z1 + (hidden_tests ts + hidden s)) z cs (omega (arith, h.1)) (h.4).3,
+              cases_shallow Γ g (z1 + (hidden_tests ts + hidden s)) z Ordinal cs (omega (arith, h.1)) ((h.3).1).1 (h.4).3,
+            ),
+          ),
+        )
+    block_shallow Γ g z (SelectLong e (Otherwise s)) h =
+        let here = long_behind Γ g e h.1 (z + 2) 0 in
+        let two = long_is Γ e h.1 in (
+          (forms_shallow Γ g (z + 2) e a_long h.1).value 0 0 (omega (arith, h.0, limit)) (omega arith) (omega arith),
+          (
+            rises (pop_code (words_of e)) _ most (omega (arith, here, pop_puts (words_of e), limit)),
+            to (block U (z + (2 + hidden_expr e)) s) _ 0
+                (ap (left_of (pop_code (words_of e))) (value_depth U Γ e a_long h.1 (z + 2) 0) ∙ pop_left (words_of e) 0)
+                (block_shallow Γ g (z + (2 + hidden_expr e)) s h.3),
+          ),
+        )
+    block_shallow Γ g z (SelectLong e (AndCase ts s cs)) h =
+        let here = long_behind Γ g e h.1 (z + 2) 0 in
+        let none : left_of (i.StoreL z 2 ∷ []) (depth_behind (forms U (z + 2) e).value 0) ≡ 0 = omega (arith, here) in
+        let z1 = z + (2 + hidden_expr e) in
+        let rest = a_case (tests U z1 z ts) (block U (z1 + hidden_tests ts) s) (past_cases cs 1) ▹ cases U (z1 + (hidden_tests ts + hidden s)) z cs in (
+          (forms_shallow Γ g (z + 2) e a_long h.1).value 0 0 (omega (arith, h.0, limit)) (omega arith) (omega arith),
+          (
+            (omega (arith, here, limit), tt),
+            to rest _ 0 none (
+              (
+                tests_shallow Γ g z1 z Longs ts (omega (arith, h.0)) (h.2).0 (h.3).1,
+                (
+                  block_shallow Γ g (z1 + hidden_tests ts) s (h.3).2,
+                  past_cases_shallow cs 1 _ (omega (arith, keeps U Γ g s (h.3).2 (z1 + hidden_tests ts) 0)),
+                ),
+              ),
+              cases_shallow Γ g (z1 + (hidden_tests ts + hidden s)) z Longs cs (omega (arith, h.0)) (h.2).1 (h.3).3,
             ),
           ),
         )
@@ -643,23 +838,51 @@ module _ (U : Coded) (most : ℕ) (limit : 3 * OPERAND_WORDS + 48 ≤ most) wher
               (plain_left v (fields_of s) p.words over range m all here (omega (arith, part, whole, h.3)) (omega (arith, some, part, whole, h.3))) whole
               (omega (arith, le)) h.7,
         ))
+    targets_shallow Γ g z all m taken (AndConverted p v s c ts) ks here whole le h =
+        let part = (kind_lies ks p.field h.0 (h.3).is_there).1 in
+        let over = words_over all taken p in
+        let before = (words_converted c h.0 h.1 h.6).0 in
+        if_shallow (has_index s) _ _ m most
+        (λ is.
+        let above : depth_behind (path U z s) (m - 0 + 1) ≡ m + 1 =
+        behind (path U z s) {m = m - 0 + 1} {n = m + 1} (omega arith) (path_depth U Γ s h.2 h.1 h.8 z m) in (
+          (omega (arith, here, le), tt),
+          (
+            to (path U z s) _ (m + 1) (omega arith) (path_shallow Γ g z m s h.2 h.1 h.8 (omega (arith, here, le))),
+            (
+              converted_shallow p.words (suc over) c (store_within U v (words_after c)) _ (all + 1) (omega (arith, above, here)) (omega (arith, part, whole, h.4))
+                  (omega (arith, before, part, whole)) (omega (arith, le)),
+              targets_shallow Γ g (z + hidden_suffixes s) all _ (p ∷ taken) ts ks
+                  (within_converted v p.words (suc over) c _ all (omega (arith, above, here)) (omega (arith, part, whole, h.4)) (omega (arith, before, part, whole))) whole
+                  (omega (arith, le)) h.9,
+            ),
+          ),
+        ))
+        (λ none. (
+          converted_shallow p.words over c (store U v (fields_of s) (words_after c)) m all here (omega (arith, part, whole, h.4)) (omega (arith, before, part, whole))
+              (omega (arith, le)),
+          targets_shallow Γ g z all _ (p ∷ taken) ts ks
+              (plain_converted v (fields_of s) p.words over c m all here (omega (arith, part, whole, h.4)) (omega (arith, before, part, whole))) whole
+              (omega (arith, le)) h.9,
+        ))
 
-    cases_shallow : (Γ : Scope) → HaveWords Γ → (z x : ℕ) (cs : Cases) → operands_of_cases cs ≤ OPERAND_WORDS → CasesIn Γ cs → S (cases U z x cs) 0
-    cases_shallow Γ g z x (Otherwise s) le h = block_shallow Γ g z s h
-    cases_shallow Γ g z x (AndCase ts s cs) le h = (
+    cases_shallow : (Γ : Scope) → HaveWords Γ → (z x : ℕ) (k : Kind) (cs : Cases) → operands_of_cases cs ≤ OPERAND_WORDS → CasesTake k cs → CasesIn Γ cs → S (cases U z x cs) 0
+    cases_shallow Γ g z x k (Otherwise s) le take h = block_shallow Γ g z s h
+    cases_shallow Γ g z x k (AndCase ts s cs) le take h = (
       (
-        tests_shallow Γ g z x ts (omega (arith, le)) h.1,
+        tests_shallow Γ g z x k ts (omega (arith, le)) take.0 h.1,
         (
           block_shallow Γ g (z + hidden_tests ts) s h.2,
           past_cases_shallow cs 1 _ (omega (arith, keeps U Γ g s h.2 (z + hidden_tests ts) 0)),
         ),
       ),
-      cases_shallow Γ g (z + (hidden_tests ts + hidden s)) x cs (omega (arith, le)) h.3,
+      cases_shallow Γ g (z + (hidden_tests ts + hidden s)) x k cs (omega (arith, le)) take.1 h.3,
     )
 
-    tests_shallow : (Γ : Scope) → HaveWords Γ → (z x : ℕ) (ts : Tests) → operands_of_tests ts ≤ OPERAND_WORDS → TestsIn Γ ts → S (tests U z x ts) 0
-    tests_shallow Γ g z x NoTests le h = omega arith
-    tests_shallow Γ g z x (IfRelated range base o e ts) le h =
+    tests_shallow : (Γ : Scope) → HaveWords Γ → (z x : ℕ) (k : Kind) (ts : Tests) → operands_of_tests ts ≤ OPERAND_WORDS → TestsTake k ts → TestsIn Γ ts
+        → S (tests U z x ts) 0
+    tests_shallow Γ g z x k NoTests le take h = omega arith
+    tests_shallow Γ g z x k (IfRelated range base o e ts) le take h =
         let E = (forms U z e).value in
         let some = word_named Γ e h.1 in
         let one_more : left_of (check_code range) (0 - 0 + 1) ≡ 0 + 1 = check_left range (0 - 0 + 1) (omega arith) ∙ omega arith in
@@ -676,9 +899,9 @@ module _ (U : Coded) (most : ℕ) (limit : 3 * OPERAND_WORDS + 48 ≤ most) wher
             ),
           ),
           unless_shallow (is_last ts) _ _ most
-              (to (tests U (z + hidden_expr e) x ts) _ 0 (omega (arith, after)) (tests_shallow Γ g (z + hidden_expr e) x ts (omega (arith, le)) h.2)),
+              (to (tests U (z + hidden_expr e) x ts) _ 0 (omega (arith, after)) (tests_shallow Γ g (z + hidden_expr e) x k ts (omega (arith, le)) take.1 h.2)),
         )
-    tests_shallow Γ g z x (IfWithin negated bases range ts) le h =
+    tests_shallow Γ g z x k (IfWithin negated bases range ts) le take h =
         let bounds_there : depth_behind (bounds U z range) (0 - 0 + 1) ≡ 0 + 3 =
         behind (bounds U z range) {m = 0 - 0 + 1} {n = 0 + 1} (omega arith) (bounds_depth U Γ range h.0 z (0 + 1) ∙ omega arith) in
         let after = within_left U bases range _ 0 bounds_there in (
@@ -693,7 +916,47 @@ module _ (U : Coded) (most : ℕ) (limit : 3 * OPERAND_WORDS + 48 ≤ most) wher
             ),
           ),
           unless_shallow (is_last ts) _ _ most
-              (to (tests U (z + hidden_interval range) x ts) _ 0 (omega (arith, after)) (tests_shallow Γ g (z + hidden_interval range) x ts (omega (arith, le)) h.1)),
+              (to (tests U (z + hidden_interval range) x ts) _ 0 (omega (arith, after)) (tests_shallow Γ g (z + hidden_interval range) x k ts (omega (arith, le)) take.1 h.1)),
+        )
+    tests_shallow Γ g z x k (IfRelatedLong c base o e ts) le take h =
+        let E = (forms U z e).value in
+        let two_more : left_of (conversion_code c) (0 - 0 + words_before c) ≡ 0 + 2 =
+        own_left (conversion_code c) {n = 0 + words_before c} (omega arith) (own_code_keeps_words.conversion none c 0)
+        ∙ ap (λ n. 0 + n) (makes_long c k take.0) in
+        let four : depth_behind E (left_of (conversion_code c) (0 - 0 + words_before c)) ≡ 0 + 4 = behind E two_more (long_behind Γ g e h.0 z (0 + 2) ∙ omega arith) in
+        let after = ap (left_of (long_comparison base o)) four ∙ long_comparison_left U base o 0 in (
+          (
+            rises (i.LoadL x (words_before c) ∷ conversion_code c) 0 most (omega (arith, conversion_puts c, (words_converted_few c).1, limit)),
+            (
+              to E _ (0 + 2) two_more ((forms_shallow Γ g z e a_long h.0).value (0 + 2) 0 (omega (arith, le, limit)) (omega arith) (omega arith)),
+              (
+                rises (long_comparison base o) _ most (omega (arith, four, long_comparison_puts base o, limit)),
+                omega (arith, after, limit),
+              ),
+            ),
+          ),
+          unless_shallow (is_last ts) _ _ most
+              (to (tests U (z + hidden_expr e) x ts) _ 0 (omega (arith, after)) (tests_shallow Γ g (z + hidden_expr e) x k ts (omega (arith, le)) take.1 h.1)),
+        )
+    tests_shallow Γ g z x k (IfWithinLong negated c bases range ts) le take h =
+        let two_more : left_of (conversion_code c) (0 - 0 + words_before c) ≡ 0 + 2 =
+        own_left (conversion_code c) {n = 0 + words_before c} (omega arith) (own_code_keeps_words.conversion none c 0)
+        ∙ ap (λ n. 0 + n) (makes_long c k take.0) in
+        let bounds_there : depth_behind (bounds U z range) (left_of (conversion_code c) (0 - 0 + words_before c)) ≡ 0 + 6 =
+        behind (bounds U z range) two_more (long_bounds_depth U Γ range h.0 z (0 + 2) ∙ omega arith) in
+        let after = long_within_left U bases range _ 0 bounds_there in (
+          (
+            rises (i.LoadL x (words_before c) ∷ conversion_code c) 0 most (omega (arith, conversion_puts c, (words_converted_few c).1, limit)),
+            (
+              to (bounds U z range) _ (0 + 2) two_more (long_bounds_shallow Γ g z (0 + 2) range h.0 (omega (arith, le, limit))),
+              (
+                rises (long_within_of (scratch U) bases range) _ most (omega (arith, bounds_there, long_within_of_puts (scratch U) bases range, limit)),
+                omega (arith, after, limit),
+              ),
+            ),
+          ),
+          unless_shallow (is_last ts) _ _ most
+              (to (tests U (z + hidden_interval range) x ts) _ 0 (omega (arith, after)) (tests_shallow Γ g (z + hidden_interval range) x k ts (omega (arith, le)) take.1 h.1)),
         )
 
     exits_shallow : (Γ : Scope) → HaveWords Γ → (z : ℕ) (es : Exits) (before : tree.Block) → ExitsIn Γ es → S before 0 → S (exits U z es before) 0

@@ -4,6 +4,8 @@ use Rattle.mesa_types.specs.declared.typed_parts.Base.{Base}
 use Rattle.mesa_types.specs.declared.typed_parts.Bases.{Bases}
 use Rattle.mesa_types.specs.declared.typed_parts.Callee.{Callee}
 use Rattle.mesa_types.specs.declared.typed_parts.Callee.TheVariants.{OwnProcedure, LinkedProcedure}
+use Rattle.mesa_types.specs.declared.typed_parts.Conversion.{Conversion}
+use Rattle.mesa_types.specs.declared.typed_parts.Conversion.TheVariants.{Kept, Widened, Narrowed, InCommon}
 use Rattle.mesa_types.specs.declared.typed_parts.Home.{Home}
 use Rattle.mesa_types.specs.declared.typed_parts.Raised.{Raised}
 use Rattle.mesa_types.specs.declared.typed_parts.Raised.TheVariants.{OwnSignal, LinkedSignal, TheBoundsFault, TheZeroDivisor, TheUnnamed}
@@ -15,20 +17,20 @@ use Rattle.mesa_types.specs.declared.typed_parts.Base.TheVariants.{Signed, Unsig
 use Rattle.mesa_types.specs.declared.typed_parts.Range.{Range}
 use Rattle.mesa_types.specs.declared.typed_parts.Range.TheVariants.{Every, From}
 use Rattle.mesa_types.specs.declared.faces.Import.{Import}
-use Rattle.mesa_types.specs.Typed.{Point, Start, After, At, Leave, point_of, Kind, Record, Kinds, NoKinds, AndKind, Expr, Number, Literal, Variable, FieldOf, LengthOf, ByteOf, Checked, Operate, Negate, Relate, Within, Not, AllOf, SomeOf, Construct, Call, Raise, Exprs, NoExprs, AndExpr, Suffixes, NoSuffix, Field, Index, Operations, NoOperation, Then, Interval, Between, Phrase, NoPhrase, Catch, Arms, NoArms, AndArm, Stmt, Null, Marked, Declare, DeclareAs, Assign, Extract, Perform, If, Select, Block, Repeat, For, Jump, ReturnWith, Resume, Reject, Retry, Continue, Stmts, NoStmts, AndStmt, Targets, NoTargets, AndTarget, Cases, Otherwise, AndCase, Tests, NoTests, IfRelated, IfWithin, Exits, NoExits, AndExit, Loop, LoopOf, Finish, NoFinish, Finished, Condition, Always, While, Until, Texts}
-use Rattle.mesa_types.specs.Counts.{hidden, hidden_expr, hidden_exprs, hidden_suffixes, hidden_interval, hidden_phrase, hidden_stmts, hidden_targets, hidden_tests, hidden_exits, hidden_condition, words_of, words_given, last_words}
-use Rattle.mesa_types.specs.Nodes.{check_nodes, given_nodes, count_of, expr_nodes, exprs_nodes, suffixes_nodes, operations_nodes, interval_nodes, phrase_nodes, arms_nodes, stmt_nodes, stmts_nodes, targets_nodes, cases_nodes, tests_nodes, exits_nodes, loop_nodes, finish_nodes, condition_nodes}
+use Rattle.mesa_types.specs.Typed.{Point, Start, After, At, Leave, point_of, Kind, Record, Kinds, NoKinds, AndKind, Expr, Number, LongNumber, Literal, Variable, FieldOf, LengthOf, ByteOf, Checked, Converted, Operate, OperateLong, Negate, NegateLong, Relate, RelateLong, Within, WithinLong, Not, AllOf, SomeOf, Construct, Call, Raise, Exprs, NoExprs, AndExpr, Suffixes, NoSuffix, Field, Index, Operations, NoOperation, Then, Interval, Between, Phrase, NoPhrase, Catch, Arms, NoArms, AndArm, Stmt, Null, Marked, Declare, DeclareAs, Assign, Extract, Perform, If, Select, SelectLong, Block, Repeat, For, Jump, ReturnWith, Resume, Reject, Retry, Continue, Stmts, NoStmts, AndStmt, Targets, NoTargets, AndTarget, AndConverted, Cases, Otherwise, AndCase, Tests, NoTests, IfRelated, IfWithin, IfRelatedLong, IfWithinLong, Exits, NoExits, AndExit, Loop, LoopOf, Finish, NoFinish, Finished, Condition, Always, While, Until, Texts}
+use Rattle.mesa_types.specs.Counts.{hidden, hidden_expr, hidden_exprs, hidden_suffixes, hidden_interval, hidden_phrase, hidden_stmts, hidden_targets, hidden_tests, hidden_exits, hidden_condition, words_of, words_given, words_after, last_words}
+use Rattle.mesa_types.specs.Nodes.{check_nodes, conversion_nodes, given_nodes, count_of, expr_nodes, exprs_nodes, suffixes_nodes, operations_nodes, interval_nodes, phrase_nodes, arms_nodes, stmt_nodes, stmts_nodes, targets_nodes, cases_nodes, tests_nodes, exits_nodes, loop_nodes, finish_nodes, condition_nodes}
 use Rattle.mesa_types.specs.Operators.{differ}
 use Rattle.mesa_types.specs.Shapes.{words_in, one, count_in}
 use Rattle.mesa_types.specs.Sound as sound
-use Rattle.mesa_types.specs.Sound.{Scope, a_word, HasTest, Placed, Arranged, ExprIn, ExprsIn, WordsIn, SuffixesIn, OperationsIn, IntervalIn, PhraseIn, ArmsIn, StmtIn, StmtsIn, TargetsIn, CasesIn, TestsIn, ExitsIn, LoopIn, FinishIn, ConditionIn}
+use Rattle.mesa_types.specs.Sound.{Scope, a_word, a_long, HasTest, Placed, Arranged, ExprIn, ExprsIn, WordsIn, SuffixesIn, OperationsIn, LongOperationsIn, IntervalIn, LongIntervalIn, PhraseIn, ArmsIn, StmtIn, StmtsIn, TargetsIn, CasesIn, TestsIn, ExitsIn, LoopIn, FinishIn, ConditionIn}
 use Rattle.code_forms.specs.declared.instruction.Instruction.{Instruction}
 use Rattle.code_forms.specs.declared.instruction.Instruction.TheVariants as i
 use Rattle.code_forms.specs.Instructions.{bytes_of}
 use Rattle.code_rules.specs.CodeFor.{words_before_last, words_taken, words_over}
 use Rattle.code_rules.specs.Links.{call_code, raise_code, label_code}
 use Rattle.code_rules.specs.Loops.{Counter, NoCounter, CountedIn, next_slot, step_code}
-use Rattle.code_rules.specs.OwnCode.{lift_code, check_code, is_opposite, arrange_code}
+use Rattle.code_rules.specs.OwnCode.{lift_code, check_code, conversion_code, is_opposite, arrange_code}
 use Rattle.code_rules.specs.Reading.{Coded, scratch}
 use Rattle.code_rules.specs.Slots.{local_slot, load, store, load_within, store_within, fields_of, sizes}
 use Rattle.code_blocks.specs.Blocks as tree
@@ -36,10 +38,10 @@ use Rattle.code_blocks.specs.Blocks.{Where, Does, ArmBlocks, ◌▹◌}
 use Rattle.code_blocks.specs.Heaviness.{weight, caught_weight, arms_weight}
 use Rattle.code_blocks.specs.Own.{bytes_in}
 use Rattle.code_blocks.specs.Sizes.{goes_to, leap_to}
-use Rattle.code_blocks.specs.Translation.{has_index, at_element, within_of, start_of, head_code, gives_next, past_else, past_cases, past_exits, enabled, is_last, is_endless, unless, turned, forms, values, operands, bounds, operations, path, caught_by, arm_blocks, block, blocks, selected, targets, cases, tests, exits, loop, condition, finish}
+use Rattle.code_blocks.specs.Translation.{has_index, at_element, within_of, long_within_of, start_of, head_code, gives_next, past_else, past_cases, past_exits, enabled, is_last, is_endless, unless, turned, forms, values, operands, bounds, operations, long_operations, path, caught_by, arm_blocks, block, blocks, selected, targets, cases, tests, exits, loop, condition, finish}
 use Rattle.code_blocks.specs.Weights.{label_bytes, labels_bytes}
 use Rattle.code_blocks.proofs.Bytes.{in_joined}
-use Rattle.code_blocks.proofs.OwnBytes.{pop_bytes, lift_bytes, field_bytes, check_bytes, index_bytes, comparison_bytes, relation_bytes, operator_bytes, within_bytes, arrange_bytes, load_bytes, store_bytes, load_within_bytes, store_within_bytes, zero_bytes, spread_bytes, start_bytes, give_bytes, step_bytes}
+use Rattle.code_blocks.proofs.OwnBytes.{pop_bytes, lift_bytes, field_bytes, check_bytes, conversion_bytes, index_bytes, comparison_bytes, long_comparison_bytes, relation_bytes, long_relation_bytes, operator_bytes, long_operator_bytes, within_bytes, long_within_bytes, arrange_bytes, load_bytes, store_bytes, load_within_bytes, store_within_bytes, zero_bytes, spread_bytes, start_bytes, give_bytes, step_bytes}
 
 -- a keyed list has no more places than values
 
@@ -115,6 +117,9 @@ enabled_few (tree.AndArmBlock labels slot words arm arms) b = omega arith
 within_few : (t : ℕ) (bases : Bases) (range : Interval) → bytes_in (within_of t bases range) ≤ 56
 within_few t bases (Between x p y q) = within_bytes t bases p q
 
+long_within_few : (t : ℕ) (bases : Bases) (range : Interval) → bytes_in (long_within_of t bases range) ≤ 62
+long_within_few t bases (Between x p y q) = long_within_bytes t bases p q
+
 start_few : (z : ℕ) (base : Base) (range : Interval) → bytes_in (start_of z base range) ≤ 61
 start_few z base (Between x p y q) = start_bytes z base p q
 
@@ -151,6 +156,18 @@ brought_few : (over words : ℕ) (r : Range) (x : Instruction) (n : ℕ) → byt
 brought_few over words r x n e =
     omega (arith, in_joined (lift_code words over) (check_code r ++ x ∷ []), in_joined (check_code r) (x ∷ []), lift_bytes words over, check_bytes r, e)
 
+few_conversion : (c : Conversion) → bytes_in (conversion_code c) ≤ 7 * conversion_nodes c
+unfolding conversion_nodes
+few_conversion Kept = omega arith
+few_conversion (Widened a b) = conversion_bytes (Widened a b)
+few_conversion (Narrowed a b r) = conversion_bytes (Narrowed a b r)
+few_conversion InCommon = conversion_bytes InCommon
+
+converted_few : (over words : ℕ) (c : Conversion) (x : Instruction) (n : ℕ) → bytes_of x ≡ n
+    → bytes_in (lift_code words over ++ (conversion_code c ++ x ∷ [])) ≤ 5 + (7 * conversion_nodes c + n)
+converted_few over words c x n e =
+    omega (arith, in_joined (lift_code words over) (conversion_code c ++ x ∷ []), in_joined (conversion_code c) (x ∷ []), lift_bytes words over, few_conversion c, e)
+
 module _ (U : Coded) where
   variable_few : (h : Home) (s : Suffixes) (words z : ℕ) (b : Bool)
       → weight (if b then at_element s (path U z s ▹ Does (load_within U h words ∷ [])) else Does (load U h (fields_of s) words ∷ [])) ≤ 10 + weight (path U z s)
@@ -183,12 +200,32 @@ module _ (U : Coded) where
   target_few p v s r ts z all taken false q x y =
       omega (arith, y, brought_few (words_over all taken p) p.words r (store U v (fields_of s) p.words) 5 (store_bytes U v (fields_of s) p.words))
 
+  converted_target_few : (p : Part) (v : Home) (s : Suffixes) (c : Conversion) (ts : Targets) (z all : ℕ) (taken : List Part) (b : Bool)
+      → weight (path U z s) ≤ 32 * suffixes_nodes s
+      → weight (targets U (z + hidden_suffixes s) all (p ∷ taken) ts) ≤ 32 * targets_nodes ts + 3
+      → weight (targets U z all (p ∷ taken) ts) ≤ 32 * targets_nodes ts + 3
+      → weight (
+      if b
+      then at_element s (
+      path U z s
+      ▹ Does (lift_code p.words (suc (words_over all taken p)) ++ (conversion_code c ++ store_within U v (words_after c) ∷ []))
+      ▹ targets U (z + hidden_suffixes s) all (p ∷ taken) ts)
+      else (
+      Does (lift_code p.words (words_over all taken p) ++ (conversion_code c ++ store U v (fields_of s) (words_after c) ∷ []))
+      ▹ targets U z all (p ∷ taken) ts)) ≤ 32 * (1 + suffixes_nodes s + conversion_nodes c + targets_nodes ts) + 3
+  converted_target_few p v s c ts z all taken true q x y =
+      omega (arith, q, x, converted_few (suc (words_over all taken p)) p.words c (store_within U v (words_after c)) 7 (store_within_bytes U v (words_after c)))
+  converted_target_few p v s c ts z all taken false q x y =
+      omega (arith, y, converted_few (words_over all taken p) p.words c (store U v (fields_of s) (words_after c)) 5 (store_bytes U v (fields_of s) (words_after c)))
+
   tests_few : (ts : Tests) → HasTest ts → (z x : ℕ) → weight (unless (is_last ts) (tests U z x ts)) ≤ 32 * tests_nodes ts
       → weight (tests U z x ts) ≤ 32 * tests_nodes ts
   unfolding HasTest
   tests_few NoTests some z x h = absurd some
   tests_few (IfRelated r base o e ts) some z x h = h
   tests_few (IfWithin negated bases range ts) some z x h = h
+  tests_few (IfRelatedLong c base o e ts) some z x h = h
+  tests_few (IfWithinLong negated c bases range ts) some z x h = h
 
   -- a value, and a jump by it
   record Light (e : Expr) (z : ℕ) : Type 0 where
@@ -199,12 +236,16 @@ module _ (U : Coded) where
   by_value_few x n h sense part = omega (arith, h, leap_few (Where sense))
 
   mutual
-    unfolding ExprIn ExprsIn WordsIn SuffixesIn OperationsIn IntervalIn PhraseIn ArmsIn StmtIn StmtsIn TargetsIn CasesIn TestsIn ExitsIn LoopIn FinishIn ConditionIn expr_nodes given_nodes count_of HasTest
+    unfolding ExprIn ExprsIn WordsIn SuffixesIn OperationsIn LongOperationsIn IntervalIn LongIntervalIn PhraseIn ArmsIn StmtIn StmtsIn TargetsIn CasesIn TestsIn ExitsIn LoopIn FinishIn ConditionIn expr_nodes given_nodes count_of HasTest
 
     light : (Γ : Scope) (e : Expr) (ks : Kinds) → ExprIn Γ e ks → (z : ℕ) → Light e z
     light Γ (Number n) ks h z =
         let small : weight (forms U z (Number n)).value + 22 ≤ 32 * expr_nodes (Number n) = omega (arith) in
         record { value = small; jump = by_value_few (forms U z (Number n)).value (32 * expr_nodes (Number n)) small }
+    light Γ (LongNumber n) ks h z =
+        let small : weight (forms U z (LongNumber n)).value + 22 ≤ 32 * expr_nodes (LongNumber n) = omega
+        (arith) in
+        record { value = small; jump = by_value_few (forms U z (LongNumber n)).value (32 * expr_nodes (LongNumber n)) small }
     light Γ (Literal k) ks h z =
         let small : weight (forms U z (Literal k)).value + 22 ≤ 32 * expr_nodes (Literal k) = omega (arith) in
         record { value = small; jump = by_value_few (forms U z (Literal k)).value (32 * expr_nodes (Literal k)) small }
@@ -230,10 +271,22 @@ module _ (U : Coded) where
     light Γ (Checked r e) ks h z =
         let small : weight (forms U z (Checked r e)).value + 22 ≤ 32 * expr_nodes (Checked r e) = omega (arith, (light Γ e a_word h.1 z).value, one_check r) in
         record { value = small; jump = by_value_few (forms U z (Checked r e)).value (32 * expr_nodes (Checked r e)) small }
+    light Γ (Converted c e) ks h z =
+        let small : weight (forms U z (Converted c e)).value + 22 ≤ 32 * expr_nodes (Converted c e) = omega
+        (arith, (light Γ e (one h.1) h.4 z).value, conversion_bytes c) in
+        record { value = small; jump = by_value_few (forms U z (Converted c e)).value (32 * expr_nodes (Converted c e)) small }
     light Γ (Operate e os) ks h z =
         let small : weight (forms U z (Operate e os)).value + 22 ≤ 32 * expr_nodes (Operate e os) = omega
         (arith, (light Γ e a_word h.0 z).value, run_light Γ os h.1 (z + hidden_expr e)) in
         record { value = small; jump = by_value_few (forms U z (Operate e os)).value (32 * expr_nodes (Operate e os)) small }
+    light Γ (OperateLong e os) ks h z =
+        let small : weight (forms U z (OperateLong e os)).value + 22 ≤ 32 * expr_nodes (OperateLong e os) = omega
+        (arith, (light Γ e a_long h.0 z).value, long_run_light Γ os h.1 (z + hidden_expr e)) in
+        record { value = small; jump = by_value_few (forms U z (OperateLong e os)).value (32 * expr_nodes (OperateLong e os)) small }
+    light Γ (NegateLong e) ks h z =
+        let small : weight (forms U z (NegateLong e)).value + 22 ≤ 32 * expr_nodes (NegateLong e) = omega
+        (arith, (light Γ e a_long h.0 z).value) in
+        record { value = small; jump = by_value_few (forms U z (NegateLong e)).value (32 * expr_nodes (NegateLong e)) small }
     light Γ (Negate e) ks h z =
         let small : weight (forms U z (Negate e)).value + 22 ≤ 32 * expr_nodes (Negate e) = omega (arith, (light Γ e a_word h.0 z).value) in
         record { value = small; jump = by_value_few (forms U z (Negate e)).value (32 * expr_nodes (Negate e)) small }
@@ -248,6 +301,17 @@ module _ (U : Coded) where
         let small : weight (forms U z (Within bases e range)).value + 22 ≤ 32 * expr_nodes (Within bases e range) = omega
         (arith, (light Γ e a_word h.0 z).value, bounds_light Γ range h.1 (z + hidden_expr e), within_few (scratch U) bases range) in
         record { value = small; jump = by_value_few (forms U z (Within bases e range)).value (32 * expr_nodes (Within bases e range)) small }
+    light Γ (RelateLong b o d e) ks h z =
+        let x = (light Γ d a_long h.0 z).value in
+        let y = (light Γ e a_long h.1 (z + hidden_expr d)).value in
+        record {
+          value = omega (arith, x, y, long_relation_bytes b o);
+          jump = λ sense part. omega (arith, x, y, long_comparison_bytes b o, leap_few (Where (differ (is_opposite o) sense)));
+        }
+    light Γ (WithinLong bases e range) ks h z =
+        let small : weight (forms U z (WithinLong bases e range)).value + 22 ≤ 32 * expr_nodes (WithinLong bases e range) = omega
+        (arith, (light Γ e a_long h.0 z).value, long_bounds_light Γ range h.1 (z + hidden_expr e), long_within_few (scratch U) bases range) in
+        record { value = small; jump = by_value_few (forms U z (WithinLong bases e range)).value (32 * expr_nodes (WithinLong bases e range)) small }
     light Γ (Not e) ks h z =
         let x = light Γ e a_word h.0 z in
         record { value = omega (arith, x.value); jump = λ sense part. omega (arith, x.jump (not sense) part) }
@@ -313,6 +377,14 @@ module _ (U : Coded) where
     bounds_light : (Γ : Scope) (range : Interval) → IntervalIn Γ range → (z : ℕ) → weight (bounds U z range) + 76 ≤ 32 * interval_nodes range
     bounds_light Γ (Between x p y q) h z = omega (arith, (light Γ x a_word h.0 z).value, (light Γ y a_word h.1 (z + hidden_expr x)).value)
 
+    long_bounds_light : (Γ : Scope) (range : Interval) → LongIntervalIn Γ range → (z : ℕ) → weight (bounds U z range) + 76 ≤ 32 * interval_nodes range
+    long_bounds_light Γ (Between x p y q) h z = omega (arith, (light Γ x a_long h.0 z).value, (light Γ y a_long h.1 (z + hidden_expr x)).value)
+
+    long_run_light : (Γ : Scope) (os : Operations) → LongOperationsIn Γ os → (z : ℕ) → weight (long_operations U z os) ≤ 32 * operations_nodes os
+    long_run_light Γ NoOperation h z = omega arith
+    long_run_light Γ (Then r o e os) h z =
+        omega (arith, (light Γ e a_long h.2 z).value, long_operator_bytes o, long_run_light Γ os h.3 (z + hidden_expr e))
+
     run_light : (Γ : Scope) (os : Operations) → OperationsIn Γ os → (z : ℕ) → weight (operations U z os) ≤ 32 * operations_nodes os
     run_light Γ NoOperation h z = omega arith
     run_light Γ (Then r o e os) h z =
@@ -360,7 +432,9 @@ module _ (U : Coded) where
           else_few t 1,
         )
     stmt_light Γ (Select e cs) h z =
-        omega (arith, (light Γ e (one h.0) h.2 (z + 1)).value, selected_light Γ cs h.4 (z + (1 + hidden_expr e)) z (words_of e))
+        omega (arith, (light Γ e (one h.0) h.2 (z + 1)).value, selected_light Γ cs h.4 (z + (1 + hidden_expr e)) z 1 (words_of e))
+    stmt_light Γ (SelectLong e cs) h z =
+        omega (arith, (light Γ e a_long h.1 (z + 2)).value, selected_light Γ cs h.3 (z + (2 + hidden_expr e)) z 2 (words_of e))
     stmt_light Γ (Block ph ss es) h z =
         let Γ1 = sound.in_labelled h.0 es Γ in
         let A = caught_by U z ph in
@@ -417,10 +491,13 @@ module _ (U : Coded) where
     targets_light Γ (AndTarget p v s r ts) ks h z all taken =
         target_few p v s r ts z all taken (has_index s) (path_light Γ s h.1 h.0 h.5 z) (targets_light Γ ts ks h.7 (z + hidden_suffixes s) all (p ∷ taken))
         (targets_light Γ ts ks h.7 z all (p ∷ taken))
+    targets_light Γ (AndConverted p v s c ts) ks h z all taken =
+        converted_target_few p v s c ts z all taken (has_index s) (path_light Γ s h.2 h.1 h.8 z)
+        (targets_light Γ ts ks h.9 (z + hidden_suffixes s) all (p ∷ taken)) (targets_light Γ ts ks h.9 z all (p ∷ taken))
 
-    selected_light : (Γ : Scope) (cs : Cases) → CasesIn Γ cs → (z x words : ℕ) → weight (selected U z x words cs) ≤ 32 * cases_nodes cs
-    selected_light Γ (Otherwise s) h z x words = omega (arith, stmt_light Γ s h z, pop_bytes words)
-    selected_light Γ (AndCase ts s cs) h z x words =
+    selected_light : (Γ : Scope) (cs : Cases) → CasesIn Γ cs → (z x held words : ℕ) → weight (selected U z x held words cs) ≤ 32 * cases_nodes cs
+    selected_light Γ (Otherwise s) h z x held words = omega (arith, stmt_light Γ s h z, pop_bytes words)
+    selected_light Γ (AndCase ts s cs) h z x held words =
         omega (
           arith,
           tests_few ts h.0 z x (more_light Γ ts h.1 z x),
@@ -456,6 +533,24 @@ module _ (U : Coded) where
           arith,
           bounds_light Γ range h.0 z,
           within_few (scratch U) bases range,
+          leap_few (Where (differ negated (not (is_last ts)))),
+          more_light Γ ts h.1 (z + hidden_interval range) x,
+        )
+    more_light Γ (IfRelatedLong c base o e ts) h z x =
+        omega (
+          arith,
+          few_conversion c,
+          (light Γ e a_long h.0 z).value,
+          long_comparison_bytes base o,
+          leap_few (Where (differ (is_opposite o) (not (is_last ts)))),
+          more_light Γ ts h.1 (z + hidden_expr e) x,
+        )
+    more_light Γ (IfWithinLong negated c bases range ts) h z x =
+        omega (
+          arith,
+          few_conversion c,
+          long_bounds_light Γ range h.0 z,
+          long_within_few (scratch U) bases range,
           leap_few (Where (differ negated (not (is_last ts)))),
           more_light Γ ts h.1 (z + hidden_interval range) x,
         )

@@ -3,34 +3,53 @@ use Rattle.std.proofs.Common.{◌≡◌, refl, sym, ap, ◌∙◌, ℕ, zero, su
 use Rattle.mesa_types.specs.declared.typed_parts.Base.{Base}
 use Rattle.mesa_types.specs.declared.typed_parts.Base.TheVariants.{Signed, Unsigned}
 use Rattle.mesa_types.specs.declared.typed_parts.Bases.{Bases}
+use Rattle.mesa_types.specs.declared.typed_parts.Conversion.{Conversion}
+use Rattle.mesa_types.specs.declared.typed_parts.Conversion.TheVariants as conversion
 use Rattle.mesa_base.specs.declared.relation.Relation.{Relation}
 use Rattle.mesa_base.specs.declared.relation.Relation.TheVariants.{Equal, NotEqual, Less, AtMost, Greater, AtLeast}
 use Rattle.mesa_types.specs.declared.typed_parts.Home.{Home}
 use Rattle.mesa_types.specs.declared.typed_parts.Home.TheVariants.{Global, Local}
 use Rattle.mesa_types.specs.declared.typed_parts.Part.{Part}
-use Rattle.mesa_types.specs.Typed.{Kind, Kinds, NoKinds, AndKind, Expr, Number, Literal, Variable, FieldOf, LengthOf, ByteOf, Checked, Operate, Negate, Relate, Within, Not, AllOf, SomeOf, Construct, Call, Raise, Exprs, NoExprs, AndExpr, Suffixes, NoSuffix, Field, Index, Operations, NoOperation, Then, Interval, Between, Texts}
+use Rattle.mesa_types.specs.Typed.{Kind, Longs, Kinds, NoKinds, AndKind, Expr, Number, LongNumber, Literal, Variable, FieldOf, LengthOf, ByteOf, Checked, Converted, Operate, OperateLong, Negate, NegateLong, Relate, RelateLong, Within, WithinLong, Not, AllOf, SomeOf, Construct, Call, Raise, Exprs, NoExprs, AndExpr, Suffixes, NoSuffix, Field, Index, Operations, NoOperation, Then, Interval, Between, Texts}
 use Rattle.mesa_types.specs.Counts.{hidden_expr, words_of, words_given, last_words}
+use Rattle.mesa_types.specs.Counts as counts
 use Rattle.mesa_types.specs.Shapes.{words_in, words_in_all, words_before, one, KindAt}
-use Rattle.mesa_types.specs.Sound.{Scope, a_word, FieldsIn, ExprIn, ExprsIn, WordsIn, SuffixesIn, OperationsIn, IntervalIn}
+use Rattle.mesa_types.specs.Sound.{Scope, a_word, a_long, FieldsIn, ExprIn, ExprsIn, WordsIn, SuffixesIn, OperationsIn, LongOperationsIn, IntervalIn, LongIntervalIn, Converts}
 use Rattle.mesa_types.proofs.WordSizes.{sizes_agree}
 use Rattle.code_forms.specs.declared.instruction.Instruction.{Instruction}
 use Rattle.code_forms.specs.Depths.{depth_after}
 use Rattle.code_rules.specs.CodeFor.{words_before_last}
 use Rattle.code_rules.specs.Laws.{left_by}
-use Rattle.code_rules.specs.OwnCode.{check_code, field_code, comparison, relation_code, operator_code, within_code, arrange_code, index_code, total}
+use Rattle.code_rules.specs.OwnCode.{check_code, conversion_code, field_code, comparison, long_comparison, relation_code, long_relation_code, operator_code, long_operator_code, within_code, long_within_code, arrange_code, index_code, total}
 use Rattle.code_rules.specs.Reading.{Coded, scratch}
 use Rattle.code_rules.specs.Slots.{load, load_within, fields_of, sizes}
 use Rattle.code_rules.proofs.Depths.{own_code_keeps_words}
 use Rattle.code_blocks.specs.Blocks.{Block, Where, Does, Out, ◌▹◌}
 use Rattle.code_blocks.specs.Own.{alone, left_of}
 use Rattle.code_blocks.specs.Sizes.{depth_behind}
-use Rattle.code_blocks.specs.Translation.{without_code, has_index, at_element, within_of, turned, forms, values, operands, bounds, operations, path}
+use Rattle.code_blocks.specs.Translation.{without_code, has_index, at_element, within_of, long_within_of, turned, forms, values, operands, bounds, operations, long_operations, path}
 
 -- Sizes.
 
 pub word_is : (Γ : Scope) (e : Expr) → ExprIn Γ e a_word → words_of e ≡ 1
 unfolding words_in_all words_in one a_word
 word_is Γ e h = sizes_agree.of_expression Γ e a_word h
+
+pub long_is : (Γ : Scope) (e : Expr) → ExprIn Γ e a_long → words_of e ≡ 2
+unfolding words_in_all words_in one a_long
+long_is Γ e h = sizes_agree.of_expression Γ e a_long h
+
+-- the words that a conversion takes and gives are those of its kinds
+pub words_converted : (c : Conversion) (j k : Kind) → Converts c j k → (words_in j ≡ counts.words_before c) × (words_in k ≡ counts.words_after c)
+unfolding Converts words_in counts.words_before counts.words_after
+words_converted conversion.Kept j k h = (ap words_in h.0, ap words_in h.1)
+words_converted (conversion.Widened from to) j k h = (ap words_in h.0, ap words_in h.1)
+words_converted (conversion.Narrowed from to r) j k h = (ap words_in h.1, ap words_in h.2)
+words_converted conversion.InCommon j k h = (ap words_in h.0, ap words_in h.1)
+
+pub makes_long : (c : Conversion) (j : Kind) → Converts c j Longs → counts.words_after c ≡ 2
+unfolding words_in
+makes_long c j h = sym (words_converted c j Longs h).1
 
 pub text_is : (Γ : Scope) (e : Expr) → ExprIn Γ e (one Texts) → words_of e ≡ 2
 unfolding words_in_all words_in one
@@ -118,12 +137,30 @@ module _ (U : Coded) where
   comparison_left Unsigned Greater d = omega arith
   comparison_left Unsigned AtLeast d = omega arith
 
+  pub long_within_left : (bases : Bases) (range : Interval) (m d : ℕ) → m ≡ d + 6 → left_of (long_within_of (scratch U) bases range) m ≡ d + 1
+  long_within_left bases (Between x p y q) m d e = own_left (long_within_code (scratch U) bases p q) e (own_code_keeps_words.long_within none (scratch U) bases p q d)
+
+  pub long_comparison_left : (b : Base) (o : Relation) (d : ℕ) → left_of (long_comparison b o) (d + 4) ≡ d + 1
+  long_comparison_left Signed Equal d = omega arith
+  long_comparison_left Signed NotEqual d = omega arith
+  long_comparison_left Signed Less d = omega arith
+  long_comparison_left Signed AtMost d = omega arith
+  long_comparison_left Signed Greater d = omega arith
+  long_comparison_left Signed AtLeast d = omega arith
+  long_comparison_left Unsigned Equal d = omega arith
+  long_comparison_left Unsigned NotEqual d = omega arith
+  long_comparison_left Unsigned Less d = omega arith
+  long_comparison_left Unsigned AtMost d = omega arith
+  long_comparison_left Unsigned Greater d = omega arith
+  long_comparison_left Unsigned AtLeast d = omega arith
+
   module _ (Γ : Scope) where
     mutual
-      unfolding ExprIn ExprsIn SuffixesIn OperationsIn IntervalIn words_of words_given
+      unfolding ExprIn ExprsIn SuffixesIn OperationsIn LongOperationsIn IntervalIn LongIntervalIn words_of words_given
 
       pub value_depth : (e : Expr) (ks : Kinds) → ExprIn Γ e ks → (z d : ℕ) → depth_behind (forms U z e).value d ≡ d + words_of e
       value_depth (Number n) ks h z d = omega arith
+      value_depth (LongNumber n) ks h z d = omega arith
       value_depth (Literal k) ks h z d = omega arith
       value_depth (Variable v s words) ks h z d = variable_depth v s words z d (path_depth s h.0 h.1 h.3 z d) (has_index s)
       value_depth (FieldOf e parts) ks h z d =
@@ -136,19 +173,35 @@ module _ (U : Coded) where
           ap (λ n. n - 3 + 1) (behind (forms U (z + hidden_expr e) i).value p q) ∙ omega arith
       value_depth (Checked r e) ks h z d =
           own_left (check_code r) (value_depth e a_word h.1 z d ∙ ap (λ n. d + n) (word_is Γ e h.1)) (own_code_keeps_words.check none r d)
+      value_depth (Converted c e) ks h z d =
+          own_left (conversion_code c) (value_depth e (one h.1) h.4 z d ∙ ap (λ n. d + n) (one_is Γ e h.1 h.4 ∙ (words_converted c h.1 h.2 h.3).0))
+          (own_code_keeps_words.conversion none c d)
       value_depth (Operate e os) ks h z d =
           behind (operations U (z + hidden_expr e) os) (value_depth e a_word h.0 z d ∙ ap (λ n. d + n) (word_is Γ e h.0))
           (operations_depth os h.1 (z + hidden_expr e) d)
+      value_depth (OperateLong e os) ks h z d =
+          behind (long_operations U (z + hidden_expr e) os) (value_depth e a_long h.0 z d ∙ ap (λ n. d + n) (long_is Γ e h.0))
+          (long_operations_depth os h.1 (z + hidden_expr e) d)
       value_depth (Negate e) ks h z d = omega (arith, value_depth e a_word h.0 z d, word_is Γ e h.0)
+      value_depth (NegateLong e) ks h z d = omega (arith, value_depth e a_long h.0 z d, long_is Γ e h.0)
       value_depth (Relate b o x y) ks h z d =
           let p : depth_behind (forms U z x).value d ≡ d + 1 = value_depth x a_word h.0 z d ∙ ap (λ n. d + n) (word_is Γ x h.0) in
           let q : depth_behind (forms U (z + hidden_expr x) y).value (d + 1) ≡ d + 1 + 1 =
           value_depth y a_word h.1 (z + hidden_expr x) (d + 1) ∙ ap (λ n. d + 1 + n) (word_is Γ y h.1) in
           own_left (relation_code b o) {n = d + 2} (behind (forms U (z + hidden_expr x) y).value p q ∙ omega arith) (own_code_keeps_words.relation none b o d)
+      value_depth (RelateLong b o x y) ks h z d =
+          let p : depth_behind (forms U z x).value d ≡ d + 2 = value_depth x a_long h.0 z d ∙ ap (λ n. d + n) (long_is Γ x h.0) in
+          let q : depth_behind (forms U (z + hidden_expr x) y).value (d + 2) ≡ d + 2 + 2 =
+          value_depth y a_long h.1 (z + hidden_expr x) (d + 2) ∙ ap (λ n. d + 2 + n) (long_is Γ y h.1) in
+          own_left (long_relation_code b o) {n = d + 4} (behind (forms U (z + hidden_expr x) y).value p q ∙ omega arith) (own_code_keeps_words.long_relation none b o d)
       value_depth (Within bases e range) ks h z d =
           let first : depth_behind (forms U z e).value d ≡ d + 1 = value_depth e a_word h.0 z d ∙ ap (λ n. d + n) (word_is Γ e h.0) in
           within_left bases range _ d
           (behind (bounds U (z + hidden_expr e) range) first (bounds_depth range h.1 (z + hidden_expr e) (d + 1)) ∙ omega arith)
+      value_depth (WithinLong bases e range) ks h z d =
+          let first : depth_behind (forms U z e).value d ≡ d + 2 = value_depth e a_long h.0 z d ∙ ap (λ n. d + n) (long_is Γ e h.0) in
+          long_within_left bases range _ d
+          (behind (bounds U (z + hidden_expr e) range) first (long_bounds_depth range h.1 (z + hidden_expr e) (d + 2)) ∙ omega arith)
       value_depth (Not e) ks h z d = omega (arith, value_depth e a_word h.0 z d, word_is Γ e h.0)
       value_depth (AllOf es) ks h z d = refl
       value_depth (SomeOf es) ks h z d = refl
@@ -169,6 +222,20 @@ module _ (U : Coded) where
           let first : depth_behind (forms U z x).value d ≡ d + 1 = value_depth x a_word h.0 z d ∙ ap (λ n. d + n) (word_is Γ x h.0) in
           behind (forms U (z + hidden_expr x) y).value first
           (value_depth y a_word h.1 (z + hidden_expr x) (d + 1) ∙ ap (λ n. d + 1 + n) (word_is Γ y h.1) ∙ omega arith)
+
+      pub long_bounds_depth : (range : Interval) → LongIntervalIn Γ range → (z d : ℕ) → depth_behind (bounds U z range) d ≡ d + 4
+      long_bounds_depth (Between x p y q) h z d =
+          let first : depth_behind (forms U z x).value d ≡ d + 2 = value_depth x a_long h.0 z d ∙ ap (λ n. d + n) (long_is Γ x h.0) in
+          behind (forms U (z + hidden_expr x) y).value first
+          (value_depth y a_long h.1 (z + hidden_expr x) (d + 2) ∙ ap (λ n. d + 2 + n) (long_is Γ y h.1) ∙ omega arith)
+
+      pub long_operations_depth : (os : Operations) → LongOperationsIn Γ os → (z d : ℕ) → depth_behind (long_operations U z os) (d + 2) ≡ d + 2
+      long_operations_depth NoOperation h z d = refl
+      long_operations_depth (Then r o e os) h z d =
+          let q : depth_behind (forms U z e).value (d + 2) ≡ d + 4 = value_depth e a_long h.2 z (d + 2) ∙ ap (λ n. d + 2 + n) (long_is Γ e h.2) ∙ omega arith in
+          behind (long_operations U (z + hidden_expr e) os)
+          (own_left (long_operator_code o) q (own_code_keeps_words.long_operator none o d))
+          (long_operations_depth os h.3 (z + hidden_expr e) d)
 
       pub operations_depth : (os : Operations) → OperationsIn Γ os → (z d : ℕ) → depth_behind (operations U z os) (d + 1) ≡ d + 1
       operations_depth NoOperation h z d = refl
@@ -193,6 +260,12 @@ module _ (U : Coded) where
         behind (forms U (z + hidden_expr x) y).value (value_depth x a_word h z d ∙ ap (λ n. d + n) (word_is Γ x h))
         (value_depth y a_word g (z + hidden_expr x) (d + 1) ∙ ap (λ n. d + 1 + n) (word_is Γ y g) ∙ omega arith)
 
+    pub two_longs : (x y : Expr) → ExprIn Γ x a_long → ExprIn Γ y a_long → (z d : ℕ)
+        → depth_behind (forms U (z + hidden_expr x) y).value (depth_behind (forms U z x).value d) ≡ d + 4
+    two_longs x y h g z d =
+        behind (forms U (z + hidden_expr x) y).value (value_depth x a_long h z d ∙ ap (λ n. d + n) (long_is Γ x h))
+        (value_depth y a_long g (z + hidden_expr x) (d + 2) ∙ ap (λ n. d + 2 + n) (long_is Γ y g) ∙ omega arith)
+
     -- a condition takes its words
 
     by_value_depth : (e : Expr) → ExprIn Γ e a_word → (sense : Bool) (part z d : ℕ)
@@ -209,19 +282,28 @@ module _ (U : Coded) where
 
       pub jump_depth : (e : Expr) → ExprIn Γ e a_word → (sense : Bool) (part z d : ℕ) → depth_behind ((forms U z e).jump sense part) d ≡ d
       jump_depth (Number n) h sense part z d = by_value_depth (Number n) h sense part z d
+      jump_depth (LongNumber n) h sense part z d = by_value_depth (LongNumber n) h sense part z d
       jump_depth (Literal k) h sense part z d = by_value_depth (Literal k) h sense part z d
       jump_depth (Variable v s words) h sense part z d = by_value_depth (Variable v s words) h sense part z d
       jump_depth (FieldOf e parts) h sense part z d = by_value_depth (FieldOf e parts) h sense part z d
       jump_depth (LengthOf e) h sense part z d = by_value_depth (LengthOf e) h sense part z d
       jump_depth (ByteOf e i) h sense part z d = by_value_depth (ByteOf e i) h sense part z d
       jump_depth (Checked r e) h sense part z d = by_value_depth (Checked r e) h sense part z d
+      jump_depth (Converted c e) h sense part z d = by_value_depth (Converted c e) h sense part z d
       jump_depth (Operate e os) h sense part z d = by_value_depth (Operate e os) h sense part z d
+      jump_depth (OperateLong e os) h sense part z d = by_value_depth (OperateLong e os) h sense part z d
       jump_depth (Negate e) h sense part z d = by_value_depth (Negate e) h sense part z d
+      jump_depth (NegateLong e) h sense part z d = by_value_depth (NegateLong e) h sense part z d
       jump_depth (Relate b o x y) h sense part z d =
           ap (λ n. n - 1)
           (ap (left_of (comparison b o)) (two_values x y h.0 h.1 z d) ∙ comparison_left b o d)
           ∙ omega arith
+      jump_depth (RelateLong b o x y) h sense part z d =
+          ap (λ n. n - 1)
+          (ap (left_of (long_comparison b o)) (two_longs x y h.0 h.1 z d) ∙ long_comparison_left b o d)
+          ∙ omega arith
       jump_depth (Within bases e range) h sense part z d = by_value_depth (Within bases e range) h sense part z d
+      jump_depth (WithinLong bases e range) h sense part z d = by_value_depth (WithinLong bases e range) h sense part z d
       jump_depth (Not e) h sense part z d = jump_depth e h.0 (not sense) part z d
       jump_depth (AllOf es) h sense part z d = turned_depth sense (operands U z es false) part d (operands_depth es h.1 false part z d)
       jump_depth (SomeOf es) h sense part z d = turned_depth (not sense) (operands U z es true) part d (operands_depth es h.1 true part z d)

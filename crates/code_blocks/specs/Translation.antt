@@ -8,16 +8,16 @@ use Rattle.mesa_types.specs.declared.typed_parts.Base.{Base}
 use Rattle.mesa_types.specs.declared.typed_parts.Bases.{Bases}
 use Rattle.mesa_types.specs.declared.typed_parts.Part.{Part}
 use Rattle.mesa_base.specs.declared.relation.Relation.{Relation}
-use Rattle.mesa_types.specs.Typed.{Kinds, Start, After, Leave, point_of, Expr, Number, Literal, Variable, FieldOf, LengthOf, ByteOf, Checked, Operate, Negate, Relate, Within, Not, AllOf, SomeOf, Construct, Call, Raise, Exprs, NoExprs, AndExpr, Suffixes, NoSuffix, Field, Index, Operations, NoOperation, Then, Interval, Between, Phrase, NoPhrase, Catch, Arms, NoArms, AndArm, Stmt, Null, Marked, Declare, DeclareAs, Assign, Extract, Perform, If, Select, Block, Repeat, For, Jump, ReturnWith, Resume, Reject, Retry, Continue, Stmts, NoStmts, AndStmt, Targets, NoTargets, AndTarget, Cases, Otherwise, AndCase, Tests, NoTests, IfRelated, IfWithin, Exits, NoExits, AndExit, Loop, LoopOf, Finish, NoFinish, Finished, Condition, Always, While, Until}
+use Rattle.mesa_types.specs.Typed.{Kinds, Start, After, Leave, point_of, Expr, Number, LongNumber, Literal, Variable, FieldOf, LengthOf, ByteOf, Checked, Converted, Operate, OperateLong, Negate, NegateLong, Relate, RelateLong, Within, WithinLong, Not, AllOf, SomeOf, Construct, Call, Raise, Exprs, NoExprs, AndExpr, Suffixes, NoSuffix, Field, Index, Operations, NoOperation, Then, Interval, Between, Phrase, NoPhrase, Catch, Arms, NoArms, AndArm, Stmt, Null, Marked, Declare, DeclareAs, Assign, Extract, Perform, If, Select, SelectLong, Block, Repeat, For, Jump, ReturnWith, Resume, Reject, Retry, Continue, Stmts, NoStmts, AndStmt, Targets, NoTargets, AndTarget, AndConverted, Cases, Otherwise, AndCase, Tests, NoTests, IfRelated, IfWithin, IfRelatedLong, IfWithinLong, Exits, NoExits, AndExit, Loop, LoopOf, Finish, NoFinish, Finished, Condition, Always, While, Until}
 use Rattle.mesa_types.specs.Operators.{differ}
 use Rattle.mesa_types.specs.Shapes.{words_in}
-use Rattle.mesa_types.specs.Counts.{hidden, hidden_expr, hidden_exprs, hidden_suffixes, hidden_interval, hidden_phrase, hidden_stmts, hidden_targets, hidden_tests, hidden_exits, hidden_condition, words_of, words_given, last_words}
+use Rattle.mesa_types.specs.Counts.{hidden, hidden_expr, hidden_exprs, hidden_suffixes, hidden_interval, hidden_phrase, hidden_stmts, hidden_targets, hidden_tests, hidden_exits, hidden_condition, words_of, words_given, last_words, words_before, words_after}
 use Rattle.code_forms.specs.declared.instruction.Instruction.{Instruction}
 use Rattle.code_forms.specs.declared.instruction.Instruction.TheVariants as i
 use Rattle.code_rules.specs.CodeFor.{words_before_last, words_taken, words_over}
 use Rattle.code_rules.specs.Links.{call_code, raise_code, label_code}
 use Rattle.code_rules.specs.Loops.{Counter, NoCounter, CountedIn, start_code, give_code, next_slot, step_code}
-use Rattle.code_rules.specs.OwnCode.{pop_code, lift_code, field_code, check_code, index_code, comparison, is_opposite, relation_code, operator_code, within_code, arrange_code}
+use Rattle.code_rules.specs.OwnCode.{pop_code, lift_code, field_code, long_code, check_code, conversion_code, index_code, comparison, long_comparison, is_opposite, relation_code, long_relation_code, operator_code, long_operator_code, within_code, long_within_code, arrange_code}
 use Rattle.code_rules.specs.Reading.{Coded, scratch}
 use Rattle.code_rules.specs.Slots.{words_from, local_slot, load, store, load_within, store_within, fields_of, zero_code, spread_code, sizes}
 use Rattle.code_blocks.specs.Blocks as tree
@@ -57,12 +57,18 @@ at_element s path = Does (i.Lit (fields_of s) ∷ []) ▹ path
 abbrev pub within_of : (t : ℕ) → Bases → Interval → List Instruction
 within_of t bases (Between x p y q) = within_code t bases p q
 
+abbrev pub long_within_of : (t : ℕ) → Bases → Interval → List Instruction
+long_within_of t bases (Between x p y q) = long_within_code t bases p q
+
 abbrev pub start_of : (z : ℕ) → Base → Interval → List Instruction
 start_of z base (Between x p y q) = start_code z base p q
 
 -- out to the end of a part where a relation holds, or where it does not
 abbrev pub where_related : Base → Relation → Bool → (part : ℕ) → tree.Block
 where_related base o sense part = Does (comparison base o) ▹ Out (Where (differ (is_opposite o) sense)) part
+
+abbrev pub where_long_related : Base → Relation → Bool → (part : ℕ) → tree.Block
+where_long_related base o sense part = Does (long_comparison base o) ▹ Out (Where (differ (is_opposite o) sense)) part
 
 abbrev pub head_code : Counter → tree.Block
 head_code NoCounter = nothing
@@ -95,6 +101,8 @@ abbrev pub is_last : Tests → Bool
 is_last NoTests = true
 is_last (IfRelated r base o e ts) = false
 is_last (IfWithin negated bases range ts) = false
+is_last (IfRelatedLong conversion base o e ts) = false
+is_last (IfWithinLong negated conversion bases range ts) = false
 
 abbrev pub if_last : Tests → ℕ
 if_last ts = if is_last ts then 1 else 0
@@ -115,6 +123,7 @@ unless false block = block
 abbrev mutual
   pub forms : Coded → (z : ℕ) → Expr → Forms
   forms P z (Number n) = by_value (Does (i.Lit n ∷ []))
+  forms P z (LongNumber n) = by_value (Does (long_code n))
   forms P z (Literal k) = by_value (Does (i.Str (suc k) ∷ []))
   forms P z (Variable h s words) = by_value (
       if has_index s then at_element s (path P z s ▹ Does (load_within P h words ∷ [])) else Does (load P h (fields_of s) words ∷ []))
@@ -124,12 +133,21 @@ abbrev mutual
   forms P z (LengthOf e) = by_value ((forms P z e).value ▹ Does (i.StrLen ∷ []))
   forms P z (ByteOf e index) = by_value ((forms P z e).value ▹ (forms P (z + hidden_expr e) index).value ▹ Does (i.StrAt ∷ []))
   forms P z (Checked r e) = by_value ((forms P z e).value ▹ Does (check_code r))
+  forms P z (Converted conversion e) = by_value ((forms P z e).value ▹ Does (conversion_code conversion))
   forms P z (Operate e os) = by_value ((forms P z e).value ▹ operations P (z + hidden_expr e) os)
+  forms P z (OperateLong e os) = by_value ((forms P z e).value ▹ long_operations P (z + hidden_expr e) os)
   forms P z (Negate e) = by_value ((forms P z e).value ▹ Does (i.Neg ∷ []))
+  forms P z (NegateLong e) = by_value ((forms P z e).value ▹ Does (i.NegD ∷ []))
   forms P z (Relate base o d e) = record {
     value = (forms P z d).value ▹ (forms P (z + hidden_expr d) e).value ▹ Does (relation_code base o);
     jump = λ sense part. (forms P z d).value ▹ (forms P (z + hidden_expr d) e).value ▹ where_related base o sense part;
   }
+  forms P z (RelateLong base o d e) = record {
+    value = (forms P z d).value ▹ (forms P (z + hidden_expr d) e).value ▹ Does (long_relation_code base o);
+    jump = λ sense part. (forms P z d).value ▹ (forms P (z + hidden_expr d) e).value ▹ where_long_related base o sense part;
+  }
+  forms P z (WithinLong bases e range) = by_value (
+      (forms P z e).value ▹ bounds P (z + hidden_expr e) range ▹ Does (long_within_of (scratch P) bases range))
   forms P z (Within bases e range) = by_value (
       (forms P z e).value ▹ bounds P (z + hidden_expr e) range ▹ Does (within_of (scratch P) bases range))
   forms P z (Not e) = record {
@@ -169,6 +187,10 @@ abbrev mutual
   operations P z (Then r o e os) =
       Does (check_code r) ▹ (forms P z e).value ▹ Does (operator_code (scratch P) o) ▹ operations P (z + hidden_expr e) os
 
+  pub long_operations : Coded → (z : ℕ) → Operations → tree.Block
+  long_operations P z NoOperation = nothing
+  long_operations P z (Then r o e os) = (forms P z e).value ▹ Does (long_operator_code o) ▹ long_operations P (z + hidden_expr e) os
+
   pub path : Coded → (z : ℕ) → Suffixes → tree.Block
   path P z NoSuffix = nothing
   path P z (Field n offset s) = path P z s
@@ -198,7 +220,8 @@ abbrev mutual
   block P z (If e s t) = Ends (Here 0) (
       Ends (Here 0) ((forms P z e).jump false 0 ▹ block P (z + hidden_expr e) s ▹ past_else t 1)
       ▹ block P (z + (hidden_expr e + hidden s)) t)
-  block P z (Select e cs) = (forms P (z + 1) e).value ▹ selected P (z + (1 + hidden_expr e)) z (words_of e) cs
+  block P z (Select e cs) = (forms P (z + 1) e).value ▹ selected P (z + (1 + hidden_expr e)) z 1 (words_of e) cs
+  block P z (SelectLong e cs) = (forms P (z + 2) e).value ▹ selected P (z + (2 + hidden_expr e)) z 2 (words_of e) cs
   block P z (Block ph ss es) = Ends (Here 0) (
       exits P (z + (hidden_phrase ph + hidden_stmts ss)) es (
       enabled (caught_by P z ph) (blocks P (z + hidden_phrase ph) ss) ▹ past_exits es 0))
@@ -227,12 +250,21 @@ abbrev mutual
       else (
       Does (lift_code p.words (words_over all taken p) ++ (check_code r ++ store P h (fields_of s) p.words ∷ []))
       ▹ targets P z all (p ∷ taken) ts)
+  targets P z all taken (AndConverted p h s conversion ts) =
+      if has_index s
+      then at_element s (
+      path P z s
+      ▹ Does (lift_code p.words (suc (words_over all taken p)) ++ (conversion_code conversion ++ store_within P h (words_after conversion) ∷ []))
+      ▹ targets P (z + hidden_suffixes s) all (p ∷ taken) ts)
+      else (
+      Does (lift_code p.words (words_over all taken p) ++ (conversion_code conversion ++ store P h (fields_of s) (words_after conversion) ∷ []))
+      ▹ targets P z all (p ∷ taken) ts)
 
-  -- a selector of so many words is on the operand stack; where it is tested it is held in slot x
-  pub selected : Coded → (z x words : ℕ) → Cases → tree.Block
-  selected P z x words (Otherwise s) = Does (pop_code words) ▹ block P z s
-  selected P z x words (AndCase ts s cs) =
-      Does (i.StoreL x 1 ∷ [])
+  -- a selector of so many words is on the operand stack; where it is tested it is held in slots from x on, so many
+  pub selected : Coded → (z x held words : ℕ) → Cases → tree.Block
+  selected P z x held words (Otherwise s) = Does (pop_code words) ▹ block P z s
+  selected P z x held words (AndCase ts s cs) =
+      Does (i.StoreL x held ∷ [])
       ▹ Ends (Here 0) (
       a_case (tests P z x ts) (block P (z + hidden_tests ts) s) (past_cases cs 1) ▹ cases P (z + (hidden_tests ts + hidden s)) x cs)
 
@@ -250,6 +282,14 @@ abbrev mutual
       ▹ unless (is_last ts) (tests P (z + hidden_expr e) x ts)
   tests P z x (IfWithin negated bases range ts) =
       (Does (i.LoadL x 1 ∷ []) ▹ bounds P z range ▹ Does (within_of (scratch P) bases range)
+      ▹ Out (Where (differ negated (not (is_last ts)))) (if_last ts))
+      ▹ unless (is_last ts) (tests P (z + hidden_interval range) x ts)
+  tests P z x (IfRelatedLong conversion base o e ts) =
+      (Does (i.LoadL x (words_before conversion) ∷ conversion_code conversion) ▹ (forms P z e).value
+      ▹ where_long_related base o (not (is_last ts)) (if_last ts))
+      ▹ unless (is_last ts) (tests P (z + hidden_expr e) x ts)
+  tests P z x (IfWithinLong negated conversion bases range ts) =
+      (Does (i.LoadL x (words_before conversion) ∷ conversion_code conversion) ▹ bounds P z range ▹ Does (long_within_of (scratch P) bases range)
       ▹ Out (Where (differ negated (not (is_last ts)))) (if_last ts))
       ▹ unless (is_last ts) (tests P (z + hidden_interval range) x ts)
 

@@ -1,3 +1,4 @@
+//! The laws of the code of sound modules: it stands for them, is valid, and is short.
 ghost use Rattle.code_blocks.specs.Laws.{JumpsAreRight, JumpsInsideAreRight, ModulesAreCoded, ModulesAreInOrder, ModulesAreShort, ModulesAreTranslated, OperandsAreInRange, PhrasesNest, PhrasesStand, RangesAreKept, RegionsAreTold, RegionsFillTheCode, StacksStand};
 
 /// The code of each sound module stands for it.

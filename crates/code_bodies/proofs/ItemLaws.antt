@@ -13,7 +13,7 @@ use Rattle.code_rules.specs.Reading.{Coded}
 use Rattle.code_blocks.specs.Translation as spec
 use Rattle.code_trees.specs.Excess.{excess}
 use Rattle.code_trees.proofs.Splits.{exprs_split, index_split, operations_split}
-use Rattle.code_trees.proofs.Walks.{hidden_first, hidden_index, hidden_operation, operands_first, operations_first, path_first, values_first}
+use Rattle.code_trees.proofs.Walks.{hidden_first, hidden_index, hidden_operation, long_operations_first, operands_first, operations_first, path_first, values_first}
 
 module _ (P : Coded) (z : ℕ) (x : TypedExpr) (i : ℕ) (es : List TypedExpr) (lt : i < length es) (is : x ≡ get_or es i x) where
   pub value_fits : excess (spec.values P z (exprs (map expr (drop i es)))) ≡ 0 → excess ((spec.forms P z (expr x)).value) ≡ 0
@@ -39,6 +39,12 @@ module _ (P : Coded) (z : ℕ) (x : Operation) (i : ℕ) (os : List Operation) (
       ≡ 0
   right_fits h =
       operations_first P z 0 x.check x.operator (expr x.right) (chain (map operation (drop i os)) t.NoOperation)
+      (chain (map operation (drop (i + 1) os)) t.NoOperation) (operations_split os i x lt is) h
+
+  pub long_right_fits : excess (spec.long_operations P z (chain (map operation (drop i os)) t.NoOperation)) ≡ 0
+      → excess ((spec.forms P z (expr x.right)).value) ≡ 0
+  long_right_fits h =
+      long_operations_first P z 0 x.check x.operator (expr x.right) (chain (map operation (drop i os)) t.NoOperation)
       (chain (map operation (drop (i + 1) os)) t.NoOperation) (operations_split os i x lt is) h
 
   pub right_room : (whole : ℕ) → z + hidden_operations (chain (map operation (drop i os)) t.NoOperation) ≡ whole → whole ≤ 65535 → z + hidden_expr

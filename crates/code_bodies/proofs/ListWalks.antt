@@ -4,8 +4,9 @@ use Rattle.std.proofs.Common.{length-drop}
 use Rattle.std.proofs.lemmas.List.{drop_all}
 use Rattle.mesa_base.specs.Chain.{chain}
 use Rattle.mesa_types.specs.Counts.{hidden, hidden_cases, hidden_exits, hidden_stmts, hidden_suffixes, hidden_targets, hidden_tests}
-use Rattle.mesa_types.specs.Plain.{case, exit, stmt, stmts, suffix, target, test}
+use Rattle.mesa_types.specs.Plain.{case, exit, stmt, stmts, suffix, target, target_by, test}
 use Rattle.mesa_types.specs.Typed as t
+use Rattle.mesa_types.specs.declared.typed_parts.Conversion.{Conversion}
 use Rattle.mesa_types.specs.declared.typed_parts.Home.{Home}
 use Rattle.mesa_types.specs.declared.typed_parts.Part.{Part}
 use Rattle.mesa_types.specs.declared.typed_parts.Range.{Range}
@@ -23,6 +24,7 @@ use Rattle.code_trees.specs.Excess.{excess, excess_in}
 use Rattle.code_trees.specs.Forms.{case_blocks, case_of, exit_blocks, goes_on, target_of}
 use Rattle.code_trees.specs.Plain.{in_order}
 use Rattle.code_trees.specs.Rows.{excess_among, sizes_in}
+use Rattle.code_counts.proofs.WordLaws.{hidden_given}
 use Rattle.code_trees.proofs.StatementSplits.{cases_split, exits_split, stmts_split, targets_split}
 use Rattle.code_trees.proofs.CaseLaws.{on_left}
 use Rattle.code_trees.proofs.TargetLaws.{first_target, newest, no_path}
@@ -159,86 +161,87 @@ module _ (P : Coded) (begin : ℕ) (es : List Exit) (i : ℕ) (bs : List Block) 
 
 -- targets
 
-target_next : (P : Coded) (z after words : ℕ) (taken : List Part) (p : Part) (h : Home) (s : t.Suffixes) (r : Range) (tail : t.Targets) → after
-    ≡ z + hidden_suffixes s
-    → spec.targets P z words taken (t.AndTarget p h s r tail)
-    ≡ in_order (target_of P (words_over words taken p) p h s r (spec.path P z s)) (spec.targets P after words (p ∷ taken) tail)
-target_next P z after words taken p h s r tail is_after =
-    first_target P z words taken p h s r tail
-    ∙ ap (λ n. in_order (target_of P (words_over words taken p) p h s r (spec.path P z s)) (spec.targets P n words (p ∷ taken) tail)) (sym is_after)
+target_next : (P : Coded) (z after words : ℕ) (taken : List Part) (p : Part) (h : Home) (s : t.Suffixes) (c : Conversion) (r : Range) (tail : t.Targets)
+    → after ≡ z + hidden_suffixes s
+    → spec.targets P z words taken (target_by c r p h s tail)
+    ≡ in_order (target_of P (words_over words taken p) p h s c r (spec.path P z s)) (spec.targets P after words (p ∷ taken) tail)
+target_next P z after words taken p h s c r tail is_after =
+    first_target P z words taken p h s c r tail
+    ∙ ap (λ n. in_order (target_of P (words_over words taken p) p h s c r (spec.path P z s)) (spec.targets P n words (p ∷ taken) tail)) (sym is_after)
 
 module _ (ts : List Target) (i : ℕ) (x : Target) (lt : i < length ts) (is : x ≡ get_or ts i x) where
   pub targets_next : (P : Coded) (z after words : ℕ) (taken : List Part) → after ≡ z + hidden_suffixes (chain (map suffix x.suffixes) t.NoSuffix)
       → spec.targets P z words taken (chain (map target (drop i ts)) t.NoTargets)
       ≡ in_order
-      (target_of P (words_over words taken x.part) x.part x.home (chain (map suffix x.suffixes) t.NoSuffix) x.check
+      (target_of P (words_over words taken x.part) x.part x.home (chain (map suffix x.suffixes) t.NoSuffix) x.conversion x.check
       (spec.path P z (chain (map suffix x.suffixes) t.NoSuffix)))
       (spec.targets P after words (x.part ∷ taken) (chain (map target (drop (i + 1) ts)) t.NoTargets))
   targets_next P z after words taken is_after =
       ap (spec.targets P z words taken) (targets_split ts i x lt is)
-      ∙ target_next P z after words taken x.part x.home (chain (map suffix x.suffixes) t.NoSuffix) x.check (chain (map target (drop (i + 1) ts))
+      ∙ target_next P z after words taken x.part x.home (chain (map suffix x.suffixes) t.NoSuffix) x.conversion x.check (chain (map target (drop (i + 1) ts))
       t.NoTargets) is_after
 
   pub targets_hidden : hidden_targets (chain (map target (drop i ts)) t.NoTargets)
       ≡ hidden_suffixes (chain (map suffix x.suffixes) t.NoSuffix) + hidden_targets (chain (map target (drop (i + 1) ts)) t.NoTargets)
   unfolding hidden_targets
   targets_hidden = ap hidden_targets (targets_split ts i x lt is)
+      ∙ hidden_given x.conversion x.check x.part x.home (chain (map suffix x.suffixes) t.NoSuffix) (chain (map target (drop (i + 1) ts)) t.NoTargets)
 
 -- the path of a target has no code where it has no index
 
-path_fits_by : (P : Coded) (z over : ℕ) (p : Part) (h : Home) (s : t.Suffixes) (r : Range) (b : Bool) → spec.has_index s ≡ b
-    → excess_among (target_of P over p h s r (spec.path P z s)) ≡ 0 → excess (spec.path P z s) ≡ 0
+path_fits_by : (P : Coded) (z over : ℕ) (p : Part) (h : Home) (s : t.Suffixes) (c : Conversion) (r : Range) (b : Bool) → spec.has_index s ≡ b
+    → excess_among (target_of P over p h s c r (spec.path P z s)) ≡ 0 → excess (spec.path P z s) ≡ 0
 unfolding excess excess_in excess_among
-path_fits_by P z over p h s r true is fit = let same = rw is at fit in omega (arith, same)
-path_fits_by P z over p h s r false is fit = ap excess (no_path P z s is)
+path_fits_by P z over p h s c r true is fit = let same = rw is at fit in omega (arith, same)
+path_fits_by P z over p h s c r false is fit = ap excess (no_path P z s is)
 
-pub target_path_fits : (P : Coded) (z over : ℕ) (p : Part) (h : Home) (s : t.Suffixes) (r : Range)
-    → excess_among (target_of P over p h s r (spec.path P z s)) ≡ 0 → excess (spec.path P z s) ≡ 0
-target_path_fits P z over p h s r fit = path_fits_by P z over p h s r (spec.has_index s) refl fit
+pub target_path_fits : (P : Coded) (z over : ℕ) (p : Part) (h : Home) (s : t.Suffixes) (c : Conversion) (r : Range)
+    → excess_among (target_of P over p h s c r (spec.path P z s)) ≡ 0 → excess (spec.path P z s) ≡ 0
+target_path_fits P z over p h s c r fit = path_fits_by P z over p h s c r (spec.has_index s) refl fit
 
 module _ (P : Coded) (begin words : ℕ) (ts : List Target) (i : ℕ) (x : Target) (bs : List Block) (taken : List Part) (now : ℕ)
     (lt : i < length ts) (is : x ≡ get_or ts i x)
     (so_far : in_order bs (spec.targets P now words (reverse taken) (chain (map target (drop i ts)) t.NoTargets)) ≡ spec.targets P begin words []
     (chain (map target ts) t.NoTargets))
     (fit : excess (spec.targets P begin words [] (chain (map target ts) t.NoTargets)) ≡ 0) where
-  among : excess_among (target_of P (words_over words (reverse taken) x.part) x.part x.home (chain (map suffix x.suffixes) t.NoSuffix) x.check
+  among : excess_among (target_of P (words_over words (reverse taken) x.part) x.part x.home (chain (map suffix x.suffixes) t.NoSuffix) x.conversion x.check
       (spec.path P now (chain (map suffix x.suffixes) t.NoSuffix))) ≡ 0
   among = firsts_fit _ _ _ _ _ so_far (targets_next ts i x lt is P now _ words (reverse taken) refl) fit
 
   pub way_fits : excess (spec.path P now (chain (map suffix x.suffixes) t.NoSuffix)) ≡ 0
-  way_fits = target_path_fits P now _ x.part x.home (chain (map suffix x.suffixes) t.NoSuffix) x.check among
+  way_fits = target_path_fits P now _ x.part x.home (chain (map suffix x.suffixes) t.NoSuffix) x.conversion x.check among
 
   pub target_fits : (old : List Part) (way : Block) → old ≡ taken → way ≡ spec.path P now (chain (map suffix x.suffixes) t.NoSuffix)
-      → excess_among (target_of P (words_over words (reverse old) x.part) x.part x.home (chain (map suffix x.suffixes) t.NoSuffix) x.check way) ≡ 0
+      → excess_among (target_of P (words_over words (reverse old) x.part) x.part x.home (chain (map suffix x.suffixes) t.NoSuffix) x.conversion x.check way) ≡ 0
   target_fits old way same is_way =
-      ap (λ l. excess_among (target_of P (words_over words (reverse l) x.part) x.part x.home (chain (map suffix x.suffixes) t.NoSuffix) x.check way))
+      ap (λ l. excess_among (target_of P (words_over words (reverse l) x.part) x.part x.home (chain (map suffix x.suffixes) t.NoSuffix) x.conversion x.check way))
       same
-      ∙ ap (λ b. excess_among (target_of P (words_over words (reverse taken) x.part) x.part x.home (chain (map suffix x.suffixes) t.NoSuffix) x.check
+      ∙ ap (λ b. excess_among (target_of P (words_over words (reverse taken) x.part) x.part x.home (chain (map suffix x.suffixes) t.NoSuffix) x.conversion x.check
       b)) is_way
       ∙ among
 
   pub target_small : (held : List Block) (old : List Part) (way : Block) → held ≡ bs → old ≡ taken → way ≡ spec.path P now
       (chain (map suffix x.suffixes) t.NoSuffix)
-      → sizes_in held + sizes_in (target_of P (words_over words (reverse old) x.part) x.part x.home (chain (map suffix x.suffixes) t.NoSuffix) x.check
+      → sizes_in held + sizes_in (target_of P (words_over words (reverse old) x.part) x.part x.home (chain (map suffix x.suffixes) t.NoSuffix) x.conversion x.check
       way) ≤ 4294967295
   target_small held old way same_held same is_way =
       let small : sizes_in bs + sizes_in (target_of P (words_over words (reverse taken) x.part) x.part x.home
-      (chain (map suffix x.suffixes) t.NoSuffix) x.check (spec.path P now (chain (map suffix x.suffixes) t.NoSuffix))) ≤ 4294967295
+      (chain (map suffix x.suffixes) t.NoSuffix) x.conversion x.check (spec.path P now (chain (map suffix x.suffixes) t.NoSuffix))) ≤ 4294967295
       = firsts_small _ _ _ _ _ so_far (targets_next ts i x lt is P now (now + hidden_suffixes (chain (map suffix x.suffixes) t.NoSuffix)) words
       (reverse taken) refl) fit in
-      let blocks : sizes_in (target_of P (words_over words (reverse old) x.part) x.part x.home (chain (map suffix x.suffixes) t.NoSuffix) x.check way)
-      ≡ sizes_in (target_of P (words_over words (reverse taken) x.part) x.part x.home (chain (map suffix x.suffixes) t.NoSuffix) x.check
+      let blocks : sizes_in (target_of P (words_over words (reverse old) x.part) x.part x.home (chain (map suffix x.suffixes) t.NoSuffix) x.conversion x.check way)
+      ≡ sizes_in (target_of P (words_over words (reverse taken) x.part) x.part x.home (chain (map suffix x.suffixes) t.NoSuffix) x.conversion x.check
       (spec.path P now (chain (map suffix x.suffixes) t.NoSuffix)))
-      = ap (λ l. sizes_in (target_of P (words_over words (reverse l) x.part) x.part x.home (chain (map suffix x.suffixes) t.NoSuffix) x.check way))
+      = ap (λ l. sizes_in (target_of P (words_over words (reverse l) x.part) x.part x.home (chain (map suffix x.suffixes) t.NoSuffix) x.conversion x.check way))
       same
-      ∙ ap (λ b. sizes_in (target_of P (words_over words (reverse taken) x.part) x.part x.home (chain (map suffix x.suffixes) t.NoSuffix) x.check b))
+      ∙ ap (λ b. sizes_in (target_of P (words_over words (reverse taken) x.part) x.part x.home (chain (map suffix x.suffixes) t.NoSuffix) x.conversion x.check b))
       is_way in
       omega (arith, small, blocks, ap sizes_in same_held)
 
   pub target_more : (after : ℕ) (held new : List Block) (old longer : List Part) (way : Block)
       → after ≡ now + hidden_suffixes (chain (map suffix x.suffixes) t.NoSuffix) → held ≡ bs → old ≡ taken → way ≡ spec.path P now
       (chain (map suffix x.suffixes) t.NoSuffix)
-      → new ≡ held ++ target_of P (words_over words (reverse old) x.part) x.part x.home (chain (map suffix x.suffixes) t.NoSuffix) x.check way
+      → new ≡ held ++ target_of P (words_over words (reverse old) x.part) x.part x.home (chain (map suffix x.suffixes) t.NoSuffix) x.conversion x.check way
       → longer ≡ old ++ x.part ∷ []
       → in_order new (spec.targets P after words (reverse longer) (chain (map target (drop (i + 1) ts)) t.NoTargets)) ≡ spec.targets P begin words []
       (chain (map target ts) t.NoTargets)
@@ -248,10 +251,10 @@ module _ (P : Coded) (begin words : ℕ) (ts : List Target) (i : ℕ) (x : Targe
       ap (λ l. in_order new (spec.targets P after words l (chain (map target (drop (i + 1) ts)) t.NoTargets))) turned
       ∙ firsts_more _ _ _ _ _ so_far (targets_next ts i x lt is P now after words (reverse taken) is_after) fit new
       (is_new
-      ∙ ap (λ l. l ++ target_of P (words_over words (reverse old) x.part) x.part x.home (chain (map suffix x.suffixes) t.NoSuffix) x.check way)
+      ∙ ap (λ l. l ++ target_of P (words_over words (reverse old) x.part) x.part x.home (chain (map suffix x.suffixes) t.NoSuffix) x.conversion x.check way)
       same_held
-      ∙ ap (λ l. bs ++ target_of P (words_over words (reverse l) x.part) x.part x.home (chain (map suffix x.suffixes) t.NoSuffix) x.check way) same
-      ∙ ap (λ b. bs ++ target_of P (words_over words (reverse taken) x.part) x.part x.home (chain (map suffix x.suffixes) t.NoSuffix) x.check b)
+      ∙ ap (λ l. bs ++ target_of P (words_over words (reverse l) x.part) x.part x.home (chain (map suffix x.suffixes) t.NoSuffix) x.conversion x.check way) same
+      ∙ ap (λ b. bs ++ target_of P (words_over words (reverse taken) x.part) x.part x.home (chain (map suffix x.suffixes) t.NoSuffix) x.conversion x.check b)
       is_way)
 
 module _ (P : Coded) (begin words : ℕ) (ts : List Target) (i : ℕ) (bs : List Block) (taken : List Part) (now : ℕ) (past : length ts ≤ i)

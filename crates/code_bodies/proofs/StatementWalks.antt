@@ -1,5 +1,5 @@
 -- The block of each form of a statement by what was made of its parts, and that the numbers in the blocks of its parts fit.
-use Rattle.std.proofs.Common.{◌≡◌, refl, sym, ap, ◌∙◌, ℕ, ◌+◌, ◌≤◌, List, [], ◌∷◌, ◌++◌, map, Bool, true, false, not, arith}
+use Rattle.std.proofs.Common.{◌≡◌, refl, sym, ap, ◌∙◌, ℕ, ◌+◌, ◌≤◌, ◌⊎◌, List, [], ◌∷◌, ◌++◌, map, Bool, true, false, not, arith}
 use Rattle.std.specs.Prelude.{Result, Ok, IfOk}
 use Rattle.mesa_base.specs.Chain.{chain}
 use Rattle.mesa_types.specs.Counts.{hidden, hidden_cases, hidden_expr, hidden_loop, words_of}
@@ -20,7 +20,7 @@ use Rattle.code_blocks.specs.Blocks.{ArmBlocks, Block, Both, Does, Ends, Mark}
 use Rattle.code_blocks.specs.Sizes.{size}
 use Rattle.code_blocks.specs.Translation as spec
 use Rattle.code_trees.specs.Excess.{excess, excess_in}
-use Rattle.code_trees.specs.Forms.{assign_of, blocks_of, case_blocks, if_of, is_null, labelled, select_of}
+use Rattle.code_trees.specs.Forms.{assign_of, blocks_of, case_blocks, held_words, if_of, is_null, labelled, select_of}
 use Rattle.code_trees.specs.Plain.{in_order}
 use Rattle.code_trees.specs.Rows.{excess_among, sizes_in}
 use Rattle.code_trees.specs.declared.held_parts.Held.{Held}
@@ -70,14 +70,14 @@ pub assign_same : (P : Coded) (h : Home) (s : t.Suffixes) (words way_words : ℕ
 assign_same P h s words way_words a b c d is_words is_way is_set =
     ap (λ n. assign_of P h s n a c) is_words ∙ ap (λ x. assign_of P h s way_words x c) is_way ∙ ap (assign_of P h s way_words b) is_set
 
-pub select_same : (none : Bool) (x words same_words : ℕ) (a b : Block) (bs cs : List Block) (c d : Block) → words ≡ same_words → a ≡ b → bs ≡ cs → c
-    ≡ d
-    → select_of none x words a bs c ≡ select_of none x same_words b cs d
-select_same none x words same_words a b bs cs c d is_words is_selector is_cases is_last =
-    ap (λ n. select_of none x n a bs c) is_words
-    ∙ ap (λ y. select_of none x same_words y bs c) is_selector
-    ∙ ap (λ l. select_of none x same_words b l c) is_cases
-    ∙ ap (select_of none x same_words b cs) is_last
+pub select_same : (none : Bool) (x held words same_words : ℕ) (a b : Block) (bs cs : List Block) (c d : Block) → words ≡ same_words → a ≡ b
+    → bs ≡ cs → c ≡ d
+    → select_of none x held words a bs c ≡ select_of none x held same_words b cs d
+select_same none x held words same_words a b bs cs c d is_words is_selector is_cases is_last =
+    ap (λ n. select_of none x held n a bs c) is_words
+    ∙ ap (λ y. select_of none x held same_words y bs c) is_selector
+    ∙ ap (λ l. select_of none x held same_words b l c) is_cases
+    ∙ ap (select_of none x held same_words b cs) is_last
 
 pub enclosed_same : (es : t.Exits) (bs cs : List Block) (arms same_arms : ArmBlocks) (a b past : Block) → bs ≡ cs → arms ≡ same_arms → a ≡ b
     → labelled es bs (Both (spec.enabled arms a) past) ≡ labelled es cs (Both (spec.enabled same_arms b) past)
@@ -120,22 +120,26 @@ module _ (P : Coded) (z : ℕ) (x : TypedStmt) (l read : Loop) (is : x ≡ v.Rep
   unfolding hidden
   repeat_hidden = ap hidden read_repeat
 
--- Select
+-- Select and SelectLong
 
-pub otherwise_fits : (none : Bool) (x words : ℕ) (selector : Block) (bs : List Block) (last : Block)
-    → excess (select_of none x words selector bs last) ≡ 0 → excess last ≡ 0
+pub otherwise_fits : (none : Bool) (x held words : ℕ) (selector : Block) (bs : List Block) (last : Block)
+    → excess (select_of none x held words selector bs last) ≡ 0 → excess last ≡ 0
 unfolding excess
-otherwise_fits true x words selector bs last h = omega arith
-otherwise_fits false x words selector bs last h = last_fits bs last (omega arith)
+otherwise_fits true x held words selector bs last h = omega arith
+otherwise_fits false x held words selector bs last h = last_fits bs last (omega arith)
 
-cases_in_select : (x words : ℕ) (selector : Block) (bs : List Block) (last : Block) → excess (select_of false x words selector bs last) ≡ 0
-    → excess (in_order bs last) ≡ 0
+cases_in_select : (x held words : ℕ) (selector : Block) (bs : List Block) (last : Block)
+    → excess (select_of false x held words selector bs last) ≡ 0 → excess (in_order bs last) ≡ 0
 unfolding excess
-cases_in_select x words selector bs last h = omega arith
+cases_in_select x held words selector bs last h = omega arith
 
-module _ (P : Coded) (z : ℕ) (x : TypedStmt) (e : TypedExpr) (s read_s : TypedStmt) (one two : ℕ)
-    (is_s : read_s ≡ s) (is_one : one ≡ z + 1) (is_two : two ≡ one + hidden_expr (expr e)) (fit : excess (spec.block P z (stmt x)) ≡ 0) where
-  rows_by : (cs read_cs : List Case) → x ≡ v.Select e cs s → read_cs ≡ cs
+abbrev IsSelect : TypedStmt → TypedExpr → List Case → TypedStmt → Type 0
+IsSelect x e cs s = (x ≡ v.Select e cs s) ⊎ (x ≡ v.SelectLong e cs s)
+
+module _ (P : Coded) (z : ℕ) (x : TypedStmt) (e : TypedExpr) (s read_s : TypedStmt) (held one two : ℕ) (is_s : read_s ≡ s)
+    (is_held : held ≡ held_words (stmt x)) (is_one : one ≡ z + held) (is_two : two ≡ one + hidden_expr (expr e))
+    (fit : excess (spec.block P z (stmt x)) ≡ 0) where
+  rows_by : (cs read_cs : List Case) → IsSelect x e cs s → read_cs ≡ cs
       → (excess_among (case_blocks P two z (not (is_null (stmt read_s))) (chain (map case read_cs) (t.Otherwise t.Null))) ≡ 0)
       × (sizes_in (case_blocks P two z (not (is_null (stmt read_s))) (chain (map case read_cs) (t.Otherwise t.Null))) ≤ 4294967295)
   unfolding case_blocks excess_among sizes_in
@@ -143,43 +147,45 @@ module _ (P : Coded) (z : ℕ) (x : TypedStmt) (e : TypedExpr) (s read_s : Typed
   rows_by cs (c ∷ rest) is is_cs =
       let bs : List Block = case_blocks P two z (not (is_null (stmt read_s))) (chain (map case (c ∷ rest)) (t.Otherwise t.Null)) in
       let three : ℕ = two + hidden_cases (chain (map case (c ∷ rest)) (t.Otherwise t.Null)) in
-      let form = select_form P z x e cs s (c ∷ rest) read_s is is_cs is_s one two three false is_one is_two refl (λ h. cc) (λ _ h. cc) in
+      let form = select_form P z x e cs s (c ∷ rest) read_s is_cs is_s is held is_held one two three false is_one is_two refl (λ h. cc) (λ _ h. cc) in
       let whole : excess (in_order bs (spec.block P three (stmt read_s))) ≡ 0
-      = cases_in_select z (words_of (expr e)) (spec.forms P one (expr e)).value bs (spec.block P three (stmt read_s)) (ap excess (sym form) ∙ fit) in
+      = cases_in_select z held (words_of (expr e)) (spec.forms P one (expr e)).value bs (spec.block P three (stmt read_s)) (ap excess (sym form) ∙ fit) in
       let small : sizes_in bs + size (spec.block P three (stmt read_s)) ≤ 4294967295 = row_fits bs (spec.block P three (stmt read_s)) whole in
       (among_fit bs (spec.block P three (stmt read_s)) whole, omega (arith, small))
 
-  pub cases_fit : (cs read_cs : List Case) → x ≡ v.Select e cs s → read_cs ≡ cs
+  pub cases_fit : (cs read_cs : List Case) → IsSelect x e cs s → read_cs ≡ cs
       → excess_among (case_blocks P two z (not (is_null (stmt read_s))) (chain (map case read_cs) (t.Otherwise t.Null))) ≡ 0
   cases_fit cs read_cs is is_cs = (rows_by cs read_cs is is_cs).0
 
-  pub cases_small : (cs read_cs : List Case) → x ≡ v.Select e cs s → read_cs ≡ cs
+  pub cases_small : (cs read_cs : List Case) → IsSelect x e cs s → read_cs ≡ cs
       → sizes_in (case_blocks P two z (not (is_null (stmt read_s))) (chain (map case read_cs) (t.Otherwise t.Null))) ≤ 4294967295
   cases_small cs read_cs is is_cs = (rows_by cs read_cs is is_cs).1
 
-module _ (P : Coded) (z one : ℕ) (x : TypedStmt) (e : TypedExpr) (s : TypedStmt) (is_one : one ≡ z + 1) (fit : excess (spec.block P z (stmt x))
-    ≡ 0) where
-  pub selector_value : (cs : List Case) → x ≡ v.Select e cs s → excess ((spec.forms P one (expr e)).value) ≡ 0
+module _ (P : Coded) (z held one : ℕ) (x : TypedStmt) (e : TypedExpr) (s : TypedStmt) (is_held : held ≡ held_words (stmt x)) (is_one : one ≡ z + held)
+    (fit : excess (spec.block P z (stmt x)) ≡ 0) where
+  pub selector_value : (cs : List Case) → IsSelect x e cs s → excess ((spec.forms P one (expr e)).value) ≡ 0
   selector_value [] is =
-      let form = select_form P z x e [] s [] s is refl refl one (one + hidden_expr (expr e)) (one + hidden_expr (expr e) + hidden_cases
+      let form = select_form P z x e [] s [] s refl refl is held is_held one (one + hidden_expr (expr e)) (one + hidden_expr (expr e) + hidden_cases
       (t.Otherwise t.Null)) true is_one refl refl (λ _. refl) (λ h _. cc) in
       first_part (spec.forms P one (expr e)).value _ (ap excess (sym form) ∙ fit)
   selector_value (c ∷ cs) is =
-      let form = select_form P z x e (c ∷ cs) s (c ∷ cs) s is refl refl one (one + hidden_expr (expr e)) (one + hidden_expr (expr e) + hidden_cases
-      (chain (map case (c ∷ cs)) (t.Otherwise t.Null))) false is_one refl refl (λ h. cc) (λ _ h. cc) in
+      let form = select_form P z x e (c ∷ cs) s (c ∷ cs) s refl refl is held is_held one (one + hidden_expr (expr e)) (one + hidden_expr (expr e)
+      + hidden_cases (chain (map case (c ∷ cs)) (t.Otherwise t.Null))) false is_one refl refl (λ h. cc) (λ _ h. cc) in
       first_part (spec.forms P one (expr e)).value _ (ap excess (sym form) ∙ fit)
 
-module _ (P : Coded) (z one two three : ℕ) (x : TypedStmt) (e : TypedExpr) (s read_s : TypedStmt) (is_s : read_s ≡ s) (is_one : one ≡ z + 1)
-    (is_two : two ≡ one + hidden_expr (expr e)) (fit : excess (spec.block P z (stmt x)) ≡ 0) where
-  pub last_statement : (cs read_cs : List Case) → x ≡ v.Select e cs s → read_cs ≡ cs → three ≡ two + hidden_cases
+module _ (P : Coded) (z held one two three : ℕ) (x : TypedStmt) (e : TypedExpr) (s read_s : TypedStmt) (is_s : read_s ≡ s)
+    (is_held : held ≡ held_words (stmt x)) (is_one : one ≡ z + held) (is_two : two ≡ one + hidden_expr (expr e))
+    (fit : excess (spec.block P z (stmt x)) ≡ 0) where
+  pub last_statement : (cs read_cs : List Case) → IsSelect x e cs s → read_cs ≡ cs → three ≡ two + hidden_cases
       (chain (map case read_cs) (t.Otherwise t.Null))
       → excess (spec.block P three (stmt read_s)) ≡ 0
   last_statement cs [] is is_cs is_three =
-      let form = select_form P z x e cs s [] read_s is is_cs is_s one two three true is_one is_two is_three (λ _. refl) (λ h _. cc) in
-      otherwise_fits true z (words_of (expr e)) (spec.forms P one (expr e)).value [] (spec.block P three (stmt read_s)) (ap excess (sym form) ∙ fit)
+      let form = select_form P z x e cs s [] read_s is_cs is_s is held is_held one two three true is_one is_two is_three (λ _. refl) (λ h _. cc) in
+      otherwise_fits true z held (words_of (expr e)) (spec.forms P one (expr e)).value [] (spec.block P three (stmt read_s)) (ap excess (sym form) ∙ fit)
   last_statement cs (c ∷ rest) is is_cs is_three =
-      let form = select_form P z x e cs s (c ∷ rest) read_s is is_cs is_s one two three false is_one is_two is_three (λ h. cc) (λ _ h. cc) in
-      otherwise_fits false z (words_of (expr e)) (spec.forms P one (expr e)).value
+      let form = select_form P z x e cs s (c ∷ rest) read_s is_cs is_s is held is_held one two three false is_one is_two is_three (λ h. cc)
+      (λ _ h. cc) in
+      otherwise_fits false z held (words_of (expr e)) (spec.forms P one (expr e)).value
       (case_blocks P two z (not (is_null (stmt read_s))) (chain (map case (c ∷ rest)) (t.Otherwise t.Null))) (spec.block P three (stmt read_s))
       (ap excess (sym form) ∙ fit)
 

@@ -8,6 +8,7 @@ use Rattle.mesa_types.specs.Plain.{expr, interval, test}
 use Rattle.mesa_types.specs.Typed as t
 use Rattle.mesa_types.specs.declared.typed_parts.Base.{Base}
 use Rattle.mesa_types.specs.declared.typed_parts.Bases.{Bases}
+use Rattle.mesa_types.specs.declared.typed_parts.Conversion.{Conversion}
 use Rattle.mesa_types.specs.declared.typed_parts.Range.{Range}
 use Rattle.mesa_base.specs.declared.relation.Relation.{Relation}
 use Rattle.mesa_types.specs.declared.typed_tree.Interval.{Interval}
@@ -20,7 +21,7 @@ use Rattle.code_blocks.specs.Sizes.{size}
 use Rattle.code_rules.specs.Reading.{Coded}
 use Rattle.code_blocks.specs.Translation as spec
 use Rattle.code_trees.specs.Excess.{excess}
-use Rattle.code_trees.specs.Forms.{past_if, related_of, test_blocks, test_of, tests_end, within_test_of}
+use Rattle.code_trees.specs.Forms.{long_related_of, long_within_test_of, past_if, related_of, test_blocks, test_of, tests_end, within_test_of}
 use Rattle.code_trees.specs.Plain.{in_order}
 use Rattle.code_trees.specs.Rows.{excess_among, sizes_in}
 use Rattle.code_trees.proofs.CaseLaws.{blocks_of_first, hidden_of_first, last_left, tests_are}
@@ -54,6 +55,33 @@ module _ (P : Coded) (z x : ℕ) (last : Bool) (of : Test) (negated : Bool) (bas
   within_hidden = let whole : hidden_tests (test of t.NoTests) ≡ hidden_interval (interval range) + 0 = ap hidden_tests within_is in omega
       (arith, whole)
 
+module _ (P : Coded) (z x : ℕ) (last : Bool) (of : Test) (conversion : Conversion) (base : Base) (o : Relation) (e : TypedExpr)
+    (is : of ≡ v.IfRelatedLong conversion base o e) where
+  long_related_is : test of t.NoTests ≡ t.IfRelatedLong conversion base o (expr e) t.NoTests
+  long_related_is = ap (λ y. test y t.NoTests) (is ∙ sym (v.rolls-IfRelatedLong conversion base o e)) ∙ rw fold-roll-Test refl
+
+  pub long_related_form : test_of P z x last (test of t.NoTests) ≡ long_related_of x conversion base o last (spec.forms P z (expr e)).value
+  long_related_form = ap (test_of P z x last) long_related_is
+
+  pub long_related_hidden : hidden_tests (test of t.NoTests) ≡ hidden_expr (expr e)
+  unfolding hidden_tests
+  long_related_hidden = let whole : hidden_tests (test of t.NoTests) ≡ hidden_expr (expr e) + 0 = ap hidden_tests long_related_is in omega
+      (arith, whole)
+
+module _ (P : Coded) (z x : ℕ) (last : Bool) (of : Test) (negated : Bool) (conversion : Conversion) (bases : Bases) (range : Interval)
+    (is : of ≡ v.IfWithinLong negated conversion bases range) where
+  long_within_is : test of t.NoTests ≡ t.IfWithinLong negated conversion bases (interval range) t.NoTests
+  long_within_is = ap (λ y. test y t.NoTests) (is ∙ sym (v.rolls-IfWithinLong negated conversion bases range)) ∙ rw fold-roll-Test refl
+
+  pub long_within_form : test_of P z x last (test of t.NoTests)
+      ≡ long_within_test_of P x negated conversion bases (interval range) last (spec.bounds P z (interval range))
+  long_within_form = ap (test_of P z x last) long_within_is
+
+  pub long_within_hidden : hidden_tests (test of t.NoTests) ≡ hidden_interval (interval range)
+  unfolding hidden_tests
+  long_within_hidden = let whole : hidden_tests (test of t.NoTests) ≡ hidden_interval (interval range) + 0 = ap hidden_tests long_within_is in omega
+      (arith, whole)
+
 pub related_value_fits : (x : ℕ) (r : Range) (base : Base) (o : Relation) (last : Bool) (value : Block) → excess (related_of x r base o last value)
     ≡ 0 → excess value ≡ 0
 unfolding excess
@@ -63,6 +91,16 @@ pub within_bounds_fit : (P : Coded) (x : ℕ) (negated : Bool) (bases : Bases) (
     → excess (within_test_of P x negated bases range last bounds) ≡ 0 → excess bounds ≡ 0
 unfolding excess
 within_bounds_fit P x negated bases range last bounds h = omega arith
+
+pub long_related_value_fits : (x : ℕ) (conversion : Conversion) (base : Base) (o : Relation) (last : Bool) (value : Block)
+    → excess (long_related_of x conversion base o last value) ≡ 0 → excess value ≡ 0
+unfolding excess
+long_related_value_fits x conversion base o last value h = omega arith
+
+pub long_within_bounds_fit : (P : Coded) (x : ℕ) (negated : Bool) (conversion : Conversion) (bases : Bases) (range : t.Interval) (last : Bool)
+    (bounds : Block) → excess (long_within_test_of P x negated conversion bases range last bounds) ≡ 0 → excess bounds ≡ 0
+unfolding excess
+long_within_bounds_fit P x negated conversion bases range last bounds h = omega arith
 
 -- the tests of a case and its statement
 pub case_parts : (tests statement past : Block) → excess (spec.a_case tests statement past) ≡ 0 → (excess tests ≡ 0) × (excess statement ≡ 0)

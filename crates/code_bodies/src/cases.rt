@@ -14,7 +14,7 @@ ghost use Rattle.code_trees.specs.Rows.{excess_among, sizes_in};
 use crate::expressions::{bounds, value};
 use crate::rooms::{room_for_bounds, room_for_test, room_for_tests, room_for_value};
 use crate::statements::block;
-use code_trees::case_forms::{related, tested, within};
+use code_trees::case_forms::{long_related, long_within, related, tested, within};
 use code_trees::exit_forms::past_if;
 use code_trees::making::{closed, joined, no_row};
 use code_trees::{Part, Routine, Row};
@@ -133,6 +133,18 @@ pub(crate) fn a_test(
             room_for_bounds(routine, *next, range);
             let ends = bounds(alloc, routine, next, range)?;
             within(alloc, routine, slot, *negated, *bases, range, last, ends)
+        }
+        Test::IfRelatedLong(how, base, relation, e) => {
+            room_for_value(routine, *next, e);
+            let right = value(alloc, routine, next, e)?;
+            long_related(alloc, slot, *how, *base, *relation, last, right)
+        }
+        Test::IfWithinLong(negated, how, bases, range) => {
+            room_for_bounds(routine, *next, range);
+            let ends = bounds(alloc, routine, next, range)?;
+            long_within(
+                alloc, routine, slot, *negated, *how, *bases, range, last, ends,
+            )
         }
     }
 }

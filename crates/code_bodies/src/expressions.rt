@@ -12,13 +12,14 @@ ghost use Rattle.code_trees.specs.Routines.{coded};
 
 use crate::phrases::caught_by;
 use crate::rooms::{room_for_jump, room_for_path, room_for_phrase, room_for_value};
-use crate::turns::{operated, read};
+use crate::turns::{long_operated, operated, read};
 use code_counts::value_words;
 use code_forms::Instruction;
 use code_trees::calls::{called, constructed};
 use code_trees::conditions::{answer, turned};
 use code_trees::forms::{
-    checked, field_of, followed, instructed, leapt, leapt_where_related, lying_within, related,
+    checked, converted, field_of, followed, instructed, leapt, leapt_where_long_related,
+    leapt_where_related, long_lying_within, long_number, long_related, lying_within, related,
     single, two_instructed,
 };
 use code_trees::link_code::{call_code, raise_code};
@@ -46,6 +47,7 @@ pub(crate) fn value(
 {
     match e {
         TypedExpr::Number(word) => single(alloc, Instruction::Lit { word: *word }),
+        TypedExpr::LongNumber(number) => long_number(alloc, *number),
         TypedExpr::Literal(literal) => single(
             alloc,
             Instruction::Str {
@@ -77,19 +79,40 @@ pub(crate) fn value(
             let of = value(alloc, routine, next, of.get())?;
             checked(alloc, of, *range)
         }
+        TypedExpr::Converted(how, of) => {
+            let of = value(alloc, routine, next, of.get())?;
+            converted(alloc, of, *how)
+        }
         TypedExpr::Operate(first, rest) => {
             let first = value(alloc, routine, next, first.get())?;
             let (first, rest) = both(first, operations(alloc, routine, next, rest.as_slice()))?;
+            followed(alloc, first, rest)
+        }
+        TypedExpr::OperateLong(first, rest) => {
+            let first = value(alloc, routine, next, first.get())?;
+            let (first, rest) = both(
+                first,
+                long_operations(alloc, routine, next, rest.as_slice()),
+            )?;
             followed(alloc, first, rest)
         }
         TypedExpr::Negate(of) => {
             let of = value(alloc, routine, next, of.get())?;
             instructed(alloc, of, Instruction::Neg)
         }
+        TypedExpr::NegateLong(of) => {
+            let of = value(alloc, routine, next, of.get())?;
+            instructed(alloc, of, Instruction::NegD)
+        }
         TypedExpr::Relate(base, how, left, right) => {
             let left = value(alloc, routine, next, left.get())?;
             let (left, right) = both(left, value(alloc, routine, next, right.get()))?;
             related(alloc, left, right, *base, *how)
+        }
+        TypedExpr::RelateLong(base, how, left, right) => {
+            let left = value(alloc, routine, next, left.get())?;
+            let (left, right) = both(left, value(alloc, routine, next, right.get()))?;
+            long_related(alloc, left, right, *base, *how)
         }
         TypedExpr::Within(bases, of, range) => {
             let range = range.get();
@@ -97,6 +120,13 @@ pub(crate) fn value(
             let (of, ends) = both(of, bounds(alloc, routine, next, range))?;
             let (first, last) = (range.first_is_open, range.last_is_open);
             lying_within(alloc, routine, of, ends, *bases, first, last)
+        }
+        TypedExpr::WithinLong(bases, of, range) => {
+            let range = range.get();
+            let of = value(alloc, routine, next, of.get())?;
+            let (of, ends) = both(of, bounds(alloc, routine, next, range))?;
+            let (first, last) = (range.first_is_open, range.last_is_open);
+            long_lying_within(alloc, routine, of, ends, *bases, first, last)
         }
         TypedExpr::Not(of) => {
             let of = value(alloc, routine, next, of.get())?;
@@ -163,18 +193,28 @@ pub(crate) fn jump(
             let (left, right) = both(left, value(alloc, routine, next, right.get()))?;
             leapt_where_related(alloc, left, right, *base, *how, sense, part)
         }
+        TypedExpr::RelateLong(base, how, left, right) => {
+            let left = value(alloc, routine, next, left.get())?;
+            let (left, right) = both(left, value(alloc, routine, next, right.get()))?;
+            leapt_where_long_related(alloc, left, right, *base, *how, sense, part)
+        }
         TypedExpr::AllOf(es) => passed(alloc, routine, next, es.as_slice(), sense, false, part),
         TypedExpr::SomeOf(es) => passed(alloc, routine, next, es.as_slice(), !sense, true, part),
         TypedExpr::Number(_)
+        | TypedExpr::LongNumber(_)
         | TypedExpr::Literal(_)
         | TypedExpr::Variable(_, _, _)
         | TypedExpr::FieldOf(_, _)
         | TypedExpr::LengthOf(_)
         | TypedExpr::ByteOf(_, _)
         | TypedExpr::Checked(_, _)
+        | TypedExpr::Converted(_, _)
         | TypedExpr::Operate(_, _)
+        | TypedExpr::OperateLong(_, _)
         | TypedExpr::Negate(_)
+        | TypedExpr::NegateLong(_)
         | TypedExpr::Within(_, _, _)
+        | TypedExpr::WithinLong(_, _, _)
         | TypedExpr::Construct(_, _)
         | TypedExpr::Call(_, _, _, _, _)
         | TypedExpr::Raise(_, _, _, _, _) => {
@@ -282,6 +322,29 @@ pub(crate) fn operations(
         room_for_value(routine, *next, &step.right);
         let (held, right) = both(row, value(alloc, routine, next, &step.right))?;
         row = operated(alloc, routine, held, step.check, step.operator, right)?;
+    }
+    closed(alloc, row, does(List::new(alloc)))
+}
+
+/// The operators of a run over LONG numbers behind its first operand.
+#[cycle(blocks)]
+#[tactic(auto, unfolding(mesa_types::specs::Counts::hidden_expr))]
+pub(crate) fn long_operations(
+    alloc: Global,
+    routine: &Routine,
+    next: &mut u16,
+    rest: &[Operation],
+) -> Result<Part, OutOfMemory>
+    requires room { next.old + hidden_operations (chain (map operation rest.now) t.NoOperation) ≤ 65535 }
+    requires fits { excess (spec.long_operations (coded routine.now) next.old (chain (map operation rest.now) t.NoOperation)) ≡ 0 }
+    ensures block { IfOk result (λ made. plain made.block ≡ spec.long_operations (coded routine.now) next.old (chain (map operation rest.now) t.NoOperation)) }
+    ensures next { OnOk result (next.new ≡ next.old + hidden_operations (chain (map operation rest.now) t.NoOperation)) }
+{
+    let mut row = no_row(alloc);
+    for step in rest {
+        room_for_value(routine, *next, &step.right);
+        let (held, right) = both(row, value(alloc, routine, next, &step.right))?;
+        row = long_operated(alloc, held, step.operator, right)?;
     }
     closed(alloc, row, does(List::new(alloc)))
 }

@@ -17,7 +17,7 @@ use crate::rooms::{
 };
 use crate::targets::targets;
 use code_counts::value_words;
-use code_trees::case_forms::{branches, dropped, is_null, selected};
+use code_trees::case_forms::{branches, dropped, held_words, is_null, selected};
 use code_trees::counter::Counter;
 use code_trees::exit_forms::enclosed;
 use code_trees::forms::followed;
@@ -92,9 +92,10 @@ pub fn block(
             let (held, first) = parts;
             branches(alloc, held, first, !is_null(otherwise), second)
         }
-        TypedStmt::Select(e, cs, otherwise) => {
+        TypedStmt::Select(e, cs, otherwise) | TypedStmt::SelectLong(e, cs, otherwise) => {
             let slot = *next;
-            *next += 1;
+            let words_held = held_words(s);
+            *next += words_held;
             let words = value_words(e)?;
             room_for_value(routine, *next, e);
             let selector = value(alloc, routine, next, e)?;
@@ -106,7 +107,16 @@ pub fn block(
             room_for_statement(routine, *next, otherwise);
             let (parts, last) = both((kept, row), block(alloc, routine, next, otherwise))?;
             let (kept, row) = parts;
-            selected(alloc, slot, words, kept, cs.is_empty(), row, last)
+            selected(
+                alloc,
+                slot,
+                words_held,
+                words,
+                kept,
+                cs.is_empty(),
+                row,
+                last,
+            )
         }
         TypedStmt::Block(catching, ss, es) => {
             let catching = catching.get();

@@ -20,7 +20,7 @@ ghost use Rattle.code_bodies.specs.Reads.{read_of};
 use code_trees::forms::{instructed, single};
 use code_trees::link_code::labels;
 use code_trees::making::{does, joined};
-use code_trees::own_code::{check, operator};
+use code_trees::own_code::{check, long_operator, operator};
 use code_trees::slot_code::{load, load_within};
 use code_trees::suffix_forms::{at_element, fields_of, has_index};
 use code_trees::{ArmBlock, ArmBlocks, Code, Part, Routine, Row};
@@ -83,6 +83,22 @@ pub(crate) fn operated(
     let ((row, right), (check, code)) = both((row, right), step_code(alloc, routine, range, how))?;
     let (right, row) = both(right, joined(row, does(check)))?;
     let row = joined(row, right)?;
+    joined(row, does(code))
+}
+
+/// An operator over LONG numbers more: its right side, and its code.
+#[tactic(auto, unfolding(code_trees::specs::Rows::sizes_in), using(code_trees::proofs::RowLaws::sizes_more, code_trees::proofs::RowLaws::two_more))]
+pub(crate) fn long_operated(
+    alloc: Global,
+    row: Row,
+    how: Operator,
+    right: Part,
+) -> Result<Row, OutOfMemory>
+    requires { sizes_in (plain_blocks row.blocks) + (size (plain right.block) + bytes_in (own.long_operator_code how)) ≤ 4294967295 }
+    ensures { IfOk result (λ longer. plain_blocks longer.blocks ≡ plain_blocks row.blocks ++ plain right.block ∷ tree.Does (own.long_operator_code how) ∷ []) }
+{
+    let row = joined(row, right)?;
+    let (row, code) = both(row, long_operator(alloc, how))?;
     joined(row, does(code))
 }
 

@@ -10,8 +10,9 @@ use mesa_types::{
     TypedStmt,
 };
 
-/// Three for each FOR or THROUGH in a statement and one for each SELECT, those in arms too, as the translation lays them out;
-/// 18,446,744,073,709,551,615 where they are more. The recursion is as deep as the tree.
+/// Three for each FOR or THROUGH in a statement and one for each SELECT, or two where its selector is LONG, those in arms
+/// too, as the translation lays them out; 18,446,744,073,709,551,615 where they are more. The recursion is as deep as the
+/// tree.
 #[cycle(hidden)]
 #[tactic(auto, unfolding(mesa_types::specs::Counts::hidden))]
 pub fn hidden_words(s: &TypedStmt) -> u64
@@ -39,6 +40,10 @@ pub fn hidden_words(s: &TypedStmt) -> u64
             .saturating_add(in_expr(e))
             .saturating_add(in_cases(cases.as_slice()))
             .saturating_add(hidden_words(otherwise.get())),
+        TypedStmt::SelectLong(e, cases, otherwise) => 2u64
+            .saturating_add(in_expr(e))
+            .saturating_add(in_cases(cases.as_slice()))
+            .saturating_add(hidden_words(otherwise.get())),
         TypedStmt::Block(catching, ss, exits) => in_phrase(catching.get())
             .saturating_add(in_stmts(ss.as_slice()))
             .saturating_add(in_exits(exits.as_slice())),
@@ -56,20 +61,24 @@ fn in_expr(e: &TypedExpr) -> u64
     ensures { result ≡ min (hidden_expr (expr e.now)) 18446744073709551615 }
 {
     match e {
-        TypedExpr::Number(_) | TypedExpr::Literal(_) => 0,
+        TypedExpr::Number(_) | TypedExpr::LongNumber(_) | TypedExpr::Literal(_) => 0,
         TypedExpr::Variable(_, suffixes, _) => in_suffixes(suffixes.as_slice()),
         TypedExpr::FieldOf(of, _)
         | TypedExpr::LengthOf(of)
         | TypedExpr::Checked(_, of)
+        | TypedExpr::Converted(_, of)
         | TypedExpr::Negate(of)
+        | TypedExpr::NegateLong(of)
         | TypedExpr::Not(of) => in_expr(of.get()),
-        TypedExpr::ByteOf(left, right) | TypedExpr::Relate(_, _, left, right) => {
+        TypedExpr::ByteOf(left, right)
+        | TypedExpr::Relate(_, _, left, right)
+        | TypedExpr::RelateLong(_, _, left, right) => {
             in_expr(left.get()).saturating_add(in_expr(right.get()))
         }
-        TypedExpr::Operate(first, rest) => {
+        TypedExpr::Operate(first, rest) | TypedExpr::OperateLong(first, rest) => {
             in_expr(first.get()).saturating_add(in_operations(rest.as_slice()))
         }
-        TypedExpr::Within(_, of, range) => {
+        TypedExpr::Within(_, of, range) | TypedExpr::WithinLong(_, of, range) => {
             in_expr(of.get()).saturating_add(in_interval(range.get()))
         }
         TypedExpr::AllOf(es) | TypedExpr::SomeOf(es) | TypedExpr::Construct(_, es) => {
@@ -164,7 +173,7 @@ fn in_stmts(ss: &[TypedStmt]) -> u64
 }
 
 #[cycle(hidden)]
-#[tactic(auto, unfolding(mesa_types::specs::Counts::hidden))]
+#[tactic(auto, using(crate::proofs::WordLaws::hidden_target), unfolding(mesa_types::specs::Counts::hidden))]
 fn in_targets(targets: &[Target]) -> u64
     ensures { result ≡ min (hidden_targets (chain (map target targets.now) t.NoTargets)) 18446744073709551615 }
 {
@@ -197,8 +206,12 @@ fn in_tests(tests: &[Test]) -> u64
     let mut words = 0u64;
     for test in tests {
         match test {
-            Test::IfRelated(_, _, _, e) => words = words.saturating_add(in_expr(e)),
-            Test::IfWithin(_, _, range) => words = words.saturating_add(in_interval(range)),
+            Test::IfRelated(_, _, _, e) | Test::IfRelatedLong(_, _, _, e) => {
+                words = words.saturating_add(in_expr(e))
+            }
+            Test::IfWithin(_, _, range) | Test::IfWithinLong(_, _, _, range) => {
+                words = words.saturating_add(in_interval(range))
+            }
         }
     }
     words

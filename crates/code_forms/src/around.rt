@@ -1,3 +1,4 @@
+//! What the code of a procedure may name, and how many words each instruction takes and puts.
 ghost use Rattle.std.specs.Prelude.{◌≡◌};
 ghost use Rattle.std.specs.Prelude.{[], map, slice_get};
 ghost use Rattle.code_forms.specs.Routine.{words_of, words_there, signal_words, link_words, is_error, is_error_signal, is_error_link, moves, goes_on};

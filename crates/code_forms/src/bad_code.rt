@@ -1,3 +1,5 @@
+//! What is wrong with code, and in which procedure.
+
 /// What is wrong with a procedure's code, each with an offset in it.
 #[derive(Clone, Copy, PartialEq, Eq)]
 pub enum CodeFault {

@@ -1,3 +1,4 @@
+//! The code of a module, made of parts whose counts and sizes are in range.
 ghost use Rattle.std.specs.Prelude.{◌≡◌, ℕ, ◌+◌, ◌-◌, ◌<◌, ◌≤◌, ◌^◌, ◌↔◌, length, All, IsTrue, MatchOption, slice_get, slice_index_or};
 ghost use Rattle.mesa_base.specs.declared.limits.TheConstants.{STRING_BYTES};
 ghost use Rattle.code_forms.specs.declared.module_code.CodeEntry.{CodeEntry};

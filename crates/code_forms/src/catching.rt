@@ -1,3 +1,4 @@
+//! Which phrase of a procedure is the first that breaks the rules on ranges and regions.
 ghost use Rattle.std.specs.Prelude.{◌≡◌, ℕ, ◌+◌, ◌-◌, ◌<◌, ◌≤◌, ◌↔◌, length, take, All, IsTrue, MatchOption, nat_lt, slice_index_or, Some, slice_get};
 ghost use Rattle.std.specs.List.{AllWithin};
 ghost use Rattle.std.specs.List.Sorted.{IsNonDecreasingBy};

@@ -1,3 +1,4 @@
+//! Instructions, with the number, the length and the name of each.
 ghost use Rattle.std.specs.Prelude.{◌≡◌};
 ghost use Rattle.code_forms.specs.Instructions.{number_of, bytes_of, name_of};
 

@@ -1,3 +1,4 @@
+//! The look at one instruction: where it leads and with which depth, or its fault.
 ghost use Rattle.std.specs.Prelude.{◌≡◌, [], ℕ, ◌+◌, ◌<◌, ◌↔◌, IsTrue, MatchOption, IfOk, IfErr, Some, slice_get};
 ghost use Rattle.std.specs.Option.{option_copied};
 ghost use Rattle.code_forms.specs.declared.module_code.Arm.{Arm};

@@ -1,3 +1,4 @@
+//! Whether the jumps of a procedure lead where they may.
 ghost use Rattle.std.specs.Prelude.{◌≡◌, ◌↔◌, IsTrue};
 ghost use Rattle.code_forms.specs.Around.{routine_around};
 ghost use Rattle.code_forms.specs.Jumps.{GoesForward, GoesBack, GoesOut, ReturnsOut, JumpsRightly};

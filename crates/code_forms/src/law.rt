@@ -1,3 +1,4 @@
+//! The laws of valid code: its faults, its depths, and what a machine finds at each instruction.
 ghost use Rattle.code_forms.specs.Exact.{NoFaultOfValid, OneDepth, OneFirstFault};
 ghost use Rattle.code_forms.specs.Running.{RunsInRange};
 

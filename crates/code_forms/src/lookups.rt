@@ -1,3 +1,4 @@
+//! The instruction at an offset, the region that holds the offset, and the regions outward of one.
 ghost use Rattle.std.specs.Prelude.{◌≡◌, ℕ, ◌<◌, ◌≤◌, length, MatchOption, nat_le, nat_lt};
 ghost use Rattle.std.specs.List.{AllWithin};
 ghost use Rattle.code_forms.specs.Phrases.{first_start};

@@ -1,3 +1,4 @@
+//! The code of a module and its parts: signals, links, procedures, phrases, arms and labels.
 ghost use Rattle.code_forms.specs.Ranges.{KeepsRanges};
 
 use crate::instruction::Instruction;

@@ -1,3 +1,4 @@
+//! Whether the operands of instructions and the words of arms are in range.
 ghost use Rattle.std.specs.Prelude.{◌≡◌, [], ◌+◌, ◌≤◌, ◌↔◌, All, IsTrue, slice_get};
 ghost use Rattle.code_forms.specs.Around.{routine_around};
 ghost use Rattle.code_forms.specs.Operands.{IsCalled, IsRaised, CalledLink, RaisedLink, OperandsFit, SignalTakes, LinkTakes, LabelTakes, ArmFits, OperandsAreRight};

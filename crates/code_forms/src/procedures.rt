@@ -1,3 +1,4 @@
+//! The procedures of a module by number, and the look at the code of one of them.
 ghost use Rattle.std.specs.Prelude.{◌≡◌, [], ◌∷◌, ◌++◌, length, slice_get, OnOk, IfErr, IsTrue, ◌↔◌};
 ghost use Rattle.std.specs.Option.{option_copied};
 

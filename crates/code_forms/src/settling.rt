@@ -1,3 +1,4 @@
+//! The look at a whole procedure, which writes the depths beside its instructions.
 ghost use Rattle.std.specs.Prelude.{◌≡◌, ℕ, ◌+◌, ◌<◌, ◌≤◌, length, All, OnOk, IfErr, Some, slice_get};
 ghost use Rattle.code_forms.specs.declared.limits.TheConstants.{STACK_WORDS};
 ghost use Rattle.code_forms.specs.Around.{routine_around};

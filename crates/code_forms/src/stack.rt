@@ -1,3 +1,4 @@
+//! The depth that an instruction leaves, and whether it agrees with the depths of those to which it leads.
 ghost use Rattle.std.specs.Prelude.{◌≡◌, ◌≢◌, [], ℕ, ◌+◌, ◌<◌, ◌≤◌, ◌↔◌, length, IsTrue, MatchOption, slice_index_or, slice_get, Some};
 ghost use Rattle.code_forms.specs.declared.module_code.CodeEntry.{CodeEntry};
 ghost use Rattle.code_forms.specs.Around.{routine_around};

@@ -1,3 +1,4 @@
+//! The code of a module that is known to be valid.
 ghost use Rattle.std.specs.Prelude.{◌≡◌};
 ghost use Rattle.code_forms.specs.Valid.{Valid, HasDepths};
 

@@ -1,3 +1,4 @@
+//! Whether the code of a module is valid, and else its first fault.
 ghost use Rattle.std.specs.Prelude.{◌≡◌, ℕ, ◌<◌, ◌^◌, length, All, IfOk, IfErr, OnOk};
 ghost use Rattle.code_forms.specs.Ranges.{CanBeRead};
 ghost use Rattle.code_forms.specs.Same.{bare, IsSameCode};

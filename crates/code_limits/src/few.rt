@@ -1,3 +1,4 @@
+//! The test whether four bytes count the links of a code.
 ghost use Rattle.std.specs.Prelude.{◌≡◌, ◌<◌, ◌^◌, ◌↔◌, length, true, All};
 ghost use Rattle.code_limits.specs.Few.{AllLeaveFew, FewLinksAndArms, LeavesFew, arms_left};
 

@@ -1,10 +1,12 @@
 -- Own code is low: its literals and bounds are words where those of the tree are, and it moves no more words than there are.
-use Rattle.std.proofs.Common.{ℕ, zero, suc, ◌+◌, ◌≤◌, List, [], ◌∷◌, length, Bool, true, false, nat_eq, arith}
+use Rattle.std.proofs.Common.{ℕ, zero, suc, ◌+◌, ◌<◌, ◌≤◌, List, [], ◌∷◌, length, Bool, true, false, nat_eq, arith}
 use Rattle.mesa_types.specs.declared.typed_parts.Base.{Base}
 use Rattle.mesa_types.specs.declared.typed_parts.Base.TheVariants.{Signed, Unsigned}
 use Rattle.mesa_types.specs.declared.typed_parts.Bases.{Bases}
 use Rattle.mesa_types.specs.declared.typed_parts.Callee.{Callee}
 use Rattle.mesa_types.specs.declared.typed_parts.Callee.TheVariants.{OwnProcedure, LinkedProcedure}
+use Rattle.mesa_types.specs.declared.typed_parts.Conversion.{Conversion}
+use Rattle.mesa_types.specs.declared.typed_parts.Conversion.TheVariants.{Kept, Widened, Narrowed, InCommon}
 use Rattle.mesa_types.specs.declared.typed_parts.Given.{Given}
 use Rattle.mesa_types.specs.declared.typed_parts.Given.TheVariants.{NoVariable, GivenTo}
 use Rattle.mesa_types.specs.declared.typed_parts.Home.{Home}
@@ -18,15 +20,16 @@ use Rattle.mesa_types.specs.declared.typed_parts.Range.TheVariants.{Every, From}
 use Rattle.mesa_base.specs.declared.relation.Relation.{Relation}
 use Rattle.mesa_base.specs.declared.relation.Relation.TheVariants.{Equal, NotEqual, Less, AtMost, Greater, AtLeast}
 use Rattle.mesa_types.specs.declared.faces.Import.{Import}
-use Rattle.mesa_types.specs.Sound.{Scope, IsCheck, RangeIn, ChecksKind, GivenIn}
+use Rattle.mesa_types.specs.Sound.{Scope, IsCheck, RangeIn, Converts, ChecksKind, GivenIn}
 use Rattle.mesa_types.specs.Typed.{Kind, Interval, Between}
+use Rattle.mesa_types.proofs.LongLaws.{more_small, less_small}
 use Rattle.code_forms.specs.declared.instruction.Instruction.{Instruction}
 use Rattle.code_rules.specs.Links.{call_code, raise_code}
 use Rattle.code_rules.specs.Loops.{Counter, NoCounter, CountedIn, start_code, some_code, up_code, down_code, when, give_code, step_code}
-use Rattle.code_rules.specs.OwnCode.{pop_code, lift_code, drop_code, field_code, check_code, from_code, index_code, less, comparison, is_opposite, not_if, relation_code, operator_code, less_code, bound_code, within_code, total, size_for, size_after, without, rolls, arrange_from, arrange_code}
+use Rattle.code_rules.specs.OwnCode.{pop_code, lift_code, drop_code, field_code, long_code, check_code, widen_code, narrow_code, conversion_code, from_code, index_code, less, comparison, less_long, long_comparison, is_opposite, not_if, relation_code, long_relation_code, operator_code, long_operator_code, less_code, bound_code, within_code, long_less_code, long_bound_code, long_within_code, total, size_for, size_after, without, rolls, arrange_from, arrange_code}
 use Rattle.code_rules.specs.Reading.{Coded}
 use Rattle.code_rules.specs.Slots.{load, store, load_within, store_within, clear, zero_code, copy_code, spread_code}
-use Rattle.code_blocks.specs.Translation.{within_of, start_of}
+use Rattle.code_blocks.specs.Translation.{within_of, long_within_of, start_of}
 use Rattle.code_blocks.proofs.FineCode.{after_fits, left_over}
 use Rattle.code_ranges.proofs.Low.{IsLow, AllLow, all_low_both, all_low_if}
 
@@ -47,6 +50,11 @@ drop_low (suc n) k g h = all_low_both (lift_code (suc n) k) _ (lift_low (suc n) 
 pub field_low : (before words after : ℕ) → before ≤ 65535 → words ≤ 65535 → after ≤ 65535 → AllLow (field_code before words after)
 field_low before words after f g h = all_low_both (pop_code after) _ (pop_low after h) (drop_low before words f g)
 
+-- LONG numbers
+
+pub long_low : (n : ℕ) → n < 4294967296 → AllLow (long_code n)
+long_low n h = (omega (arith, more_small n h), (omega (arith, less_small n), tt))
+
 -- checks and relations
 
 pub check_low : (range : Range) → RangeIn range → AllLow (check_code range)
@@ -64,6 +72,25 @@ pub range_of : (range : Range) (k : Kind) → ChecksKind range k → RangeIn ran
 unfolding RangeIn ChecksKind
 range_of Every k h = tt
 range_of (From b first last) k h = h.0
+
+widen_low : (a b : Base) → AllLow (widen_code a b)
+widen_low Signed Signed = (tt, tt)
+widen_low Signed Unsigned = (tt, (tt, tt))
+widen_low Unsigned Signed = (tt, tt)
+widen_low Unsigned Unsigned = (tt, tt)
+
+narrow_low : (a b : Base) → AllLow (narrow_code a b)
+narrow_low Signed Signed = (tt, tt)
+narrow_low Signed Unsigned = (tt, tt)
+narrow_low Unsigned Signed = (tt, (tt, tt))
+narrow_low Unsigned Unsigned = (tt, tt)
+
+pub conversion_low : (c : Conversion) (j k : Kind) → Converts c j k → AllLow (conversion_code c)
+unfolding Converts
+conversion_low Kept j k h = tt
+conversion_low (Widened a b) j k h = widen_low a b
+conversion_low (Narrowed a b range) j k h = all_low_both (narrow_code a b) _ (narrow_low a b) (check_low range h.0)
+conversion_low InCommon j k h = (tt, tt)
 
 from_low : (first : ℕ) → first ≤ 65535 → AllLow (from_code first)
 from_low zero h = tt
@@ -91,6 +118,21 @@ not_low false = tt
 
 pub relation_low : (b : Base) (o : Relation) → AllLow (relation_code b o)
 relation_low b o = all_low_both (comparison b o) _ (comparison_low b o) (not_low (is_opposite o))
+
+less_long_low : (b : Base) → IsLow (less_long b)
+less_long_low Signed = tt
+less_long_low Unsigned = tt
+
+pub long_comparison_low : (b : Base) (o : Relation) → AllLow (long_comparison b o)
+long_comparison_low b Equal = (tt, tt)
+long_comparison_low b NotEqual = (tt, tt)
+long_comparison_low b Less = (less_long_low b, tt)
+long_comparison_low b AtMost = ((omega arith, omega arith), (less_long_low b, tt))
+long_comparison_low b Greater = ((omega arith, omega arith), (less_long_low b, tt))
+long_comparison_low b AtLeast = (less_long_low b, tt)
+
+pub long_relation_low : (b : Base) (o : Relation) → AllLow (long_relation_code b o)
+long_relation_low b o = all_low_both (long_comparison b o) _ (long_comparison_low b o) (not_low (is_opposite o))
 
 -- values that are rolled into order: no more words than there are
 
@@ -131,6 +173,17 @@ operator_low t (operator.SubtractFromCharacter Signed) =
 operator_low t (operator.SubtractFromCharacter Unsigned) =
     (tt, (tt, (tt, ((omega arith, omega arith), (omega arith, (tt, (tt, ((omega arith, omega arith), tt))))))))
 
+pub long_operator_low : (o : Operator) → AllLow (long_operator_code o)
+long_operator_low operator.Add = (tt, tt)
+long_operator_low operator.Subtract = (tt, tt)
+long_operator_low operator.Multiply = (tt, tt)
+long_operator_low (operator.Divide Signed) = (tt, tt)
+long_operator_low (operator.Divide Unsigned) = (tt, tt)
+long_operator_low (operator.Modulo Signed) = (tt, tt)
+long_operator_low (operator.Modulo Unsigned) = (tt, tt)
+long_operator_low (operator.AddToCharacter b) = (tt, tt)
+long_operator_low (operator.SubtractFromCharacter b) = (tt, tt)
+
 less_code_low : (b : Base) (s : ℕ) (c : Base) (u : ℕ) → AllLow (less_code b s c u)
 less_code_low Signed s Signed u = (tt, (tt, (tt, tt)))
 less_code_low Unsigned s Unsigned u = (tt, (tt, (tt, tt)))
@@ -150,6 +203,26 @@ within_low t bases p q = (
 
 pub within_of_low : (t : ℕ) (bases : Bases) (range : Interval) → AllLow (within_of t bases range)
 within_of_low t bases (Between x p y q) = within_low t bases p q
+
+long_less_low : (b : Base) (s : ℕ) (c : Base) (u : ℕ) → AllLow (long_less_code b s c u)
+long_less_low Signed s Signed u = (tt, (tt, (tt, tt)))
+long_less_low Unsigned s Unsigned u = (tt, (tt, (tt, tt)))
+long_less_low Signed s Unsigned u = (tt, (omega arith, (omega arith, (tt, (tt, (tt, (tt, (tt, (tt, (tt, (tt, tt)))))))))))
+long_less_low Unsigned s Signed u = (tt, (omega arith, (omega arith, (tt, (tt, (tt, (tt, (tt, (tt, tt)))))))))
+
+long_bound_low : (is_open : Bool) (b : Base) (s : ℕ) (c : Base) (u : ℕ) → AllLow (long_bound_code is_open b s c u)
+long_bound_low true b s c u = long_less_low b s c u
+long_bound_low false b s c u = all_low_both (long_less_code c u b s) _ (long_less_low c u b s) (tt, tt)
+
+long_within_low : (t : ℕ) (bases : Bases) (p q : Bool) → AllLow (long_within_code t bases p q)
+long_within_low t bases p q = (
+  tt,
+  all_low_both (long_bound_code p bases.first (t + 2) bases.number t) _ (long_bound_low p bases.first (t + 2) bases.number t)
+      (all_low_both (long_bound_code q bases.number t bases.last (t + 4)) _ (long_bound_low q bases.number t bases.last (t + 4)) (tt, tt)),
+)
+
+pub long_within_of_low : (t : ℕ) (bases : Bases) (range : Interval) → AllLow (long_within_of t bases range)
+long_within_of_low t bases (Between x p y q) = long_within_low t bases p q
 
 -- counted loops
 

@@ -4,25 +4,26 @@ use Rattle.mesa_base.specs.declared.limits.TheConstants.{OPERAND_WORDS}
 use Rattle.mesa_types.specs.declared.typed_parts.Home.{Home}
 use Rattle.mesa_types.specs.declared.typed_parts.Home.TheVariants.{Global, Local}
 use Rattle.mesa_types.specs.declared.typed_parts.Part.{Part}
-use Rattle.mesa_types.specs.Typed.{Kind, Array, Record, Kinds, Expr, Number, Literal, Variable, FieldOf, LengthOf, ByteOf, Checked, Operate, Negate, Relate, Within, Not, AllOf, SomeOf, Construct, Call, Raise, Exprs, NoExprs, AndExpr, Suffixes, NoSuffix, Field, Index, Operations, NoOperation, Then, Interval, Between, Phrase, NoPhrase, Catch, Arms, NoArms, AndArm, Stmt, Null, Marked, Declare, DeclareAs, Assign, Extract, Perform, If, Select, Block, Repeat, Endless, Counting, For, Jump, ReturnWith, Resume, Reject, Retry, Continue, Stmts, NoStmts, AndStmt, Targets, NoTargets, AndTarget, Cases, Otherwise, AndCase, Tests, NoTests, IfRelated, IfWithin, Exits, NoExits, AndExit, Loop, LoopOf, Finish, NoFinish, Finished, Condition, Always, While, Until, Texts}
-use Rattle.mesa_types.specs.Counts.{hidden, hidden_expr, hidden_exprs, hidden_suffixes, hidden_interval, hidden_phrase, hidden_stmts, hidden_targets, hidden_tests, hidden_exits, hidden_condition, words_of, words_given, last_words, unnamed, operands, operands_of, operands_in, operands_of_run, operands_of_interval, operands_of_targets, operands_of_tests, operands_of_cases, operands_of_condition, operands_of_loop, operands_of_stmt}
+use Rattle.mesa_types.specs.Typed.{Kind, Array, Record, Ordinal, Longs, Kinds, Expr, Number, LongNumber, Literal, Variable, FieldOf, LengthOf, ByteOf, Checked, Converted, Operate, OperateLong, Negate, NegateLong, Relate, RelateLong, Within, WithinLong, Not, AllOf, SomeOf, Construct, Call, Raise, Exprs, NoExprs, AndExpr, Suffixes, NoSuffix, Field, Index, Operations, NoOperation, Then, Interval, Between, Phrase, NoPhrase, Catch, Arms, NoArms, AndArm, Stmt, Null, Marked, Declare, DeclareAs, Assign, Extract, Perform, If, Select, SelectLong, Block, Repeat, Endless, Counting, For, Jump, ReturnWith, Resume, Reject, Retry, Continue, Stmts, NoStmts, AndStmt, Targets, NoTargets, AndTarget, AndConverted, Cases, Otherwise, AndCase, Tests, NoTests, IfRelated, IfWithin, IfRelatedLong, IfWithinLong, Exits, NoExits, AndExit, Loop, LoopOf, Finish, NoFinish, Finished, Condition, Always, While, Until, Texts}
+use Rattle.mesa_types.specs.Counts.{hidden, hidden_expr, hidden_exprs, hidden_suffixes, hidden_interval, hidden_phrase, hidden_stmts, hidden_targets, hidden_tests, hidden_exits, hidden_condition, words_of, words_given, words_after, last_words, unnamed, operands, operands_of, operands_in, operands_of_run, operands_of_interval, operands_of_targets, operands_of_tests, operands_of_cases, operands_of_condition, operands_of_loop, operands_of_stmt}
 use Rattle.mesa_types.specs.Shapes.{words_in, words_in_all, one, HasWords, KindAt}
 use Rattle.mesa_types.specs.Sound as sound
-use Rattle.mesa_types.specs.Sound.{Scope, a_word, Fits, VariableIn, GivenIn, CountIn, Selects, ExprIn, ExprsIn, WordsIn, SuffixesIn, OperationsIn, IntervalIn, PhraseIn, ArmsIn, StmtIn, StmtsIn, TargetsIn, CasesIn, TestsIn, ExitsIn, LoopIn, FinishIn, ConditionIn}
+use Rattle.mesa_types.specs.Sound.{Scope, a_word, a_long, Fits, VariableIn, GivenIn, CountIn, CasesTake, TestsTake, ExprIn, ExprsIn, WordsIn, SuffixesIn, OperationsIn, LongOperationsIn, IntervalIn, LongIntervalIn, PhraseIn, ArmsIn, StmtIn, StmtsIn, TargetsIn, CasesIn, TestsIn, ExitsIn, LoopIn, FinishIn, ConditionIn}
 use Rattle.mesa_types.proofs.WordSizes.{values_have_words}
 use Rattle.code_rules.specs.CodeFor.{words_before_last, words_taken, words_over}
 use Rattle.code_rules.specs.Loops.{Counter, NoCounter, CountedIn, next_slot}
-use Rattle.code_rules.specs.OwnCode.{lift_code, check_code, arrange_code}
+use Rattle.code_rules.specs.OwnCode.{lift_code, check_code, conversion_code, arrange_code}
 use Rattle.code_rules.specs.Reading.{Coded, scratch}
 use Rattle.code_rules.specs.Slots.{fields_of, sizes}
 use Rattle.code_blocks.specs.Blocks as tree
-use Rattle.code_blocks.specs.Translation.{has_index, head_code, gives_next, past_else, past_cases, past_exits, if_last, is_last, is_endless, forms, values, operands as operand_jumps, bounds, operations, path, caught_by, arm_blocks, block, blocks, targets, selected, cases, tests, exits, loop, condition, finish}
+use Rattle.code_blocks.specs.Translation.{has_index, head_code, gives_next, past_else, past_cases, past_exits, if_last, is_last, is_endless, forms, values, operands as operand_jumps, bounds, operations, long_operations, path, caught_by, arm_blocks, block, blocks, targets, selected, cases, tests, exits, loop, condition, finish}
 use Rattle.code_blocks.proofs.ExtractRows.{HaveWords, kind_has, fields_have, variable_has, part_has}
-use Rattle.code_blocks.proofs.NamedWords.{words_named, values_named}
+use Rattle.code_blocks.proofs.Keeping.{selects_take}
+use Rattle.code_blocks.proofs.NamedWords.{words_named, words_converted_few, values_named}
 use Rattle.code_blocks.proofs.NamesFit.{kind_lies}
-use Rattle.code_blocks.proofs.Values.{one_is, fields_fit, total_given}
+use Rattle.code_blocks.proofs.Values.{one_is, words_converted, fields_fit, total_given}
 use Rattle.code_ranges.proofs.Low.{AllLow, Low, ArmsLow, all_low_both, FormsLow, by_value_low, if_low, unless_low, turned_low, enabled_low}
-use Rattle.code_ranges.proofs.OwnLow.{pop_low, lift_low, field_low, check_low, range_is, range_of, index_low, comparison_low, relation_low, arrange_low, operator_low, within_of_low, start_of_low, step_low, load_low, store_low, load_within_low, store_within_low, zero_low, spread_low, give_low, call_low, raise_low}
+use Rattle.code_ranges.proofs.OwnLow.{pop_low, long_low, lift_low, field_low, check_low, conversion_low, range_is, range_of, index_low, comparison_low, long_comparison_low, relation_low, long_relation_low, arrange_low, operator_low, long_operator_low, within_of_low, long_within_of_low, start_of_low, step_low, load_low, store_low, load_within_low, store_within_low, zero_low, spread_low, give_low, call_low, raise_low}
 
 -- the variables of a scope have words, and few
 
@@ -85,6 +86,7 @@ past_else_low (Extract b ts e) part le = le
 past_else_low (Perform e) part le = le
 past_else_low (If e s t) part le = le
 past_else_low (Select e cs) part le = le
+past_else_low (SelectLong e cs) part le = le
 past_else_low (Block ph ss es) part le = le
 past_else_low (Repeat c l) part le = le
 past_else_low (For g down base range l) part le = le
@@ -107,6 +109,8 @@ if_last_few : (ts : Tests) → if_last ts ≤ 65535
 if_last_few NoTests = omega arith
 if_last_few (IfRelated r base o e ts) = omega arith
 if_last_few (IfWithin negated bases range ts) = omega arith
+if_last_few (IfRelatedLong c base o e ts) = omega arith
+if_last_few (IfWithinLong negated c bases range ts) = omega arith
 
 head_low : (k : Counter) → Low (head_code k)
 head_low NoCounter = tt
@@ -125,10 +129,11 @@ module _ (P : Coded) where
   arranged_low places es le = arrange_low places (sizes es) (omega (arith, total_given es, le))
 
   mutual
-    unfolding ExprIn ExprsIn WordsIn SuffixesIn OperationsIn IntervalIn PhraseIn ArmsIn StmtIn StmtsIn TargetsIn CasesIn TestsIn ExitsIn LoopIn FinishIn ConditionIn CountIn Selects Fits a_word sound.in_arm sound.in_marked sound.in_labelled words_of words_given unnamed operands operands_of operands_in operands_of_run operands_of_interval operands_of_targets operands_of_tests operands_of_cases operands_of_condition operands_of_loop operands_of_stmt
+    unfolding ExprIn ExprsIn WordsIn SuffixesIn OperationsIn LongOperationsIn IntervalIn LongIntervalIn PhraseIn ArmsIn StmtIn StmtsIn TargetsIn CasesIn TestsIn ExitsIn LoopIn FinishIn ConditionIn CountIn CasesTake TestsTake Fits a_word a_long sound.in_arm sound.in_marked sound.in_labelled words_of words_given unnamed operands operands_of operands_in operands_of_run operands_of_interval operands_of_targets operands_of_tests operands_of_cases operands_of_condition operands_of_loop operands_of_stmt
 
     forms_low : (Γ : Scope) → Roomy Γ → (z : ℕ) (e : Expr) (ks : Kinds) → operands e ≤ OPERAND_WORDS + unnamed e → ExprIn Γ e ks → FormsLow (forms P z e)
     forms_low Γ g z (Number n) ks few h = by_value_low _ (omega (arith, h.0), tt)
+    forms_low Γ g z (LongNumber n) ks few h = by_value_low _ (long_low n h.0)
     forms_low Γ g z (Literal k) ks few h = by_value_low _ (tt, tt)
     forms_low Γ g z (Variable v s words) ks few h =
         by_value_low _ (
@@ -159,8 +164,13 @@ module _ (P : Coded) where
         )
     forms_low Γ g z (Checked range e) ks few h =
         by_value_low _ ((forms_low Γ g z e a_word (omega (arith, few)) h.1).value, check_low range (range_is range h.0))
+    forms_low Γ g z (Converted c e) ks few h =
+        by_value_low _ ((forms_low Γ g z e (one h.1) (omega (arith, few)) h.4).value, conversion_low c h.1 h.2 h.3)
     forms_low Γ g z (Operate e os) ks few h =
         by_value_low _ ((forms_low Γ g z e a_word (omega (arith, few)) h.0).value, run_low Γ g (z + hidden_expr e) os (omega (arith, few)) h.1)
+    forms_low Γ g z (OperateLong e os) ks few h =
+        by_value_low _ ((forms_low Γ g z e a_long (omega (arith, few)) h.0).value, long_run_low Γ g (z + hidden_expr e) os (omega (arith, few)) h.1)
+    forms_low Γ g z (NegateLong e) ks few h = by_value_low _ ((forms_low Γ g z e a_long (omega (arith, few)) h.0).value, (tt, tt))
     forms_low Γ g z (Negate e) ks few h = by_value_low _ ((forms_low Γ g z e a_word (omega (arith, few)) h.0).value, (tt, tt))
     forms_low Γ g z (Relate base o d e) ks few h =
         let x = (forms_low Γ g z d a_word (omega (arith, few)) h.0).value in
@@ -173,6 +183,18 @@ module _ (P : Coded) where
         by_value_low _ (
           (forms_low Γ g z e a_word (omega (arith, few)) h.0).value,
           (bounds_low Γ g (z + hidden_expr e) range (omega (arith, few)) h.1, within_of_low (scratch P) bases range),
+        )
+    forms_low Γ g z (RelateLong base o d e) ks few h =
+        let x = (forms_low Γ g z d a_long (omega (arith, few)) h.0).value in
+        let y = (forms_low Γ g (z + hidden_expr d) e a_long (omega (arith, few)) h.1).value in
+        record {
+          value = (x, (y, long_relation_low base o));
+          jump = λ sense part le. (x, (y, (long_comparison_low base o, omega (arith, le))));
+        }
+    forms_low Γ g z (WithinLong bases e range) ks few h =
+        by_value_low _ (
+          (forms_low Γ g z e a_long (omega (arith, few)) h.0).value,
+          (long_bounds_low Γ g (z + hidden_expr e) range (omega (arith, few)) h.1, long_within_of_low (scratch P) bases range),
         )
     forms_low Γ g z (Not e) ks few h =
         let x = forms_low Γ g z e a_word (omega (arith, few)) h.0 in
@@ -241,6 +263,21 @@ module _ (P : Coded) where
     bounds_low Γ g z (Between x p y q) few h = (
       (forms_low Γ g z x a_word (omega (arith, few)) h.0).value,
       (forms_low Γ g (z + hidden_expr x) y a_word (omega (arith, few)) h.1).value,
+    )
+
+    long_bounds_low : (Γ : Scope) → Roomy Γ → (z : ℕ) (range : Interval) → operands_of_interval range ≤ OPERAND_WORDS → LongIntervalIn Γ range
+        → Low (bounds P z range)
+    long_bounds_low Γ g z (Between x p y q) few h = (
+      (forms_low Γ g z x a_long (omega (arith, few)) h.0).value,
+      (forms_low Γ g (z + hidden_expr x) y a_long (omega (arith, few)) h.1).value,
+    )
+
+    long_run_low : (Γ : Scope) → Roomy Γ → (z : ℕ) (os : Operations) → operands_of_run os ≤ OPERAND_WORDS → LongOperationsIn Γ os
+        → Low (long_operations P z os)
+    long_run_low Γ g z NoOperation few h = tt
+    long_run_low Γ g z (Then range o e os) few h = (
+      (forms_low Γ g z e a_long (omega (arith, few)) h.2).value,
+      (long_operator_low o, long_run_low Γ g (z + hidden_expr e) os (omega (arith, few)) h.3),
     )
 
     run_low : (Γ : Scope) → Roomy Γ → (z : ℕ) (os : Operations) → operands_of_run os ≤ OPERAND_WORDS → OperationsIn Γ os → Low (operations P z os)
@@ -322,7 +359,12 @@ module _ (P : Coded) where
     )
     block_low Γ g z (Select e cs) h = (
       (forms_low Γ g (z + 1) e (one h.0) (omega (arith, h.1)) h.2).value,
-      selected_low Γ g (z + (1 + hidden_expr e)) z (words_of e) cs (omega (arith, h.1, words_named Γ e (one h.0) h.2)) (omega (arith, h.1)) h.4,
+      selected_low Γ g (z + (1 + hidden_expr e)) z 1 (words_of e) Ordinal cs (omega (arith, h.1, words_named Γ e (one h.0) h.2)) (omega (arith, h.1))
+          (selects_take h.0 cs h.3) h.4,
+    )
+    block_low Γ g z (SelectLong e cs) h = (
+      (forms_low Γ g (z + 2) e a_long (omega (arith, h.0)) h.1).value,
+      selected_low Γ g (z + (2 + hidden_expr e)) z 2 (words_of e) Longs cs (omega (arith, h.0, words_named Γ e a_long h.1)) (omega (arith, h.0)) h.2 h.3,
     )
     block_low Γ g z (Block ph ss es) h =
         exits_low Γ g (z + (hidden_phrase ph + hidden_stmts ss)) es _ h.4 (
@@ -384,46 +426,82 @@ module _ (P : Coded) where
               (all_low_both (check_code range) _ checked (store_low P v (fields_of s) p.words, tt)),
           targets_low Γ g z all (p ∷ taken) ts ks le (omega (arith, few)) h.7,
         ))
+    targets_low Γ g z all taken (AndConverted p v s c ts) ks le few h =
+        let converted = conversion_low c h.0 h.1 h.6 in
+        let words : p.words ≤ 65535 = omega (arith, h.4, (words_converted c h.0 h.1 h.6).0, (words_converted_few c).1) in
+        if_low (has_index s) _ _
+        (λ is. (
+          (fields_are Γ g v s h.2 h.1 h.7 h.8, tt),
+          (
+            path_low Γ g z s h.2 h.1 (variable_has Γ v h.2 g.0 h.7) (variable_few Γ g v h.2 h.7) (omega (arith, few)) h.8,
+            (
+              all_low_both (lift_code p.words (suc (words_over all taken p))) _ (lift_low p.words (suc (words_over all taken p)) words (omega (arith, le)))
+                  (all_low_both (conversion_code c) _ converted (store_within_low P v (words_after c), tt)),
+              targets_low Γ g (z + hidden_suffixes s) all (p ∷ taken) ts ks le (omega (arith, few)) h.9,
+            ),
+          ),
+        ))
+        (λ none. (
+          all_low_both (lift_code p.words (words_over all taken p)) _ (lift_low p.words (words_over all taken p) words (omega (arith, le)))
+              (all_low_both (conversion_code c) _ converted (store_low P v (fields_of s) (words_after c), tt)),
+          targets_low Γ g z all (p ∷ taken) ts ks le (omega (arith, few)) h.9,
+        ))
 
-    selected_low : (Γ : Scope) → Roomy Γ → (z x words : ℕ) (cs : Cases) → words ≤ 65535 → operands_of_cases cs ≤ OPERAND_WORDS → CasesIn Γ cs
-        → Low (selected P z x words cs)
-    selected_low Γ g z x words (Otherwise s) le few h = (pop_low words le, block_low Γ g z s h)
-    selected_low Γ g z x words (AndCase ts s cs) le few h = (
+    selected_low : (Γ : Scope) → Roomy Γ → (z x held words : ℕ) (k : Kind) (cs : Cases) → words ≤ 65535 → operands_of_cases cs ≤ OPERAND_WORDS
+        → CasesTake k cs → CasesIn Γ cs → Low (selected P z x held words cs)
+    selected_low Γ g z x held words k (Otherwise s) le few take h = (pop_low words le, block_low Γ g z s h)
+    selected_low Γ g z x held words k (AndCase ts s cs) le few take h = (
       (tt, tt),
       (
         (
-          tests_low Γ g z x ts (omega (arith, few)) h.1,
+          tests_low Γ g z x k ts (omega (arith, few)) take.0 h.1,
           (block_low Γ g (z + hidden_tests ts) s h.2, past_cases_low cs 1 (omega arith)),
         ),
-        cases_low Γ g (z + (hidden_tests ts + hidden s)) x cs (omega (arith, few)) h.3,
+        cases_low Γ g (z + (hidden_tests ts + hidden s)) x k cs (omega (arith, few)) take.1 h.3,
       ),
     )
 
-    cases_low : (Γ : Scope) → Roomy Γ → (z x : ℕ) (cs : Cases) → operands_of_cases cs ≤ OPERAND_WORDS → CasesIn Γ cs → Low (cases P z x cs)
-    cases_low Γ g z x (Otherwise s) few h = block_low Γ g z s h
-    cases_low Γ g z x (AndCase ts s cs) few h = (
+    cases_low : (Γ : Scope) → Roomy Γ → (z x : ℕ) (k : Kind) (cs : Cases) → operands_of_cases cs ≤ OPERAND_WORDS → CasesTake k cs → CasesIn Γ cs
+        → Low (cases P z x cs)
+    cases_low Γ g z x k (Otherwise s) few take h = block_low Γ g z s h
+    cases_low Γ g z x k (AndCase ts s cs) few take h = (
       (
-        tests_low Γ g z x ts (omega (arith, few)) h.1,
+        tests_low Γ g z x k ts (omega (arith, few)) take.0 h.1,
         (block_low Γ g (z + hidden_tests ts) s h.2, past_cases_low cs 1 (omega arith)),
       ),
-      cases_low Γ g (z + (hidden_tests ts + hidden s)) x cs (omega (arith, few)) h.3,
+      cases_low Γ g (z + (hidden_tests ts + hidden s)) x k cs (omega (arith, few)) take.1 h.3,
     )
 
-    tests_low : (Γ : Scope) → Roomy Γ → (z x : ℕ) (ts : Tests) → operands_of_tests ts ≤ OPERAND_WORDS → TestsIn Γ ts → Low (tests P z x ts)
-    tests_low Γ g z x NoTests few h = omega arith
-    tests_low Γ g z x (IfRelated range base o e ts) few h = (
+    tests_low : (Γ : Scope) → Roomy Γ → (z x : ℕ) (k : Kind) (ts : Tests) → operands_of_tests ts ≤ OPERAND_WORDS → TestsTake k ts → TestsIn Γ ts
+        → Low (tests P z x ts)
+    tests_low Γ g z x k NoTests few take h = omega arith
+    tests_low Γ g z x k (IfRelated range base o e ts) few take h = (
       (
         (tt, check_low range h.0),
         ((forms_low Γ g z e a_word (omega (arith, few)) h.1).value, (comparison_low base o, if_last_few ts)),
       ),
-      unless_low (is_last ts) _ (tests_low Γ g (z + hidden_expr e) x ts (omega (arith, few)) h.2),
+      unless_low (is_last ts) _ (tests_low Γ g (z + hidden_expr e) x k ts (omega (arith, few)) take.1 h.2),
     )
-    tests_low Γ g z x (IfWithin negated bases range ts) few h = (
+    tests_low Γ g z x k (IfWithin negated bases range ts) few take h = (
       (
         (tt, tt),
         (bounds_low Γ g z range (omega (arith, few)) h.0, (within_of_low (scratch P) bases range, if_last_few ts)),
       ),
-      unless_low (is_last ts) _ (tests_low Γ g (z + hidden_interval range) x ts (omega (arith, few)) h.1),
+      unless_low (is_last ts) _ (tests_low Γ g (z + hidden_interval range) x k ts (omega (arith, few)) take.1 h.1),
+    )
+    tests_low Γ g z x k (IfRelatedLong c base o e ts) few take h = (
+      (
+        (tt, conversion_low c k Longs take.0),
+        ((forms_low Γ g z e a_long (omega (arith, few)) h.0).value, (long_comparison_low base o, if_last_few ts)),
+      ),
+      unless_low (is_last ts) _ (tests_low Γ g (z + hidden_expr e) x k ts (omega (arith, few)) take.1 h.1),
+    )
+    tests_low Γ g z x k (IfWithinLong negated c bases range ts) few take h = (
+      (
+        (tt, conversion_low c k Longs take.0),
+        (long_bounds_low Γ g z range (omega (arith, few)) h.0, (long_within_of_low (scratch P) bases range, if_last_few ts)),
+      ),
+      unless_low (is_last ts) _ (tests_low Γ g (z + hidden_interval range) x k ts (omega (arith, few)) take.1 h.1),
     )
 
     exits_low : (Γ : Scope) → Roomy Γ → (z : ℕ) (es : Exits) (before : tree.Block) → ExitsIn Γ es → Low before → Low (exits P z es before)

@@ -4,9 +4,9 @@ use Rattle.std.proofs.lemmas.List.Elements.{Contains-append_right}
 use Rattle.mesa_types.specs.declared.types.FieldType.{FieldType}
 use Rattle.mesa_types.specs.declared.typed_parts.Label.{Label}
 use Rattle.mesa_types.specs.declared.typed_parts.Label.TheVariants.{OnAny, OnUnwind, OnOwn, OnLinked, OnBounds, OnZero}
-use Rattle.mesa_types.specs.Typed.{Kind, Kinds, Point, Start, After, At, Leave, point_of, Expr, Number, Literal, Variable, FieldOf, LengthOf, ByteOf, Checked, Operate, Negate, Relate, Within, Not, AllOf, SomeOf, Construct, Call, Raise, Exprs, NoExprs, AndExpr, Suffixes, NoSuffix, Field, Index, Operations, NoOperation, Then, Interval, Between, Phrase, NoPhrase, Catch, Arms, NoArms, AndArm, Stmt, Null, Marked, Declare, DeclareAs, Assign, Extract, Perform, If, Select, Block, Repeat, For, Jump, ReturnWith, Resume, Reject, Retry, Continue, Stmts, NoStmts, AndStmt, Targets, NoTargets, AndTarget, Cases, Otherwise, AndCase, Tests, NoTests, IfRelated, IfWithin, Exits, NoExits, AndExit, Loop, LoopOf, Finish, NoFinish, Finished, Condition, Always, While, Until, Body, Module}
+use Rattle.mesa_types.specs.Typed.{Kind, Kinds, Point, Start, After, At, Leave, point_of, Expr, Number, LongNumber, Literal, Variable, FieldOf, LengthOf, ByteOf, Checked, Converted, Operate, OperateLong, Negate, NegateLong, Relate, RelateLong, Within, WithinLong, Not, AllOf, SomeOf, Construct, Call, Raise, Exprs, NoExprs, AndExpr, Suffixes, NoSuffix, Field, Index, Operations, NoOperation, Then, Interval, Between, Phrase, NoPhrase, Catch, Arms, NoArms, AndArm, Stmt, Null, Marked, Declare, DeclareAs, Assign, Extract, Perform, If, Select, SelectLong, Block, Repeat, For, Jump, ReturnWith, Resume, Reject, Retry, Continue, Stmts, NoStmts, AndStmt, Targets, NoTargets, AndTarget, AndConverted, Cases, Otherwise, AndCase, Tests, NoTests, IfRelated, IfWithin, IfRelatedLong, IfWithinLong, Exits, NoExits, AndExit, Loop, LoopOf, Finish, NoFinish, Finished, Condition, Always, While, Until, Body, Module}
 use Rattle.mesa_types.specs.Sound as sound
-use Rattle.mesa_types.specs.Sound.{Scope, Seen, LabelsIn, labels_in, scope_of, points_past, IsForRaises, ExprIn, ExprsIn, WordsIn, SuffixesIn, OperationsIn, IntervalIn, PhraseIn, ArmsIn, StmtIn, StmtsIn, TargetsIn, CasesIn, TestsIn, ExitsIn, LoopIn, FinishIn, ConditionIn}
+use Rattle.mesa_types.specs.Sound.{Scope, Seen, LabelsIn, labels_in, scope_of, points_past, IsForRaises, ExprIn, ExprsIn, WordsIn, SuffixesIn, OperationsIn, LongOperationsIn, IntervalIn, LongIntervalIn, PhraseIn, ArmsIn, StmtIn, StmtsIn, TargetsIn, CasesIn, TestsIn, ExitsIn, LoopIn, FinishIn, ConditionIn}
 use Rattle.code_rules.specs.Agreement.{seen, IsOutOf, Agrees}
 use Rattle.code_rules.specs.Laws.{ScopesAreTold}
 use Rattle.code_rules.specs.Points.{Way, NoWay, OutOf, Points, in_marked, in_labelled, in_arm, in_body, is_among}
@@ -135,16 +135,22 @@ mutual
 
   expr_told : (e : Expr) (Γ : Scope) (points : Depths) (ks : Kinds) → Known Γ points → ExprIn Γ e ks → in_expr points e ≡ told_expr e
   expr_told (Number n) Γ ps ks k h = refl
+  expr_told (LongNumber n) Γ ps ks k h = refl
   expr_told (Literal n) Γ ps ks k h = refl
   expr_told (Variable v s words) Γ ps ks k (i, j, var, h, w, q) = suffixes_told s Γ ps i j k h
   expr_told (FieldOf e parts) Γ ps ks k (some_parts, i, j, h, fields, q) = expr_told e Γ ps _ k h
   expr_told (LengthOf e) Γ ps ks k (h, q) = expr_told e Γ ps _ k h
   expr_told (ByteOf e i) Γ ps ks k (h, g, q) = both (expr_told e Γ ps _ k h) (expr_told i Γ ps _ k g)
   expr_told (Checked r e) Γ ps ks k (c, h, q) = expr_told e Γ ps _ k h
+  expr_told (Converted c e) Γ ps ks k (is, i, j, con, h, q) = expr_told e Γ ps _ k h
   expr_told (Operate e os) Γ ps ks k (h, g, q) = both (expr_told e Γ ps _ k h) (operations_told os Γ ps k g)
+  expr_told (OperateLong e os) Γ ps ks k (h, g, q) = both (expr_told e Γ ps _ k h) (long_operations_told os Γ ps k g)
   expr_told (Negate e) Γ ps ks k (h, q) = expr_told e Γ ps _ k h
+  expr_told (NegateLong e) Γ ps ks k (h, q) = expr_told e Γ ps _ k h
   expr_told (Relate b o d e) Γ ps ks k (h, g, q) = both (expr_told d Γ ps _ k h) (expr_told e Γ ps _ k g)
+  expr_told (RelateLong b o d e) Γ ps ks k (h, g, q) = both (expr_told d Γ ps _ k h) (expr_told e Γ ps _ k g)
   expr_told (Within b e i) Γ ps ks k (h, g, q) = both (expr_told e Γ ps _ k h) (interval_told i Γ ps k g)
+  expr_told (WithinLong b e i) Γ ps ks k (h, g, q) = both (expr_told e Γ ps _ k h) (long_interval_told i Γ ps k g)
   expr_told (Not e) Γ ps ks k (h, q) = expr_told e Γ ps _ k h
   expr_told (AllOf es) Γ ps ks k (c, h, q) = words_told es Γ ps k h
   expr_told (SomeOf es) Γ ps ks k (c, h, q) = words_told es Γ ps k h
@@ -171,8 +177,16 @@ mutual
   operations_told NoOperation Γ ps k h = refl
   operations_told (Then r o e os) Γ ps k (c, h, g) = both (expr_told e Γ ps _ k h) (operations_told os Γ ps k g)
 
+  long_operations_told : (os : Operations) (Γ : Scope) (points : Depths) → Known Γ points → LongOperationsIn Γ os
+      → in_operations points os ≡ told_operations os
+  long_operations_told NoOperation Γ ps k h = refl
+  long_operations_told (Then r o e os) Γ ps k (c, n, h, g) = both (expr_told e Γ ps _ k h) (long_operations_told os Γ ps k g)
+
   interval_told : (i : Interval) (Γ : Scope) (points : Depths) → Known Γ points → IntervalIn Γ i → in_interval points i ≡ told_interval i
   interval_told (Between d p e q) Γ ps k (h, g) = both (expr_told d Γ ps _ k h) (expr_told e Γ ps _ k g)
+
+  long_interval_told : (i : Interval) (Γ : Scope) (points : Depths) → Known Γ points → LongIntervalIn Γ i → in_interval points i ≡ told_interval i
+  long_interval_told (Between d p e q) Γ ps k (h, g) = both (expr_told d Γ ps _ k h) (expr_told e Γ ps _ k g)
 
   phrase_told : (ph : Phrase) (Γ : Scope) (points : Depths) → Known Γ points → PhraseIn Γ ph → in_phrase points ph ≡ told_phrase ph
   phrase_told NoPhrase Γ ps k h = refl
@@ -197,6 +211,7 @@ mutual
   stmt_told (Perform e) Γ ps k (f, c, ks, h) = expr_told e Γ ps ks k h
   stmt_told (If e s t) Γ ps k (f, h, g, i) = both (expr_told e Γ ps _ k h) (both (stmt_told s Γ ps k g) (stmt_told t Γ ps k i))
   stmt_told (Select e cs) Γ ps k (kind, f, h, c, g) = both (expr_told e Γ ps _ k h) (cases_told cs Γ ps k g)
+  stmt_told (SelectLong e cs) Γ ps k (f, h, c, g) = both (expr_told e Γ ps _ k h) (cases_told cs Γ ps k g)
   stmt_told (Block ph ss es) Γ ps k (past, new, h, g, i) =
       let inside : Known (sound.in_labelled past es Γ) (in_labelled (visible es) ps) = known_in_labelled Γ ps past es k new in
       both (phrase_told ph _ _ inside h) (both (stmts_told ss _ _ inside g) (exits_told es Γ ps k i))
@@ -217,6 +232,7 @@ mutual
       → in_targets points ts ≡ told_targets ts
   targets_told NoTargets Γ ps ks k h = refl
   targets_told (AndTarget p v s r ts) Γ ps ks k (part, j, at, w, var, h, c, g) = both (suffixes_told s Γ ps j part k h) (targets_told ts Γ ps ks k g)
+  targets_told (AndConverted p v s c ts) Γ ps ks k (part, given, j, at, w, is, con, var, h, g) = both (suffixes_told s Γ ps j given k h) (targets_told ts Γ ps ks k g)
 
   cases_told : (cs : Cases) (Γ : Scope) (points : Depths) → Known Γ points → CasesIn Γ cs → in_cases points cs ≡ told_cases cs
   cases_told (Otherwise s) Γ ps k h = stmt_told s Γ ps k h
@@ -226,6 +242,8 @@ mutual
   tests_told NoTests Γ ps k h = refl
   tests_told (IfRelated r b o e ts) Γ ps k (c, h, g) = both (expr_told e Γ ps _ k h) (tests_told ts Γ ps k g)
   tests_told (IfWithin negated b i ts) Γ ps k (h, g) = both (interval_told i Γ ps k h) (tests_told ts Γ ps k g)
+  tests_told (IfRelatedLong c b o e ts) Γ ps k (h, g) = both (expr_told e Γ ps _ k h) (tests_told ts Γ ps k g)
+  tests_told (IfWithinLong negated c b i ts) Γ ps k (h, g) = both (long_interval_told i Γ ps k h) (tests_told ts Γ ps k g)
 
   exits_told : (es : Exits) (Γ : Scope) (points : Depths) → Known Γ points → ExitsIn Γ es → in_exits points es ≡ told_exits es
   exits_told NoExits Γ ps k h = refl

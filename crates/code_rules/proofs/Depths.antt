@@ -3,6 +3,8 @@ use Rattle.std.proofs.Common.{◌≡◌, refl, ◌∙◌, ap, subst, ℕ, zero, 
 use Rattle.mesa_types.specs.declared.typed_parts.Base.{Base}
 use Rattle.mesa_types.specs.declared.typed_parts.Base.TheVariants.{Signed, Unsigned}
 use Rattle.mesa_types.specs.declared.typed_parts.Bases.{Bases}
+use Rattle.mesa_types.specs.declared.typed_parts.Conversion.{Conversion}
+use Rattle.mesa_types.specs.declared.typed_parts.Conversion.TheVariants.{Kept, Widened, Narrowed, InCommon}
 use Rattle.mesa_types.specs.declared.typed_parts.Given.{Given}
 use Rattle.mesa_types.specs.declared.typed_parts.Given.TheVariants.{NoVariable, GivenTo}
 use Rattle.mesa_types.specs.declared.typed_parts.Home.{Home}
@@ -13,11 +15,12 @@ use Rattle.mesa_types.specs.declared.typed_parts.Range.{Range}
 use Rattle.mesa_types.specs.declared.typed_parts.Range.TheVariants.{Every, From}
 use Rattle.mesa_base.specs.declared.relation.Relation.{Relation}
 use Rattle.mesa_base.specs.declared.relation.Relation.TheVariants.{Equal, NotEqual, Less, AtMost, Greater, AtLeast}
+use Rattle.mesa_types.specs.Counts.{words_before, words_after}
 use Rattle.mesa_types.specs.Operators.{differ}
 use Rattle.code_forms.specs.declared.instruction.Instruction.{Instruction}
 use Rattle.code_rules.specs.Laws.{left_by, OwnCodeKeepsWords}
 use Rattle.code_rules.specs.Loops.{Counter, NoCounter, CountedIn, start_code, some_code, up_code, down_code, when, give_code, count_code, step_code}
-use Rattle.code_rules.specs.OwnCode.{pop_code, lift_code, drop_code, field_code, check_code, from_code, index_code, comparison, is_opposite, not_if, jump_where, relation_code, relation_jump, operator_code, less_code, bound_code, within_code, total, size_for, size_after, without, rolls, arrange_from}
+use Rattle.code_rules.specs.OwnCode.{pop_code, lift_code, drop_code, field_code, long_code, check_code, widen_code, narrow_code, conversion_code, from_code, index_code, comparison, long_comparison, is_opposite, not_if, jump_where, relation_code, long_relation_code, relation_jump, long_relation_jump, operator_code, long_operator_code, less_code, bound_code, within_code, long_less_code, long_bound_code, long_within_code, total, size_for, size_after, without, rolls, arrange_from}
 use Rattle.code_rules.specs.Reading.{Coded}
 use Rattle.code_rules.specs.Slots.{zero_code, copy_code, spread_code}
 
@@ -49,6 +52,28 @@ check : (P : Coded) (r : Range) (d : ℕ) → left_by P (check_code r) (d + 1) �
 check P Every d = refl
 check P (From Signed first last) d = omega arith
 check P (From Unsigned first last) d = omega arith
+
+long : (P : Coded) (n d : ℕ) → left_by P (long_code n) d ≡ d + 2
+long P n d = omega arith
+
+widened : (P : Coded) (a b : Base) (d : ℕ) → left_by P (widen_code a b) (d + 1) ≡ d + 2
+widened P Signed Signed d = omega arith
+widened P Signed Unsigned d = omega arith
+widened P Unsigned Signed d = omega arith
+widened P Unsigned Unsigned d = omega arith
+
+narrowed : (P : Coded) (a b : Base) (d : ℕ) → left_by P (narrow_code a b) (d + 2) ≡ d + 1
+narrowed P Signed Signed d = omega arith
+narrowed P Signed Unsigned d = omega arith
+narrowed P Unsigned Signed d = omega arith
+narrowed P Unsigned Unsigned d = omega arith
+
+conversion : (P : Coded) (c : Conversion) (d : ℕ) → left_by P (conversion_code c) (d + words_before c) ≡ d + words_after c
+unfolding words_before words_after
+conversion P Kept d = refl
+conversion P (Widened a b) d = widened P a b d
+conversion P (Narrowed a b r) d = via P (narrow_code a b) _ (d + 2) (narrowed P a b d) (check P r d)
+conversion P InCommon d = omega arith
 
 from : (P : Coded) (first d : ℕ) → left_by P (from_code first) (d + 2) ≡ d + 2
 from P zero d = refl
@@ -89,6 +114,27 @@ relation_jumps : (P : Coded) (b : Base) (o : Relation) (sense : Bool) (target d 
 relation_jumps P b o sense target d =
     via P (comparison b o) _ (d + 2) (comparisons P b o d) (jumped P (differ (is_opposite o) sense) target d)
 
+long_comparisons : (P : Coded) (b : Base) (o : Relation) (d : ℕ) → left_by P (long_comparison b o) (d + 4) ≡ d + 1
+long_comparisons P Signed Equal d = omega arith
+long_comparisons P Signed NotEqual d = omega arith
+long_comparisons P Signed Less d = omega arith
+long_comparisons P Signed AtMost d = omega arith
+long_comparisons P Signed Greater d = omega arith
+long_comparisons P Signed AtLeast d = omega arith
+long_comparisons P Unsigned Equal d = omega arith
+long_comparisons P Unsigned NotEqual d = omega arith
+long_comparisons P Unsigned Less d = omega arith
+long_comparisons P Unsigned AtMost d = omega arith
+long_comparisons P Unsigned Greater d = omega arith
+long_comparisons P Unsigned AtLeast d = omega arith
+
+long_relation : (P : Coded) (b : Base) (o : Relation) (d : ℕ) → left_by P (long_relation_code b o) (d + 4) ≡ d + 1
+long_relation P b o d = via P (long_comparison b o) _ (d + 4) (long_comparisons P b o d) (turned P (is_opposite o) d)
+
+long_relation_jumps : (P : Coded) (b : Base) (o : Relation) (sense : Bool) (target d : ℕ) → left_by P (long_relation_jump b o sense target) (d + 4) ≡ d
+long_relation_jumps P b o sense target d =
+    via P (long_comparison b o) _ (d + 4) (long_comparisons P b o d) (jumped P (differ (is_opposite o) sense) target d)
+
 operators : (P : Coded) (t : ℕ) (o : Operator) (d : ℕ) → left_by P (operator_code t o) (d + 2) ≡ d + 1
 operators P t operator.Add d = omega arith
 operators P t operator.Subtract d = omega arith
@@ -101,6 +147,17 @@ operators P t (operator.AddToCharacter Signed) d = omega arith
 operators P t (operator.AddToCharacter Unsigned) d = omega arith
 operators P t (operator.SubtractFromCharacter Signed) d = omega arith
 operators P t (operator.SubtractFromCharacter Unsigned) d = omega arith
+
+long_operators : (P : Coded) (o : Operator) (d : ℕ) → left_by P (long_operator_code o) (d + 4) ≡ d + 2
+long_operators P operator.Add d = omega arith
+long_operators P operator.Subtract d = omega arith
+long_operators P operator.Multiply d = omega arith
+long_operators P (operator.Divide Signed) d = omega arith
+long_operators P (operator.Divide Unsigned) d = omega arith
+long_operators P (operator.Modulo Signed) d = omega arith
+long_operators P (operator.Modulo Unsigned) d = omega arith
+long_operators P (operator.AddToCharacter b) d = omega arith
+long_operators P (operator.SubtractFromCharacter b) d = omega arith
 
 -- an interval
 
@@ -118,6 +175,21 @@ within : (P : Coded) (t : ℕ) (bases : Bases) (p q : Bool) (d : ℕ) → left_b
 within P t bases p q d =
     via P (bound_code p bases.first (t + 1) bases.number t) _ (d + 3 - 3 + 0) (bound_puts P p bases.first (t + 1) bases.number t (d + 3 - 3 + 0))
     (via P (bound_code q bases.number t bases.last (t + 2)) _ _ (bound_puts P q bases.number t bases.last (t + 2) _) (omega arith))
+
+long_less_puts : (P : Coded) (b : Base) (s : ℕ) (c : Base) (u d : ℕ) → left_by P (long_less_code b s c u) d ≡ d + 1
+long_less_puts P Signed s Signed u d = omega arith
+long_less_puts P Signed s Unsigned u d = omega arith
+long_less_puts P Unsigned s Signed u d = omega arith
+long_less_puts P Unsigned s Unsigned u d = omega arith
+
+long_bound_puts : (P : Coded) (is_open : Bool) (b : Base) (s : ℕ) (c : Base) (u d : ℕ) → left_by P (long_bound_code is_open b s c u) d ≡ d + 1
+long_bound_puts P true b s c u d = long_less_puts P b s c u d
+long_bound_puts P false b s c u d = via P (long_less_code c u b s) _ d (long_less_puts P c u b s d) (omega arith)
+
+long_within : (P : Coded) (t : ℕ) (bases : Bases) (p q : Bool) (d : ℕ) → left_by P (long_within_code t bases p q) (d + 6) ≡ d + 1
+long_within P t bases p q d =
+    via P (long_bound_code p bases.first (t + 2) bases.number t) _ (d + 6 - 6 + 0) (long_bound_puts P p bases.first (t + 2) bases.number t (d + 6 - 6 + 0))
+    (via P (long_bound_code q bases.number t bases.last (t + 4)) _ _ (long_bound_puts P q bases.number t bases.last (t + 4) _) (omega arith))
 
 -- keyed lists
 
@@ -225,11 +297,17 @@ pub own_code_keeps_words : OwnCodeKeepsWords
 own_code_keeps_words = record {
   field = field;
   check = check;
+  long = long;
+  conversion = conversion;
   index = index;
   relation = relation;
   relation_jump = relation_jumps;
+  long_relation = long_relation;
+  long_relation_jump = long_relation_jumps;
+  long_operator = long_operators;
   operator = operators;
   within = within;
+  long_within = long_within;
   arranged = λ P places sizes d. arranged_from P 0 places sizes (d + total sizes) (omega arith);
   cleared = cleared;
   spread = spreads;

@@ -3,13 +3,14 @@ use Rattle.std.proofs.Common.{Bool, ◌+◌, refl, sym, ◌∙◌, ℕ, ◌≤�
 use Rattle.mesa_types.specs.Typed.{Arms, Condition, Expr, Exprs, Exits, Finish, Loop, Operations, Phrase, Stmt, Stmts, Suffixes, Targets, Cases, Tests, Interval}
 use Rattle.mesa_types.specs.declared.typed_parts.Base.{Base}
 use Rattle.mesa_types.specs.declared.typed_parts.Bases.{Bases}
+use Rattle.mesa_types.specs.declared.typed_parts.Conversion.{Conversion}
 use Rattle.mesa_types.specs.declared.typed_parts.Part.{Part}
 use Rattle.mesa_types.specs.declared.typed_parts.Range.{Range}
 use Rattle.mesa_base.specs.declared.relation.Relation.{Relation}
 use Rattle.code_forms.specs.declared.instruction.Instruction.{Instruction}
 use Rattle.code_forms.specs.declared.module_code.Arm.{Arm}
 use Rattle.code_forms.specs.Instructions.{bytes_of}
-use Rattle.code_rules.specs.CodeFor.{Onward, ArmsCode, no_arms, and_arm, ExprCode, ExprsCode, BoundsCode, OperationsCode, PathCode, BranchCode, OperandsCode, PhraseCode, StmtCode, StmtsCode, TargetsCode, CasesCode, TestsCode, RelatedCode, LiesCode, ExitsCode, LoopCode, ConditionCode, FinishCode, number, literal, variable, element, field_of, length_of, byte_of, checked, operate, negate, relate, within, negation, all_of, some_of, construct, call, raise, no_values, and_value, bounds, no_operation, operation, here, field, index, on_value, on_negation, on_relation, unless_all, if_all, if_some, unless_some, no_operands, and_operand, no_phrase, no_range, catch, null, marked, declare, declare_as, assign, assign_element, extract, perform, if_else, select, select_none, block, loop, count, jump, return_with, resume, reject, retry, continue, no_statements, and_statement, no_targets, and_target, and_element, otherwise, and_case, no_test, related, related_last, lies, lies_last, relates, lies_within, no_exits, and_exit, rounds, always, while, until, no_finish, finished, never, falls, jumps}
+use Rattle.code_rules.specs.CodeFor.{Onward, ArmsCode, no_arms, and_arm, ExprCode, ExprsCode, BoundsCode, OperationsCode, LongOperationsCode, PathCode, BranchCode, OperandsCode, PhraseCode, StmtCode, StmtsCode, TargetsCode, CasesCode, TestsCode, RelatedCode, LiesCode, LongRelatedCode, LongLiesCode, ExitsCode, LoopCode, ConditionCode, FinishCode, number, long_number, literal, variable, element, field_of, length_of, byte_of, checked, converted, operate, operate_long, negate, negate_long, relate, relate_long, within, within_long, negation, all_of, some_of, construct, call, raise, no_values, and_value, bounds, no_operation, operation, no_long_operation, long_operation, here, field, index, on_value, on_negation, on_relation, on_long_relation, unless_all, if_all, if_some, unless_some, no_operands, and_operand, no_phrase, no_range, catch, null, marked, declare, declare_as, assign, assign_element, extract, perform, if_else, select, select_long, select_long_none, select_none, block, loop, count, jump, return_with, resume, reject, retry, continue, no_statements, and_statement, no_targets, and_target, and_element, and_converted, and_converted_element, otherwise, and_case, no_test, related, related_last, lies, lies_last, long_related, long_related_last, long_lies, long_lies_last, relates, lies_within, long_relates, lies_within_long, no_exits, and_exit, rounds, always, while, until, no_finish, finished, never, falls, jumps}
 use Rattle.code_rules.specs.Laws.{Run, RegionsRun, ends, goes, CodeIsWhole, CodeLiesInOrder, OwnCodeJoins, behind_all}
 use Rattle.code_rules.specs.Loops.{Counter}
 use Rattle.code_rules.specs.Modules.{BodyCode, body_end}
@@ -43,6 +44,7 @@ phrased (catch j regions longer is arms) p = outward j p
 mutual
   pub expr_run : {P : Coded} {w : Place} {e : Expr} {a b : ℕ} → ExprCode P w e a b → Run P w.around a b
   expr_run (number o) = own o
+  expr_run (long_number o) = own o
   expr_run (literal o) = own o
   expr_run (variable static o) = own o
   expr_run (element c d dynamic o p q) = own o joined path_run p joined own q
@@ -50,10 +52,15 @@ mutual
   expr_run (length_of c e o) = expr_run e joined own o
   expr_run (byte_of c d e at o) = expr_run e joined expr_run at joined own o
   expr_run (checked c e o) = expr_run e joined own o
+  expr_run (converted c e o) = expr_run e joined own o
   expr_run (operate c e os) = expr_run e joined operations_run os
+  expr_run (operate_long c e os) = expr_run e joined long_operations_run os
   expr_run (negate c e o) = expr_run e joined own o
+  expr_run (negate_long c e o) = expr_run e joined own o
   expr_run (relate c f d e o) = expr_run d joined expr_run e joined own o
+  expr_run (relate_long c f d e o) = expr_run d joined expr_run e joined own o
   expr_run (within c d e bs o) = expr_run e joined bounds_run bs joined own o
+  expr_run (within_long c d e bs o) = expr_run e joined bounds_run bs joined own o
   expr_run (negation c e o) = expr_run e joined own o
   expr_run (all_of c f es o p) = operands_run es joined own o joined own p
   expr_run (some_of c f es o p) = operands_run es joined own o joined own p
@@ -72,6 +79,10 @@ mutual
   operations_run no_operation = ends
   operations_run (operation c d f o e p os) = own o joined expr_run e joined own p joined operations_run os
 
+  pub long_operations_run : {P : Coded} {w : Place} {os : Operations} {a b : ℕ} → LongOperationsCode P w os a b → Run P w.around a b
+  long_operations_run no_long_operation = ends
+  long_operations_run (long_operation c d e o os) = expr_run e joined own o joined long_operations_run os
+
   pub path_run : {P : Coded} {w : Place} {s : Suffixes} {a b : ℕ} → PathCode P w s a b → Run P w.around a b
   path_run here = ends
   path_run (field s) = path_run s
@@ -81,6 +92,7 @@ mutual
   branch_run (on_value c e o) = expr_run e joined own o
   branch_run (on_negation e) = branch_run e
   branch_run (on_relation c f d e o) = expr_run d joined expr_run e joined own o
+  branch_run (on_long_relation c f d e o) = expr_run d joined expr_run e joined own o
   branch_run (unless_all es) = operands_run es
   branch_run (if_all c es o) = operands_run es joined own o
   branch_run (if_some es) = operands_run es
@@ -102,6 +114,8 @@ mutual
   stmt_run (perform c e o) = expr_run e joined own o
   stmt_run (if_else c d f e s o t) = branch_run e joined stmt_run s joined onward o joined stmt_run t
   stmt_run (select c d e o cs) = expr_run e joined own o joined cases_run cs
+  stmt_run (select_long c d e o cs) = expr_run e joined own o joined cases_run cs
+  stmt_run (select_long_none c d e o s) = expr_run e joined own o joined stmt_run s
   stmt_run (select_none c d e o s) = expr_run e joined own o joined stmt_run s
   stmt_run (block offsets c d ph ss o es) = phrased ph (stmts_run ss) joined onward o joined exits_run es
   stmt_run (loop l) = loop_run l
@@ -122,6 +136,8 @@ mutual
   targets_run (no_targets o) = own o
   targets_run (and_target c static o ts) = own o joined targets_run ts
   targets_run (and_element c d f dynamic o p q ts) = own o joined path_run p joined own q joined targets_run ts
+  targets_run (and_converted c static o ts) = own o joined targets_run ts
+  targets_run (and_converted_element c d f dynamic o p q ts) = own o joined path_run p joined own q joined targets_run ts
 
   pub cases_run : {P : Coded} {w : Place} {z : ℕ} {cs : Cases} {a b : ℕ} → CasesCode P w z cs a b → Run P w.around a b
   cases_run (otherwise s) = stmt_run s
@@ -133,6 +149,10 @@ mutual
   tests_run (related_last t) = related_run t
   tests_run (lies c t ts) = lies_run t joined tests_run ts
   tests_run (lies_last t) = lies_run t
+  tests_run (long_related c t ts) = long_related_run t joined tests_run ts
+  tests_run (long_related_last t) = long_related_run t
+  tests_run (long_lies c t ts) = long_lies_run t joined tests_run ts
+  tests_run (long_lies_last t) = long_lies_run t
 
   pub related_run : {P : Coded} {w : Place} {z : ℕ} {r : Range} {base : Base} {o : Relation} {e : Expr} {sense : Bool} {target a b : ℕ}
       → RelatedCode P w z r base o e sense target a b → Run P w.around a b
@@ -141,6 +161,14 @@ mutual
   pub lies_run : {P : Coded} {w : Place} {z : ℕ} {negated : Bool} {bases : Bases} {range : Interval} {sense : Bool} {target a b : ℕ}
       → LiesCode P w z negated bases range sense target a b → Run P w.around a b
   lies_run (lies_within c d o bs p) = own o joined bounds_run bs joined own p
+
+  pub long_related_run : {P : Coded} {w : Place} {z : ℕ} {conversion : Conversion} {base : Base} {o : Relation} {e : Expr} {sense : Bool} {target a b : ℕ}
+      → LongRelatedCode P w z conversion base o e sense target a b → Run P w.around a b
+  long_related_run (long_relates c d o e p) = own o joined expr_run e joined own p
+
+  pub long_lies_run : {P : Coded} {w : Place} {z : ℕ} {negated : Bool} {conversion : Conversion} {bases : Bases} {range : Interval} {sense : Bool} {target a b : ℕ}
+      → LongLiesCode P w z negated conversion bases range sense target a b → Run P w.around a b
+  long_lies_run (lies_within_long c d o bs p) = own o joined bounds_run bs joined own p
 
   pub exits_run : {P : Coded} {w : Place} {es : Exits} {offsets : List ℕ} {end a b : ℕ} → ExitsCode P w es offsets end a b → Run P w.around a b
   exits_run no_exits = ends

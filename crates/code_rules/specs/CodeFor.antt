@@ -1,13 +1,14 @@
 -- The code from a to b stands for a construct: one row for each construct of the typed tree, and several where there is a choice (rule
 -- of this project). P is the procedure with its code, w what stands around the construct, and the numbers before the parts are the
 -- offsets between them. A statement begins and ends with no words on the operand stack; an expression adds its words. Code lies
--- without gaps, and each instruction has its words and its phrases by `Own`. So what can raise stands only for a check, an index, a
--- divisor, a byte of a string, a character plus or minus a number, or a call or raise of the text; and a turn is spent only by the end
+-- without gaps, and each instruction has its words and its phrases by `Own`. So what can raise stands only for a check, a conversion, an
+-- index, a divisor, a byte of a string, a character plus or minus a number, or a call or raise of the text; and a turn is spent only by the end
 -- of a loop's round, a call and a raise.
 use Rattle.std.specs.Prelude.{◌≡◌, ℕ, suc, ◌+◌, ◌-◌, List, [], ◌∷◌, ◌++◌, Bool, true, false, not, map, Option, Some, None, nat_lt, slice_get, if◌then◌else◌}
 use Rattle.mesa_types.specs.declared.typed_parts.Base.{Base}
 use Rattle.mesa_types.specs.declared.typed_parts.Bases.{Bases}
 use Rattle.mesa_types.specs.declared.typed_parts.Callee.{Callee}
+use Rattle.mesa_types.specs.declared.typed_parts.Conversion.{Conversion}
 use Rattle.mesa_types.specs.declared.typed_parts.Given.{Given}
 use Rattle.mesa_types.specs.declared.typed_parts.Goal.{Goal}
 use Rattle.mesa_types.specs.declared.typed_parts.Home.{Home}
@@ -17,15 +18,15 @@ use Rattle.mesa_types.specs.declared.typed_parts.Part.{Part}
 use Rattle.mesa_types.specs.declared.typed_parts.Raised.{Raised}
 use Rattle.mesa_types.specs.declared.typed_parts.Range.{Range}
 use Rattle.mesa_base.specs.declared.relation.Relation.{Relation}
-use Rattle.mesa_types.specs.Typed.{Kind, Start, After, Leave, point_of, Expr, Number, Literal, Variable, FieldOf, LengthOf, ByteOf, Checked, Operate, Negate, Relate, Within, Not, AllOf, SomeOf, Construct, Call, Raise, Exprs, NoExprs, AndExpr, Suffixes, NoSuffix, Field, Index, Operations, NoOperation, Then, Interval, Between, Phrase, NoPhrase, Catch, Arms, NoArms, AndArm, Stmt, Null, Marked, Declare, DeclareAs, Assign, Extract, Perform, If, Select, Block, Repeat, Endless, For, Jump, ReturnWith, Resume, Reject, Retry, Continue, Stmts, NoStmts, AndStmt, Targets, NoTargets, AndTarget, Cases, Otherwise, AndCase, Tests, NoTests, IfRelated, IfWithin, Exits, NoExits, AndExit, Loop, LoopOf, Finish, NoFinish, Finished, Condition, Always, While, Until}
+use Rattle.mesa_types.specs.Typed.{Kind, Start, After, Leave, point_of, Expr, Number, LongNumber, Literal, Variable, FieldOf, LengthOf, ByteOf, Checked, Converted, Operate, OperateLong, Negate, NegateLong, Relate, RelateLong, Within, WithinLong, Not, AllOf, SomeOf, Construct, Call, Raise, Exprs, NoExprs, AndExpr, Suffixes, NoSuffix, Field, Index, Operations, NoOperation, Then, Interval, Between, Phrase, NoPhrase, Catch, Arms, NoArms, AndArm, Stmt, Null, Marked, Declare, DeclareAs, Assign, Extract, Perform, If, Select, SelectLong, Block, Repeat, Endless, For, Jump, ReturnWith, Resume, Reject, Retry, Continue, Stmts, NoStmts, AndStmt, Targets, NoTargets, AndTarget, AndConverted, Cases, Otherwise, AndCase, Tests, NoTests, IfRelated, IfWithin, IfRelatedLong, IfWithinLong, Exits, NoExits, AndExit, Loop, LoopOf, Finish, NoFinish, Finished, Condition, Always, While, Until}
 use Rattle.mesa_types.specs.Operators.{differ}
 use Rattle.mesa_types.specs.Shapes.{words_in}
-use Rattle.mesa_types.specs.Counts.{hidden, hidden_expr, hidden_suffixes, hidden_interval, hidden_phrase, hidden_stmts, hidden_targets, hidden_tests, hidden_exits, hidden_condition, words_of, words_given, last_words}
+use Rattle.mesa_types.specs.Counts.{hidden, hidden_expr, hidden_suffixes, hidden_interval, hidden_phrase, hidden_stmts, hidden_targets, hidden_tests, hidden_exits, hidden_condition, words_of, words_given, last_words, words_before, words_after}
 use Rattle.code_forms.specs.declared.instruction.Instruction.TheVariants as i
 use Rattle.code_forms.specs.declared.module_code.Arm.{Arm}
 use Rattle.code_rules.specs.Links.{call_code, raise_code, label_code}
 use Rattle.code_rules.specs.Loops.{Counter, NoCounter, CountedIn, start_code, count_code, step_code}
-use Rattle.code_rules.specs.OwnCode.{pop_code, lift_code, field_code, check_code, index_code, relation_code, relation_jump, jump_where, operator_code, within_code, arrange_code}
+use Rattle.code_rules.specs.OwnCode.{pop_code, lift_code, field_code, long_code, check_code, conversion_code, index_code, relation_code, relation_jump, long_relation_code, long_relation_jump, jump_where, operator_code, long_operator_code, within_code, long_within_code, arrange_code}
 use Rattle.code_rules.specs.Points.{OutOf, in_marked, in_labelled, is_among}
 use Rattle.code_rules.specs.Reading.{Coded, Destination, Offset, Place, Own, deeper, beyond, past, past_all, in_region, scratch, jump_to}
 use Rattle.code_rules.specs.Slots.{words_from, local_slot, load, store, load_within, store_within, fields_of, HasIndex, HasNoIndex, zero_code, spread_code, sizes}
@@ -87,6 +88,7 @@ mutual
   -- the words of the value come to the operand stack
   pub data ExprCode (P : Coded) : Place → Expr → ℕ → ℕ → Type 0 where
     number : {w : Place} {n a b : ℕ} → Own P w (i.Lit n ∷ []) a b → ExprCode P w (Number n) a b
+    long_number : {w : Place} {n a b : ℕ} → Own P w (long_code n) a b → ExprCode P w (LongNumber n) a b
     literal : {w : Place} {k a b : ℕ} → Own P w (i.Str (suc k) ∷ []) a b → ExprCode P w (Literal k) a b
     variable : {w : Place} {h : Home} {s : Suffixes} {words a b : ℕ} → HasNoIndex s → Own P w (load P h (fields_of s) words ∷ []) a b
         → ExprCode P w (Variable h s words) a b
@@ -101,14 +103,25 @@ mutual
         → Own P (past index (past e w)) (i.StrAt ∷ []) d b → ExprCode P w (ByteOf e index) a b
     checked : {w : Place} {r : Range} {e : Expr} {a b : ℕ} (c : ℕ) → ExprCode P w e a c → Own P (past e w) (check_code r) c b
         → ExprCode P w (Checked r e) a b
+    converted : {w : Place} {conversion : Conversion} {e : Expr} {a b : ℕ} (c : ℕ) → ExprCode P w e a c
+        → Own P (past e w) (conversion_code conversion) c b → ExprCode P w (Converted conversion e) a b
     operate : {w : Place} {e : Expr} {os : Operations} {a b : ℕ} (c : ℕ) → ExprCode P w e a c → OperationsCode P (past e w) os c b
         → ExprCode P w (Operate e os) a b
+    operate_long : {w : Place} {e : Expr} {os : Operations} {a b : ℕ} (c : ℕ) → ExprCode P w e a c → LongOperationsCode P (past e w) os c b
+        → ExprCode P w (OperateLong e os) a b
     negate : {w : Place} {e : Expr} {a b : ℕ} (c : ℕ) → ExprCode P w e a c → Own P (past e w) (i.Neg ∷ []) c b → ExprCode P w (Negate e) a b
+    negate_long : {w : Place} {e : Expr} {a b : ℕ} (c : ℕ) → ExprCode P w e a c → Own P (past e w) (i.NegD ∷ []) c b
+        → ExprCode P w (NegateLong e) a b
     relate : {w : Place} {base : Base} {o : Relation} {d e : Expr} {a b : ℕ} (c f : ℕ) → ExprCode P w d a c → ExprCode P (past d w) e c f
         → Own P (past e (past d w)) (relation_code base o) f b → ExprCode P w (Relate base o d e) a b
+    relate_long : {w : Place} {base : Base} {o : Relation} {d e : Expr} {a b : ℕ} (c f : ℕ) → ExprCode P w d a c → ExprCode P (past d w) e c f
+        → Own P (past e (past d w)) (long_relation_code base o) f b → ExprCode P w (RelateLong base o d e) a b
     within : {w : Place} {bases : Bases} {e x y : Expr} {p q : Bool} {a b : ℕ} (c d : ℕ) → ExprCode P w e a c
         → BoundsCode P (past e w) x y c d → Own P (past y (past x (past e w))) (within_code (scratch P) bases p q) d b
         → ExprCode P w (Within bases e (Between x p y q)) a b
+    within_long : {w : Place} {bases : Bases} {e x y : Expr} {p q : Bool} {a b : ℕ} (c d : ℕ) → ExprCode P w e a c
+        → BoundsCode P (past e w) x y c d → Own P (past y (past x (past e w))) (long_within_code (scratch P) bases p q) d b
+        → ExprCode P w (WithinLong bases e (Between x p y q)) a b
     negation : {w : Place} {e : Expr} {a b : ℕ} (c : ℕ) → ExprCode P w e a c → Own P (past e w) (i.Not ∷ []) c b → ExprCode P w (Not e) a b
     -- once the answer is known, no further operand is evaluated
     all_of : {w : Place} {es : Exprs} {a b : ℕ} (c no : ℕ) → OperandsCode P w es false no a c → Own P w (i.Lit 1 ∷ i.Jump b ∷ []) c no
@@ -141,6 +154,13 @@ mutual
         → ExprCode P w e c d → Own P (past e w) (operator_code (scratch P) o) d f → OperationsCode P (beyond (hidden_expr e) w) os f b
         → OperationsCode P w (Then r o e os) a b
 
+  -- over LONG numbers, in which nothing is checked
+  pub data LongOperationsCode (P : Coded) : Place → Operations → ℕ → ℕ → Type 0 where
+    no_long_operation : {w : Place} {a : ℕ} → LongOperationsCode P w NoOperation a a
+    long_operation : {w : Place} {r : Range} {o : Operator} {e : Expr} {os : Operations} {a b : ℕ} (c d : ℕ) → ExprCode P w e a c
+        → Own P (past e w) (long_operator_code o) c d → LongOperationsCode P (beyond (hidden_expr e) w) os d b
+        → LongOperationsCode P w (Then r o e os) a b
+
   -- the offset of what the suffixes so far name is on the operand stack, all fields counted already
   pub data PathCode (P : Coded) : Place → Suffixes → ℕ → ℕ → Type 0 where
     here : {w : Place} {a : ℕ} → PathCode P w NoSuffix a a
@@ -158,6 +178,9 @@ mutual
     on_relation : {w : Place} {base : Base} {o : Relation} {d e : Expr} {sense : Bool} {target a b : ℕ} (c f : ℕ) → ExprCode P w d a c
         → ExprCode P (past d w) e c f → Own P (past e (past d w)) (relation_jump base o sense target) f b
         → BranchCode P w (Relate base o d e) sense target a b
+    on_long_relation : {w : Place} {base : Base} {o : Relation} {d e : Expr} {sense : Bool} {target a b : ℕ} (c f : ℕ) → ExprCode P w d a c
+        → ExprCode P (past d w) e c f → Own P (past e (past d w)) (long_relation_jump base o sense target) f b
+        → BranchCode P w (RelateLong base o d e) sense target a b
     unless_all : {w : Place} {es : Exprs} {target a b : ℕ} → OperandsCode P w es false target a b → BranchCode P w (AllOf es) false target a b
     if_all : {w : Place} {es : Exprs} {target a b : ℕ} (c : ℕ) → OperandsCode P w es false b a c → Own P w (i.Jump target ∷ []) c b
         → BranchCode P w (AllOf es) true target a b
@@ -208,6 +231,13 @@ mutual
     select : {w : Place} {e : Expr} {ts : Tests} {s : Stmt} {cs : Cases} {a b : ℕ} (c d : ℕ) → ExprCode P (beyond 1 w) e a c
         → Own P (past e w) (i.StoreL w.slot 1 ∷ []) c d → CasesCode P (beyond (1 + hidden_expr e) w) w.slot (AndCase ts s cs) d b
         → StmtCode P w (Select e (AndCase ts s cs)) a b
+    -- a LONG one in two
+    select_long : {w : Place} {e : Expr} {ts : Tests} {s : Stmt} {cs : Cases} {a b : ℕ} (c d : ℕ) → ExprCode P (beyond 2 w) e a c
+        → Own P (past e w) (i.StoreL w.slot 2 ∷ []) c d → CasesCode P (beyond (2 + hidden_expr e) w) w.slot (AndCase ts s cs) d b
+        → StmtCode P w (SelectLong e (AndCase ts s cs)) a b
+    select_long_none : {w : Place} {e : Expr} {s : Stmt} {a b : ℕ} (c d : ℕ) → ExprCode P (beyond 2 w) e a c
+        → Own P (past e w) (pop_code (words_of e)) c d → StmtCode P (beyond (2 + hidden_expr e) w) s d b
+        → StmtCode P w (SelectLong e (Otherwise s)) a b
     select_none : {w : Place} {e : Expr} {s : Stmt} {a b : ℕ} (c d : ℕ) → ExprCode P (beyond 1 w) e a c
         → Own P (past e w) (pop_code (words_of e)) c d → StmtCode P (beyond (1 + hidden_expr e) w) s d b
         → StmtCode P w (Select e (Otherwise s)) a b
@@ -256,8 +286,20 @@ mutual
         → Own P (deeper 1 (leaving all taken w))
         (lift_code p.words (suc (words_over all taken p)) ++ (check_code r ++ store_within P h p.words ∷ [])) d f
         → TargetsCode P (beyond (hidden_suffixes s) w) all (p ∷ taken) ts f b → TargetsCode P w all taken (AndTarget p h s r ts) a b
+    and_converted : {w : Place} {all : ℕ} {taken : List Part} {p : Part} {h : Home} {s : Suffixes} {conversion : Conversion} {ts : Targets}
+        {a b : ℕ} (c : ℕ) → HasNoIndex s
+        → Own P (leaving all taken w)
+        (lift_code p.words (words_over all taken p) ++ (conversion_code conversion ++ store P h (fields_of s) (words_after conversion) ∷ [])) a c
+        → TargetsCode P w all (p ∷ taken) ts c b → TargetsCode P w all taken (AndConverted p h s conversion ts) a b
+    and_converted_element : {w : Place} {all : ℕ} {taken : List Part} {p : Part} {h : Home} {s : Suffixes} {conversion : Conversion}
+        {ts : Targets} {a b : ℕ} (c d f : ℕ) → HasIndex s → Own P (leaving all taken w) (i.Lit (fields_of s) ∷ []) a c
+        → PathCode P (deeper 1 (leaving all taken w)) s c d
+        → Own P (deeper 1 (leaving all taken w))
+        (lift_code p.words (suc (words_over all taken p)) ++ (conversion_code conversion ++ store_within P h (words_after conversion) ∷ [])) d f
+        → TargetsCode P (beyond (hidden_suffixes s) w) all (p ∷ taken) ts f b
+        → TargetsCode P w all taken (AndConverted p h s conversion ts) a b
 
-  -- the selector is in slot z; control comes to the statement of the first case with a test that fits
+  -- the selector is in slot z, or in z and the next; control comes to the statement of the first case with a test that fits
   pub data CasesCode (P : Coded) : Place → (z : ℕ) → Cases → ℕ → ℕ → Type 0 where
     otherwise : {w : Place} {z : ℕ} {s : Stmt} {a b : ℕ} → StmtCode P w s a b → CasesCode P w z (Otherwise s) a b
     and_case : {w : Place} {z : ℕ} {ts : Tests} {s : Stmt} {cs : Cases} {a b : ℕ} (c d no : ℕ) → TestsCode P w z ts c no a c
@@ -277,6 +319,18 @@ mutual
         → TestsCode P w z (IfWithin negated bases range ts) yes no a b
     lies_last : {w : Place} {z : ℕ} {negated : Bool} {bases : Bases} {range : Interval} {no a b : ℕ}
         → LiesCode P w z negated bases range false no a b → TestsCode P w z (IfWithin negated bases range NoTests) b no a b
+    long_related : {w : Place} {z : ℕ} {conversion : Conversion} {base : Base} {o : Relation} {e : Expr} {ts : Tests} {yes no a b : ℕ} (c : ℕ)
+        → LongRelatedCode P w z conversion base o e true yes a c → TestsCode P (beyond (hidden_expr e) w) z ts yes no c b
+        → TestsCode P w z (IfRelatedLong conversion base o e ts) yes no a b
+    long_related_last : {w : Place} {z : ℕ} {conversion : Conversion} {base : Base} {o : Relation} {e : Expr} {no a b : ℕ}
+        → LongRelatedCode P w z conversion base o e false no a b → TestsCode P w z (IfRelatedLong conversion base o e NoTests) b no a b
+    long_lies : {w : Place} {z : ℕ} {negated : Bool} {conversion : Conversion} {bases : Bases} {range : Interval} {ts : Tests} {yes no a b : ℕ}
+        (c : ℕ) → LongLiesCode P w z negated conversion bases range true yes a c
+        → TestsCode P (beyond (hidden_interval range) w) z ts yes no c b
+        → TestsCode P w z (IfWithinLong negated conversion bases range ts) yes no a b
+    long_lies_last : {w : Place} {z : ℕ} {negated : Bool} {conversion : Conversion} {bases : Bases} {range : Interval} {no a b : ℕ}
+        → LongLiesCode P w z negated conversion bases range false no a b
+        → TestsCode P w z (IfWithinLong negated conversion bases range NoTests) b no a b
 
   -- control comes to the target where the selector fits a test, or where it does not, as is said; else to b
   pub data RelatedCode (P : Coded) : Place → (z : ℕ) → Range → Base → Relation → Expr → Bool → (target : ℕ) → ℕ → ℕ → Type 0 where
@@ -289,6 +343,20 @@ mutual
         → Own P w (i.LoadL z 1 ∷ []) a c → BoundsCode P (deeper 1 w) x y c d
         → Own P (past y (past x (deeper 1 w))) (within_code (scratch P) bases p q ++ jump_where (differ negated sense) target ∷ []) d b
         → LiesCode P w z negated bases (Between x p y q) sense target a b
+
+  -- the words of the selector that the conversion takes are loaded, and made LONG
+  pub data LongRelatedCode (P : Coded) : Place → (z : ℕ) → Conversion → Base → Relation → Expr → Bool → (target : ℕ) → ℕ → ℕ → Type 0 where
+    long_relates : {w : Place} {z : ℕ} {conversion : Conversion} {base : Base} {o : Relation} {e : Expr} {sense : Bool} {target a b : ℕ}
+        (c d : ℕ) → Own P w (i.LoadL z (words_before conversion) ∷ conversion_code conversion) a c → ExprCode P (deeper 2 w) e c d
+        → Own P (past e (deeper 2 w)) (long_relation_jump base o sense target) d b
+        → LongRelatedCode P w z conversion base o e sense target a b
+
+  pub data LongLiesCode (P : Coded) : Place → (z : ℕ) → Bool → Conversion → Bases → Interval → Bool → (target : ℕ) → ℕ → ℕ → Type 0 where
+    lies_within_long : {w : Place} {z : ℕ} {negated : Bool} {conversion : Conversion} {bases : Bases} {x y : Expr} {p q sense : Bool}
+        {target a b : ℕ} (c d : ℕ) → Own P w (i.LoadL z (words_before conversion) ∷ conversion_code conversion) a c
+        → BoundsCode P (deeper 2 w) x y c d
+        → Own P (past y (past x (deeper 2 w))) (long_within_code (scratch P) bases p q ++ jump_where (differ negated sense) target ∷ []) d b
+        → LongLiesCode P w z negated conversion bases (Between x p y q) sense target a b
 
   -- the statements of labels begin at these offsets, and lead to `end`
   pub data ExitsCode (P : Coded) : Place → Exits → (offsets : List ℕ) → (end : ℕ) → ℕ → ℕ → Type 0 where

@@ -2,11 +2,13 @@
 use Rattle.std.specs.Prelude.{◌≡◌, ℕ, ◌+◌, ◌<◌, ◌≤◌, List, [], ◌∷◌, ◌++◌, Some, Bool}
 use Rattle.mesa_types.specs.declared.typed_parts.Base.{Base}
 use Rattle.mesa_types.specs.declared.typed_parts.Bases.{Bases}
+use Rattle.mesa_types.specs.declared.typed_parts.Conversion.{Conversion}
 use Rattle.mesa_types.specs.declared.typed_parts.Home.{Home}
 use Rattle.mesa_types.specs.declared.typed_parts.Operator.{Operator}
 use Rattle.mesa_types.specs.declared.typed_parts.Range.{Range}
 use Rattle.mesa_base.specs.declared.relation.Relation.{Relation}
 use Rattle.mesa_types.specs.declared.types.FieldType.{FieldType}
+use Rattle.mesa_types.specs.Counts.{words_before, words_after}
 use Rattle.mesa_types.specs.Shapes.{count_in}
 use Rattle.mesa_types.specs.Sound.{BodyIn}
 use Rattle.mesa_types.specs.Typed.{Arms, Expr, Stmt, Body, Module}
@@ -15,7 +17,7 @@ use Rattle.code_forms.specs.declared.module_code.Arm.{Arm}
 use Rattle.code_forms.specs.Instructions.{bytes_of}
 use Rattle.code_forms.specs.Depths.{depth_after}
 use Rattle.code_rules.specs.Loops.{Counter, start_code, count_code, step_code}
-use Rattle.code_rules.specs.OwnCode.{field_code, check_code, index_code, relation_code, relation_jump, operator_code, within_code, arrange_code, total}
+use Rattle.code_rules.specs.OwnCode.{field_code, long_code, check_code, conversion_code, index_code, relation_code, relation_jump, long_relation_code, long_relation_jump, operator_code, long_operator_code, within_code, long_within_code, arrange_code, total}
 use Rattle.code_rules.specs.Scopes.{scopes}
 use Rattle.code_rules.specs.Told.{told_scopes}
 use Rattle.code_rules.specs.Modules.{BodyCode, body_end}
@@ -68,11 +70,18 @@ pub record OwnCodeJoins : Type 0 where
 pub record OwnCodeKeepsWords : Type 0 where
   pub field : (P : Coded) (before words after d : ℕ) → left_by P (field_code before words after) (d + before + words + after) ≡ d + words
   pub check : (P : Coded) (r : Range) (d : ℕ) → left_by P (check_code r) (d + 1) ≡ d + 1
+  pub long : (P : Coded) (n d : ℕ) → left_by P (long_code n) d ≡ d + 2
+  pub conversion : (P : Coded) (c : Conversion) (d : ℕ) → left_by P (conversion_code c) (d + words_before c) ≡ d + words_after c
   pub index : (P : Coded) (r : Range) (first n words d : ℕ) → left_by P (index_code r first n words) (d + 2) ≡ d + 1
   pub relation : (P : Coded) (b : Base) (o : Relation) (d : ℕ) → left_by P (relation_code b o) (d + 2) ≡ d + 1
   pub relation_jump : (P : Coded) (b : Base) (o : Relation) (sense : Bool) (target d : ℕ) → left_by P (relation_jump b o sense target) (d + 2) ≡ d
+  pub long_relation : (P : Coded) (b : Base) (o : Relation) (d : ℕ) → left_by P (long_relation_code b o) (d + 4) ≡ d + 1
+  pub long_relation_jump : (P : Coded) (b : Base) (o : Relation) (sense : Bool) (target d : ℕ)
+      → left_by P (long_relation_jump b o sense target) (d + 4) ≡ d
+  pub long_operator : (P : Coded) (o : Operator) (d : ℕ) → left_by P (long_operator_code o) (d + 4) ≡ d + 2
   pub operator : (P : Coded) (t : ℕ) (o : Operator) (d : ℕ) → left_by P (operator_code t o) (d + 2) ≡ d + 1
   pub within : (P : Coded) (t : ℕ) (bases : Bases) (p q : Bool) (d : ℕ) → left_by P (within_code t bases p q) (d + 3) ≡ d + 1
+  pub long_within : (P : Coded) (t : ℕ) (bases : Bases) (p q : Bool) (d : ℕ) → left_by P (long_within_code t bases p q) (d + 6) ≡ d + 1
   pub arranged : (P : Coded) (places sizes : List ℕ) (d : ℕ) → left_by P (arrange_code places sizes) (d + total sizes) ≡ d + total sizes
   pub cleared : (P : Coded) (hs : List Home) (words d : ℕ) → left_by P (zero_code P hs words) d ≡ d
   pub spread : (P : Coded) (hs : List Home) (words d : ℕ) → left_by P (spread_code P hs words) (d + words) ≡ d

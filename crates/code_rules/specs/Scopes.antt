@@ -3,7 +3,7 @@
 -- in its arms and before those that are enabled in it; a jump stands with the innermost arm around it.
 use Rattle.std.specs.Prelude.{ℕ, List, [], ◌∷◌, ◌++◌, Option, Some, None, if◌then◌else◌}
 use Rattle.mesa_types.specs.declared.typed_parts.Label.{Label}
-use Rattle.mesa_types.specs.Typed.{Point, Start, After, Leave, point_of, Expr, Number, Literal, Variable, FieldOf, LengthOf, ByteOf, Checked, Operate, Negate, Relate, Within, Not, AllOf, SomeOf, Construct, Call, Raise, Exprs, NoExprs, AndExpr, Suffixes, NoSuffix, Field, Index, Operations, NoOperation, Then, Interval, Between, Phrase, NoPhrase, Catch, Arms, NoArms, AndArm, Stmt, Null, Marked, Declare, DeclareAs, Assign, Extract, Perform, If, Select, Block, Repeat, For, Jump, ReturnWith, Resume, Reject, Retry, Continue, Stmts, NoStmts, AndStmt, Targets, NoTargets, AndTarget, Cases, Otherwise, AndCase, Tests, NoTests, IfRelated, IfWithin, Exits, NoExits, AndExit, Loop, LoopOf, Finish, NoFinish, Finished, Condition, Always, While, Until, Body}
+use Rattle.mesa_types.specs.Typed.{Point, Start, After, Leave, point_of, Expr, Number, LongNumber, Literal, Variable, FieldOf, LengthOf, ByteOf, Checked, Converted, Operate, OperateLong, Negate, NegateLong, Relate, RelateLong, Within, WithinLong, Not, AllOf, SomeOf, Construct, Call, Raise, Exprs, NoExprs, AndExpr, Suffixes, NoSuffix, Field, Index, Operations, NoOperation, Then, Interval, Between, Phrase, NoPhrase, Catch, Arms, NoArms, AndArm, Stmt, Null, Marked, Declare, DeclareAs, Assign, Extract, Perform, If, Select, SelectLong, Block, Repeat, For, Jump, ReturnWith, Resume, Reject, Retry, Continue, Stmts, NoStmts, AndStmt, Targets, NoTargets, AndTarget, AndConverted, Cases, Otherwise, AndCase, Tests, NoTests, IfRelated, IfWithin, IfRelatedLong, IfWithinLong, Exits, NoExits, AndExit, Loop, LoopOf, Finish, NoFinish, Finished, Condition, Always, While, Until, Body}
 use Rattle.mesa_types.specs.Sound.{labels_in}
 use Rattle.code_rules.specs.Points.{Way, NoWay, OutOf, Points, in_marked, in_labelled, in_arm, in_body, is_among}
 
@@ -57,16 +57,22 @@ and_arm labels found rest = record { arms = record { labels = labels; jumps = fo
 unfoldable mutual
   pub in_expr : Points (Unit {0}) → Expr → Found
   in_expr points (Number n) = nothing
+  in_expr points (LongNumber n) = nothing
   in_expr points (Literal k) = nothing
   in_expr points (Variable h s words) = in_suffixes points s
   in_expr points (FieldOf e parts) = in_expr points e
   in_expr points (LengthOf e) = in_expr points e
   in_expr points (ByteOf e i) = in_expr points e & in_expr points i
   in_expr points (Checked r e) = in_expr points e
+  in_expr points (Converted c e) = in_expr points e
   in_expr points (Operate e os) = in_expr points e & in_operations points os
+  in_expr points (OperateLong e os) = in_expr points e & in_operations points os
   in_expr points (Negate e) = in_expr points e
+  in_expr points (NegateLong e) = in_expr points e
   in_expr points (Relate b o d e) = in_expr points d & in_expr points e
+  in_expr points (RelateLong b o d e) = in_expr points d & in_expr points e
   in_expr points (Within b e i) = in_expr points e & in_interval points i
+  in_expr points (WithinLong b e i) = in_expr points e & in_interval points i
   in_expr points (Not e) = in_expr points e
   in_expr points (AllOf es) = in_exprs points es
   in_expr points (SomeOf es) = in_exprs points es
@@ -108,6 +114,7 @@ unfoldable mutual
   in_stmt points (Perform e) = in_expr points e
   in_stmt points (If e s t) = in_expr points e & in_stmt points s & in_stmt points t
   in_stmt points (Select e cs) = in_expr points e & in_cases points cs
+  in_stmt points (SelectLong e cs) = in_expr points e & in_cases points cs
   in_stmt points (Block ph ss es) =
       in_phrase (in_labelled (visible es) points) ph & in_stmts (in_labelled (visible es) points) ss & in_exits points es
   in_stmt points (Repeat c l) = in_loop points l
@@ -126,6 +133,7 @@ unfoldable mutual
   pub in_targets : Points (Unit {0}) → Targets → Found
   in_targets points NoTargets = nothing
   in_targets points (AndTarget part h s r ts) = in_suffixes points s & in_targets points ts
+  in_targets points (AndConverted part h s c ts) = in_suffixes points s & in_targets points ts
 
   pub in_cases : Points (Unit {0}) → Cases → Found
   in_cases points (Otherwise s) = in_stmt points s
@@ -135,6 +143,8 @@ unfoldable mutual
   in_tests points NoTests = nothing
   in_tests points (IfRelated r b o e ts) = in_expr points e & in_tests points ts
   in_tests points (IfWithin negated b i ts) = in_interval points i & in_tests points ts
+  in_tests points (IfRelatedLong c b o e ts) = in_expr points e & in_tests points ts
+  in_tests points (IfWithinLong negated c b i ts) = in_interval points i & in_tests points ts
 
   pub in_exits : Points (Unit {0}) → Exits → Found
   in_exits points NoExits = nothing

@@ -1,7 +1,7 @@
 -- Where a procedure's variables lie, and the instructions that read and write them and their parts (rule of this project). Variables
 -- lie one behind the other in order: parameters, results, then those of blocks and arms, each in slots of its own; globals alike.
 -- Behind the variables of a procedure lie 16 scratch words, then its hidden words in the order of the text: three for each FOR or
--- THROUGH and one for each SELECT, each in a slot of its own.
+-- THROUGH and one for each SELECT, or two where its selector is LONG, each in a slot of its own.
 use Rattle.std.specs.Prelude.{ℕ, zero, suc, ◌+◌, List, [], ◌∷◌}
 use Rattle.mesa_types.specs.declared.typed_parts.Home.{Home}
 use Rattle.mesa_types.specs.declared.typed_parts.Home.TheVariants.{Global, Local}

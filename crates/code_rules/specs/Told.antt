@@ -1,7 +1,7 @@
 -- The catch phrases of a body, with what its tree itself says of jumps: a jump says how many arms it leaves, RETRY and CONTINUE leave
 -- their own arm alone. In a sound body this is what is counted (`Scopes`).
 use Rattle.std.specs.Prelude.{ℕ, List, [], ◌∷◌}
-use Rattle.mesa_types.specs.Typed.{Point, Start, After, Leave, point_of, Expr, Number, Literal, Variable, FieldOf, LengthOf, ByteOf, Checked, Operate, Negate, Relate, Within, Not, AllOf, SomeOf, Construct, Call, Raise, Exprs, NoExprs, AndExpr, Suffixes, NoSuffix, Field, Index, Operations, NoOperation, Then, Interval, Between, Phrase, NoPhrase, Catch, Arms, NoArms, AndArm, Stmt, Null, Marked, Declare, DeclareAs, Assign, Extract, Perform, If, Select, Block, Repeat, For, Jump, ReturnWith, Resume, Reject, Retry, Continue, Stmts, NoStmts, AndStmt, Targets, NoTargets, AndTarget, Cases, Otherwise, AndCase, Tests, NoTests, IfRelated, IfWithin, Exits, NoExits, AndExit, Loop, LoopOf, Finish, NoFinish, Finished, Condition, Always, While, Until, Body}
+use Rattle.mesa_types.specs.Typed.{Point, Start, After, Leave, point_of, Expr, Number, LongNumber, Literal, Variable, FieldOf, LengthOf, ByteOf, Checked, Converted, Operate, OperateLong, Negate, NegateLong, Relate, RelateLong, Within, WithinLong, Not, AllOf, SomeOf, Construct, Call, Raise, Exprs, NoExprs, AndExpr, Suffixes, NoSuffix, Field, Index, Operations, NoOperation, Then, Interval, Between, Phrase, NoPhrase, Catch, Arms, NoArms, AndArm, Stmt, Null, Marked, Declare, DeclareAs, Assign, Extract, Perform, If, Select, SelectLong, Block, Repeat, For, Jump, ReturnWith, Resume, Reject, Retry, Continue, Stmts, NoStmts, AndStmt, Targets, NoTargets, AndTarget, AndConverted, Cases, Otherwise, AndCase, Tests, NoTests, IfRelated, IfWithin, IfRelatedLong, IfWithinLong, Exits, NoExits, AndExit, Loop, LoopOf, Finish, NoFinish, Finished, Condition, Always, While, Until, Body}
 use Rattle.code_rules.specs.Scopes.{Found, FoundArms, PhraseScope, nothing, ◌&◌, the_phrase, and_arm}
 
 abbrev pub a_told_jump : (arms : ℕ) → Point → Found
@@ -10,16 +10,22 @@ a_told_jump arms p = record { jumps = record { point = p; arms = arms } ∷ []; 
 unfoldable mutual
   pub told_expr : Expr → Found
   told_expr (Number n) = nothing
+  told_expr (LongNumber n) = nothing
   told_expr (Literal k) = nothing
   told_expr (Variable h s words) = told_suffixes s
   told_expr (FieldOf e parts) = told_expr e
   told_expr (LengthOf e) = told_expr e
   told_expr (ByteOf e i) = told_expr e & told_expr i
   told_expr (Checked r e) = told_expr e
+  told_expr (Converted c e) = told_expr e
   told_expr (Operate e os) = told_expr e & told_operations os
+  told_expr (OperateLong e os) = told_expr e & told_operations os
   told_expr (Negate e) = told_expr e
+  told_expr (NegateLong e) = told_expr e
   told_expr (Relate b o d e) = told_expr d & told_expr e
+  told_expr (RelateLong b o d e) = told_expr d & told_expr e
   told_expr (Within b e i) = told_expr e & told_interval i
+  told_expr (WithinLong b e i) = told_expr e & told_interval i
   told_expr (Not e) = told_expr e
   told_expr (AllOf es) = told_exprs es
   told_expr (SomeOf es) = told_exprs es
@@ -61,6 +67,7 @@ unfoldable mutual
   told_stmt (Perform e) = told_expr e
   told_stmt (If e s t) = told_expr e & told_stmt s & told_stmt t
   told_stmt (Select e cs) = told_expr e & told_cases cs
+  told_stmt (SelectLong e cs) = told_expr e & told_cases cs
   told_stmt (Block ph ss es) = told_phrase ph & told_stmts ss & told_exits es
   told_stmt (Repeat c l) = told_loop l
   told_stmt (For g down b i l) = told_interval i & told_loop l
@@ -78,6 +85,7 @@ unfoldable mutual
   pub told_targets : Targets → Found
   told_targets NoTargets = nothing
   told_targets (AndTarget part h s r ts) = told_suffixes s & told_targets ts
+  told_targets (AndConverted part h s c ts) = told_suffixes s & told_targets ts
 
   pub told_cases : Cases → Found
   told_cases (Otherwise s) = told_stmt s
@@ -87,6 +95,8 @@ unfoldable mutual
   told_tests NoTests = nothing
   told_tests (IfRelated r b o e ts) = told_expr e & told_tests ts
   told_tests (IfWithin negated b i ts) = told_interval i & told_tests ts
+  told_tests (IfRelatedLong c b o e ts) = told_expr e & told_tests ts
+  told_tests (IfWithinLong negated c b i ts) = told_interval i & told_tests ts
 
   pub told_exits : Exits → Found
   told_exits NoExits = nothing

@@ -1,3 +1,4 @@
+//! The laws of the code that stands for constructs: its order and words, its jumps, and the slots of variables.
 ghost use Rattle.code_rules.specs.Laws.{CodeIsWhole, CodeLiesInOrder, JumpsLeaveTheirArms, OwnCodeJoins, OwnCodeKeepsWords, ScopesAreTold, SlotsAreApart};
 
 /// The code that stands for a construct is a run of whole instructions, and the phrases that are enabled around the

@@ -2,23 +2,16 @@
 use Rattle.std.proofs.Common.{◌≡◌, refl, sym, ap, ◌∙◌, ℕ, zero, suc, ◌+◌, ◌≤◌, ◌<◌, List, [], ◌∷◌, ◌++◌, length, map, Bool, true, false, not, arith}
 use Rattle.mesa_base.specs.Chain.{chain}
 use Rattle.mesa_types.specs.Counts.{hidden, hidden_cases, hidden_expr, hidden_interval, hidden_tests}
-use Rattle.mesa_types.specs.Plain.{Layer, case, expr, interval, stmt, test, test_step}
+use Rattle.mesa_types.specs.Plain.{Layer, case, stmt, test, test_step}
 use Rattle.mesa_types.specs.Typed as t
-use Rattle.mesa_types.specs.declared.typed_parts.Base.{Base}
-use Rattle.mesa_types.specs.declared.typed_parts.Bases.{Bases}
-use Rattle.mesa_types.specs.declared.typed_parts.Range.{Range}
-use Rattle.mesa_base.specs.declared.relation.Relation.{Relation}
 use Rattle.mesa_types.specs.declared.typed_tree.Case.{Case}
-use Rattle.mesa_types.specs.declared.typed_tree.Interval.{Interval}
 use Rattle.mesa_types.specs.declared.typed_tree.Test.{Test}
-use Rattle.mesa_types.specs.declared.typed_tree.Test.TheVariants as v
-use Rattle.mesa_types.specs.declared.typed_tree.TypedExpr.{TypedExpr}
 use Rattle.mesa_types.specs.declared.typed_tree.Condition.TheOpen.{Test-F}
-use Rattle.mesa_types.specs.declared.typed_tree.Condition.TheFolds.{fold_out-Test, fold-roll-Test}
-use Rattle.code_blocks.specs.Blocks.{Block, Both}
+use Rattle.mesa_types.specs.declared.typed_tree.Condition.TheFolds.{fold_out-Test}
+use Rattle.code_blocks.specs.Blocks.{Both, nothing}
 use Rattle.code_rules.specs.Reading.{Coded}
 use Rattle.code_blocks.specs.Translation as spec
-use Rattle.code_trees.specs.Forms.{case_blocks, case_of, goes_on, is_null, past_if, related_of, test_blocks, test_of, tests_end, within_test_of}
+use Rattle.code_trees.specs.Forms.{case_blocks, case_of, goes_on, is_null, long_related_of, long_within_test_of, past_if, related_of, test_blocks, test_of, tests_end, within_test_of}
 use Rattle.code_trees.specs.Plain.{in_order}
 use Rattle.code_trees.proofs.StatementSplits.{case_is}
 
@@ -32,6 +25,7 @@ past_second (t.Extract of_record ts e) part = refl
 past_second (t.Perform e) part = refl
 past_second (t.If e s u) part = refl
 past_second (t.Select e cs) part = refl
+past_second (t.SelectLong e cs) part = refl
 past_second (t.Block ph ss es) part = refl
 past_second (t.Repeat c l) part = refl
 past_second (t.For g down b i l) part = refl
@@ -44,25 +38,28 @@ past_second (t.Continue n) part = refl
 
 -- tests
 
+-- behind a test that is not the first
+rest_is : (P : Coded) (z x : ℕ) (ts : t.Tests) → spec.unless (spec.is_last ts) (spec.tests P z x ts) ≡ in_order (test_blocks P z x ts) nothing
+unfolding test_blocks
+rest_is P z x t.NoTests = refl
+rest_is P z x (t.IfRelated r base o e ts) =
+    ap (λ rest. Both (related_of x r base o (spec.is_last ts) (spec.forms P z e).value) rest) (rest_is P (z + hidden_expr e) x ts)
+rest_is P z x (t.IfWithin negated bases range ts) =
+    ap (λ rest. Both (within_test_of P x negated bases range (spec.is_last ts) (spec.bounds P z range)) rest)
+    (rest_is P (z + hidden_interval range) x ts)
+rest_is P z x (t.IfRelatedLong conversion base o e ts) =
+    ap (λ rest. Both (long_related_of x conversion base o (spec.is_last ts) (spec.forms P z e).value) rest) (rest_is P (z + hidden_expr e) x ts)
+rest_is P z x (t.IfWithinLong negated conversion bases range ts) =
+    ap (λ rest. Both (long_within_test_of P x negated conversion bases range (spec.is_last ts) (spec.bounds P z range)) rest)
+    (rest_is P (z + hidden_interval range) x ts)
+
 pub tests_are : (P : Coded) (z x : ℕ) (ts : t.Tests) → spec.tests P z x ts ≡ in_order (test_blocks P z x ts) (tests_end ts)
 unfolding test_blocks
 tests_are P z x t.NoTests = refl
-tests_are P z x (t.IfRelated r base o e t.NoTests) = refl
-tests_are P z x (t.IfRelated r base o e (t.IfRelated q b p d ts)) =
-    ap (λ rest. Both (related_of x r base o false (spec.forms P z e).value) rest) (tests_are P (z + hidden_expr e) x (t.IfRelated q b p d ts))
-tests_are P z x (t.IfRelated r base o e (t.IfWithin negated bases range ts)) =
-    ap (λ rest. Both (related_of x r base o false (spec.forms P z e).value) rest) (tests_are P (z + hidden_expr e) x (t.IfWithin negated bases range ts))
-tests_are P z x (t.IfWithin negated bases range t.NoTests) = refl
-tests_are P z x (t.IfWithin negated bases range (t.IfRelated q b p d ts)) =
-    ap (λ rest. Both (within_test_of P x negated bases range false (spec.bounds P z range)) rest) (tests_are P (z + hidden_interval range) x (t.IfRelated q b p d ts))
-tests_are P z x (t.IfWithin negated bases range (t.IfWithin m bs i ts)) =
-    ap (λ rest. Both (within_test_of P x negated bases range false (spec.bounds P z range)) rest) (tests_are P (z + hidden_interval range) x (t.IfWithin m bs i ts))
-
-related_is : (r : Range) (base : Base) (o : Relation) (e : TypedExpr) (tail : t.Tests) → test (v.IfRelated r base o e) tail ≡ t.IfRelated r base o (expr e) tail
-related_is r base o e tail = ap (λ y. test y tail) (sym (v.rolls-IfRelated r base o e)) ∙ rw fold-roll-Test refl
-
-within_is : (negated : Bool) (bases : Bases) (range : Interval) (tail : t.Tests) → test (v.IfWithin negated bases range) tail ≡ t.IfWithin negated bases (interval range) tail
-within_is negated bases range tail = ap (λ y. test y tail) (sym (v.rolls-IfWithin negated bases range)) ∙ rw fold-roll-Test refl
+tests_are P z x (t.IfRelated r base o e ts) = rest_is P z x (t.IfRelated r base o e ts)
+tests_are P z x (t.IfWithin negated bases range ts) = rest_is P z x (t.IfWithin negated bases range ts)
+tests_are P z x (t.IfRelatedLong conversion base o e ts) = rest_is P z x (t.IfRelatedLong conversion base o e ts)
+tests_are P z x (t.IfWithinLong negated conversion bases range ts) = rest_is P z x (t.IfWithinLong negated conversion bases range ts)
 
 -- the first of some tests, by one layer of it
 
@@ -75,15 +72,26 @@ layer_blocks P z slot (Test-F.IfRelated r base o e) tail =
 layer_blocks P z slot (Test-F.IfWithin negated bases range) tail =
     let same : hidden_interval range ≡ hidden_interval range + 0 = omega arith in
     ap (λ n. within_test_of P slot negated bases range (spec.is_last tail) (spec.bounds P z range) ∷ test_blocks P (z + n) slot tail) same
+layer_blocks P z slot (Test-F.IfRelatedLong conversion base o e) tail =
+    let same : hidden_expr e ≡ hidden_expr e + 0 = omega arith in
+    ap (λ n. long_related_of slot conversion base o (spec.is_last tail) (spec.forms P z e).value ∷ test_blocks P (z + n) slot tail) same
+layer_blocks P z slot (Test-F.IfWithinLong negated conversion bases range) tail =
+    let same : hidden_interval range ≡ hidden_interval range + 0 = omega arith in
+    ap (λ n. long_within_test_of P slot negated conversion bases range (spec.is_last tail) (spec.bounds P z range)
+    ∷ test_blocks P (z + n) slot tail) same
 
 layer_hidden : (y : Layer Test-F) (tail : t.Tests) → hidden_tests (test_step y tail) ≡ hidden_tests (test_step y t.NoTests) + hidden_tests tail
 unfolding hidden_tests
 layer_hidden (Test-F.IfRelated r base o e) tail = omega arith
 layer_hidden (Test-F.IfWithin negated bases range) tail = omega arith
+layer_hidden (Test-F.IfRelatedLong conversion base o e) tail = omega arith
+layer_hidden (Test-F.IfWithinLong negated conversion bases range) tail = omega arith
 
 layer_first : (y : Layer Test-F) (tail : t.Tests) → spec.is_last (test_step y tail) ≡ false
 layer_first (Test-F.IfRelated r base o e) tail = refl
 layer_first (Test-F.IfWithin negated bases range) tail = refl
+layer_first (Test-F.IfRelatedLong conversion base o e) tail = refl
+layer_first (Test-F.IfWithinLong negated conversion bases range) tail = refl
 
 pub blocks_of_first : (P : Coded) (z slot : ℕ) (x : Test) (tail : t.Tests) → test_blocks P z slot (test x tail)
     ≡ test_of P z slot (spec.is_last tail) (test x t.NoTests) ∷ test_blocks P (z + hidden_tests (test x t.NoTests)) slot tail

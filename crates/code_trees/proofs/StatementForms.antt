@@ -34,6 +34,10 @@ if_is e s u = ap stmt (sym (v.rolls-If e s u)) ∙ rw fold-roll-TypedStmt refl
 pub select_is : (e : TypedExpr) (cs : List Case) (s : TypedStmt) → stmt (v.Select e cs s) ≡ t.Select (expr e) (chain (map case cs) (t.Otherwise (stmt s)))
 select_is e cs s = ap stmt (sym (v.rolls-Select e cs s)) ∙ rw fold-roll-TypedStmt refl
 
+pub select_long_is : (e : TypedExpr) (cs : List Case) (s : TypedStmt)
+    → stmt (v.SelectLong e cs s) ≡ t.SelectLong (expr e) (chain (map case cs) (t.Otherwise (stmt s)))
+select_long_is e cs s = ap stmt (sym (v.rolls-SelectLong e cs s)) ∙ rw fold-roll-TypedStmt refl
+
 pub block_is : (p : Phrase) (ss : List TypedStmt) (es : List Exit) → stmt (v.Block p ss es) ≡ t.Block (phrase p) (stmts (map stmt ss)) (chain (map exit es) t.NoExits)
 block_is p ss es = ap stmt (sym (v.rolls-Block p ss es)) ∙ rw fold-roll-TypedStmt refl
 

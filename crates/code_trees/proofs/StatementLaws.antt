@@ -1,5 +1,5 @@
 -- The block of each form of a statement by those of its parts, where each part begins with its hidden words behind those before it.
-use Rattle.std.proofs.Common.{◌≡◌, refl, sym, ap, ◌∙◌, ℕ, suc, ◌+◌, ◌≤◌, List, [], ◌∷◌, ◌++◌, map, Bool, true, false, not, if◌then◌else◌, arith}
+use Rattle.std.proofs.Common.{◌≡◌, refl, sym, ap, ◌∙◌, ℕ, suc, ◌+◌, ◌≤◌, ◌⊎◌, inl, inr, List, [], ◌∷◌, ◌++◌, map, Bool, true, false, not, if◌then◌else◌, arith}
 use Rattle.mesa_base.specs.Chain.{chain}
 use Rattle.mesa_types.specs.Counts.{hidden, hidden_cases, hidden_expr, hidden_suffixes, hidden_targets, words_of}
 use Rattle.mesa_types.specs.Plain.{case, expr, kind_of, stmt, suffix, target}
@@ -22,11 +22,11 @@ use Rattle.code_rules.specs.Slots.{fields_of, spread_code, store, store_within, 
 use Rattle.code_blocks.specs.Blocks.{Block, Both, Does, Ends, Here, nothing}
 use Rattle.code_blocks.specs.Translation as spec
 use Rattle.code_trees.specs.Excess.{excess, excess_in}
-use Rattle.code_trees.specs.Forms.{assign_of, case_blocks, if_of, is_null, past_if, select_of}
+use Rattle.code_trees.specs.Forms.{assign_of, case_blocks, held_words, if_of, is_null, past_if, select_of}
 use Rattle.code_counts.proofs.WordLaws.{hidden_last}
 use Rattle.code_trees.proofs.CaseLaws.{cases_are, past_second}
 use Rattle.code_trees.proofs.Splits.{nothing_hidden}
-use Rattle.code_trees.proofs.StatementForms.{assign_is, declare_as_is, extract_is, if_is, select_is}
+use Rattle.code_trees.proofs.StatementForms.{assign_is, declare_as_is, extract_is, if_is, select_is, select_long_is}
 use Rattle.code_trees.proofs.StatementSplits.{case_is}
 
 -- DeclareAs
@@ -131,44 +131,76 @@ pub if_fits : (test statement past otherwise : Block) → excess (if_of test sta
 unfolding excess
 if_fits test statement past otherwise h = (omega arith, omega arith, omega arith)
 
--- Select
+-- Select and SelectLong
 
-selected_is : (P : Coded) (z x words : ℕ) (cs : List Case) (s : t.Stmt) (none : Bool) → (none ≡ true → cs ≡ []) → (none ≡ false → cs ≡ [] → ⊥) → (value : Block)
-    → Both value (spec.selected P z x words (chain (map case cs) (t.Otherwise s)))
-    ≡ select_of none x words value (case_blocks P z x (not (is_null s)) (chain (map case cs) (t.Otherwise t.Null)))
+selected_is : (P : Coded) (z x held words : ℕ) (cs : List Case) (s : t.Stmt) (none : Bool) → (none ≡ true → cs ≡ []) → (none ≡ false → cs ≡ [] → ⊥)
+    → (value : Block)
+    → Both value (spec.selected P z x held words (chain (map case cs) (t.Otherwise s)))
+    ≡ select_of none x held words value (case_blocks P z x (not (is_null s)) (chain (map case cs) (t.Otherwise t.Null)))
     (spec.block P (z + hidden_cases (chain (map case cs) (t.Otherwise t.Null))) s)
 unfolding hidden_cases
-selected_is P z x words [] s true none some value = let same : z ≡ z + 0 = omega arith in ap (λ n. Both value (Both (Does (pop_code words)) (spec.block P n s))) same
-selected_is P z x words [] s false none some value = absurd (some refl refl)
-selected_is P z x words (c ∷ cs) s true none some value = let no : c ∷ cs ≡ [] = none refl in cc
-selected_is P z x words (c ∷ cs) s false none some value =
-    ap (λ l. Both value (spec.selected P z x words l)) (case_is c (chain (map case cs) (t.Otherwise s)))
-    ∙ sym (ap (λ l. Both value (Both (Does (i.StoreL x 1 ∷ [])) (Ends (Here 0) (spec.cases P z x l)))) (case_is c (chain (map case cs) (t.Otherwise s))))
-    ∙ ap (λ b. Both value (Both (Does (i.StoreL x 1 ∷ [])) (Ends (Here 0) b))) (cases_are P z x (c ∷ cs) s)
+selected_is P z x held words [] s true none some value =
+    let same : z ≡ z + 0 = omega arith in ap (λ n. Both value (Both (Does (pop_code words)) (spec.block P n s))) same
+selected_is P z x held words [] s false none some value = absurd (some refl refl)
+selected_is P z x held words (c ∷ cs) s true none some value = let no : c ∷ cs ≡ [] = none refl in cc
+selected_is P z x held words (c ∷ cs) s false none some value =
+    ap (λ l. Both value (spec.selected P z x held words l)) (case_is c (chain (map case cs) (t.Otherwise s)))
+    ∙ sym (ap (λ l. Both value (Both (Does (i.StoreL x held ∷ [])) (Ends (Here 0) (spec.cases P z x l)))) (case_is c (chain (map case cs) (t.Otherwise s))))
+    ∙ ap (λ b. Both value (Both (Does (i.StoreL x held ∷ [])) (Ends (Here 0) b))) (cases_are P z x (c ∷ cs) s)
+
+selection_is : (P : Coded) (z held : ℕ) (e : t.Expr) (cs : List Case) (s : t.Stmt) (one two three : ℕ) (none : Bool)
+    → one ≡ z + held → two ≡ one + hidden_expr e → three ≡ two + hidden_cases (chain (map case cs) (t.Otherwise t.Null))
+    → (none ≡ true → cs ≡ []) → (none ≡ false → cs ≡ [] → ⊥)
+    → Both (spec.forms P (z + held) e).value (spec.selected P (z + (held + hidden_expr e)) z held (words_of e) (chain (map case cs) (t.Otherwise s)))
+    ≡ select_of none z held (words_of e) (spec.forms P one e).value
+    (case_blocks P two z (not (is_null s)) (chain (map case cs) (t.Otherwise t.Null))) (spec.block P three s)
+selection_is P z held e cs s one two three none is_one is_two is_three empty some =
+    let here : z + (held + hidden_expr e) ≡ two = omega arith in
+    ap (λ n. Both (spec.forms P n e).value (spec.selected P (z + (held + hidden_expr e)) z held (words_of e) (chain (map case cs) (t.Otherwise s))))
+    (sym is_one)
+    ∙ ap (λ n. Both (spec.forms P one e).value (spec.selected P n z held (words_of e) (chain (map case cs) (t.Otherwise s)))) here
+    ∙ selected_is P two z held (words_of e) cs s none empty some (spec.forms P one e).value
+    ∙ ap (λ n. select_of none z held (words_of e) (spec.forms P one e).value
+    (case_blocks P two z (not (is_null s)) (chain (map case cs) (t.Otherwise t.Null))) (spec.block P n s)) (sym is_three)
 
 module _ (P : Coded) (z : ℕ) (x : TypedStmt) (e : TypedExpr) (cs : List Case) (s : TypedStmt) (read_cs : List Case) (read_s : TypedStmt)
-    (is : x ≡ v.Select e cs s) (is_cs : read_cs ≡ cs) (is_s : read_s ≡ s) where
-  read_select : stmt x ≡ t.Select (expr e) (chain (map case read_cs) (t.Otherwise (stmt read_s)))
-  read_select =
+    (is_cs : read_cs ≡ cs) (is_s : read_s ≡ s) where
+  read_select : x ≡ v.Select e cs s → stmt x ≡ t.Select (expr e) (chain (map case read_cs) (t.Otherwise (stmt read_s)))
+  read_select is =
       ap stmt is ∙ select_is e cs s
       ∙ ap (λ l. t.Select (expr e) (chain (map case l) (t.Otherwise (stmt s)))) (sym is_cs)
       ∙ ap (λ y. t.Select (expr e) (chain (map case read_cs) (t.Otherwise (stmt y)))) (sym is_s)
 
-  pub select_form : (one two three : ℕ) (none : Bool) → one ≡ z + 1 → two ≡ one + hidden_expr (expr e)
+  read_select_long : x ≡ v.SelectLong e cs s → stmt x ≡ t.SelectLong (expr e) (chain (map case read_cs) (t.Otherwise (stmt read_s)))
+  read_select_long is =
+      ap stmt is ∙ select_long_is e cs s
+      ∙ ap (λ l. t.SelectLong (expr e) (chain (map case l) (t.Otherwise (stmt s)))) (sym is_cs)
+      ∙ ap (λ y. t.SelectLong (expr e) (chain (map case read_cs) (t.Otherwise (stmt y)))) (sym is_s)
+
+  pub select_form : (x ≡ v.Select e cs s) ⊎ (x ≡ v.SelectLong e cs s) → (held : ℕ) → held ≡ held_words (stmt x)
+      → (one two three : ℕ) (none : Bool) → one ≡ z + held → two ≡ one + hidden_expr (expr e)
       → three ≡ two + hidden_cases (chain (map case read_cs) (t.Otherwise t.Null))
       → (none ≡ true → read_cs ≡ []) → (none ≡ false → read_cs ≡ [] → ⊥)
       → spec.block P z (stmt x)
-      ≡ select_of none z (words_of (expr e)) (spec.forms P one (expr e)).value
+      ≡ select_of none z held (words_of (expr e)) (spec.forms P one (expr e)).value
       (case_blocks P two z (not (is_null (stmt read_s))) (chain (map case read_cs) (t.Otherwise t.Null))) (spec.block P three (stmt read_s))
-  select_form one two three none is_one is_two is_three empty some =
-      let here : z + (1 + hidden_expr (expr e)) ≡ two = omega arith in
-      ap (spec.block P z) read_select
-      ∙ ap (λ n. Both (spec.forms P n (expr e)).value (spec.selected P (z + (1 + hidden_expr (expr e))) z (words_of (expr e)) (chain (map case read_cs) (t.Otherwise (stmt read_s))))) (sym is_one)
-      ∙ ap (λ n. Both (spec.forms P one (expr e)).value (spec.selected P n z (words_of (expr e)) (chain (map case read_cs) (t.Otherwise (stmt read_s))))) here
-      ∙ selected_is P two z (words_of (expr e)) read_cs (stmt read_s) none empty some (spec.forms P one (expr e)).value
-      ∙ ap (λ n. select_of none z (words_of (expr e)) (spec.forms P one (expr e)).value
-      (case_blocks P two z (not (is_null (stmt read_s))) (chain (map case read_cs) (t.Otherwise t.Null))) (spec.block P n (stmt read_s))) (sym is_three)
+  select_form (inl is) held is_held one two three none is_one is_two is_three empty some =
+      let so : held ≡ 1 = is_held ∙ ap held_words (read_select is) in
+      ap (spec.block P z) (read_select is)
+      ∙ ap (λ n. Both (spec.forms P (z + n) (expr e)).value
+      (spec.selected P (z + (n + hidden_expr (expr e))) z n (words_of (expr e)) (chain (map case read_cs) (t.Otherwise (stmt read_s))))) (sym so)
+      ∙ selection_is P z held (expr e) read_cs (stmt read_s) one two three none is_one is_two is_three empty some
+  select_form (inr is) held is_held one two three none is_one is_two is_three empty some =
+      let so : held ≡ 2 = is_held ∙ ap held_words (read_select_long is) in
+      ap (spec.block P z) (read_select_long is)
+      ∙ ap (λ n. Both (spec.forms P (z + n) (expr e)).value
+      (spec.selected P (z + (n + hidden_expr (expr e))) z n (words_of (expr e)) (chain (map case read_cs) (t.Otherwise (stmt read_s))))) (sym so)
+      ∙ selection_is P z held (expr e) read_cs (stmt read_s) one two three none is_one is_two is_three empty some
 
-  pub select_hidden : hidden (stmt x) ≡ 1 + hidden_expr (expr e) + hidden_cases (chain (map case read_cs) (t.Otherwise t.Null)) + hidden (stmt read_s)
+  pub select_hidden : (x ≡ v.Select e cs s) ⊎ (x ≡ v.SelectLong e cs s) → (held : ℕ) → held ≡ held_words (stmt x)
+      → hidden (stmt x) ≡ held + hidden_expr (expr e) + hidden_cases (chain (map case read_cs) (t.Otherwise t.Null)) + hidden (stmt read_s)
   unfolding hidden
-  select_hidden = ap hidden read_select ∙ omega (arith, hidden_last read_cs (stmt read_s))
+  select_hidden (inl is) held is_held =
+      omega (arith, ap hidden (read_select is), is_held ∙ ap held_words (read_select is), hidden_last read_cs (stmt read_s))
+  select_hidden (inr is) held is_held =
+      omega (arith, ap hidden (read_select_long is), is_held ∙ ap held_words (read_select_long is), hidden_last read_cs (stmt read_s))

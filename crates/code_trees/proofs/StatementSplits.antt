@@ -2,7 +2,7 @@
 use Rattle.std.proofs.Common.{◌≡◌, refl, sym, ap, ◌∙◌, ℕ, ◌+◌, ◌<◌, List, [], ◌∷◌, length, get_or, drop, map, Option, Some, None}
 use Rattle.std.specs.Prelude.{option_map}
 use Rattle.mesa_base.specs.Chain.{chain}
-use Rattle.mesa_types.specs.Plain.{case, condition, exit, expr, finish, interval, loop, stmt, stmts, suffix, target, test}
+use Rattle.mesa_types.specs.Plain.{case, condition, exit, expr, finish, interval, loop, stmt, stmts, suffix, target, target_by, test}
 use Rattle.mesa_types.specs.Typed as t
 use Rattle.mesa_types.specs.declared.typed_tree.Case.{Case}
 use Rattle.mesa_types.specs.declared.typed_tree.Exit.{Exit}
@@ -21,7 +21,8 @@ case_is x tail = rw fold_out-Case refl
 pub exit_is : (x : Exit) (tail : t.Exits) → exit x tail ≡ t.AndExit x.labels (stmt x.body) tail
 exit_is x tail = rw fold_out-Exit refl
 
-pub target_is : (x : Target) (tail : t.Targets) → target x tail ≡ t.AndTarget x.part x.home (chain (map suffix x.suffixes) t.NoSuffix) x.check tail
+pub target_is : (x : Target) (tail : t.Targets) → target x tail
+    ≡ target_by x.conversion x.check x.part x.home (chain (map suffix x.suffixes) t.NoSuffix) tail
 target_is x tail = rw fold_out-Target refl
 
 pub interval_is : (x : Interval) → interval x ≡ t.Between (expr x.first) x.first_is_open (expr x.last) x.last_is_open
@@ -50,7 +51,7 @@ exits_split es i x lt is = ap (λ l. chain (map exit l) t.NoExits) (item_at es i
 
 pub targets_split : (ts : List Target) (i : ℕ) (x : Target) → i < length ts → x ≡ get_or ts i x
     → chain (map target (drop i ts)) t.NoTargets
-    ≡ t.AndTarget x.part x.home (chain (map suffix x.suffixes) t.NoSuffix) x.check (chain (map target (drop (i + 1) ts)) t.NoTargets)
+    ≡ target_by x.conversion x.check x.part x.home (chain (map suffix x.suffixes) t.NoSuffix) (chain (map target (drop (i + 1) ts)) t.NoTargets)
 targets_split ts i x lt is =
     ap (λ l. chain (map target l) t.NoTargets) (item_at ts i x lt is) ∙ target_is x (chain (map target (drop (i + 1) ts)) t.NoTargets)
 

@@ -1,7 +1,9 @@
 -- What the next element of a list of statements, targets, cases, tests or labels puts before the rest.
 use Rattle.std.proofs.Common.{◌≡◌, refl, sym, ap, ◌∙◌, ℕ, suc, ◌+◌, ◌≤◌, List, [], ◌∷◌, ◌++◌, Bool, append_assoc, arith}
 use Rattle.mesa_types.specs.Counts.{hidden, hidden_cases, hidden_exits, hidden_stmts, hidden_suffixes, hidden_targets, hidden_tests}
+use Rattle.mesa_types.specs.Plain.{target_by}
 use Rattle.mesa_types.specs.Typed as t
+use Rattle.mesa_types.specs.declared.typed_parts.Conversion.{Conversion}
 use Rattle.mesa_types.specs.declared.typed_parts.Home.{Home}
 use Rattle.mesa_types.specs.declared.typed_parts.Part.{Part}
 use Rattle.mesa_types.specs.declared.typed_parts.Range.{Range}
@@ -14,6 +16,7 @@ use Rattle.code_trees.specs.Excess.{excess}
 use Rattle.code_trees.specs.Forms.{case_blocks, case_of, exit_blocks, goes_on, target_of}
 use Rattle.code_trees.specs.Plain.{in_order}
 use Rattle.code_trees.specs.Rows.{excess_among, sizes_in}
+use Rattle.code_counts.proofs.WordLaws.{hidden_given}
 use Rattle.code_trees.proofs.RowFits.{among_fit, in_order_joined, last_fits, row_size, sizes_joined}
 use Rattle.code_trees.proofs.TargetLaws.{first_target}
 
@@ -72,19 +75,19 @@ module _ (P : Coded) (z after : ℕ) (s : t.Stmt) (all tail : t.Stmts) (is : all
 
 -- targets
 
-module _ (P : Coded) (z after all : ℕ) (before taken : List Part) (p : Part) (h : Home) (s : t.Suffixes) (r : Range) (whole tail : t.Targets)
-    (is : whole ≡ t.AndTarget p h s r tail) where
+module _ (P : Coded) (z after all : ℕ) (before taken : List Part) (p : Part) (h : Home) (s : t.Suffixes) (c : Conversion) (r : Range)
+    (whole tail : t.Targets) (is : whole ≡ target_by c r p h s tail) where
   pub targets_next : after ≡ z + hidden_suffixes s → taken ≡ p ∷ before
-      → spec.targets P z all before whole ≡ in_order (target_of P (words_over all before p) p h s r (spec.path P z s)) (spec.targets P after all taken tail)
+      → spec.targets P z all before whole ≡ in_order (target_of P (words_over all before p) p h s c r (spec.path P z s)) (spec.targets P after all taken tail)
   targets_next is_after is_taken =
       ap (spec.targets P z all before) is
-      ∙ first_target P z all before p h s r tail
-      ∙ ap (λ n. in_order (target_of P (words_over all before p) p h s r (spec.path P z s)) (spec.targets P n all (p ∷ before) tail)) (sym is_after)
-      ∙ ap (λ l. in_order (target_of P (words_over all before p) p h s r (spec.path P z s)) (spec.targets P after all l tail)) (sym is_taken)
+      ∙ first_target P z all before p h s c r tail
+      ∙ ap (λ n. in_order (target_of P (words_over all before p) p h s c r (spec.path P z s)) (spec.targets P n all (p ∷ before) tail)) (sym is_after)
+      ∙ ap (λ l. in_order (target_of P (words_over all before p) p h s c r (spec.path P z s)) (spec.targets P after all l tail)) (sym is_taken)
 
   pub targets_hidden : hidden_targets whole ≡ hidden_suffixes s + hidden_targets tail
   unfolding hidden_targets
-  targets_hidden = ap hidden_targets is
+  targets_hidden = ap hidden_targets is ∙ hidden_given c r p h s tail
 
 -- cases
 

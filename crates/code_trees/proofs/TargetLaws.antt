@@ -2,7 +2,10 @@
 use Rattle.std.proofs.Common.{◌≡◌, refl, ap, ◌∙◌, ℕ, zero, suc, ◌+◌, ◌-◌, ◌≤◌, List, [], ◌∷◌, ◌++◌, reverse, Bool, true, false, if◌then◌else◌, arith}
 use Rattle.std.proofs.lemmas.List.{reverse-append}
 use Rattle.mesa_types.specs.Counts.{hidden_suffixes}
+use Rattle.mesa_types.specs.Plain.{target_by}
 use Rattle.mesa_types.specs.Typed as t
+use Rattle.mesa_types.specs.declared.typed_parts.Conversion.{Conversion}
+use Rattle.mesa_types.specs.declared.typed_parts.Conversion.TheVariants.{Kept, Widened, Narrowed, InCommon}
 use Rattle.mesa_types.specs.declared.typed_parts.Home.{Home}
 use Rattle.mesa_types.specs.declared.typed_parts.Part.{Part}
 use Rattle.mesa_types.specs.declared.typed_parts.Range.{Range}
@@ -50,12 +53,18 @@ same_slot : (z : ℕ) (s : t.Suffixes) → has_index s ≡ false → z + hidden_
 same_slot z s h = omega (arith, nothing_hidden s h)
 
 -- the first target, and what stands behind it
-module _ (P : Coded) (z all : ℕ) (taken : List Part) (p : Part) (h : Home) (s : t.Suffixes) (r : Range) (ts : t.Targets) where
-  by_index : (b : Bool) → has_index s ≡ b → targets P z all taken (t.AndTarget p h s r ts)
-      ≡ in_order (target_of P (words_over all taken p) p h s r (path P z s)) (targets P (z + hidden_suffixes s) all (p ∷ taken) ts)
-  by_index true is = rw is refl
-  by_index false is = rw (is, same_slot z s is) refl
+module _ (P : Coded) (z all : ℕ) (taken : List Part) (p : Part) (h : Home) (s : t.Suffixes) where
+  by_index : (c : Conversion) (r : Range) (ts : t.Targets) (b : Bool) → has_index s ≡ b → targets P z all taken (target_by c r p h s ts)
+      ≡ in_order (target_of P (words_over all taken p) p h s c r (path P z s)) (targets P (z + hidden_suffixes s) all (p ∷ taken) ts)
+  by_index Kept r ts true is = rw is refl
+  by_index Kept r ts false is = rw (is, same_slot z s is) refl
+  by_index (Widened from to) r ts true is = rw is refl
+  by_index (Widened from to) r ts false is = rw (is, same_slot z s is) refl
+  by_index (Narrowed from to q) r ts true is = rw is refl
+  by_index (Narrowed from to q) r ts false is = rw (is, same_slot z s is) refl
+  by_index InCommon r ts true is = rw is refl
+  by_index InCommon r ts false is = rw (is, same_slot z s is) refl
 
-  pub first_target : targets P z all taken (t.AndTarget p h s r ts)
-      ≡ in_order (target_of P (words_over all taken p) p h s r (path P z s)) (targets P (z + hidden_suffixes s) all (p ∷ taken) ts)
-  first_target = by_index (has_index s) refl
+  pub first_target : (c : Conversion) (r : Range) (ts : t.Targets) → targets P z all taken (target_by c r p h s ts)
+      ≡ in_order (target_of P (words_over all taken p) p h s c r (path P z s)) (targets P (z + hidden_suffixes s) all (p ∷ taken) ts)
+  first_target c r ts = by_index c r ts (has_index s) refl

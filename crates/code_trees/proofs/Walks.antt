@@ -6,7 +6,7 @@ use Rattle.mesa_types.specs.declared.typed_parts.Label.{Label}
 use Rattle.mesa_types.specs.declared.typed_parts.Operator.{Operator}
 use Rattle.mesa_types.specs.declared.typed_parts.Range.{Range}
 use Rattle.code_rules.specs.Links.{label_code}
-use Rattle.code_rules.specs.OwnCode.{check_code, index_code, operator_code}
+use Rattle.code_rules.specs.OwnCode.{check_code, index_code, long_operator_code, operator_code}
 use Rattle.code_rules.specs.Reading.{Coded, scratch}
 use Rattle.code_rules.specs.Slots.{local_slot, sizes, words_from}
 use Rattle.code_blocks.specs.Blocks.{Block, AndArmBlock, Both, Does}
@@ -77,6 +77,25 @@ module _ (P : Coded) (z after : ℕ) (r : Range) (o : Operator) (e : t.Expr) (al
       → n + (bytes_in (check_code r) + (size right + bytes_in (operator_code (scratch P) o))) ≤ 4294967295
   operations_small n right is_right h =
       let whole : size (spec.operations P z all) ≡ size (spec.operations P z (t.Then r o e tail)) = ap (λ os. size (spec.operations P z os)) is in
+      omega (arith, h, whole, ap size is_right)
+
+  pub long_operations_first : excess (spec.long_operations P z all) ≡ 0 → excess ((spec.forms P z e).value) ≡ 0
+  unfolding excess
+  long_operations_first h =
+      let whole : excess (spec.long_operations P z (t.Then r o e tail)) ≡ 0 = ap (λ os. excess (spec.long_operations P z os)) (sym is) ∙ h in
+      omega arith
+
+  pub long_operations_next : after ≡ z + hidden_expr e
+      → spec.long_operations P z all ≡ in_order ((spec.forms P z e).value ∷ Does (long_operator_code o) ∷ []) (spec.long_operations P after tail)
+  long_operations_next is_after =
+      ap (λ os. spec.long_operations P z os) is
+      ∙ ap (λ n. Both (spec.forms P z e).value (Both (Does (long_operator_code o)) (spec.long_operations P n tail))) (sym is_after)
+
+  pub long_operations_small : (n : ℕ) (right : Block) → right ≡ (spec.forms P z e).value → n + size (spec.long_operations P z all) ≤ 4294967295
+      → n + (size right + bytes_in (long_operator_code o)) ≤ 4294967295
+  long_operations_small n right is_right h =
+      let whole : size (spec.long_operations P z all) ≡ size (spec.long_operations P z (t.Then r o e tail))
+      = ap (λ os. size (spec.long_operations P z os)) is in
       omega (arith, h, whole, ap size is_right)
 
   pub hidden_operation : hidden_operations all ≡ hidden_expr e + hidden_operations tail

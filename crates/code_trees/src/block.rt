@@ -1,3 +1,4 @@
+//! Blocks, the arms in them, and where the jumps in them go.
 use code_forms::{Instruction, Labels};
 use mesa_base::{Boxed, List, Numbers};
 

@@ -10,6 +10,7 @@ ghost use Rattle.code_trees.specs.Plain.{plain};
 
 use crate::block::{Code, Leap, Mark};
 use crate::check_code::{is_opposite, put_comparison};
+use crate::long_code::put_long_comparison;
 use crate::making::{does, ends, out, pair};
 use crate::part::Part;
 use code_forms::Instruction;
@@ -31,6 +32,23 @@ pub fn where_related(
 {
     let mut code = List::new(alloc);
     put_comparison(&mut code, base, relation)?;
+    let sense = is_opposite(relation) != sense;
+    pair(alloc, does(code), out(Leap::Where(sense), part))
+}
+
+/// The same of LONG numbers.
+#[tactic(auto, unfolding(mesa_types::specs::Operators::differ, crate::specs::Excess::excess, crate::specs::Excess::excess_in, crate::specs::Excess::excess_of))]
+pub fn where_long_related(
+    alloc: Global,
+    base: Base,
+    relation: Relation,
+    sense: bool,
+    part: u32,
+) -> Result<Part, OutOfMemory>
+    ensures { IfOk result (λ made. plain made.block ≡ spec.where_long_related base relation sense part) }
+{
+    let mut code = List::new(alloc);
+    put_long_comparison(&mut code, base, relation)?;
     let sense = is_opposite(relation) != sense;
     pair(alloc, does(code), out(Leap::Where(sense), part))
 }

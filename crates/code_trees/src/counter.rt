@@ -1,3 +1,4 @@
+//! How the rounds of a loop are counted.
 use mesa_types::Given;
 
 /// How the rounds of a loop are counted: not at all, or in three hidden words from a slot on, downward where the last is true.

@@ -11,16 +11,18 @@ ghost use Rattle.code_trees.specs.Plain.{plain};
 ghost use Rattle.code_trees.specs.Routines.{coded};
 
 use crate::block::Leap;
-use crate::conditions::where_related;
+use crate::conditions::{where_long_related, where_related};
 use crate::making::{does, out, pair, then};
-use crate::own_code::{check, last_field, relation, within};
+use crate::own_code::{
+    check, conversion, last_field, long, long_relation, long_within, relation, within,
+};
 use crate::part::Part;
 use crate::routine::Routine;
 use crate::sums::words_of_last;
 use code_forms::Instruction;
 use held_trees::both;
 use mesa_base::{List, OutOfMemory, Relation};
-use mesa_types::{Base, Bases, Range};
+use mesa_types::{Base, Bases, Conversion, Range};
 use std::alloc::Global;
 
 /// One instruction.
@@ -29,6 +31,15 @@ pub fn single(alloc: Global, instruction: Instruction) -> Result<Part, OutOfMemo
     ensures { IfOk result (λ made. plain made.block ≡ tree.Does (instruction ∷ [])) }
 {
     let code = List::of(alloc, instruction)?;
+    Ok(does(code))
+}
+
+/// A LONG number.
+#[tactic(auto, unfolding(crate::specs::Excess::excess))]
+pub fn long_number(alloc: Global, number: u32) -> Result<Part, OutOfMemory>
+    ensures { IfOk result (λ made. plain made.block ≡ tree.Does (own.long_code number)) }
+{
+    let code = long(alloc, number)?;
     Ok(does(code))
 }
 
@@ -58,6 +69,16 @@ pub fn checked(alloc: Global, value: Part, range: Range) -> Result<Part, OutOfMe
     ensures { IfOk result (λ made. plain made.block ≡ tree.Both (plain value.block) (tree.Does (own.check_code range))) }
 {
     let (value, code) = both(value, check(alloc, range))?;
+    then(alloc, value, code)
+}
+
+/// A conversion of a value.
+#[tactic(auto, unfolding(crate::specs::Excess::excess))]
+pub fn converted(alloc: Global, value: Part, how: Conversion) -> Result<Part, OutOfMemory>
+    requires { excess (tree.Both (plain value.block) (tree.Does (own.conversion_code how))) ≡ 0 }
+    ensures { IfOk result (λ made. plain made.block ≡ tree.Both (plain value.block) (tree.Does (own.conversion_code how))) }
+{
+    let (value, code) = both(value, conversion(alloc, how))?;
     then(alloc, value, code)
 }
 
@@ -110,6 +131,23 @@ pub fn related(
     pair(alloc, left, right)
 }
 
+/// Whether a relation holds between two LONG numbers.
+#[tactic(auto, unfolding(crate::specs::Excess::excess))]
+pub fn long_related(
+    alloc: Global,
+    left: Part,
+    right: Part,
+    base: Base,
+    how: Relation,
+) -> Result<Part, OutOfMemory>
+    requires { excess (tree.Both (plain left.block) (tree.Both (plain right.block) (tree.Does (own.long_relation_code base how)))) ≡ 0 }
+    ensures { IfOk result (λ made. plain made.block ≡ tree.Both (plain left.block) (tree.Both (plain right.block) (tree.Does (own.long_relation_code base how)))) }
+{
+    let ((left, right), code) = both((left, right), long_relation(alloc, base, how))?;
+    let (left, right) = both(left, then(alloc, right, code))?;
+    pair(alloc, left, right)
+}
+
 /// Out to the end of a part where a relation holds between two values, or where it does not.
 #[tactic(auto, unfolding(crate::specs::Excess::excess))]
 pub fn leapt_where_related(
@@ -125,6 +163,28 @@ pub fn leapt_where_related(
     ensures { IfOk result (λ made. plain made.block ≡ tree.Both (plain left.block) (tree.Both (plain right.block) (spec.where_related base how sense part))) }
 {
     let ((left, right), leap) = both((left, right), where_related(alloc, base, how, sense, part))?;
+    let (left, right) = both(left, pair(alloc, right, leap))?;
+    pair(alloc, left, right)
+}
+
+/// The same of LONG numbers.
+#[tactic(auto, unfolding(crate::specs::Excess::excess))]
+pub fn leapt_where_long_related(
+    alloc: Global,
+    left: Part,
+    right: Part,
+    base: Base,
+    how: Relation,
+    sense: bool,
+    part: u32,
+) -> Result<Part, OutOfMemory>
+    requires { excess (tree.Both (plain left.block) (tree.Both (plain right.block) (spec.where_long_related base how sense part))) ≡ 0 }
+    ensures { IfOk result (λ made. plain made.block ≡ tree.Both (plain left.block) (tree.Both (plain right.block) (spec.where_long_related base how sense part))) }
+{
+    let ((left, right), leap) = both(
+        (left, right),
+        where_long_related(alloc, base, how, sense, part),
+    )?;
     let (left, right) = both(left, pair(alloc, right, leap))?;
     pair(alloc, left, right)
 }
@@ -155,6 +215,28 @@ pub fn lying_within(
     let ((value, bounds), code) = both(
         (value, bounds),
         within(alloc, routine, bases, first_is_open, last_is_open),
+    )?;
+    let (value, bounds) = both(value, then(alloc, bounds, code))?;
+    pair(alloc, value, bounds)
+}
+
+/// Whether a LONG number lies in an interval, by its bounds.
+#[tactic(auto, unfolding(crate::specs::Excess::excess))]
+pub fn long_lying_within(
+    alloc: Global,
+    routine: &Routine,
+    value: Part,
+    bounds: Part,
+    bases: Bases,
+    first_is_open: bool,
+    last_is_open: bool,
+) -> Result<Part, OutOfMemory>
+    requires { excess (tree.Both (plain value.block) (tree.Both (plain bounds.block) (tree.Does (own.long_within_code (scratch (coded routine.now)) bases first_is_open last_is_open)))) ≡ 0 }
+    ensures { IfOk result (λ made. plain made.block ≡ tree.Both (plain value.block) (tree.Both (plain bounds.block) (tree.Does (own.long_within_code (scratch (coded routine.now)) bases first_is_open last_is_open)))) }
+{
+    let ((value, bounds), code) = both(
+        (value, bounds),
+        long_within(alloc, routine, bases, first_is_open, last_is_open),
     )?;
     let (value, bounds) = both(value, then(alloc, bounds, code))?;
     pair(alloc, value, bounds)

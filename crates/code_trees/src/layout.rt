@@ -1,3 +1,4 @@
+//! Variables that lie one behind the other, and where each begins.
 ghost use Rattle.std.specs.Prelude.{◌≡◌, ◌+◌, ◌≤◌, [], ◌∷◌, ◌++◌};
 ghost use Rattle.mesa_types.specs.Plain.{kinds_of};
 ghost use Rattle.mesa_types.specs.Shapes.{join, words_in_all};

@@ -18,6 +18,7 @@ pub mod link_code;
 mod link_table;
 pub mod linking;
 mod links;
+pub mod long_code;
 pub mod loop_code;
 pub mod loop_forms;
 pub mod making;

@@ -1,3 +1,4 @@
+//! The imports of a module, with the tables that give its links their numbers.
 ghost use Rattle.std.specs.Prelude.{◌≡◌};
 ghost use Rattle.code_trees.specs.LinkTables.{count_links, tables_from};
 

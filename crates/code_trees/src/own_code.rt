@@ -8,12 +8,15 @@ ghost use Rattle.code_trees.specs.Routines.{coded};
 
 use crate::block::Code;
 use crate::check_code::{put_check, put_index, put_relation};
+use crate::long_code::{
+    put_conversion, put_long, put_long_operator, put_long_relation, put_long_within,
+};
 use crate::operator_code::{put_operator, put_within};
 use crate::routine::Routine;
 use crate::stack_code::put_field;
 use crate::sums::{together, words_before};
 use mesa_base::{List, OutOfMemory, Relation};
-use mesa_types::{Base, Bases, Extent, Operator, Part, Range};
+use mesa_types::{Base, Bases, Conversion, Extent, Operator, Part, Range};
 use std::alloc::Global;
 
 pub fn check(alloc: Global, range: Range) -> Result<Code, OutOfMemory>
@@ -21,6 +24,23 @@ pub fn check(alloc: Global, range: Range) -> Result<Code, OutOfMemory>
 {
     let mut code = List::new(alloc);
     put_check(&mut code, range)?;
+    Ok(code)
+}
+
+pub fn conversion(alloc: Global, how: Conversion) -> Result<Code, OutOfMemory>
+    ensures { IfOk result (λ code. code ≡ own.conversion_code how) }
+{
+    let mut code = List::new(alloc);
+    put_conversion(&mut code, how)?;
+    Ok(code)
+}
+
+/// The two words of a LONG number.
+pub fn long(alloc: Global, number: u32) -> Result<Code, OutOfMemory>
+    ensures { IfOk result (λ code. code ≡ own.long_code number) }
+{
+    let mut code = List::new(alloc);
+    put_long(&mut code, number)?;
     Ok(code)
 }
 
@@ -38,6 +58,14 @@ pub fn relation(alloc: Global, base: Base, how: Relation) -> Result<Code, OutOfM
 {
     let mut code = List::new(alloc);
     put_relation(&mut code, base, how)?;
+    Ok(code)
+}
+
+pub fn long_relation(alloc: Global, base: Base, how: Relation) -> Result<Code, OutOfMemory>
+    ensures { IfOk result (λ code. code ≡ own.long_relation_code base how) }
+{
+    let mut code = List::new(alloc);
+    put_long_relation(&mut code, base, how)?;
     Ok(code)
 }
 
@@ -61,6 +89,14 @@ pub fn operator(alloc: Global, routine: &Routine, how: Operator) -> Result<Code,
     Ok(code)
 }
 
+pub fn long_operator(alloc: Global, how: Operator) -> Result<Code, OutOfMemory>
+    ensures { IfOk result (λ code. code ≡ own.long_operator_code how) }
+{
+    let mut code = List::new(alloc);
+    put_long_operator(&mut code, how)?;
+    Ok(code)
+}
+
 /// The number and the bounds are on the operand stack.
 #[tactic(auto, using(crate::proofs::WithinRoom::within_room))]
 pub fn within(
@@ -75,6 +111,29 @@ pub fn within(
 {
     let mut code = List::new(alloc);
     put_within(
+        &mut code,
+        routine.locals.words as u16,
+        bases,
+        first_is_open,
+        last_is_open,
+    )?;
+    Ok(code)
+}
+
+/// The LONG number and the bounds are on the operand stack.
+#[tactic(auto, using(crate::proofs::WithinRoom::long_within_room))]
+pub fn long_within(
+    alloc: Global,
+    routine: &Routine,
+    bases: Bases,
+    first_is_open: bool,
+    last_is_open: bool,
+) -> Result<Code, OutOfMemory>
+    requires { excess_in (own.long_within_code (scratch (coded routine.now)) bases first_is_open last_is_open) ≡ 0 }
+    ensures { IfOk result (λ code. code ≡ own.long_within_code (scratch (coded routine.now)) bases first_is_open last_is_open) }
+{
+    let mut code = List::new(alloc);
+    put_long_within(
         &mut code,
         routine.locals.words as u16,
         bases,

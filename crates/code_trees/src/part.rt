@@ -1,3 +1,4 @@
+//! Blocks, by themselves and in rows, with the bytes of their code, and values with the words of each.
 ghost use Rattle.std.specs.Prelude.{◌≡◌};
 ghost use Rattle.code_blocks.specs.Sizes.{size};
 ghost use Rattle.code_trees.specs.Plain.{all_off, off, plain, plain_blocks};

@@ -1,3 +1,4 @@
+//! What the translation of a procedure needs: its module's links and globals, and its own variables.
 use crate::layout::Layout;
 use crate::links::Links;
 

@@ -5,12 +5,12 @@ ghost use Rattle.mesa_types.specs.Plain.{suffix};
 ghost use Rattle.mesa_types.specs.Typed as t;
 ghost use Rattle.code_forms.specs.declared.instruction.Instruction.TheVariants as i;
 ghost use Rattle.code_rules.specs.CodeFor as relation;
-ghost use Rattle.code_rules.specs.OwnCode.{check_code, lift_code, pop_code};
+ghost use Rattle.code_rules.specs.OwnCode.{lift_code, pop_code};
 ghost use Rattle.code_rules.specs.Slots as slots;
 ghost use Rattle.code_blocks.specs.Blocks as tree;
 ghost use Rattle.code_blocks.specs.Translation as spec;
 ghost use Rattle.code_trees.specs.Excess.{excess, excess_in};
-ghost use Rattle.code_trees.specs.Forms.{target_of};
+ghost use Rattle.code_trees.specs.Forms.{given_code, target_of, words_stored};
 ghost use Rattle.code_trees.specs.Plain.{in_order, plain, plain_blocks};
 ghost use Rattle.code_trees.specs.Routines.{coded};
 ghost use Rattle.code_trees.specs.Rows.{excess_among, sizes_in};
@@ -18,6 +18,7 @@ ghost use Rattle.code_trees.specs.Rows.{excess_among, sizes_in};
 use crate::block::Code;
 use crate::check_code::put_check;
 use crate::forms::single;
+use crate::long_code::put_conversion;
 use crate::making::{closed, does, joined};
 use crate::part::{Part, Row};
 use crate::routine::Routine;
@@ -28,7 +29,7 @@ use crate::sums::together;
 use code_forms::Instruction;
 use held_trees::{LetGo, both};
 use mesa_base::{List, OutOfMemory};
-use mesa_types::{Parts, Range, Target};
+use mesa_types::{Conversion, Parts, Range, Target};
 use std::alloc::Global;
 
 /// The blocks of targets, with the parts that they take in order.
@@ -82,21 +83,46 @@ fn words_over(
     Ok(all.saturating_sub(past).saturating_sub(behind))
 }
 
-/// A part comes to the top, is checked and stored.
+/// What a target does with its part before that is stored.
+fn put_given(code: &mut Code, how: Conversion, check: Range) -> Result<(), OutOfMemory>
+    ensures { OnOk result (code.new ≡ code.old ++ given_code how check) }
+{
+    match how {
+        Conversion::Kept => put_check(code, check),
+        Conversion::Widened(_, _) | Conversion::Narrowed(_, _, _) | Conversion::InCommon => {
+            put_conversion(code, how)
+        }
+    }
+}
+
+/// The words that are stored of a part of so many.
+#[tactic(auto, unfolding(mesa_types::specs::Counts::words_after))]
+fn words_stored(how: Conversion, words: u64) -> u64
+    ensures { result ≡ words_stored how words }
+{
+    match how {
+        Conversion::Kept => words,
+        Conversion::Widened(_, _) | Conversion::InCommon => 2,
+        Conversion::Narrowed(_, _, _) => 1,
+    }
+}
+
+/// A part comes to the top, is converted or checked, and stored.
 #[tactic(auto, unfolding(crate::specs::Excess::excess_in), using(crate::proofs::OwnCode::excess_both))]
 fn taking_code(
     alloc: Global,
     words: u64,
     over: u64,
+    how: Conversion,
     check: Range,
     set: Instruction,
 ) -> Result<Code, OutOfMemory>
-    requires { excess_in (lift_code words over ++ (check_code check ++ set ∷ [])) ≡ 0 }
-    ensures { IfOk result (λ code. code ≡ lift_code words over ++ (check_code check ++ set ∷ [])) }
+    requires { excess_in (lift_code words over ++ (given_code how check ++ set ∷ [])) ≡ 0 }
+    ensures { IfOk result (λ code. code ≡ lift_code words over ++ (given_code how check ++ set ∷ [])) }
 {
     let mut code = List::new(alloc);
     put_lift(&mut code, words, over)?;
-    put_check(&mut code, check)?;
+    put_given(&mut code, how, check)?;
     code.push(set)?;
     Ok(code)
 }
@@ -131,12 +157,13 @@ fn element_code(
     target: &Target,
     over: u64,
 ) -> Result<Code, OutOfMemory>
-    requires { excess_in (lift_code target.now.part.words (suc over) ++ (check_code target.now.check ++ slots.store_within (coded routine.now) target.now.home target.now.part.words ∷ [])) ≡ 0 }
-    ensures { IfOk result (λ code. code ≡ lift_code target.now.part.words (suc over) ++ (check_code target.now.check ++ slots.store_within (coded routine.now) target.now.home target.now.part.words ∷ [])) }
+    requires { excess_in (lift_code target.now.part.words (suc over) ++ (given_code target.now.conversion target.now.check ++ slots.store_within (coded routine.now) target.now.home (words_stored target.now.conversion target.now.part.words) ∷ [])) ≡ 0 }
+    ensures { IfOk result (λ code. code ≡ lift_code target.now.part.words (suc over) ++ (given_code target.now.conversion target.now.check ++ slots.store_within (coded routine.now) target.now.home (words_stored target.now.conversion target.now.part.words) ∷ [])) }
 {
     let words = u64::from(target.part.words);
-    let set = store_within(routine, target.home, words);
-    taking_code(alloc, words, over + 1, target.check, set)
+    let stored = words_stored(target.conversion, words);
+    let set = store_within(routine, target.home, stored);
+    taking_code(alloc, words, over + 1, target.conversion, target.check, set)
 }
 
 /// The code of a target that is no element.
@@ -148,12 +175,13 @@ fn variable_code(
     over: u64,
     fields: u64,
 ) -> Result<Code, OutOfMemory>
-    requires { excess_in (lift_code target.now.part.words over ++ (check_code target.now.check ++ slots.store (coded routine.now) target.now.home fields target.now.part.words ∷ [])) ≡ 0 }
-    ensures { IfOk result (λ code. code ≡ lift_code target.now.part.words over ++ (check_code target.now.check ++ slots.store (coded routine.now) target.now.home fields target.now.part.words ∷ [])) }
+    requires { excess_in (lift_code target.now.part.words over ++ (given_code target.now.conversion target.now.check ++ slots.store (coded routine.now) target.now.home fields (words_stored target.now.conversion target.now.part.words) ∷ [])) ≡ 0 }
+    ensures { IfOk result (λ code. code ≡ lift_code target.now.part.words over ++ (given_code target.now.conversion target.now.check ++ slots.store (coded routine.now) target.now.home fields (words_stored target.now.conversion target.now.part.words) ∷ [])) }
 {
     let words = u64::from(target.part.words);
-    let set = store(routine, target.home, fields, words);
-    taking_code(alloc, words, over, target.check, set)
+    let stored = words_stored(target.conversion, words);
+    let set = store(routine, target.home, fields, stored);
+    taking_code(alloc, words, over, target.conversion, target.check, set)
 }
 
 /// The blocks of a target behind the others. The path to it has no code where there is no index on it.
@@ -166,9 +194,9 @@ fn with_target(
     over: u64,
     path: Part,
 ) -> Result<Row, OutOfMemory>
-    requires small { sizes_in (plain_blocks row.blocks) + sizes_in (target_of (coded routine.now) over target.now.part target.now.home (chain (map suffix target.now.suffixes) t.NoSuffix) target.now.check (plain path.block)) ≤ 4294967295 }
-    requires fits { excess_among (target_of (coded routine.now) over target.now.part target.now.home (chain (map suffix target.now.suffixes) t.NoSuffix) target.now.check (plain path.block)) ≡ 0 }
-    ensures { IfOk result (λ longer. plain_blocks longer.blocks ≡ plain_blocks row.blocks ++ target_of (coded routine.now) over target.now.part target.now.home (chain (map suffix target.now.suffixes) t.NoSuffix) target.now.check (plain path.block)) }
+    requires small { sizes_in (plain_blocks row.blocks) + sizes_in (target_of (coded routine.now) over target.now.part target.now.home (chain (map suffix target.now.suffixes) t.NoSuffix) target.now.conversion target.now.check (plain path.block)) ≤ 4294967295 }
+    requires fits { excess_among (target_of (coded routine.now) over target.now.part target.now.home (chain (map suffix target.now.suffixes) t.NoSuffix) target.now.conversion target.now.check (plain path.block)) ≡ 0 }
+    ensures { IfOk result (λ longer. plain_blocks longer.blocks ≡ plain_blocks row.blocks ++ target_of (coded routine.now) over target.now.part target.now.home (chain (map suffix target.now.suffixes) t.NoSuffix) target.now.conversion target.now.check (plain path.block)) }
 {
     let ((row, path), fields) = both((row, path), fields_of(target.suffixes.as_slice()))?;
     if has_index(target.suffixes.as_slice()) {
@@ -198,9 +226,9 @@ pub fn take(
     target: &Target,
     path: Part,
 ) -> Result<Taking, OutOfMemory>
-    requires small { sizes_in (plain_blocks held.row.blocks) + sizes_in (target_of (coded routine.now) (relation.words_over all (reverse held.taken) target.now.part) target.now.part target.now.home (chain (map suffix target.now.suffixes) t.NoSuffix) target.now.check (plain path.block)) ≤ 4294967295 }
-    requires fits { excess_among (target_of (coded routine.now) (relation.words_over all (reverse held.taken) target.now.part) target.now.part target.now.home (chain (map suffix target.now.suffixes) t.NoSuffix) target.now.check (plain path.block)) ≡ 0 }
-    ensures blocks { IfOk result (λ longer. plain_blocks longer.row.blocks ≡ plain_blocks held.row.blocks ++ target_of (coded routine.now) (relation.words_over all (reverse held.taken) target.now.part) target.now.part target.now.home (chain (map suffix target.now.suffixes) t.NoSuffix) target.now.check (plain path.block)) }
+    requires small { sizes_in (plain_blocks held.row.blocks) + sizes_in (target_of (coded routine.now) (relation.words_over all (reverse held.taken) target.now.part) target.now.part target.now.home (chain (map suffix target.now.suffixes) t.NoSuffix) target.now.conversion target.now.check (plain path.block)) ≤ 4294967295 }
+    requires fits { excess_among (target_of (coded routine.now) (relation.words_over all (reverse held.taken) target.now.part) target.now.part target.now.home (chain (map suffix target.now.suffixes) t.NoSuffix) target.now.conversion target.now.check (plain path.block)) ≡ 0 }
+    ensures blocks { IfOk result (λ longer. plain_blocks longer.row.blocks ≡ plain_blocks held.row.blocks ++ target_of (coded routine.now) (relation.words_over all (reverse held.taken) target.now.part) target.now.part target.now.home (chain (map suffix target.now.suffixes) t.NoSuffix) target.now.conversion target.now.check (plain path.block)) }
     ensures taken { IfOk result (λ longer. longer.taken ≡ held.taken ++ target.now.part ∷ []) }
 {
     let Taking { row, mut taken } = held;

@@ -1,3 +1,4 @@
+//! The law that the code of each body of a sound module can be written.
 ghost use Rattle.code_writer.specs.Bounds.{BodiesCanBeWritten};
 
 /// The code of each body of a sound module is short enough for its offsets, and never deeper than an operand stack.

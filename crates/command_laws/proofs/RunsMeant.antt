@@ -26,7 +26,7 @@ use Rattle.command_rules.specs.built_runs.proofs.Linked.{meant}
 use Rattle.line_pieces.specs.Texts.{dotted}
 use Rattle.command_rules.specs.Case.{Case, Uncaught as UncaughtCase}
 use Rattle.command_rules.specs.Ends.{Ends, AsMeant, Runs, RunsTo, ended, read_fault, write_fault}
-use Rattle.command_rules.specs.Shown.{Names, IsShownAs, shown, case_of_end, case_of_run, image_names, program_names, path_of, signal_name, item_name}
+use Rattle.command_rules.specs.Shown.{IsShownAs, shown, case_of_end, case_of_run, image_names, program_names, path_of, signal_name, item_name}
 use Rattle.command_rules.specs.Shown as shows
 use Rattle.command_rules.specs.Worlds.{Scene}
 use Rattle.command_laws.specs.Laws.{RunsAreMeant}

@@ -7,7 +7,7 @@ use Rattle.listed_files.specs.declared.file_kind.FileKind.TheVariants.{Interface
 use Rattle.object_rules.specs.ImageFiles.{IsImageFile}
 use Rattle.object_rules.specs.ObjectFiles.{IsObjectFile}
 use Rattle.object_rules.specs.declared.object_fault.ObjectFault.{ObjectFault}
-use Rattle.command_passes.specs.command_rules.specs.Case.{Case, Refused, Absent}
+use Rattle.command_passes.specs.command_rules.specs.Case.{Refused}
 use Rattle.command_passes.specs.command_rules.specs.declared.trouble.Trouble.TheVariants.{File}
 use Rattle.command_passes.specs.command_rules.specs.Forms as rules
 use Rattle.command_passes.specs.command_rules.specs.Forms.{InterfaceFile}

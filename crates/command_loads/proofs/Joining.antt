@@ -1,8 +1,8 @@
 -- Several images that are loaded as one.
-use Rattle.std.proofs.Common.{◌≡◌, ◌≢◌, ℕ, ◌<◌, ◌≤◌, ◌⊎◌, inl, inr, List, [], ◌∷◌, length, map, get_or, Some, slice_get, unwrap_or, All, Result, Ok, Err, refl, sym, ◌∙◌, ap, subst, arith}
+use Rattle.std.proofs.Common.{◌≡◌, ◌≢◌, ℕ, ◌<◌, ◌≤◌, ◌⊎◌, ⊎_elim, inl, inr, List, [], ◌∷◌, length, map, get_or, Some, slice_get, unwrap_or, All, Result, Ok, Err, refl, sym, ◌∙◌, ap, subst, arith}
 use Rattle.std.specs.Prelude.{IfOk, IfErr}
 use Rattle.std.proofs.lemmas.List.Elements.{All-contains, All-weaker}
-use Rattle.std.proofs.lemmas.Option.{slice_get_read}
+use Rattle.std.proofs.lemmas.Option.{none-some, slice_get_read}
 use Rattle.interface_records.specs.Hosts.{IsHostItem}
 use Rattle.interface_records.specs.declared.wanted.Wanted.{Wanted as Entry}
 use Rattle.machine_ready.specs.Order.{ImageInOrder}
@@ -11,8 +11,8 @@ use Rattle.object_rules.specs.ImageForms.{parts_of_image}
 use Rattle.object_rules.specs.Parts.{IsWhole}
 use Rattle.read_files.specs.Laws.{ImagesThatFitAreInOrder}
 use Rattle.upgraded_files.specs.Upgraded.{FilesAreUpgraded, upgraded}
-use Rattle.loader_rules.specs.Laws.{HasFile, IsWantedByOne, LoadedImagesAreInOrder, WantedByOne, wanted_of_host}
-use Rattle.loader_rules.specs.LoadFaults.{HasLoadFault}
+use Rattle.loader_rules.specs.Laws.{HasFile, IsWantedByOne, LoadedImagesAreInOrder, LoadsComeOnce, WantedByOne, wanted_of_host}
+use Rattle.loader_rules.specs.LoadFaults.{HasLoadFault, first_of, load_faults}
 use Rattle.loader_rules.specs.Loaded.{Loaded}
 use Rattle.loader_rules.specs.declared.fault.LoadFault.{LoadFault}
 use Rattle.loader_rules.specs.declared.fault.LoadFault.TheVariants as load
@@ -75,6 +75,12 @@ module _ (bases : List (List ℕ)) (n : ℕ) (base : List ℕ) (less : n < lengt
   lack_ends lack _ k (inl e) = subst (LackEnds bases lack) (sym e) (lacks.told base (ap (slice_get bases) (sym k) ∙ at))
   lack_ends lack _ k (inr e) = subst (LackEnds bases lack) (sym e) lacks.no_memory
 
+-- ---- images without a fault are loaded
+
+loads : LoadsComeOnce → (images : List Image) → load_faults images ≡ [] → (image : Image) × Loaded images image
+loads law images none =
+    ⊎_elim (λ l. l) (λ f. absurd (none-some f.0 (sym (ap first_of none) ∙ f.1))) (law.one_or_the_other images)
+
 -- ---- what comes of images that files hold
 
 are_with : (images : List Image) → All IsFiledImage images → AreImagesWith (map parts_of_image images) images
@@ -111,15 +117,17 @@ module _ (bases : List (List ℕ)) (images : List Image) (several : 2 ≤ length
       not_loaded (faulty_file bases fault) (Load fault) (not_joins bases images fault several filed (has some))
   fault_so fault _ has stops.no_memory = no_memory
 
-  module _ (image : Image) (loaded : Loaded images image) where
-    -- the first item that the host has not
-    pub lack_so : (lack : Lack) (case : Case) → IsFirstLack images lack → LackEnds bases lack case → IsNotReadied bases (map parts_of_image images) case
-    lack_so lack _ f (lacks.told base is) =
-        unresolved base lack.item (joins bases images image several filed loaded)
-        (subst (λ wants. IsFirstToLack bases wants base lack.item) (sym (several_want images several))
-        (first_to_lack bases images lack.number base f.image lack.item is f.is f.before f.lacks))
-    lack_so lack _ f lacks.no_memory = no_memory
+  -- the first item that the host has not, where they have no fault
+  pub lack_so : LoadsComeOnce → load_faults images ≡ [] → (lack : Lack) (case : Case) → IsFirstLack images lack → LackEnds bases lack case
+      → IsNotReadied bases (map parts_of_image images) case
+  lack_so law none lack _ f (lacks.told base is) =
+      let l = loads law images none in
+      unresolved base lack.item (joins bases images l.0 several filed l.1)
+      (subst (λ wants. IsFirstToLack bases wants base lack.item) (sym (several_want images several))
+      (first_to_lack bases images lack.number base f.image lack.item is f.is f.before f.lacks))
+  lack_so law none lack _ f lacks.no_memory = no_memory
 
+  module _ (image : Image) (loaded : Loaded images image) where
     -- the machine
     pub machine_so : (r : Result Image Stop) → All HasFor images → IfOk r (λ machine. machine ≡ image) → IfErr r (λ why. why ≡ stop.Memory)
         → ReadiesTo bases (map parts_of_image images) r

@@ -18,11 +18,6 @@ use object_files::Image;
 use std::alloc::Global;
 use std::mem::drop;
 
-/// Lets go of an image.
-pub(crate) fn let_image_go(image: Image) {
-    drop(image);
-}
-
 /// Lets go of images.
 pub(crate) fn let_images_go(images: Images) {
     drop(images);

@@ -10,7 +10,7 @@ use Rattle.include_rules.specs.declared.plan.PlanFault.TheVariants.{Cycle}
 use Rattle.command_passes.specs.command_rules.specs.Case.{Case}
 use Rattle.command_passes.specs.command_rules.specs.Passes.{Has, Stops, decided}
 use Rattle.command_passes.specs.command_rules.specs.Passing.{Fails}
-use Rattle.command_passes.specs.command_rules.specs.Planning.{Concludes, base_at, files_there, gathered_in, missing_files, plan_in, plan_text}
+use Rattle.command_passes.specs.command_rules.specs.Planning.{Concludes, files_there, gathered_in, missing_files, plan_in, plan_text}
 use Rattle.command_passes.specs.command_rules.specs.Planning as rules
 use Rattle.command_passes.specs.command_rules.specs.Printing.{Report}
 use Rattle.command_passes.specs.command_rules.specs.Worlds.{Shelf}

@@ -12,7 +12,7 @@ use Rattle.command_rules.specs.declared.trouble.Trouble.TheVariants.{TooLarge}
 use Rattle.command_rules.specs.Comes.{Goes, not_configured, Upgrades, not_held, Exercised, Exercises, no_end, ended, not_summed}
 use Rattle.command_rules.specs.Configurations.{program, source_in}
 use Rattle.command_rules.specs.Ends as run
-use Rattle.command_rules.specs.Ends.{Runs, RunsTo}
+use Rattle.command_rules.specs.Ends.{Runs}
 use Rattle.command_rules.specs.Exercise.{chain, exercise_shelf, within}
 use Rattle.command_rules.specs.Forms.{Source, OfConfig, FileKind, kind_file}
 use Rattle.command_rules.specs.Listing.{listing_in, value_in}

@@ -24,7 +24,7 @@ use Rattle.command_rules.specs.Forms.{Source, OfModule, OfConfig, FileKind, Imag
 use Rattle.command_rules.specs.Listing.{Holds, no_interface, no_object, no_image, value_in, Lists, listing_in}
 use Rattle.command_rules.specs.Loading.{Joins, images_in, runnable_in}
 use Rattle.command_rules.specs.Modules as m
-use Rattle.command_rules.specs.Modules.{interface_for, interfaces_for, Begun, begun_for, module_in, interface_in, definitions_of, Checks, checked, Defines, defined, Decodes, Begins, begun, refused}
+use Rattle.command_rules.specs.Modules.{interface_for, interfaces_for, Begun, begun_for, module_in, interface_in, definitions_of, Checks, Defines, Decodes, Begins, refused}
 use Rattle.command_rules.specs.Objects.{HoldsObject, HoldsImage, object_in, image_in, shape_in}
 use Rattle.command_rules.specs.Passes.{Outcome, Has, Stops, Trail, Pass, decided, given, FromFile, held, missing, from_file, IfThere, asked, if_there, Follows, stopped, went, and_then, each}
 use Rattle.command_rules.specs.Planning.{Parses, text_in, file_made, kind_made, Faces, faces_in, numbered, Gathered, gathered_in, Concludes, plan_in}

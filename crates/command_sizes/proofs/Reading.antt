@@ -9,6 +9,7 @@ use Rattle.interface_records.specs.Faces.{iodefs}
 use Rattle.interface_records.specs.PlainTypes.{plain_interface}
 use Rattle.interface_records.specs.Spelled.{InterfaceCanBeSpelled, InterfacesCanBeSpelled}
 use Rattle.interface_records.specs.declared.interface.Interface.{Interface}
+use Rattle.face_rules.proofs.Versions.{interface_grows}
 use Rattle.spelled_laws.specs.Laws.{BuiltInFits, InterfacesFit}
 use Rattle.command_rules.specs.checked_texts.specs.Asked.{asked, is_built_in}
 use Rattle.command_rules.specs.checked_texts.specs.Texts.{Begins, Reads}
@@ -57,7 +58,7 @@ pub record IsMade (files : Files) (file : List ℕ) (m : Module) : Type 0 where
 
 module _ (interfaces_fit : InterfacesFit) (built_in_fits : BuiltInFits) (files : Files) where
   decoded : (file bytes : List ℕ) (i : Interface) → Decodes file bytes (Has i) → (length bytes ≡ interface_size i) × InterfaceCanBeSpelled (plain_interface i)
-  decoded file bytes i (is_file version _ h) = (as_long version i bytes h, (interfaces_fit version i).1 h.spells.fits.1)
+  decoded file bytes i (is_file version _ h) = (as_long version i bytes h, (interfaces_fit i).1 ((interface_grows version).fits i h.spells.fits.1))
 
   from_file : (base : List ℕ) (t : Trail) (i : Interface) → (interface_for (Some base)).comes (Some files) t (Has i)
       → (interface_size i ≡ bytes_asked files (Some base)) × InterfaceCanBeSpelled (plain_interface i)
@@ -74,7 +75,7 @@ module _ (interfaces_fit : InterfacesFit) (built_in_fits : BuiltInFits) (files :
       by : (b : Bool) → (interface_for (if b then None else Some d.file)).comes (Some files) t (Has i)
           → (b ≡ true → i ≡ iodefs) × ((if b then 0 else interface_size i) ≡ bytes_asked files (if b then None else Some d.file)) × InterfaceCanBeSpelled (plain_interface i)
       by true k = let e = from_none t i k in
-          ((λ _. e), refl, subst (λ (x : Interface). InterfaceCanBeSpelled (plain_interface x)) (sym e) ((interfaces_fit 2 iodefs).1 (built_in_fits 2)))
+          ((λ _. e), refl, subst (λ (x : Interface). InterfaceCanBeSpelled (plain_interface x)) (sym e) ((interfaces_fit iodefs).1 built_in_fits))
       by false k = let e = from_file d.file t i k in ((λ f. cc), e.0, e.1)
 
   none_read : AreRead files [] []

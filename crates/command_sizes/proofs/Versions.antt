@@ -10,9 +10,9 @@ use Rattle.file_forms.specs.Forms.{Form, number, always, pair, list, choose, spe
 use Rattle.file_forms.specs.Names.{name, fresh_name}
 use Rattle.file_forms.proofs.Numbers.{length-number}
 use Rattle.face_rules.specs.FaceForms.{item_kind, gives, item_parts, item_named, item_names, items, face_parts, face}
-use Rattle.face_rules.specs.InterfaceForms.{constant_parts, constant, constant_names, constants, word_of, named_parts, named_type, type_names, named_types, interface_parts, interface, IsInterfaceFile}
+use Rattle.face_rules.specs.InterfaceForms.{constant_parts, constant, constant_names, constants, value_of, named_parts, named_type, type_names, named_types, interface_parts, interface, IsInterfaceFile}
 use Rattle.face_rules.specs.Layers.{tag_of, of_subrange, of_array, of_record}
-use Rattle.face_rules.specs.TypeForms.{any, basic, is_base, is_index, is_ordinal, origin, label, field_parts, field_form, fields_form, enumeration, bounds, subrange, array, record_of, tagged, tag, typed, type_form, types, fields}
+use Rattle.face_rules.specs.TypeForms.{any, basic, is_base, is_index, is_of_constants, origin, label, field_parts, field_form, fields_form, enumeration, bounds, subrange, array, record_of, tagged, tag, typed, type_form, types, fields}
 use Rattle.file_sizes.specs.Sizes.{interface_size}
 
 -- two forms spell alike
@@ -117,8 +117,8 @@ module _ (v w : ℕ) where
   constant_alike : (seen : List (List ℕ)) → Alike (constant v seen) (constant w seen)
   unfolding constant
   constant_alike seen c =
-      pair_alike (fresh_name seen) (fresh_name seen) (λ _. pair (types v is_ordinal) word_of) (λ _. pair (types w is_ordinal) word_of) (λ a. refl)
-      (λ a. pair_alike (types v is_ordinal) (types w is_ordinal) word_of word_of (types_alike 64 is_ordinal is_ordinal) (λ t n. refl)) (constant_parts c)
+      pair_alike (fresh_name seen) (fresh_name seen) (λ _. pair (types v is_of_constants) value_of) (λ _. pair (types w is_of_constants) value_of) (λ a. refl)
+      (λ a. pair_alike (types v is_of_constants) (types w is_of_constants) value_of value_of (types_alike 64 is_of_constants is_of_constants) (λ t n. refl)) (constant_parts c)
 
   constants_alike : (seen : List (List ℕ)) → Alike (constants v seen) (constants w seen)
   unfolding constants

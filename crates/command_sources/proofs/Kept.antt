@@ -8,6 +8,7 @@ use Rattle.interface_records.specs.PlainTypes.{plain_interface}
 use Rattle.interface_records.specs.Spelled.{InSixBytes, InterfaceCanBeSpelled, InterfacesCanBeSpelled}
 use Rattle.interface_records.specs.declared.interface.Interface.{Interface}
 use Rattle.face_rules.specs.InterfaceForms as form
+use Rattle.face_rules.proofs.Versions.{interface_grows}
 use Rattle.spelled_laws.specs.Laws.{BuiltInFits, InterfacesFit}
 use Rattle.command_passes.specs.checked_texts.specs.Laws.{CanBeKept, DefinedInterfacesCanBeSpelled, ReadModulesCanBeKept}
 use Rattle.command_passes.specs.command_rules.specs.Configurations.{component_in}
@@ -47,11 +48,11 @@ spelled_list (i ∷ is) h = (All-head IsSpelled i is h, spelled_list is (All-tai
 
 module _ (interfaces_fit : InterfacesFit) (built_in_fits : BuiltInFits) where
   decoded : (file bytes : List ℕ) (i : Interface) → Decodes file bytes (Has i) → IsSpelled i
-  decoded file bytes i (is_file version _ h) = (interfaces_fit version i).1 h.spells.fits.1
+  decoded file bytes i (is_file version _ h) = (interfaces_fit i).1 ((interface_grows version).fits i h.spells.fits.1)
 
   spelled_for : (asked : Option (List ℕ)) (files : Option Files) (t : Trail) (i : Interface) → (interface_for asked).comes files t (Has i) → IsSpelled i
   unfolding interface_for
-  spelled_for None files t i h = subst IsSpelled (sym (has_is i iodefs h.1)) ((interfaces_fit 2 iodefs).1 (built_in_fits 2))
+  spelled_for None files t i h = subst IsSpelled (sym (has_is i iodefs h.1)) ((interfaces_fit iodefs).1 built_in_fits)
   spelled_for (Some base) files _ i (held bytes _ _ is) = decoded (interface_file base) bytes i is
 
   spelled_each : (asked : List (Option (List ℕ))) (files : Option Files) (t : Trail) (is : List Interface) → (each interface_for asked).comes files t (Has is)
@@ -85,7 +86,7 @@ module _ (interfaces_fit : InterfacesFit) (built_in_fits : BuiltInFits) where
   module _ (spelled_so : DefinedInterfacesCanBeSpelled) where
     defined_so : (file bytes : List ℕ) (stamp : ℕ) (is : List Interface) (i : Interface) → InSixBytes stamp → InterfacesCanBeSpelled (map plain_interface is)
         → Defines file stamp bytes is (Has i) → (form.interface 2).fits i
-    defined_so file bytes stamp is i six spelled (defined _ h) = (interfaces_fit 2 i).0 (spelled_so bytes stamp is i six spelled h)
+    defined_so file bytes stamp is i six spelled (defined _ h) = (interfaces_fit i).0 (spelled_so bytes stamp is i six spelled h)
 
     of_definitions : (file : List ℕ) (stamp : ℕ) (b : Begun) (files : Option Files) (t : Trail) (i : Interface) → InSixBytes stamp
         → (definitions_of file stamp b).comes files t (Has i) → (form.interface 2).fits i

@@ -5,12 +5,12 @@ use Rattle.mesa_types.specs.declared.faces.Face.{Face}
 use Rattle.mesa_types.specs.declared.faces.Item.{Item}
 use Rattle.mesa_types.specs.declared.faces.Shape.{Shape}
 use Rattle.interface_records.specs.Faces.{iodefs}
-use Rattle.cmesa_grammar.specs.Syntax.{Config, Configuration, AndInstance}
-use Rattle.config_rules.specs.Tree.{Agree, all_faces, FirstToDiffer, IsTree, IsSingle, single_tree, first_place}
+use Rattle.cmesa_grammar.specs.Syntax.{Config, AndInstance}
+use Rattle.config_rules.specs.Tree.{Agree, IsTree, IsSingle, single_tree, first_place}
 use Rattle.config_rules.specs.declared.fault.TreeCause.TheVariants.{InterfaceDiffers}
 use Rattle.config_rules.specs.declared.fault.TreeFault.TheVariants.{At}
 use Rattle.config_rules.specs.declared.tree.Tree.{Tree}
-use Rattle.config_rules.proofs.Written.{at, alone, all_of, one_of, configuration, procedure, interface_of, uses, pair, offers, module_of, tree_of, quiet}
+use Rattle.config_rules.proofs.Written.{at, alone, one_of, configuration, procedure, interface_of, uses, offers, module_of, tree_of, quiet}
 
 -- ---- which faces there are
 

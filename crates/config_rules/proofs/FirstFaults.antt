@@ -3,7 +3,6 @@ use Rattle.std.proofs.Common.{◌≡◌, refl}
 use Rattle.std.specs.Prelude.{ℕ, zero, suc, List, [], ◌∷◌, codes, Option, Some, None, Err}
 use Rattle.mesa_types.specs.declared.faces.Shape.{Shape}
 use Rattle.cmesa_grammar.specs.Syntax.{Identifier, Config, Configuration, Configured, Statements, NoStatements, AndDeclare, AndInstance}
-use Rattle.cmesa_grammar.specs.declared.syntax.Instantiation.{Instantiation}
 use Rattle.cmesa_grammar.specs.declared.syntax.ComponentFile.{ComponentFile}
 use Rattle.config_rules.specs.Components.{heading_of, mentions, mentions_in, first_mentions, file_of, components, no_file_base}
 use Rattle.config_rules.specs.Through.{Answer}
@@ -11,8 +10,7 @@ use Rattle.config_rules.specs.declared.fault.TreeCause.{TreeCause}
 use Rattle.config_rules.specs.declared.fault.TreeCause.TheVariants.{UnknownComponent, TwiceNamed, CountDiffers, RecordClash, UnknownRecord, UnknownControl, TooManyInstances, TooNested}
 use Rattle.config_rules.specs.declared.fault.TreeFault.TheVariants.{At}
 use Rattle.config_rules.specs.declared.tree.Component.{Component}
-use Rattle.config_rules.specs.declared.tree.Tree.{Tree}
-use Rattle.config_rules.proofs.Written.{at, named, names, alone, linked, called, all_of, one_of, configuration, procedure, interface_of, uses, pair, offers, module_of, Shown, tree_of, shown, good, quiet}
+use Rattle.config_rules.proofs.Written.{at, named, names, alone, linked, called, all_of, one_of, configuration, procedure, interface_of, uses, offers, module_of, Shown, shown, good, quiet}
 use Rattle.interface_records.specs.check_scopes.specs.Scopes.{has}
 
 abbrev fault : TreeCause → ℕ → Answer Shown

@@ -2,15 +2,13 @@
 use Rattle.std.proofs.Common.{◌≡◌, refl}
 use Rattle.std.specs.Prelude.{ℕ, List, [], ◌∷◌, codes, Option, Some, None, Ok}
 use Rattle.mesa_types.specs.declared.faces.Face.{Face}
-use Rattle.mesa_types.specs.declared.faces.Item.{Item}
 use Rattle.mesa_types.specs.declared.faces.ItemKind.TheVariants.{Signal}
 use Rattle.mesa_types.specs.declared.faces.Shape.{Shape}
 use Rattle.interface_records.specs.Faces.{iodefs}
-use Rattle.cmesa_grammar.specs.Syntax.{Configuration, NoStatements, AndDeclare, AndInstance}
+use Rattle.cmesa_grammar.specs.Syntax.{Configuration, AndDeclare, AndInstance}
 use Rattle.config_rules.specs.Through.{Answer}
 use Rattle.config_rules.specs.Resolves.{Resolution, Left, Bound, NoExporter, Twice, OtherInterface, OtherStamp}
-use Rattle.config_rules.specs.declared.tree.Tree.{Tree}
-use Rattle.config_rules.proofs.Written.{at, named, names, alone, linked, called, all_of, one_of, configuration, procedure, interface_of, uses, pair, offers, module_of, Shown, tree_of, shown, good, quiet}
+use Rattle.config_rules.proofs.Written.{at, named, names, alone, linked, all_of, one_of, configuration, procedure, interface_of, uses, pair, offers, module_of, Shown, tree_of, shown, good, quiet}
 
 abbrev io : Face
 io = iodefs.face

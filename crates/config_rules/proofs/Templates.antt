@@ -1,15 +1,15 @@
 -- What going through a configuration keeps: each instance of a module is one of a module that there is, with a record for each import and export.
-use Rattle.std.proofs.Common.{◌≡◌, ℕ, zero, suc, ◌+◌, Bool, true, false, not, List, [], ◌∷◌, length, map, nat_eq, bytes_eq, eqb-true, Option, Some, None, Ok, Err, slice_get, cond, refl, sym, ap, subst, ◌∙◌, arith, if◌then◌else◌}
+use Rattle.std.proofs.Common.{◌≡◌, ℕ, zero, suc, ◌+◌, Bool, true, false, not, List, [], ◌∷◌, length, nat_eq, bytes_eq, eqb-true, Option, Some, None, Ok, Err, slice_get, cond, refl, sym, ap, subst, ◌∙◌, arith, if◌then◌else◌}
 use Rattle.std.specs.Option.{option_or}
 use Rattle.std.proofs.lemmas.Option.{none-some, same_Some}
 use Rattle.mesa_types.specs.declared.faces.Export.{Export}
 use Rattle.mesa_types.specs.declared.faces.Import.{Import}
-use Rattle.interface_records.specs.check_scopes.specs.Scopes.{Scope, nothing, find, innermost, outer}
+use Rattle.interface_records.specs.check_scopes.specs.Scopes.{nothing, find, innermost, outer}
 use Rattle.cmesa_grammar.specs.Syntax.{Identifier, Configuration, Configured, Statements, NoStatements, AndDeclare, AndInstance}
 use Rattle.cmesa_grammar.specs.declared.syntax.Heading.{Heading}
 use Rattle.cmesa_grammar.specs.declared.syntax.Instantiation.{Instantiation}
 use Rattle.config_rules.specs.Components.{names_of, own_name}
-use Rattle.config_rules.specs.Template.{Part, Template, Gone, Parts, NoParts, AndModule, AndNested, heading_in}
+use Rattle.config_rules.specs.Template.{Part, Template, Gone, Parts, NoParts, AndModule, AndNested}
 use Rattle.config_rules.specs.Through.{Answer, ◌>>=◌, unless, Module, Nested, declare, Thing, AModule, ANested, Found, interfaces_imported, interfaces_exported, found_module, found_as, found, listed, Made, instance, add, headed, through, statements}
 use Rattle.config_rules.specs.declared.fault.TreeCause.TheVariants.{UnknownComponent}
 use Rattle.config_rules.proofs.Answers.{went, err_ok, ok_same, passed, not_false}

@@ -9,7 +9,7 @@ use Rattle.mesa_types.specs.declared.faces.ItemKind.TheVariants.{Procedure}
 use Rattle.mesa_types.specs.declared.faces.Pair.{Pair}
 use Rattle.mesa_types.specs.declared.faces.Shape.{Shape}
 use Rattle.interface_records.specs.check_scopes.specs.Scopes.{has}
-use Rattle.cmesa_grammar.specs.Syntax.{Place, Identifier, Config, Configuration, Configured, Statements, NoStatements, AndInstance}
+use Rattle.cmesa_grammar.specs.Syntax.{Place, Identifier, Configuration, Configured, Statements, NoStatements, AndInstance}
 use Rattle.cmesa_grammar.specs.declared.syntax.Instantiation.{Instantiation}
 use Rattle.config_rules.specs.Components.{heading_of, mentions, mentions_in, first_mentions, file_of, components}
 use Rattle.config_rules.specs.Template.{heading_in, parts_in, instance_names, exported, modules_of, modules_below, scopes_of, scopes_below, depth_of, depth_below}

@@ -1,3 +1,5 @@
+//! Why a configuration has no tree.
+
 use mesa_base::{OutOfMemory, Place};
 
 /// Why a configuration has no tree.

@@ -1,3 +1,5 @@
+//! The laws of trees: that they are in order, which items bind, and which entries are exporters.
+
 ghost use Rattle.config_rules.specs.Laws.{EntriesAreExporters, ItemsBind, TreesAreInOrder};
 
 /// A law: a tree that is made is in order. Its instances have the shapes of their components, there are not too many, scopes

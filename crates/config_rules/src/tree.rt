@@ -1,3 +1,5 @@
+//! Trees of configurations: components, scopes, instances, exporters, and to what links are bound.
+
 use mesa_base::{Bytes, List, Name, Numbers, Path, Place};
 use mesa_types::{Names, Shape};
 

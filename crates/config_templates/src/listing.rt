@@ -1,3 +1,4 @@
+//! The components of a configuration, in the order of first mention, each with the base of its file.
 ghost use Rattle.std.specs.Prelude.{◌≡◌, IfOk};
 ghost use Rattle.cmesa_grammar.specs.Plain.{plain};
 ghost use Rattle.config_rules.specs.Components as spec;

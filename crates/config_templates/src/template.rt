@@ -1,3 +1,4 @@
+//! Templates: configurations in which each statement is looked up, with counts of what they make.
 ghost use Rattle.std.specs.Prelude.{◌≡◌};
 ghost use Rattle.config_rules.specs.Template as spec;
 ghost use Rattle.config_templates.specs.Shown.{chained};

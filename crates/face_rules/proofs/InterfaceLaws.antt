@@ -9,19 +9,19 @@ use Rattle.file_forms.proofs.Pairs.{pair_law}
 use Rattle.file_forms.proofs.Made.{ruled_law, built_law}
 use Rattle.file_forms.proofs.Lists.{list_law}
 use Rattle.file_forms.proofs.NameLaws.{fresh_name_law}
-use Rattle.face_rules.specs.Layers.{holds}
-use Rattle.face_rules.specs.TypeForms.{any, is_ordinal, types}
+use Rattle.face_rules.specs.Layers.{value_bytes, holds}
+use Rattle.face_rules.specs.TypeForms.{any, is_of_constants, types}
 use Rattle.face_rules.specs.FaceForms.{item_names, face}
-use Rattle.face_rules.specs.InterfaceForms.{constant_of, constant_parts, word_of, constant, constant_names, constants, named_of, named_parts, named_type, type_names, named_types, interface_of, interface_parts, interface}
+use Rattle.face_rules.specs.InterfaceForms.{constant_of, constant_parts, value_of, constant, constant_names, constants, named_of, named_parts, named_type, type_names, named_types, interface_of, interface_parts, interface}
 use Rattle.face_rules.proofs.TypeLaws.{type_law}
 use Rattle.face_rules.proofs.FaceLaws.{face_law}
 
 constant_law : (version : ℕ) (seen : List (List ℕ)) → Lawful (constant version seen)
 unfolding constant
 constant_law version seen =
-    built_law constant_of (pair (fresh_name seen) (λ _. pair (types version is_ordinal) word_of))
-    (pair_law (fresh_name seen) (λ _. pair (types version is_ordinal) word_of) (fresh_name_law seen) (λ _ _.
-    pair_law (types version is_ordinal) word_of (type_law version _ is_ordinal) (λ t _. ruled_law (number 2) (holds t) field.Number (number_law 2))))
+    built_law constant_of (pair (fresh_name seen) (λ _. pair (types version is_of_constants) value_of))
+    (pair_law (fresh_name seen) (λ _. pair (types version is_of_constants) value_of) (fresh_name_law seen) (λ _ _.
+    pair_law (types version is_of_constants) value_of (type_law version _ is_of_constants) (λ t _. ruled_law (number (value_bytes t)) (holds t) field.Number (number_law (value_bytes t)))))
     constant_parts (λ p fits. refl) (λ c. refl)
 
 constants_law : (version : ℕ) (seen : List (List ℕ)) → Lawful (constants version seen)

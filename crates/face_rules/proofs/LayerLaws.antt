@@ -1,6 +1,6 @@
 -- Layers of types, their tags and parts.
 use Rattle.std.proofs.Common.{◌≡◌, ℕ, zero, suc, ◌≤◌, List, Option, Some, None, refl, sym, ap, ◌∙◌, arith}
-use Rattle.std.specs.Prelude.{IsSomeAnd}
+use Rattle.std.specs.Prelude.{◌≢◌, IsSomeAnd}
 use Rattle.mesa_types.specs.declared.types.Origin.{Origin}
 use Rattle.mesa_types.specs.declared.types.TypeTree.{TypeTree, roll-TypeTree, out-TypeTree, roll-out-TypeTree, out-roll-TypeTree}
 use Rattle.mesa_types.specs.declared.types.TypeTree.TheVariants as v
@@ -9,21 +9,27 @@ use Rattle.mesa_types.specs.declared.types.FieldType.{FieldType}
 use Rattle.face_rules.specs.Layers.{Layer, layer_tag, tag_of, of_enumeration, of_subrange, of_array, of_record}
 use Rattle.face_rules.specs.TypeForms.{basic}
 
-simple : (y : Layer) (t : TypeTree) → roll-TypeTree y ≡ t → out-TypeTree t ≡ y
-simple y t e = ap out-TypeTree (sym e) ∙ out-roll-TypeTree y
+pub layer_at : (y : Layer) (t : TypeTree) → roll-TypeTree y ≡ t → out-TypeTree t ≡ y
+layer_at y t e = ap out-TypeTree (sym e) ∙ out-roll-TypeTree y
 
 pub tag_at : (y : Layer) (t : TypeTree) → roll-TypeTree y ≡ t → tag_of t ≡ layer_tag y
 unfolding tag_of
-tag_at y t e = ap layer_tag (simple y t e)
+tag_at y t e = ap layer_tag (layer_at y t e)
 
-pub basic_tag : (tag : ℕ) → 1 ≤ tag → tag ≤ 5 → tag_of (basic tag) ≡ tag
-basic_tag zero h few = absurd (omega (arith, h))
-basic_tag (suc zero) h few = tag_at TypeTree-F.Integer v.Integer v.rolls-Integer
-basic_tag (suc (suc zero)) h few = tag_at TypeTree-F.Cardinal v.Cardinal v.rolls-Cardinal
-basic_tag (suc (suc (suc zero))) h few = tag_at TypeTree-F.Boolean v.Boolean v.rolls-Boolean
-basic_tag (suc (suc (suc (suc zero)))) h few = tag_at TypeTree-F.Character v.Character v.rolls-Character
-basic_tag (suc (suc (suc (suc (suc zero))))) h few = tag_at TypeTree-F.String v.String v.rolls-String
-basic_tag (suc (suc (suc (suc (suc (suc n)))))) h few = absurd (omega (arith, few))
+pub basic_tag : (tag : ℕ) → 1 ≤ tag → tag ≤ 11 → tag ≢ 6 → tag ≢ 7 → tag ≢ 8 → tag ≢ 9 → tag_of (basic tag) ≡ tag
+basic_tag zero h few six seven eight nine = absurd (omega (arith, h))
+basic_tag (suc zero) h few six seven eight nine = tag_at TypeTree-F.Integer v.Integer v.rolls-Integer
+basic_tag (suc (suc zero)) h few six seven eight nine = tag_at TypeTree-F.Cardinal v.Cardinal v.rolls-Cardinal
+basic_tag (suc (suc (suc zero))) h few six seven eight nine = tag_at TypeTree-F.Boolean v.Boolean v.rolls-Boolean
+basic_tag (suc (suc (suc (suc zero)))) h few six seven eight nine = tag_at TypeTree-F.Character v.Character v.rolls-Character
+basic_tag (suc (suc (suc (suc (suc zero))))) h few six seven eight nine = tag_at TypeTree-F.String v.String v.rolls-String
+basic_tag (suc (suc (suc (suc (suc (suc zero)))))) h few six seven eight nine = absurd (six refl)
+basic_tag (suc (suc (suc (suc (suc (suc (suc zero))))))) h few six seven eight nine = absurd (seven refl)
+basic_tag (suc (suc (suc (suc (suc (suc (suc (suc zero)))))))) h few six seven eight nine = absurd (eight refl)
+basic_tag (suc (suc (suc (suc (suc (suc (suc (suc (suc zero))))))))) h few six seven eight nine = absurd (nine refl)
+basic_tag (suc (suc (suc (suc (suc (suc (suc (suc (suc (suc zero)))))))))) h few six seven eight nine = tag_at TypeTree-F.LongInteger v.LongInteger v.rolls-LongInteger
+basic_tag (suc (suc (suc (suc (suc (suc (suc (suc (suc (suc (suc zero))))))))))) h few six seven eight nine = tag_at TypeTree-F.LongCardinal v.LongCardinal v.rolls-LongCardinal
+basic_tag (suc (suc (suc (suc (suc (suc (suc (suc (suc (suc (suc (suc n)))))))))))) h few six seven eight nine = absurd (omega (arith, few))
 
 pub enumeration_tag : (P : Origin × List (List ℕ) → Type 0) (y : Layer) → IsSomeAnd (of_enumeration y) P → layer_tag y ≡ 6
 enumeration_tag P (TypeTree-F.Enumeration origin names) h = refl
@@ -78,13 +84,13 @@ pub record_forth : (t : TypeTree) (p : Origin × List FieldType) → of_record (
 record_forth t p e = sym (roll-out-TypeTree t) ∙ ap roll-TypeTree (record_layer (out-TypeTree t) p e) ∙ v.rolls-Record p.0 p.1
 
 pub enumeration_back : (p : Origin × List (List ℕ)) → of_enumeration (out-TypeTree (v.Enumeration p.0 p.1)) ≡ Some p
-enumeration_back p = ap of_enumeration (simple (TypeTree-F.Enumeration p.0 p.1) (v.Enumeration p.0 p.1) (v.rolls-Enumeration p.0 p.1))
+enumeration_back p = ap of_enumeration (layer_at (TypeTree-F.Enumeration p.0 p.1) (v.Enumeration p.0 p.1) (v.rolls-Enumeration p.0 p.1))
 
 pub subrange_back : (p : TypeTree × (ℕ × ℕ)) → of_subrange (out-TypeTree (v.Subrange p.0 p.1.0 p.1.1)) ≡ Some p
-subrange_back p = ap of_subrange (simple (TypeTree-F.Subrange p.0 p.1.0 p.1.1) (v.Subrange p.0 p.1.0 p.1.1) (v.rolls-Subrange p.0 p.1.0 p.1.1))
+subrange_back p = ap of_subrange (layer_at (TypeTree-F.Subrange p.0 p.1.0 p.1.1) (v.Subrange p.0 p.1.0 p.1.1) (v.rolls-Subrange p.0 p.1.0 p.1.1))
 
 pub array_back : (p : TypeTree × TypeTree) → of_array (out-TypeTree (v.Array p.0 p.1)) ≡ Some p
-array_back p = ap of_array (simple (TypeTree-F.Array p.0 p.1) (v.Array p.0 p.1) (v.rolls-Array p.0 p.1))
+array_back p = ap of_array (layer_at (TypeTree-F.Array p.0 p.1) (v.Array p.0 p.1) (v.rolls-Array p.0 p.1))
 
 pub record_back : (p : Origin × List FieldType) → of_record (out-TypeTree (v.Record p.0 p.1)) ≡ Some p
-record_back p = ap of_record (simple (TypeTree-F.Record p.0 p.1) (v.Record p.0 p.1) (v.rolls-Record p.0 p.1))
+record_back p = ap of_record (layer_at (TypeTree-F.Record p.0 p.1) (v.Record p.0 p.1) (v.rolls-Record p.0 p.1))

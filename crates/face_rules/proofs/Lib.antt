@@ -1,7 +1,10 @@
 pub mod FaceLaws
+pub mod Grows
 pub mod InterfaceLaws
 pub mod LayerLaws
 pub mod SeenLaws
 pub mod TypeLaws
+pub mod ValueBytes
+pub mod Versions
 pub mod WriteLaws
 pub mod WriteTags

@@ -1,6 +1,6 @@
 -- The laws of types in files.
 use Rattle.std.proofs.Common.{◌≡◌, ℕ, zero, suc, ◌-◌, ◌<◌, ◌≤◌, Bool, true, false, List, [], ◌∷◌, ◌++◌, Option, Some, None, refl, sym, ap, subst, ◌∙◌, arith}
-use Rattle.std.specs.Prelude.{◌≢◌, ◌&&◌, ◌==◌}
+use Rattle.std.specs.Prelude.{◌≢◌, ◌&&◌, ◌==◌, if◌then◌else◌, nat_le}
 use Rattle.std.proofs.lemmas.List.{append-nil}
 use Rattle.std.proofs.lemmas.List.Concat.{flat_map-append}
 use Rattle.std.proofs.lemmas.Bool.Decides.{nat_tests}
@@ -21,7 +21,7 @@ use Rattle.file_forms.proofs.Made.{ruled_law, built_law, variant_law, choose_law
 use Rattle.file_forms.proofs.Lists.{list_law}
 use Rattle.file_forms.proofs.NameLaws.{short_text_law, name_law, fresh_name_law}
 use Rattle.face_rules.specs.Layers.{tag_of, of_enumeration, of_subrange, of_array, of_record, holds, in_order}
-use Rattle.face_rules.specs.TypeForms.{any, is_known, is_base, is_index, basic, origin_of, origin_at, origin_parts, origin, label_of, label_text, label_list, labels, is_alike, is_label, is_new, label, field_of, field_parts, field_form, fields_form, enumeration, bounds, subrange, array, record_of, tagged, is_small, tag, typed, too_deep, type_form, types, fields}
+use Rattle.face_rules.specs.TypeForms.{any, last_tag, is_known, is_base, is_index, basic, origin_of, origin_at, origin_parts, origin, label_of, label_text, label_list, labels, is_alike, is_label, is_new, label, field_of, field_parts, field_form, fields_form, enumeration, bounds, subrange, array, record_of, tagged, is_small, tag, typed, too_deep, type_form, types, fields}
 use Rattle.face_rules.proofs.LayerLaws.{basic_tag, enumeration_tag, subrange_tag, array_tag, record_tag, enumeration_forth, subrange_forth, array_forth, record_forth, enumeration_back, subrange_back, array_back, record_back}
 
 -- ---- origins
@@ -131,32 +131,38 @@ module _ (inner : (ℕ → Bool) → Form TypeTree) (laws : (allowed : ℕ → B
   other_number : (m n : ℕ) → (m == n) ≡ false → m ≢ n
   other_number m n e = grind (arith, nat_tests)
 
-  at_most_five : (tag : ℕ) → tag ≤ 9 → (tag == 6) ≡ false → (tag == 7) ≡ false → (tag == 8) ≡ false → (tag == 9) ≡ false → tag ≤ 5
-  at_most_five tag few six seven eight nine =
-      let a = other_number tag 6 six in
-      let b = other_number tag 7 seven in
-      let c = other_number tag 8 eight in
-      let d = other_number tag 9 nine in
-      omega (arith, a, b, c, d)
-
-  tag_told : (tag : ℕ) (t : TypeTree) → 1 ≤ tag → tag ≤ 9 → (tagged inner tag).fits t → tag_of t ≡ tag
+  tag_told : (tag : ℕ) (t : TypeTree) → 1 ≤ tag → tag ≤ 11 → (tagged inner tag).fits t → tag_of t ≡ tag
   unfolding tagged tag_of enumeration subrange array record_of
   tag_told tag t many few fits =
       by_test (tag == 6) enumeration _ t fits (λ e h. enumeration_tag _ (out-TypeTree t) h ∙ same_number tag 6 e) (λ six h.
       by_test (tag == 7) (subrange inner) _ t h (λ e h. subrange_tag _ (out-TypeTree t) h ∙ same_number tag 7 e) (λ seven h.
       by_test (tag == 8) (array inner) _ t h (λ e h. array_tag _ (out-TypeTree t) h ∙ same_number tag 8 e) (λ eight h.
       by_test (tag == 9) (record_of inner) (always (basic tag)) t h (λ e h. record_tag _ (out-TypeTree t) h ∙ same_number tag 9 e) (λ nine h.
-      ap tag_of h ∙ basic_tag tag many (at_most_five tag few six seven eight nine)))))
+      ap tag_of h
+      ∙ basic_tag tag many few (other_number tag 6 six) (other_number tag 7 seven) (other_number tag 8 eight) (other_number tag 9 nine)))))
 
 and_first : (a b : Bool) → a && b ≡ true → a ≡ true
 and_first true b e = refl
 and_first false b e = e
 
-known_low : (version tag : ℕ) → is_known version tag ≡ true → 1 ≤ tag
-known_low version tag e = grind (arith, nat_tests)
+at_least_one : (last tag : ℕ) → nat_le 1 tag && nat_le tag last ≡ true → 1 ≤ tag
+at_least_one last tag e = grind (arith, nat_tests)
 
-known_high : (version tag : ℕ) → is_known version tag ≡ true → tag ≤ 9
-known_high version tag e = grind (arith, nat_tests)
+known_low : (version tag : ℕ) → is_known version tag ≡ true → 1 ≤ tag
+known_low version tag e = at_least_one (last_tag version) tag e
+
+last_few : (version : ℕ) → last_tag version ≤ 11
+last_few version = by (version == 1)
+  where
+    by : (b : Bool) → (if b then 9 else 11) ≤ 11
+    by true = omega arith
+    by false = omega arith
+
+at_most_last : (last tag : ℕ) → nat_le 1 tag && nat_le tag last ≡ true → last ≤ 11 → tag ≤ 11
+at_most_last last tag e few = grind (arith, nat_tests)
+
+known_high : (version tag : ℕ) → is_known version tag ≡ true → tag ≤ 11
+known_high version tag e = at_most_last (last_tag version) tag e (last_few version)
 
 tag_law : (version : ℕ) (allowed : ℕ → Bool) → Lawful (tag version allowed)
 unfolding tag

@@ -158,6 +158,20 @@ module _ (inner : (ℕ → Bool) → Form TypeTree) where
   pub string_spells : (tagged inner (tag_of v.String)).spell v.String ≡ []
   string_spells = basic_spells 5 v.String (tag_at TypeTree-F.String v.String v.rolls-String) (omega arith)
 
+  long_integer_spells : (tagged inner 10).spell v.LongInteger ≡ []
+  unfolding tagged
+  long_integer_spells = refl
+
+  long_cardinal_spells : (tagged inner 11).spell v.LongCardinal ≡ []
+  unfolding tagged
+  long_cardinal_spells = refl
+
+  pub long_integer_spelled : (tagged inner (tag_of v.LongInteger)).spell v.LongInteger ≡ []
+  long_integer_spelled = ap (λ (k : ℕ). (tagged inner k).spell v.LongInteger) (tag_at TypeTree-F.LongInteger v.LongInteger v.rolls-LongInteger) ∙ long_integer_spells
+
+  pub long_cardinal_spelled : (tagged inner (tag_of v.LongCardinal)).spell v.LongCardinal ≡ []
+  long_cardinal_spelled = ap (λ (k : ℕ). (tagged inner k).spell v.LongCardinal) (tag_at TypeTree-F.LongCardinal v.LongCardinal v.rolls-LongCardinal) ∙ long_cardinal_spells
+
 -- ---- the whole type
 
 pub deep_fits : (version levels : ℕ) (allowed : ℕ → Bool) (t : TypeTree) → levels ≡ 0 → (type_form version levels allowed).fits t → ⊥

@@ -35,4 +35,10 @@ array_tag i e = tag_at (TypeTree-F.Array i e) (v.Array i e) (v.rolls-Array i e)
 pub record_tag : (o : Origin) (fs : List FieldType) → tag_of (v.Record o fs) ≡ 9
 record_tag o fs = tag_at (TypeTree-F.Record o fs) (v.Record o fs) (v.rolls-Record o fs)
 
-pub ruleset tags = (integer_tag, cardinal_tag, boolean_tag, character_tag, string_tag, enumeration_tag, subrange_tag, array_tag, record_tag)
+pub long_integer_tag : tag_of v.LongInteger ≡ 10
+long_integer_tag = tag_at TypeTree-F.LongInteger v.LongInteger v.rolls-LongInteger
+
+pub long_cardinal_tag : tag_of v.LongCardinal ≡ 11
+long_cardinal_tag = tag_at TypeTree-F.LongCardinal v.LongCardinal v.rolls-LongCardinal
+
+pub ruleset tags = (integer_tag, cardinal_tag, boolean_tag, character_tag, string_tag, enumeration_tag, subrange_tag, array_tag, record_tag, long_integer_tag, long_cardinal_tag)

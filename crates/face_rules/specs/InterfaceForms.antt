@@ -6,15 +6,15 @@ use Rattle.mesa_base.specs.declared.file_fault.Field.TheVariants as field
 use Rattle.file_forms.specs.Forms.{Form, number, pair, ruled, built, list, at_least}
 use Rattle.file_forms.specs.Names.{fresh_name}
 use Rattle.file_forms.specs.Files.{IsFile, FirstFault}
-use Rattle.face_rules.specs.Layers.{holds}
-use Rattle.face_rules.specs.TypeForms.{any, is_ordinal, types}
+use Rattle.face_rules.specs.Layers.{value_bytes, holds}
+use Rattle.face_rules.specs.TypeForms.{any, is_of_constants, types}
 use Rattle.face_rules.specs.FaceForms.{item_names, face}
 use Rattle.interface_records.specs.declared.interface.Constant.{Constant}
 use Rattle.interface_records.specs.declared.interface.NamedType.{NamedType}
 use Rattle.interface_records.specs.declared.interface.Interface.{Interface}
 use Rattle.mesa_base.specs.declared.file_fault.FileFault.{FileFault}
 
--- a name, an ordinal type, and a word that is a value of it
+-- a name, an ordinal type and a word that is a value of it, or a LONG type and a number of four bytes that is one
 
 abbrev pub constant_of : List ℕ × (TypeTree × ℕ) → Constant
 constant_of p = record { name = p.0; kind = p.1.0; value = p.1.1 }
@@ -22,12 +22,12 @@ constant_of p = record { name = p.0; kind = p.1.0; value = p.1.1 }
 abbrev pub constant_parts : Constant → List ℕ × (TypeTree × ℕ)
 constant_parts c = (c.name, (c.kind, c.value))
 
--- a word that is a value of the type
-abbrev pub word_of : TypeTree → Form ℕ
-word_of t = ruled (number 2) (holds t) field.Number
+-- a word or a number that is a value of the type
+abbrev pub value_of : TypeTree → Form ℕ
+value_of t = ruled (number (value_bytes t)) (holds t) field.Number
 
 unfoldable pub constant : ℕ → List (List ℕ) → Form Constant
-constant version seen = built constant_of constant_parts (pair (fresh_name seen) (λ _. pair (types version is_ordinal) word_of))
+constant version seen = built constant_of constant_parts (pair (fresh_name seen) (λ _. pair (types version is_of_constants) value_of))
 
 abbrev pub constant_names : List Constant → List (List ℕ)
 constant_names constants = map (λ (c : Constant). c.name) constants

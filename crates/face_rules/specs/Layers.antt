@@ -19,6 +19,8 @@ layer_tag (TypeTree-F.Enumeration origin names) = 6
 layer_tag (TypeTree-F.Subrange base first last) = 7
 layer_tag (TypeTree-F.Array index element) = 8
 layer_tag (TypeTree-F.Record origin fields) = 9
+layer_tag TypeTree-F.LongInteger = 10
+layer_tag TypeTree-F.LongCardinal = 11
 
 unfoldable pub tag_of : TypeTree → ℕ
 tag_of t = layer_tag (out-TypeTree t)
@@ -39,7 +41,16 @@ abbrev pub of_record : Layer → Option (Origin × List FieldType)
 of_record (TypeTree-F.Record origin fields) = Some (origin, fields)
 of_record _ = None
 
--- ---- the words that are values of an ordinal type
+-- a value of a LONG type has four bytes, each other one is a word
+abbrev pub layer_bytes : Layer → ℕ
+layer_bytes TypeTree-F.LongInteger = 4
+layer_bytes TypeTree-F.LongCardinal = 4
+layer_bytes _ = 2
+
+unfoldable pub value_bytes : TypeTree → ℕ
+value_bytes t = layer_bytes (out-TypeTree t)
+
+-- ---- the words that are values of an ordinal type, and the numbers that are values of a LONG type
 
 -- the test, and the order of its values
 pub record Values : Type 0 where
@@ -50,6 +61,10 @@ pub record Values : Type 0 where
 abbrev pub signed_le : ℕ → ℕ → Bool
 signed_le a b = nat_le ((a + 32768) % 65536) ((b + 32768) % 65536)
 
+-- numbers of two words from 2147483648 on are negative
+abbrev pub signed_long_le : ℕ → ℕ → Bool
+signed_long_le a b = nat_le ((a + 2147483648) % 4294967296) ((b + 2147483648) % 4294967296)
+
 abbrev pub below : ℕ → Values
 below n = record { holds = λ w. nat_lt w n; in_order = nat_le }
 
@@ -59,6 +74,8 @@ within base first last = record { holds = λ w. base.holds w && (base.in_order f
 abbrev pub values_step : TypeTree-F Values (Unit {0}) → Values
 values_step TypeTree-F.Integer = record { holds = λ w. true; in_order = signed_le }
 values_step TypeTree-F.Cardinal = below 65536
+values_step TypeTree-F.LongInteger = record { holds = λ n. true; in_order = signed_long_le }
+values_step TypeTree-F.LongCardinal = below 4294967296
 values_step TypeTree-F.Boolean = below 2
 values_step TypeTree-F.Character = below 256
 values_step TypeTree-F.String = below 0

@@ -18,8 +18,12 @@ use Rattle.face_rules.specs.Layers.{tag_of, of_enumeration, of_subrange, of_arra
 abbrev pub any : ℕ → Bool
 any tag = true
 
+-- the LONG types have tags in version 2 alone
+abbrev pub last_tag : ℕ → ℕ
+last_tag version = if version == 1 then 9 else 11
+
 abbrev pub is_known : ℕ → ℕ → Bool
-is_known version tag = nat_le 1 tag && nat_le tag 9
+is_known version tag = nat_le 1 tag && nat_le tag (last_tag version)
 
 abbrev pub is_base : ℕ → Bool
 is_base tag = nat_le tag 4 || (tag == 6)
@@ -30,8 +34,16 @@ is_index tag = (tag == 3) || (tag == 4) || (tag == 6) || (tag == 7)
 abbrev pub is_ordinal : ℕ → Bool
 is_ordinal tag = nat_le tag 4 || (tag == 6) || (tag == 7)
 
+-- a constant is of an ordinal type, or of a LONG type
+abbrev pub is_of_constants : ℕ → Bool
+is_of_constants tag = is_ordinal tag || (tag == 10) || (tag == 11)
+
+abbrev pub long_or_text : ℕ → TypeTree
+long_or_text tag = if tag == 10 then v.LongInteger else if tag == 11 then v.LongCardinal else v.String
+
 abbrev pub basic : ℕ → TypeTree
-basic tag = if tag == 1 then v.Integer else if tag == 2 then v.Cardinal else if tag == 3 then v.Boolean else if tag == 4 then v.Character else v.String
+basic tag =
+    if tag == 1 then v.Integer else if tag == 2 then v.Cardinal else if tag == 3 then v.Boolean else if tag == 4 then v.Character else long_or_text tag
 
 -- ---- origins: name, stamp, u32
 

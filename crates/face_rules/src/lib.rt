@@ -2,5 +2,7 @@
 #![tactic(auto)]
 
 mod sort;
+mod value_bytes;
 
 pub use sort::Sort;
+pub use value_bytes::has_long_values;

@@ -1,3 +1,4 @@
+//! Which types may stand at a place.
 ghost use Rattle.std.specs.Prelude.{◌≡◌};
 ghost use Rattle.face_rules.specs.Sorts.{takes};
 
@@ -9,8 +10,8 @@ pub enum Sort {
     Base,
     /// BOOLEAN, CHARACTER, enumerations and subranges.
     Index,
-    /// All whose values are words in an order.
-    Ordinal,
+    /// Those of constants: all whose values are words in an order, and the LONG types.
+    OfConstant,
 }
 
 impl Sort {
@@ -21,7 +22,7 @@ impl Sort {
             Sort::Any => true,
             Sort::Base => tag <= 4 || tag == 6,
             Sort::Index => tag == 3 || tag == 4 || tag == 6 || tag == 7,
-            Sort::Ordinal => tag <= 4 || tag == 6 || tag == 7,
+            Sort::OfConstant => tag <= 4 || tag == 6 || tag == 7 || tag == 10 || tag == 11,
         }
     }
 }

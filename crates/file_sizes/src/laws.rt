@@ -1,3 +1,4 @@
+//! The laws of the sizes of files: those of interfaces, of objects and of images.
 ghost use Rattle.file_sizes.specs.Laws.{ImagesAreSized, InterfacesAreSized, ObjectsAreSized};
 
 /// A law: how many bytes faces take, and how few at least items and interfaces.

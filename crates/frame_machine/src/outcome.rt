@@ -1,3 +1,5 @@
+//! The end of a run with the turns that are left, and why a run comes to no end.
+
 use machine_rules::End;
 
 /// The end of a run and the turns that are left.

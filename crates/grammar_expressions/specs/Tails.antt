@@ -58,8 +58,9 @@ module _ (q : Nested) where
   nameless_type =
       option (k.Word w.IntegerWord) (λ p. ex.after_base q (b.OfInteger p) (t.Integer p))
       (option (k.Word w.CardinalWord) (λ p. ex.after_base q (b.OfCardinal p) (t.Cardinal p))
+      (option (k.Word w.LongWord) (ex.long_type q)
       (option (k.Word w.CharacterWord) (λ p. ex.after_base q (b.OfCharacter p) (t.Character p))
-      other_type))
+      other_type)))
 
   -- a primary that is no literal
   unfoldable pub unit : Parser Expr

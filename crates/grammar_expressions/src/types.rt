@@ -81,6 +81,20 @@ impl<N: NestedParsers> Level<N> {
         Ok(TypeExp::Subrange(TypeBase::OfName(name), interval))
     }
 
+    /// A type of two words, of which the word LONG was taken.
+    #[tactic(auto, using(token_cursor::proofs::Choosing::choose_none, token_cursor::proofs::Choosing::choose_some), unfolding(grammar_rules::specs::ReadExpressions::long_type))]
+    fn long_type(&self, tokens: &mut Cursor<'_>, place: Place) -> Result<TypeExp, Stopped>
+        ensures { Reads (spec.long_type (nested self.now.depth) place tokens.old.rest.now) result tokens.new.rest.now }
+    {
+        match tokens.takes_word(Word::IntegerWord) {
+            Some(_) => Ok(TypeExp::LongInteger(place)),
+            None => {
+                tokens.need_word(Word::CardinalWord)?;
+                Ok(TypeExp::LongCardinal(place))
+            }
+        }
+    }
+
     #[tactic(auto, unfolding(grammar_rules::specs::ReadExpressions::enumeration))]
     fn enumeration(&self, tokens: &mut Cursor<'_>, place: Place) -> Result<TypeExp, Stopped>
         requires { N.parse_at self.now.nested self.now.depth }
@@ -306,6 +320,9 @@ impl<N: NestedParsers> Level<N> {
                 TypeBase::OfCardinal(place),
                 TypeExp::Cardinal(place),
             );
+        }
+        if let Some(place) = tokens.takes_word(Word::LongWord) {
+            return self.long_type(tokens, place);
         }
         match tokens.takes_word(Word::CharacterWord) {
             Some(place) => self.after_base(

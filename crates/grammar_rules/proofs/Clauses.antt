@@ -4,7 +4,7 @@ use Rattle.mesa_base.specs.declared.place.Place.{Place}
 use Rattle.mesa_lexer.specs.declared.token.Token.{Token}
 use Rattle.mesa_lexer.specs.declared.token.Kind.{Kind}
 use Rattle.mesa_lexer.specs.declared.token.Kind.TheVariants as k
-use Rattle.mesa_lexer.specs.declared.word.Word.TheVariants.{ArrayWord, BeginWord, BooleanWord, CardinalWord, CharacterWord, ContinueWord, DoWord, ElseWord, EnableWord, EndWord, EndcaseWord, EndloopWord, ErrorWord, ExitWord, ExitsWord, FalseWord, ForWord, FromWord, GoWord, GotoWord, IfWord, InWord, IntegerWord, LoopWord, NullWord, OfWord, RecordWord, RejectWord, RepeatWord, ResumeWord, RetryWord, ReturnWord, SelectWord, SignalWord, StringWord, ThenWord, ThroughWord, ToWord, TrueWord, TypeWord, UntilWord, WhileWord}
+use Rattle.mesa_lexer.specs.declared.word.Word.TheVariants.{ArrayWord, BeginWord, BooleanWord, CardinalWord, CharacterWord, ContinueWord, DoWord, ElseWord, EnableWord, EndWord, EndcaseWord, EndloopWord, ErrorWord, ExitWord, ExitsWord, FalseWord, ForWord, FromWord, GoWord, GotoWord, IfWord, InWord, IntegerWord, LongWord, LoopWord, NullWord, OfWord, RecordWord, RejectWord, RepeatWord, ResumeWord, RetryWord, ReturnWord, SelectWord, SignalWord, StringWord, ThenWord, ThroughWord, ToWord, TrueWord, TypeWord, UntilWord, WhileWord}
 use Rattle.mesa_lexer.specs.declared.mark.Mark.TheVariants.{Arrow, Semicolon, Colon, Comma, Dot, DotDot, LeftBracket, RightBracket, LeftParenthesis, RightParenthesis, LeftBrace, RightBrace, Equal, Bang, DoubleArrow}
 use Rattle.token_cursor.specs.Parsing.{token, word, mark, Out, and_then, ◌>>=◌, ◌>>◌, pure, refuse, first, only, exactly, finds, among, a_name, choose, need, Again, repeat}
 use Rattle.token_cursor.specs.Parsing.{Turned}
@@ -69,7 +69,7 @@ use Rattle.grammar_rules.proofs.Seconds.{behind_first, Second, exprs_second, nam
 use Rattle.grammar_rules.proofs.Goes as go
 use Rattle.grammar_rules.proofs.FieldTurns as ft
 use Rattle.grammar_rules.proofs.Sealed as sd
-use Rattle.grammar_rules.proofs.Parts.{Products, Sums, Ands, Ors, products_eats, sums_eats, ands_eats, ors_eats, Made, run_end, Suffixes, suffixes_eats, Exprs, exprs_eats, Keys, keys_eats, Arms, arms_eats, Groups, groups_eats, semi_free, begins_free, otherwise_free, suffix_free, name_free, dot_free, stmt_primary, closers, unsigned, group_first, open_free, type_dot, fields_comma, no_else_passes, closers_comma, closers_colon, closers_none, Stmts, stmts_eats, Exits, exits_eats, Repeats, repeats_eats, Cases, cases_eats, Tests, tests_eats, Lefts, lefts_eats, KeyLefts, key_lefts_eats, tail_stmts, valued_bare, typed_goes, enabling_none, enable_goes, end_semi, end_name, ends, ends_tail, conditions, count_none, first_lefts, lefts_second, lefts_go, first_goes, step_goes, key_goes, key_step_goes, type_integer, type_cardinal, type_character, type_boolean, type_string, type_enumeration, type_array, type_record, primary_number, primary_char, primary_text, primary_true, primary_false, primary_parens, primary_list, stmt_null, stmt_begin, stmt_brace, stmt_extract, stmt_if, stmt_select, stmt_exit, stmt_next, stmt_goto, stmt_go, stmt_return, stmt_resume, stmt_reject, stmt_retry, stmt_continue, left_end, in_brackets, inside}
+use Rattle.grammar_rules.proofs.Parts.{Products, Sums, Ands, Ors, products_eats, sums_eats, ands_eats, ors_eats, Made, run_end, Suffixes, suffixes_eats, Exprs, exprs_eats, Keys, keys_eats, Arms, arms_eats, Groups, groups_eats, semi_free, begins_free, otherwise_free, suffix_free, name_free, dot_free, stmt_primary, closers, unsigned, group_first, open_free, type_dot, fields_comma, no_else_passes, closers_comma, closers_colon, closers_none, Stmts, stmts_eats, Exits, exits_eats, Repeats, repeats_eats, Cases, cases_eats, Tests, tests_eats, Lefts, lefts_eats, KeyLefts, key_lefts_eats, tail_stmts, valued_bare, typed_goes, enabling_none, enable_goes, end_semi, end_name, ends, ends_tail, conditions, count_none, first_lefts, lefts_second, lefts_go, first_goes, step_goes, key_goes, key_step_goes, type_integer, type_cardinal, type_long_integer, type_long_cardinal, type_character, type_boolean, type_string, type_enumeration, type_array, type_record, primary_number, primary_char, primary_text, primary_true, primary_false, primary_parens, primary_list, stmt_null, stmt_begin, stmt_brace, stmt_extract, stmt_if, stmt_select, stmt_exit, stmt_next, stmt_goto, stmt_go, stmt_return, stmt_resume, stmt_reject, stmt_retry, stmt_continue, left_end, in_brackets, inside}
 
 pub c_integer : (n : ℕ) {rest : List Token} {p : Place} (f1 : Free more_type rest) → Leads (word IntegerWord p ∷ rest) (t.Integer p) rest (None) (λ y. pure y) (ex.type_exp (nested n) None (word IntegerWord p ∷ rest))
 unfolding need choose nr.named ex.enumeration ex.array ex.a_record
@@ -78,6 +78,12 @@ c_integer n f = via (type_integer (nested n) _ _) (ahead _ (via (go.base_bare (n
 pub c_cardinal : (n : ℕ) {rest : List Token} {p : Place} (f1 : Free more_type rest) → Leads (word CardinalWord p ∷ rest) (t.Cardinal p) rest (None) (λ y. pure y) (ex.type_exp (nested n) None (word CardinalWord p ∷ rest))
 unfolding need choose nr.named ex.enumeration ex.array ex.a_record
 c_cardinal n f = via (type_cardinal (nested n) _ _) (ahead _ (via (go.base_bare (nested n) _ _ _ (open_free _ f)) (stand _ _ (λ y. pure y))))
+
+pub c_long_integer : (n : ℕ) {rest : List Token} {p q : Place} (f1 : Free more_type rest) → Leads (word LongWord p ∷ word IntegerWord q ∷ rest) (t.LongInteger p) rest (None) (λ y. pure y) (ex.type_exp (nested n) None (word LongWord p ∷ word IntegerWord q ∷ rest))
+c_long_integer n f = via (type_long_integer (nested n) _ _ _) (ahead _ (ahead _ (stand _ _ (λ y. pure y))))
+
+pub c_long_cardinal : (n : ℕ) {rest : List Token} {p q : Place} (f1 : Free more_type rest) → Leads (word LongWord p ∷ word CardinalWord q ∷ rest) (t.LongCardinal p) rest (None) (λ y. pure y) (ex.type_exp (nested n) None (word LongWord p ∷ word CardinalWord q ∷ rest))
+c_long_cardinal n f = via (type_long_cardinal (nested n) _ _ _) (ahead _ (ahead _ (stand _ _ (λ y. pure y))))
 
 pub c_boolean : (n : ℕ) {rest : List Token} {p : Place} (f1 : Free more_type rest) → Leads (word BooleanWord p ∷ rest) (t.Boolean p) rest (None) (λ y. pure y) (ex.type_exp (nested n) None (word BooleanWord p ∷ rest))
 unfolding need choose nr.named ex.enumeration ex.array ex.a_record

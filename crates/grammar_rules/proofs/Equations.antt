@@ -53,6 +53,14 @@ pub is_cardinal : (lev : ℕ) (rest : List Token) (p : Place) → at_type (suc l
 unfolding at_type
 is_cardinal lev _ _ = refl
 
+pub is_long_integer : (lev : ℕ) (rest : List Token) (p q : Place) → at_type (suc lev) (g.long_integer {rest = rest} {p = p} {q = q}) ≡ None
+unfolding at_type
+is_long_integer lev _ _ _ = refl
+
+pub is_long_cardinal : (lev : ℕ) (rest : List Token) (p q : Place) → at_type (suc lev) (g.long_cardinal {rest = rest} {p = p} {q = q}) ≡ None
+unfolding at_type
+is_long_cardinal lev _ _ _ = refl
+
 pub is_boolean : (lev : ℕ) (rest : List Token) (p : Place) → at_type (suc lev) (g.boolean {rest = rest} {p = p}) ≡ None
 unfolding at_type
 is_boolean lev _ _ = refl

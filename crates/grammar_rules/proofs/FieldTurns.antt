@@ -85,6 +85,8 @@ opens_unnamed ts o = subst (Free (finds a_name)) (sym o.is) (opening_starts o.ki
 pub kind_of : (m : ℕ) {ts rest : List Token} {x : TypeExp} (d : g.IsType ts x rest) → Kinds ts x rest (deep_type (suc m) d)
 kind_of m g.integer = no_name refl
 kind_of m g.cardinal = no_name refl
+kind_of m g.long_integer = no_name refl
+kind_of m g.long_cardinal = no_name refl
 kind_of m g.boolean = no_name refl
 kind_of m g.character = no_name refl
 kind_of m g.string = no_name refl

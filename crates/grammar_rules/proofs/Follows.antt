@@ -278,6 +278,8 @@ interval_begins (g.bounds {kind = kind} {a = a} e d f h) = record { token = _; b
 pub type_begins : {ts rest : List Token} {x : TypeExp} → g.IsType ts x rest → Begins begins_type ts
 type_begins g.integer = record { token = _; back = _; is = refl; begins = refl }
 type_begins g.cardinal = record { token = _; back = _; is = refl; begins = refl }
+type_begins g.long_integer = record { token = _; back = _; is = refl; begins = refl }
+type_begins g.long_cardinal = record { token = _; back = _; is = refl; begins = refl }
 type_begins g.boolean = record { token = _; back = _; is = refl; begins = refl }
 type_begins g.character = record { token = _; back = _; is = refl; begins = refl }
 type_begins g.string = record { token = _; back = _; is = refl; begins = refl }

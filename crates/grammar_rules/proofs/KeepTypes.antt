@@ -4,7 +4,7 @@ use Rattle.mesa_base.specs.declared.place.Place.{Place}
 use Rattle.mesa_lexer.specs.declared.token.Token.{Token}
 use Rattle.mesa_lexer.specs.declared.token.Kind.{Kind}
 use Rattle.mesa_lexer.specs.declared.token.Kind.TheVariants as k
-use Rattle.mesa_lexer.specs.declared.word.Word.TheVariants.{ArrayWord, BooleanWord, CardinalWord, CharacterWord, IntegerWord, OfWord, RecordWord, StringWord}
+use Rattle.mesa_lexer.specs.declared.word.Word.TheVariants.{ArrayWord, BooleanWord, CardinalWord, CharacterWord, IntegerWord, LongWord, OfWord, RecordWord, StringWord}
 use Rattle.mesa_lexer.specs.declared.mark.Mark.TheVariants.{Colon, Comma, LeftBracket, RightBracket, LeftBrace, RightBrace}
 use Rattle.token_cursor.specs.Parsing.{token, mark, first, finds, Again, repeat, many_turn}
 use Rattle.token_cursor.specs.Parsing as w
@@ -157,16 +157,22 @@ module _ (n : ℕ) (q : Nested) (inner : Inner n q) where
   unfolding r.a_record
   a_record p = word (k.Mark LeftBracket) refl refl (λ s. bind field_list (λ x. word (k.Mark RightBracket) refl refl (λ v. done (t.Record p x) (λ ws us o d. (g.a_record d.0, alone d.1)))))
 
+  long_type : (p : Place) → Keeps cut cut (Took (w.word LongWord p) (Type_at (suc n))) (r.long_type q p)
+  unfolding r.long_type
+  long_type p = option_or {l = cut} (k.Word IntegerWord) (λ s. done (t.LongInteger p) (λ ws. (g.long_integer, refl)))
+      (word (k.Word CardinalWord) refl refl (λ s. done (t.LongCardinal p) (λ ws. (g.long_cardinal, refl))))
+
   pub type_exp : Keeps cut cut (Type_at (suc n)) (r.type_exp q None)
   unfolding r.type_exp
   type_exp = nm.name_or type_from
       (option_or (k.Word IntegerWord) (λ p. after_base (Took (w.word IntegerWord p) (Type_at (suc n))) (OfInteger p) (t.Integer p) (λ us i rest o d. (g.subrange g.of_integer d.0, alone d.1)) (λ ws. (g.integer, refl)))
       (option_or (k.Word CardinalWord) (λ p. after_base (Took (w.word CardinalWord p) (Type_at (suc n))) (OfCardinal p) (t.Cardinal p) (λ us i rest o d. (g.subrange g.of_cardinal d.0, alone d.1)) (λ ws. (g.cardinal, refl)))
+      (option_or (k.Word LongWord) long_type
       (option_or (k.Word CharacterWord) (λ p. after_base (Took (w.word CharacterWord p) (Type_at (suc n))) (OfCharacter p) (t.Character p) (λ us i rest o d. (g.subrange g.of_character d.0, alone d.1)) (λ ws. (g.character, refl)))
       (option_or {l = cut} (k.Word BooleanWord) (λ p. done (t.Boolean p) (λ ws. (g.boolean, refl)))
       (option_or {l = cut} (k.Word StringWord) (λ p. done (t.String p) (λ ws. (g.string, refl)))
       (option_or (k.Mark LeftBrace) enumeration (option_or (k.Word ArrayWord) array (option_or (k.Word RecordWord) a_record
-      (bind (ke.interval n q inner) (λ i. done (t.Subrange Unsaid i) (λ ws us o d. (g.subrange g.unsaid d.0, alone d.1))))))))))))
+      (bind (ke.interval n q inner) (λ i. done (t.Subrange Unsaid i) (λ ws us o d. (g.subrange g.unsaid d.0, alone d.1)))))))))))))
 
   pub type_begun : (i : Identifier) → Keeps cut cut (Took (spelled i) (Type_at (suc n))) (r.type_exp q (Some i))
   unfolding r.type_exp

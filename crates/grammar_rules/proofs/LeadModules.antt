@@ -102,7 +102,7 @@ fields_c n d = placed (sd.seal_at_fields n d) (lift_fields n d (λ j. l.fields_c
 
 in_params : (n : ℕ) {ts rest : List Token} {x : FieldList} {p : Place} (d : g.IsFields ts x (mark RightBracket p ∷ rest)) → Leads ts (Some x) rest (first (dp.deep_fields n d) None) (λ y. pure y) (r.in_params (nested n) ts)
 unfolding r.in_params need choose
-in_params n {ts} d = via (passed (exactly (k.Mark RightBracket)) (λ _ _. pure None) (ex.field_list (nested n) >>= (λ x. need (k.Mark RightBracket) >> pure (Some x))) ts (apart (finds (exactly (k.Mark RightBracket))) type_starts (refl, (refl, (refl, (refl, (refl, (refl, (refl, (refl, (refl, (refl, tt)))))))))) (λ name. refl) ts (fields_begin d)))
+in_params n {ts} d = via (passed (exactly (k.Mark RightBracket)) (λ _ _. pure None) (ex.field_list (nested n) >>= (λ x. need (k.Mark RightBracket) >> pure (Some x))) ts (apart (finds (exactly (k.Mark RightBracket))) type_starts (refl, (refl, (refl, (refl, (refl, (refl, (refl, (refl, (refl, (refl, (refl, tt))))))))))) (λ name. refl) ts (fields_begin d)))
     (comp (onto _ (fields_c n d)) (ahead _ (stand _ _ (λ y. pure y))))
 
 params_c : (n : ℕ) {ts rest : List Token} {x : Option FieldList} (d : m.IsParams ts x rest) → Free bracket rest → Leads ts x rest (m.deep_params n d) (λ y. pure y) (r.params (nested n) ts)
@@ -141,7 +141,7 @@ type_plain kind h = go (or_true (finds a_name kind) (among type_starts kind) h)
   where
     go : (finds a_name kind ≡ true) ⊎ (among type_starts kind ≡ true) → (finds a_name kind || among plain_starts kind) ≡ true
     go (inl e) = ap (λ z. z || among plain_starts kind) e
-    go (inr e) = among_every (λ kind. (finds a_name kind || among plain_starts kind) ≡ true) type_starts (refl, (refl, (refl, (refl, (refl, (refl, (refl, (refl, (refl, (refl, tt)))))))))) kind e
+    go (inr e) = among_every (λ kind. (finds a_name kind || among plain_starts kind) ≡ true) type_starts (refl, (refl, (refl, (refl, (refl, (refl, (refl, (refl, (refl, (refl, (refl, tt))))))))))) kind e
 
 plain_begins : {ts rest : List Token} {x : PlainItem} → g.IsPlain ts x rest → Begins (λ kind. finds a_name kind || among plain_starts kind) ts
 plain_begins (g.type_is d) = record { token = _; back = _; is = refl; begins = refl }
@@ -151,9 +151,9 @@ plain_begins (g.constant d f) = fo.begins_with type_plain (fo.type_begins d)
 
 declared_plain : (n : ℕ) {ts rest : List Token} {x : PlainItem} → g.IsPlain ts x rest → r.declared (nested n) ts ≡ and_then (st.plain (nested n) ts) (λ x. pure (Data x))
 unfolding r.declared
-declared_plain n {ts} d = passed procedure_word (λ _ _. r.procedure (nested n)) (option (k.Word SignalWord) (λ _. r.signal (nested n)) (option (k.Word ErrorWord) (λ _. r.error (nested n)) (st.plain (nested n) >>= (λ x. pure (Data x))))) ts (apart (finds procedure_word) plain_starts (refl, (refl, (refl, (refl, (refl, (refl, (refl, (refl, (refl, (refl, (refl, tt))))))))))) (λ name. refl) ts (plain_begins d))
-    ∙ (passed (exactly (k.Word SignalWord)) (λ _ _. r.signal (nested n)) (option (k.Word ErrorWord) (λ _. r.error (nested n)) (st.plain (nested n) >>= (λ x. pure (Data x)))) ts (apart (finds (exactly (k.Word SignalWord))) plain_starts (refl, (refl, (refl, (refl, (refl, (refl, (refl, (refl, (refl, (refl, (refl, tt))))))))))) (λ name. refl) ts (plain_begins d))
-    ∙ passed (exactly (k.Word ErrorWord)) (λ _ _. r.error (nested n)) (st.plain (nested n) >>= (λ x. pure (Data x))) ts (apart (finds (exactly (k.Word ErrorWord))) plain_starts (refl, (refl, (refl, (refl, (refl, (refl, (refl, (refl, (refl, (refl, (refl, tt))))))))))) (λ name. refl) ts (plain_begins d)))
+declared_plain n {ts} d = passed procedure_word (λ _ _. r.procedure (nested n)) (option (k.Word SignalWord) (λ _. r.signal (nested n)) (option (k.Word ErrorWord) (λ _. r.error (nested n)) (st.plain (nested n) >>= (λ x. pure (Data x))))) ts (apart (finds procedure_word) plain_starts (refl, (refl, (refl, (refl, (refl, (refl, (refl, (refl, (refl, (refl, (refl, (refl, tt)))))))))))) (λ name. refl) ts (plain_begins d))
+    ∙ (passed (exactly (k.Word SignalWord)) (λ _ _. r.signal (nested n)) (option (k.Word ErrorWord) (λ _. r.error (nested n)) (st.plain (nested n) >>= (λ x. pure (Data x)))) ts (apart (finds (exactly (k.Word SignalWord))) plain_starts (refl, (refl, (refl, (refl, (refl, (refl, (refl, (refl, (refl, (refl, (refl, (refl, tt)))))))))))) (λ name. refl) ts (plain_begins d))
+    ∙ passed (exactly (k.Word ErrorWord)) (λ _ _. r.error (nested n)) (st.plain (nested n) >>= (λ x. pure (Data x))) ts (apart (finds (exactly (k.Word ErrorWord))) plain_starts (refl, (refl, (refl, (refl, (refl, (refl, (refl, (refl, (refl, (refl, (refl, (refl, tt)))))))))))) (λ name. refl) ts (plain_begins d)))
 
 declared_procedure : (n : ℕ) (kind : Kind) (p : Place) (ts : List Token) → procedure_word kind ≡ Some tt → r.declared (nested n) (token kind p ∷ ts) ≡ r.procedure (nested n) ts
 unfolding r.declared
@@ -183,7 +183,7 @@ declared_access : {ts rest : List Token} {x : Declared} → m.IsDeclared ts x re
 declared_access (m.procedure {kind = kind} e d h) = procedure_unnamed kind e
 declared_access (m.signal d) = refl
 declared_access (m.error d) = refl
-declared_access {ts} (m.plainly d) = apart (finds accessing) plain_starts (refl, (refl, (refl, (refl, (refl, (refl, (refl, (refl, (refl, (refl, (refl, tt))))))))))) (λ name. refl) ts (plain_begins d)
+declared_access {ts} (m.plainly d) = apart (finds accessing) plain_starts (refl, (refl, (refl, (refl, (refl, (refl, (refl, (refl, (refl, (refl, (refl, (refl, tt)))))))))))) (λ name. refl) ts (plain_begins d)
 
 access_c : {ts rest : List Token} {x : Option Access} (d : m.IsAccess ts x rest) → Free (finds accessing) rest → Leads ts x rest None (λ y. pure y) (r.access ts)
 unfolding r.access
@@ -293,10 +293,10 @@ inner_c n {p = p} (m.inside {vs = vs} {ws = ws} {ds = ds} {ss = ss} a b c i) =
 
 defined_constant : (n : ℕ) (ts : List Token) → Begins begins_type ts → r.defined (nested n) ts ≡ r.constant (nested n) ts
 unfolding r.defined
-defined_constant n ts b = passed procedure_word (λ _ _. r.head (nested n) >>= (λ h. pure (ProcedureItem h))) (option (k.Word SignalWord) (λ _. r.head (nested n) >>= (λ h. pure (SignalItem h))) (option (k.Word ErrorWord) (λ _. r.params (nested n) >>= (λ a. pure (ErrorItem a))) (option (k.Word TypeWord) (λ _. r.type_item (nested n)) (r.constant (nested n))))) ts (apart (finds procedure_word) type_starts (refl, (refl, (refl, (refl, (refl, (refl, (refl, (refl, (refl, (refl, tt)))))))))) (λ name. refl) ts b)
-    ∙ (passed (exactly (k.Word SignalWord)) (λ _ _. r.head (nested n) >>= (λ h. pure (SignalItem h))) (option (k.Word ErrorWord) (λ _. r.params (nested n) >>= (λ a. pure (ErrorItem a))) (option (k.Word TypeWord) (λ _. r.type_item (nested n)) (r.constant (nested n)))) ts (apart (finds (exactly (k.Word SignalWord))) type_starts (refl, (refl, (refl, (refl, (refl, (refl, (refl, (refl, (refl, (refl, tt)))))))))) (λ name. refl) ts b)
-    ∙ (passed (exactly (k.Word ErrorWord)) (λ _ _. r.params (nested n) >>= (λ a. pure (ErrorItem a))) (option (k.Word TypeWord) (λ _. r.type_item (nested n)) (r.constant (nested n))) ts (apart (finds (exactly (k.Word ErrorWord))) type_starts (refl, (refl, (refl, (refl, (refl, (refl, (refl, (refl, (refl, (refl, tt)))))))))) (λ name. refl) ts b)
-    ∙ passed (exactly (k.Word TypeWord)) (λ _ _. r.type_item (nested n)) (r.constant (nested n)) ts (apart (finds (exactly (k.Word TypeWord))) type_starts (refl, (refl, (refl, (refl, (refl, (refl, (refl, (refl, (refl, (refl, tt)))))))))) (λ name. refl) ts b)))
+defined_constant n ts b = passed procedure_word (λ _ _. r.head (nested n) >>= (λ h. pure (ProcedureItem h))) (option (k.Word SignalWord) (λ _. r.head (nested n) >>= (λ h. pure (SignalItem h))) (option (k.Word ErrorWord) (λ _. r.params (nested n) >>= (λ a. pure (ErrorItem a))) (option (k.Word TypeWord) (λ _. r.type_item (nested n)) (r.constant (nested n))))) ts (apart (finds procedure_word) type_starts (refl, (refl, (refl, (refl, (refl, (refl, (refl, (refl, (refl, (refl, (refl, tt))))))))))) (λ name. refl) ts b)
+    ∙ (passed (exactly (k.Word SignalWord)) (λ _ _. r.head (nested n) >>= (λ h. pure (SignalItem h))) (option (k.Word ErrorWord) (λ _. r.params (nested n) >>= (λ a. pure (ErrorItem a))) (option (k.Word TypeWord) (λ _. r.type_item (nested n)) (r.constant (nested n)))) ts (apart (finds (exactly (k.Word SignalWord))) type_starts (refl, (refl, (refl, (refl, (refl, (refl, (refl, (refl, (refl, (refl, (refl, tt))))))))))) (λ name. refl) ts b)
+    ∙ (passed (exactly (k.Word ErrorWord)) (λ _ _. r.params (nested n) >>= (λ a. pure (ErrorItem a))) (option (k.Word TypeWord) (λ _. r.type_item (nested n)) (r.constant (nested n))) ts (apart (finds (exactly (k.Word ErrorWord))) type_starts (refl, (refl, (refl, (refl, (refl, (refl, (refl, (refl, (refl, (refl, (refl, tt))))))))))) (λ name. refl) ts b)
+    ∙ passed (exactly (k.Word TypeWord)) (λ _ _. r.type_item (nested n)) (r.constant (nested n)) ts (apart (finds (exactly (k.Word TypeWord))) type_starts (refl, (refl, (refl, (refl, (refl, (refl, (refl, (refl, (refl, (refl, (refl, tt))))))))))) (λ name. refl) ts b)))
 
 defined_procedure : (n : ℕ) (kind : Kind) (p : Place) (ts : List Token) → procedure_word kind ≡ Some tt → r.defined (nested n) (token kind p ∷ ts) ≡ and_then (r.head (nested n) ts) (λ h. pure (ProcedureItem h))
 unfolding r.defined

@@ -52,6 +52,8 @@ mutual
   pub type_c : (n : ℕ) {ts rest : List Token} {x : TypeExp} (d : g.IsType ts x rest) → Free more_type rest → Leads ts x rest (sd.at_type (suc n) d) (λ y. pure y) (ex.type_exp (nested n) None ts)
   type_c n g.integer f = placed (sym (eq.is_integer _ _ _)) (c.c_integer n f)
   type_c n g.cardinal f = placed (sym (eq.is_cardinal _ _ _)) (c.c_cardinal n f)
+  type_c n g.long_integer f = placed (sym (eq.is_long_integer _ _ _ _)) (c.c_long_integer n f)
+  type_c n g.long_cardinal f = placed (sym (eq.is_long_cardinal _ _ _ _)) (c.c_long_cardinal n f)
   type_c n g.boolean f = placed (sym (eq.is_boolean _ _ _)) (c.c_boolean n f)
   type_c n g.character f = placed (sym (eq.is_character _ _ _)) (c.c_character n f)
   type_c n g.string f = placed (sym (eq.is_string _ _ _)) (c.c_string n f)

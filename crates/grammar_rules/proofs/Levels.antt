@@ -236,22 +236,25 @@ deep_types = (
   (
     record { end = []; made = λ p. t.Cardinal p; reads = λ p ws f. (g.cardinal, refl) },
     (
-      record { end = []; made = λ p. t.Character p; reads = λ p ws f. (g.character, refl) },
+      record { end = at_word IntegerWord ∷ []; made = λ p. t.LongInteger p; reads = λ p ws f. (g.long_integer, refl) },
       (
-        record { end = []; made = λ p. t.Boolean p; reads = λ p ws f. (g.boolean, refl) },
+        record { end = []; made = λ p. t.Character p; reads = λ p ws f. (g.character, refl) },
         (
-          record { end = []; made = λ p. t.String p; reads = λ p ws f. (g.string, refl) },
+          record { end = []; made = λ p. t.Boolean p; reads = λ p ws f. (g.boolean, refl) },
           (
-            record { end = spelled an_x ∷ at_mark RightBrace ∷ []; made = λ p. t.Enumeration p (an_x ∷ []); reads = λ p ws f. (g.enumeration g.name, refl) },
+            record { end = []; made = λ p. t.String p; reads = λ p ws f. (g.string, refl) },
             (
-              record { end = at_word IntegerWord ∷ at_word OfWord ∷ at_word IntegerWord ∷ []; made = λ p. t.Array p (t.Integer somewhere) (t.Integer somewhere); reads = λ p ws f. (g.array g.integer g.integer, refl) },
+              record { end = spelled an_x ∷ at_mark RightBrace ∷ []; made = λ p. t.Enumeration p (an_x ∷ []); reads = λ p ws f. (g.enumeration g.name, refl) },
               (
-                record { end = at_mark LeftBracket ∷ at_word IntegerWord ∷ at_mark RightBracket ∷ []; made = λ p. t.Record p (Unnamed (t.Integer somewhere ∷ [])); reads = λ p ws f. (g.a_record (g.unnamed (g.a_type g.integer)), refl) },
+                record { end = at_word IntegerWord ∷ at_word OfWord ∷ at_word IntegerWord ∷ []; made = λ p. t.Array p (t.Integer somewhere) (t.Integer somewhere); reads = λ p ws f. (g.array g.integer g.integer, refl) },
                 (
-                  interval_deep _ false refl,
+                  record { end = at_mark LeftBracket ∷ at_word IntegerWord ∷ at_mark RightBracket ∷ []; made = λ p. t.Record p (Unnamed (t.Integer somewhere ∷ [])); reads = λ p ws f. (g.a_record (g.unnamed (g.a_type g.integer)), refl) },
                   (
-                    interval_deep _ true refl,
-                    tt,
+                    interval_deep _ false refl,
+                    (
+                      interval_deep _ true refl,
+                      tt,
+                    ),
                   ),
                 ),
               ),

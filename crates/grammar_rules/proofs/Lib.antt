@@ -11,6 +11,7 @@ pub mod KeepTypes
 pub mod LeadModules
 pub mod Leads
 pub mod Levels
+pub mod LongTexts
 pub mod Names
 pub mod NodeExamples
 pub mod Parts

@@ -4,7 +4,7 @@ use Rattle.mesa_base.specs.declared.place.Place.{Place}
 use Rattle.mesa_lexer.specs.declared.token.Token.{Token}
 use Rattle.mesa_lexer.specs.declared.token.Kind.{Kind}
 use Rattle.mesa_lexer.specs.declared.token.Kind.TheVariants as k
-use Rattle.mesa_lexer.specs.declared.word.Word.TheVariants.{ArrayWord, BooleanWord, CardinalWord, CharacterWord, ContinueWord, ExitWord, FalseWord, GoWord, GotoWord, IfWord, IntegerWord, LoopWord, NullWord, RecordWord, RejectWord, ResumeWord, RetryWord, ReturnWord, SelectWord, StringWord, TrueWord, AnyWord, BeginWord, DoWord, ElseWord, EnableWord, EndWord, ExitsWord, ForWord, InWord, ThroughWord, TypeWord, UntilWord, UnwindWord, WhileWord}
+use Rattle.mesa_lexer.specs.declared.word.Word.TheVariants.{ArrayWord, BooleanWord, CardinalWord, CharacterWord, ContinueWord, ExitWord, FalseWord, GoWord, GotoWord, IfWord, IntegerWord, LongWord, LoopWord, NullWord, RecordWord, RejectWord, ResumeWord, RetryWord, ReturnWord, SelectWord, StringWord, TrueWord, AnyWord, BeginWord, DoWord, ElseWord, EnableWord, EndWord, ExitsWord, ForWord, InWord, ThroughWord, TypeWord, UntilWord, UnwindWord, WhileWord}
 use Rattle.mesa_lexer.specs.declared.mark.Mark.TheVariants.{Arrow, Colon, Comma, Dot, LeftParenthesis, LeftBracket, RightBracket, LeftBrace, RightBrace, Equal, Bang, DoubleArrow}
 use Rattle.token_cursor.specs.Parsing.{token, mark, Got, Parser, and_then, ◌>>=◌, ◌>>◌, pure, refuse, first, only, exactly, finds, among, a_name, choose, option, need, repeat, many_turn, many, ended_turn, ended}
 use Rattle.token_cursor.specs.Parsing as w
@@ -371,7 +371,7 @@ valued_bare n x ts f = passed (exactly (k.Mark Arrow)) (λ _ _. (nested n).expr 
 
 pub typed_goes : (n : ℕ) (ts : List Token) → Begins begins_type ts → st.plain (nested n) ts ≡ and_then ((nested n).type None ts) (st.valued (nested n))
 unfolding st.plain st.typed
-typed_goes n ts b = passed (exactly (k.Word TypeWord)) (λ _ _. st.type_is (nested n)) (st.typed (nested n)) ts (fo.apart (finds (exactly (k.Word TypeWord))) type_starts (refl, (refl, (refl, (refl, (refl, (refl, (refl, (refl, (refl, (refl, tt)))))))))) (λ name. refl) ts b)
+typed_goes n ts b = passed (exactly (k.Word TypeWord)) (λ _ _. st.type_is (nested n)) (st.typed (nested n)) ts (fo.apart (finds (exactly (k.Word TypeWord))) type_starts (refl, (refl, (refl, (refl, (refl, (refl, (refl, (refl, (refl, (refl, (refl, tt))))))))))) (λ name. refl) ts b)
 
 pub enabling_none : (n : ℕ) (ts : List Token) → Free (finds (exactly (k.Word EnableWord))) ts → st.enabling (nested n) ts ≡ Got None ts
 unfolding st.enabling
@@ -463,6 +463,14 @@ type_integer q p us = refl
 pub type_cardinal : (q : Nested) (p : Place) (us : List Token) → ex.type_exp q None (w.word CardinalWord p ∷ us) ≡ ex.after_base q (OfCardinal p) (t.Cardinal p) us
 unfolding ex.type_exp choose
 type_cardinal q p us = refl
+
+pub type_long_integer : (q : Nested) (p r : Place) (us : List Token) → ex.type_exp q None (w.word LongWord p ∷ w.word IntegerWord r ∷ us) ≡ pure (t.LongInteger p) us
+unfolding ex.type_exp ex.long_type choose
+type_long_integer q p r us = refl
+
+pub type_long_cardinal : (q : Nested) (p r : Place) (us : List Token) → ex.type_exp q None (w.word LongWord p ∷ w.word CardinalWord r ∷ us) ≡ pure (t.LongCardinal p) us
+unfolding ex.type_exp ex.long_type choose need
+type_long_cardinal q p r us = refl
 
 pub type_character : (q : Nested) (p : Place) (us : List Token) → ex.type_exp q None (w.word CharacterWord p ∷ us) ≡ ex.after_base q (OfCharacter p) (t.Character p) us
 unfolding ex.type_exp choose

@@ -2,7 +2,7 @@
 use Rattle.std.proofs.Common.{ℕ, true, false, List, [], ◌∷◌, Some, None, refl}
 use Rattle.std.specs.Prelude.{codes}
 use Rattle.mesa_lexer.specs.declared.token.Kind.TheVariants as k
-use Rattle.mesa_lexer.specs.declared.word.Word.TheVariants.{AndWord, AnyWord, ArrayWord, BooleanWord, CardinalWord, CharacterWord, ErrorWord, ExitWord, FalseWord, InWord, IntegerWord, LoopWord, ModWord, NotWord, NullWord, OfWord, OrWord, RecordWord, SignalWord, StringWord, TrueWord, UnwindWord}
+use Rattle.mesa_lexer.specs.declared.word.Word.TheVariants.{AndWord, AnyWord, ArrayWord, BooleanWord, CardinalWord, CharacterWord, ErrorWord, ExitWord, FalseWord, InWord, IntegerWord, LongWord, LoopWord, ModWord, NotWord, NullWord, OfWord, OrWord, RecordWord, SignalWord, StringWord, TrueWord, UnwindWord}
 use Rattle.mesa_lexer.specs.declared.mark.Mark.TheVariants.{AtLeast, AtMost, Bang, Colon, Comma, Dot, DotDot, DoubleArrow, Equal, Greater, LeftBrace, LeftBracket, LeftParenthesis, Less, Minus, Plus, RightBrace, RightBracket, RightParenthesis, Semicolon, Sharp, Slash, Star, Tilde}
 use Rattle.token_cursor.specs.Parsing as w
 use Rattle.syntax_trees.specs.declared.syntax.Entries.TheVariants.{Nothing, InOrder, ByKey}
@@ -33,6 +33,16 @@ integer = a_type (k.Word IntegerWord ∷ [])
 abbrev cardinal : Example
 cardinal = a_type (k.Word CardinalWord ∷ [])
     (t.Cardinal (at 7))
+
+-- LONG INTEGER
+abbrev long_integer : Example
+long_integer = a_type (k.Word LongWord ∷ k.Word IntegerWord ∷ [])
+    (t.LongInteger (at 7))
+
+-- LONG CARDINAL
+abbrev long_cardinal : Example
+long_cardinal = a_type (k.Word LongWord ∷ k.Word CardinalWord ∷ [])
+    (t.LongCardinal (at 7))
 
 -- BOOLEAN
 abbrev boolean : Example
@@ -269,14 +279,14 @@ unnamed_error = a_value (k.Word ErrorWord ∷ [])
     (e.Raised (UnnamedError (at 7)))
 
 abbrev examples : List Example
-examples = integer ∷ cardinal ∷ boolean ∷ character ∷ string ∷ called ∷ called_of_interface ∷ enumeration ∷ subrange ∷ subrange_of_integer
+examples = integer ∷ cardinal ∷ long_integer ∷ long_cardinal ∷ boolean ∷ character ∷ string ∷ called ∷ called_of_interface ∷ enumeration ∷ subrange ∷ subrange_of_integer
     ∷ subrange_of_cardinal ∷ subrange_of_character ∷ subrange_of_name ∷ array ∷ record_with_names ∷ record_unnamed ∷ ors ∷ ands ∷ negation
     ∷ negation_by_tilde ∷ is_equal ∷ is_not_equal ∷ is_less ∷ is_at_most ∷ is_greater ∷ is_at_least ∷ is_not_less ∷ within ∷ not_within ∷
     sums ∷ products ∷ product_in_sum ∷ signed ∷ with_plus ∷ truths ∷ literals ∷ parenthesis ∷ suffixes ∷ empty_list ∷ list_by_key ∷
     arguments_by_key ∷ arms ∷ signal ∷ signal_of_interface ∷ named_error ∷ unnamed_error ∷ []
 
 each_reads : Read examples
-unfolding ex.a_record ex.after_base ex.after_comma ex.after_name ex.args ex.arm ex.arm_list ex.array ex.bounds ex.brackets ex.brackets_option ex.by_key ex.called ex.catch ex.closed ex.conj ex.enumeration ex.error_raise ex.expr ex.factor ex.field_list ex.in_order ex.interval ex.list ex.list_option ex.literal ex.more_types ex.neg ex.negation ex.parens ex.primary ex.product ex.raise ex.reference ex.rel ex.related ex.relation ex.signal_raise ex.suffixes ex.suffixes_step ex.sum ex.type_exp ex.type_from ex.types_from ex.undecided_turn ex.unkeyed ex.unnamed ex.with_names nr.labels nr.named nr.names nr.names_from nr.qname nr.qname_from nr.qnames nr.repeat_labels r.access r.block r.constant r.declaration r.declared r.defined r.definitions r.definitions_step r.directory r.error r.file r.front_end r.front_from r.front_turn r.head r.in_params r.inner r.interface r.item r.items r.kind r.limit r.listed r.module_text r.opened r.params r.procedure r.program r.returns r.signal r.text r.type_item r.using r.using_names st.after_not st.an_end st.assigned st.block st.body st.case st.case_list st.cases st.condition st.conditional st.control st.count st.decreasing st.else_part st.enable_many st.enable_one st.enabling st.exit st.exit_part st.exits st.extract st.for st.go_to st.head_end st.head_from st.head_turn st.jump st.key_lefts st.lefts st.local st.loop st.nested st.otherwise st.plain st.repeat_part st.repeats st.select st.statement st.stmts st.targets st.targets_from st.test st.through st.type_is st.typed st.unnegated st.valued w.choose w.need w.when w.turns w.repeat w.many_turn w.ended_turn w.too_deep
+unfolding ex.a_record ex.after_base ex.after_comma ex.after_name ex.args ex.arm ex.arm_list ex.array ex.bounds ex.brackets ex.brackets_option ex.by_key ex.called ex.catch ex.closed ex.conj ex.enumeration ex.error_raise ex.expr ex.factor ex.field_list ex.in_order ex.interval ex.list ex.list_option ex.literal ex.long_type ex.more_types ex.neg ex.negation ex.parens ex.primary ex.product ex.raise ex.reference ex.rel ex.related ex.relation ex.signal_raise ex.suffixes ex.suffixes_step ex.sum ex.type_exp ex.type_from ex.types_from ex.undecided_turn ex.unkeyed ex.unnamed ex.with_names nr.labels nr.named nr.names nr.names_from nr.qname nr.qname_from nr.qnames nr.repeat_labels r.access r.block r.constant r.declaration r.declared r.defined r.definitions r.definitions_step r.directory r.error r.file r.front_end r.front_from r.front_turn r.head r.in_params r.inner r.interface r.item r.items r.kind r.limit r.listed r.module_text r.opened r.params r.procedure r.program r.returns r.signal r.text r.type_item r.using r.using_names st.after_not st.an_end st.assigned st.block st.body st.case st.case_list st.cases st.condition st.conditional st.control st.count st.decreasing st.else_part st.enable_many st.enable_one st.enabling st.exit st.exit_part st.exits st.extract st.for st.go_to st.head_end st.head_from st.head_turn st.jump st.key_lefts st.lefts st.local st.loop st.nested st.otherwise st.plain st.repeat_part st.repeats st.select st.statement st.stmts st.targets st.targets_from st.test st.through st.type_is st.typed st.unnegated st.valued w.choose w.need w.when w.turns w.repeat w.many_turn w.ended_turn w.too_deep
 each_reads = refl
 
 pub each_has : Each Has examples

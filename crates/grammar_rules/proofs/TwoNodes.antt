@@ -151,6 +151,8 @@ mutual
   type_f : {ts rest : List Token} {x : TypeExp} → g.IsType ts x rest → Fits type_nodes ts x rest
   type_f (g.integer {p = p}) = record { fits = omega (arith, of.of_integer p) }
   type_f (g.cardinal {p = p}) = record { fits = omega (arith, of.of_cardinal p) }
+  type_f (g.long_integer {p = p}) = record { fits = omega (arith, of.of_long_integer p) }
+  type_f (g.long_cardinal {p = p}) = record { fits = omega (arith, of.of_long_cardinal p) }
   type_f (g.boolean {p = p}) = record { fits = omega (arith, of.of_boolean p) }
   type_f (g.character {p = p}) = record { fits = omega (arith, of.of_character p) }
   type_f (g.string {p = p}) = record { fits = omega (arith, of.of_string p) }

@@ -44,6 +44,8 @@ abbrev mutual
   deep_type zero {ts} d = Some ts
   deep_type (suc n) g.integer = None
   deep_type (suc n) g.cardinal = None
+  deep_type (suc n) g.long_integer = None
+  deep_type (suc n) g.long_cardinal = None
   deep_type (suc n) g.boolean = None
   deep_type (suc n) g.character = None
   deep_type (suc n) g.string = None

@@ -9,7 +9,7 @@ use Rattle.mesa_lexer.specs.declared.token.Kind.TheVariants as k
 use Rattle.mesa_lexer.specs.declared.word.Word.TheVariants.{AnyWord, ArrayWord, BeginWord, BooleanWord, CardinalWord, CharacterWord, ContinueWord}
 use Rattle.mesa_lexer.specs.declared.word.Word.TheVariants.{DecreasingWord, DoWord, ElseWord, EnableWord, EndWord, EndcaseWord, EndloopWord, ErrorWord}
 use Rattle.mesa_lexer.specs.declared.word.Word.TheVariants.{ExitWord, ExitsWord, FalseWord, FinishedWord, ForWord, FromWord, GoWord, GotoWord, IfWord, InWord}
-use Rattle.mesa_lexer.specs.declared.word.Word.TheVariants.{IntegerWord, LoopWord, NullWord, OfWord, RecordWord, RejectWord, RepeatWord, ResumeWord}
+use Rattle.mesa_lexer.specs.declared.word.Word.TheVariants.{IntegerWord, LongWord, LoopWord, NullWord, OfWord, RecordWord, RejectWord, RepeatWord, ResumeWord}
 use Rattle.mesa_lexer.specs.declared.word.Word.TheVariants.{RetryWord, ReturnWord, SelectWord, SignalWord, StringWord, ThenWord, ThroughWord, ToWord}
 use Rattle.mesa_lexer.specs.declared.word.Word.TheVariants.{TrueWord, TypeWord, UntilWord, UnwindWord, WhileWord}
 use Rattle.mesa_lexer.specs.declared.mark.Mark.TheVariants.{Arrow, Semicolon, Colon, Comma, Dot, DotDot, LeftBracket, RightBracket, LeftParenthesis}
@@ -154,11 +154,13 @@ NoElse (t ∷ rest) = t.kind ≡ k.Word ElseWord → ⊥
 NoElse [] = Unit {0}
 
 mutual
-  -- TypeExp = INTEGER | CARDINAL | BOOLEAN | CHARACTER | STRING | QName | "{" Names "}" | [INTEGER | CARDINAL | CHARACTER | QName] Interval | ARRAY TypeExp
-  -- OF TypeExp | RECORD "[" FieldList "]"
+  -- TypeExp = INTEGER | CARDINAL | LONG (INTEGER | CARDINAL) | BOOLEAN | CHARACTER | STRING | QName | "{" Names "}"
+  -- | [INTEGER | CARDINAL | CHARACTER | QName] Interval | ARRAY TypeExp OF TypeExp | RECORD "[" FieldList "]"
   pub data IsType : List Token → TypeExp → List Token → Type 0 where
     integer : {rest : List Token} {p : Place} → IsType (word IntegerWord p ∷ rest) (t.Integer p) rest
     cardinal : {rest : List Token} {p : Place} → IsType (word CardinalWord p ∷ rest) (t.Cardinal p) rest
+    long_integer : {rest : List Token} {p q : Place} → IsType (word LongWord p ∷ word IntegerWord q ∷ rest) (t.LongInteger p) rest
+    long_cardinal : {rest : List Token} {p q : Place} → IsType (word LongWord p ∷ word CardinalWord q ∷ rest) (t.LongCardinal p) rest
     boolean : {rest : List Token} {p : Place} → IsType (word BooleanWord p ∷ rest) (t.Boolean p) rest
     character : {rest : List Token} {p : Place} → IsType (word CharacterWord p ∷ rest) (t.Character p) rest
     string : {rest : List Token} {p : Place} → IsType (word StringWord p ∷ rest) (t.String p) rest

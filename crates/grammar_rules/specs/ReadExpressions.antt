@@ -3,7 +3,7 @@ use Rattle.std.specs.Prelude.{Bool, true, false, if◌then◌else◌, List, [], 
 use Rattle.mesa_base.specs.declared.place.Place.{Place}
 use Rattle.mesa_lexer.specs.declared.token.Kind.{Kind}
 use Rattle.mesa_lexer.specs.declared.token.Kind.TheVariants as k
-use Rattle.mesa_lexer.specs.declared.word.Word.TheVariants.{ArrayWord, BooleanWord, CardinalWord, CharacterWord, ErrorWord, FalseWord, InWord, IntegerWord}
+use Rattle.mesa_lexer.specs.declared.word.Word.TheVariants.{ArrayWord, BooleanWord, CardinalWord, CharacterWord, ErrorWord, FalseWord, InWord, IntegerWord, LongWord}
 use Rattle.mesa_lexer.specs.declared.word.Word.TheVariants.{OfWord, RecordWord, SignalWord, StringWord, TrueWord}
 use Rattle.mesa_lexer.specs.declared.mark.Mark.TheVariants.{Semicolon, Colon, Comma, Dot, DotDot, LeftBracket, RightBracket, LeftParenthesis}
 use Rattle.mesa_lexer.specs.declared.mark.Mark.TheVariants.{RightParenthesis, LeftBrace, RightBrace, Bang, DoubleArrow}
@@ -349,11 +349,17 @@ module _ (q : Nested) where
     need (k.Mark RightBracket)
     pure (t.Record p x)
 
+  unfoldable pub long_type : Place → Parser TypeExp
+  long_type p = option (k.Word IntegerWord) (λ _. pure (t.LongInteger p)) (do
+    need (k.Word CardinalWord)
+    pure (t.LongCardinal p))
+
   unfoldable pub type_exp : Option Identifier → Parser TypeExp
   type_exp None = choose a_name (λ n p. type_from (identifier n p))
       (option (k.Word IntegerWord) (λ p. after_base (OfInteger p) (t.Integer p)) (option (k.Word CardinalWord) (λ p. after_base (OfCardinal p) (t.Cardinal p))
+      (option (k.Word LongWord) long_type
       (option (k.Word CharacterWord) (λ p. after_base (OfCharacter p) (t.Character p))
       (option (k.Word BooleanWord) (λ p. pure (t.Boolean p)) (option (k.Word StringWord) (λ p. pure (t.String p))
       (option (k.Mark LeftBrace) enumeration
-      (option (k.Word ArrayWord) array (option (k.Word RecordWord) a_record (do i ← interval; pure (t.Subrange Unsaid i))))))))))
+      (option (k.Word ArrayWord) array (option (k.Word RecordWord) a_record (do i ← interval; pure (t.Subrange Unsaid i)))))))))))
   type_exp (Some i) = type_from i

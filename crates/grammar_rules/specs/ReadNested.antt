@@ -5,7 +5,7 @@ use Rattle.mesa_lexer.specs.declared.token.Kind.{Kind}
 use Rattle.mesa_lexer.specs.declared.token.Kind.TheVariants as k
 use Rattle.mesa_lexer.specs.declared.word.Word.TheVariants.{AnyWord, ArrayWord, BeginWord, BooleanWord, CardinalWord, CharacterWord, ContinueWord, DoWord}
 use Rattle.mesa_lexer.specs.declared.word.Word.TheVariants.{ErrorWord, ExitWord, FalseWord, FinishedWord, ForWord, GoWord, GotoWord, IfWord, InWord}
-use Rattle.mesa_lexer.specs.declared.word.Word.TheVariants.{IntegerWord, LoopWord, NotWord, NullWord, RecordWord, RejectWord, ResumeWord, RetryWord}
+use Rattle.mesa_lexer.specs.declared.word.Word.TheVariants.{IntegerWord, LongWord, LoopWord, NotWord, NullWord, RecordWord, RejectWord, ResumeWord, RetryWord}
 use Rattle.mesa_lexer.specs.declared.word.Word.TheVariants.{ReturnWord, SelectWord, SignalWord, StringWord, ThroughWord, TrueWord, UntilWord, UnwindWord}
 use Rattle.mesa_lexer.specs.declared.word.Word.TheVariants.{WhileWord}
 use Rattle.mesa_lexer.specs.declared.mark.Mark.TheVariants.{Dot, LeftBracket, LeftParenthesis, LeftBrace, Plus, Minus, Tilde}
@@ -37,7 +37,7 @@ pub record Nested : Type 0 where
 -- ---- how texts begin
 
 abbrev pub type_starts : List Kind
-type_starts = k.Word IntegerWord ∷ k.Word CardinalWord ∷ k.Word CharacterWord ∷ k.Word BooleanWord ∷ k.Word StringWord ∷ k.Mark LeftBrace ∷
+type_starts = k.Word IntegerWord ∷ k.Word CardinalWord ∷ k.Word LongWord ∷ k.Word CharacterWord ∷ k.Word BooleanWord ∷ k.Word StringWord ∷ k.Mark LeftBrace ∷
     k.Word ArrayWord ∷ k.Word RecordWord ∷ k.Mark LeftBracket ∷ k.Mark LeftParenthesis ∷ []
 
 abbrev pub begins_type : Kind → Bool

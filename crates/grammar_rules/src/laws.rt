@@ -1,3 +1,4 @@
+//! The laws of the grammar: tokens have one answer, and a tree has at most two nodes for each of them.
 ghost use Rattle.std.specs.Prelude.{◌*◌, ◌≤◌, length};
 ghost use Rattle.grammar_rules.specs.Answer.{OneAnswer, Parses};
 ghost use Rattle.syntax_trees.specs.SyntaxNodes.{nodes};

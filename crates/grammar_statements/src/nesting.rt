@@ -1,3 +1,5 @@
+//! The level of nesting over which statements and declarations are parsed.
+
 use grammar_expressions::Level;
 
 /// The parsers of statements and declarations, over those of one level of nesting.

@@ -19,6 +19,7 @@ fn type_begins(kind: &Kind) -> bool
             | Kind::Word(
                 Word::IntegerWord
                     | Word::CardinalWord
+                    | Word::LongWord
                     | Word::CharacterWord
                     | Word::BooleanWord
                     | Word::StringWord

@@ -1,3 +1,4 @@
+//! The rows of one module, as its file has them.
 use code_forms::{CodeLinks, CodeProcedures, CodeSignals};
 use held_trees::LetGo;
 use mesa_base::{Name, Texts};

@@ -1,3 +1,4 @@
+//! The laws of how many bytes the file of a linked image has.
 ghost use Rattle.image_sizes.specs.Laws.{LinkedImagesAreShort, LinkedImagesAreSized};
 
 /// A law: the file of a linked image has no more bytes than the modules that are kept and what each instance adds.

@@ -7,7 +7,7 @@ use Rattle.mesa_types.specs.declared.faces.Item.{Item}
 use Rattle.config_rules.specs.declared.tree.Tree.{Tree}
 use Rattle.config_rules.specs.declared.tree.TreeInstance.{TreeInstance}
 use Rattle.config_rules.specs.Exporters.{Spot}
-use Rattle.config_rules.specs.Resolves.{Resolution, Want, resolved_at, want, wants_in, wants, first_bad}
+use Rattle.config_rules.specs.Resolves.{Resolution, Want, resolved_at, want, wants, first_bad}
 use Rattle.config_rules.specs.Resolves as rules
 use Rattle.config_rules.specs.Bindings.{bindings_of}
 use Rattle.config_rules.specs.declared.tree.Binding.{Binding}

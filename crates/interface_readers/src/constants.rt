@@ -2,13 +2,14 @@
 ghost use Rattle.std.specs.Prelude.{◌≡◌, ◌++◌, ◌∷◌, [], List as Values, ℕ, IfOk};
 ghost use Rattle.face_rules.specs.FaceForms.{item_names};
 ghost use Rattle.face_rules.specs.InterfaceForms as form;
-ghost use Rattle.file_forms.specs.Forms.{several};
+ghost use Rattle.face_rules.specs.Layers.{value_bytes};
+ghost use Rattle.file_forms.specs.Forms.{number, several};
 ghost use Rattle.file_forms.specs.Reads.{Reads, ReadsAs};
 ghost use Rattle.file_forms.specs.Seen.{Shows};
 
 use crate::ordinals::holds;
 use crate::trees::type_tree;
-use face_rules::Sort;
+use face_rules::{Sort, has_long_values};
 use file_forms::{FileCursor, Seen, Stopped};
 use held_trees::{LetGo, both};
 use interface_records::{Constant, Interface};
@@ -17,15 +18,28 @@ use mesa_base::{Field, OutOfMemory};
 use mesa_types::TypeTree;
 use std::alloc::{AllocFailed, Global};
 
-fn word_of(input: &mut FileCursor<'_>, kind: &TypeTree) -> Result<u16, Stopped>
-    ensures { Reads ((form.word_of kind.now).read input.old.rest.now) result input.new.rest.now }
+/// A number of four bytes where the type is LONG, else a word.
+fn number_of(input: &mut FileCursor<'_>, kind: &TypeTree) -> Result<u32, Stopped>
+    ensures { Reads ((number (value_bytes kind.now)).read input.old.rest.now) result input.new.rest.now }
+{
+    if has_long_values(kind) {
+        return input.u32();
+    }
+    match input.u16() {
+        Ok(word) => Ok(word as u32),
+        Err(why) => Err(why),
+    }
+}
+
+fn value_of(input: &mut FileCursor<'_>, kind: &TypeTree) -> Result<u32, Stopped>
+    ensures { Reads ((form.value_of kind.now).read input.old.rest.now) result input.new.rest.now }
 {
     let left = input.rest.len();
-    let word = input.u16()?;
-    if !holds(kind, word) {
+    let value = number_of(input, kind)?;
+    if !holds(kind, value) {
         return Err(Stopped::Bad(Field::Number, left));
     }
-    Ok(word)
+    Ok(value)
 }
 
 #[tactic(auto, unfolding(face_rules::specs::InterfaceForms::constant))]
@@ -38,8 +52,8 @@ fn constant(
     ensures { (before : Values (Values ℕ)) → Shows seen.now before → Reads ((form.constant version before).read input.old.rest.now) result input.new.rest.now }
 {
     let name = input.fresh_name(alloc, seen)?;
-    let kind = type_tree(alloc, input, version, TYPE_DEPTH, Sort::Ordinal)?;
-    let value = word_of(input, &kind);
+    let kind = type_tree(alloc, input, version, TYPE_DEPTH, Sort::OfConstant)?;
+    let value = value_of(input, &kind);
     let (kind, value) = both(kind, value)?;
     Ok(Constant { name, kind, value })
 }

@@ -26,6 +26,8 @@ fn basic(tag: u8) -> TypeTree
         2 => TypeTree::Cardinal,
         3 => TypeTree::Boolean,
         4 => TypeTree::Character,
+        10 => TypeTree::LongInteger,
+        11 => TypeTree::LongCardinal,
         _ => TypeTree::String,
     }
 }
@@ -39,13 +41,20 @@ fn too_deep(input: &mut FileCursor<'_>) -> Result<TypeTree, Stopped>
     Err(Stopped::Bad(Field::TypeTag, left))
 }
 
+/// The LONG types have tags in version 2 alone.
+fn last_tag(version: u8) -> u8
+    ensures { result ≡ form.last_tag version }
+{
+    if version == 1 { 9 } else { 11 }
+}
+
 #[tactic(auto, unfolding(face_rules::specs::TypeForms::tag))]
 fn tag(input: &mut FileCursor<'_>, version: u8, sort: Sort) -> Result<u8, Stopped>
     ensures { Reads ((form.tag version (takes sort)).read input.old.rest.now) result input.new.rest.now }
 {
     let left = input.rest.len();
     let tag = input.u8()?;
-    if tag < 1 || tag > 9 || !sort.takes(tag) {
+    if tag < 1 || tag > last_tag(version) || !sort.takes(tag) {
         return Err(Stopped::Bad(Field::TypeTag, left));
     }
     Ok(tag)

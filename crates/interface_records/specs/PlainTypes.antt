@@ -1,6 +1,6 @@
 -- Types as a person reads them, and each question on them with its answer (Language Manual, chapter 3). They are the types
 -- of the code, one for one; all rules of checking speak of them.
-use Rattle.std.specs.Prelude.{ℕ, ◌+◌, ◌-◌, ◌*◌, ◌%◌, Bool, true, false, ◌&&◌, ◌||◌, List, [], ◌∷◌, length, map, max, Option, Some, None, if◌then◌else◌, bytes_eq, nat_eq}
+use Rattle.std.specs.Prelude.{ℕ, ◌+◌, ◌-◌, ◌*◌, ◌%◌, Bool, true, false, ◌&&◌, ◌||◌, not, List, [], ◌∷◌, length, map, max, Option, Some, None, if◌then◌else◌, bytes_eq, nat_eq}
 use Rattle.typed_answers.specs.mesa_types.specs.declared.types.TypeTree.{TypeTree}
 use Rattle.typed_answers.specs.mesa_types.specs.declared.types.TypeTree.TheVariants as tree
 use Rattle.typed_answers.specs.mesa_types.specs.declared.types.TypeTree.TheOpen.{TypeTree-F, FieldType-F}
@@ -21,6 +21,8 @@ mutual
   pub data PlainType : Type 0 where
     Integer : PlainType
     Cardinal : PlainType
+    LongInteger : PlainType
+    LongCardinal : PlainType
     Boolean : PlainType
     Character : PlainType
     String : PlainType
@@ -101,6 +103,8 @@ unfoldable mutual
   pub same : PlainType → PlainType → Bool
   same Integer Integer = true
   same Cardinal Cardinal = true
+  same LongInteger LongInteger = true
+  same LongCardinal LongCardinal = true
   same Boolean Boolean = true
   same Character Character = true
   same String String = true
@@ -115,10 +119,12 @@ unfoldable mutual
   same_parts (AndPart x j ps) (AndPart y k qs) = same_name x y && (same j k && same_parts ps qs)
   same_parts _ _ = false
 
--- the base: of a subrange that of the type whose values it has, of another ordinal type the type itself
+-- the base: of a subrange that of the type whose values it has, of another ordinal type and of a LONG type the type itself
 unfoldable pub base_of : PlainType → Option PlainType
 base_of Integer = Some Integer
 base_of Cardinal = Some Cardinal
+base_of LongInteger = Some LongInteger
+base_of LongCardinal = Some LongCardinal
 base_of Boolean = Some Boolean
 base_of Character = Some Character
 base_of String = None
@@ -131,6 +137,8 @@ base_of (Record o ps) = None
 abbrev pub elements_of : PlainType → ℕ
 elements_of Integer = 65536
 elements_of Cardinal = 65536
+elements_of LongInteger = 0
+elements_of LongCardinal = 0
 elements_of Boolean = 2
 elements_of Character = 256
 elements_of String = 0
@@ -139,11 +147,13 @@ elements_of (Subrange k first last) = (last + 65536 - first) % 65536 + 1
 elements_of (Array i e) = 0
 elements_of (Record o ps) = 0
 
--- ordinal types have one word, STRING two; an array has its element for each value of its index type, a record its fields
+-- ordinal types have one word, STRING and the LONG types two; an array has its element for each value of its index type, a record its fields
 unfoldable mutual
   pub words_of : PlainType → ℕ
   words_of Integer = 1
   words_of Cardinal = 1
+  words_of LongInteger = 2
+  words_of LongCardinal = 2
   words_of Boolean = 1
   words_of Character = 1
   words_of String = 2
@@ -165,6 +175,8 @@ unfoldable mutual
   pub depth_of : PlainType → ℕ
   depth_of Integer = 1
   depth_of Cardinal = 1
+  depth_of LongInteger = 1
+  depth_of LongCardinal = 1
   depth_of Boolean = 1
   depth_of Character = 1
   depth_of String = 1
@@ -182,6 +194,8 @@ unfoldable mutual
   pub kind_of : PlainType → t.Kind
   kind_of Integer = t.Ordinal
   kind_of Cardinal = t.Ordinal
+  kind_of LongInteger = t.Longs
+  kind_of LongCardinal = t.Longs
   kind_of Boolean = t.Ordinal
   kind_of Character = t.Ordinal
   kind_of String = t.Texts
@@ -206,6 +220,18 @@ abbrev pub is_cardinal : PlainType → Bool
 is_cardinal Cardinal = true
 is_cardinal _ = false
 
+abbrev pub is_long_integer : PlainType → Bool
+is_long_integer LongInteger = true
+is_long_integer _ = false
+
+abbrev pub is_long_cardinal : PlainType → Bool
+is_long_cardinal LongCardinal = true
+is_long_cardinal _ = false
+
+-- a type of two words, which is not ordinal
+abbrev pub is_long : PlainType → Bool
+is_long k = is_long_integer k || is_long_cardinal k
+
 abbrev pub is_text : PlainType → Bool
 is_text String = true
 is_text _ = false
@@ -222,23 +248,37 @@ abbrev pub fields : PlainType → Option (List PlainField)
 fields (Record o ps) = Some (fields_of_parts ps)
 fields _ = None
 
--- INTEGER and CARDINAL count as one base
+-- Three questions. Ordinal are the types of one word that have an order: the LONG types have a base, and are not ordinal.
+abbrev pub is_ordinal_base : Option PlainType → Bool
+is_ordinal_base (Some b) = not (is_long b)
+is_ordinal_base None = false
+
+unfoldable pub is_ordinal : PlainType → Bool
+is_ordinal k = is_ordinal_base (base_of k)
+
+-- The four number types.
 abbrev pub is_number : PlainType → Bool
-is_number k = is_integer k || is_cardinal k
+is_number k = is_integer k || (is_cardinal k || is_long k)
+
+-- And they count as one base.
 
 abbrev pub one_base : Option PlainType → Option PlainType → Bool
 one_base (Some a) (Some b) = is_number a && is_number b || same a b
 one_base _ _ = false
+
+-- two ordinal types of one base, as an index and its index type are
+abbrev pub one_ordinal_base : Option PlainType → Option PlainType → Bool
+one_ordinal_base a b = is_ordinal_base a && (is_ordinal_base b && one_base a b)
 
 -- a type conforms to a target where both have one base, or are the same type
 unfoldable pub conforms : PlainType → PlainType → Bool
 conforms from to = one_base (base_of from) (base_of to) || same from to
 
 abbrev pub sign_by : Option PlainType → Base
-sign_by (Some base) = if is_integer base then Signed else Unsigned
+sign_by (Some base) = if is_integer base || is_long_integer base then Signed else Unsigned
 sign_by None = Unsigned
 
--- how the words of a type are read as numbers
+-- how the words of a type, or the two words of a LONG type, are read as numbers
 unfoldable pub sign_of : PlainType → Base
 sign_of k = sign_by (base_of k)
 
@@ -247,6 +287,8 @@ unfoldable mutual
   pub tree_of : PlainType → TypeTree
   tree_of Integer = tree.Integer
   tree_of Cardinal = tree.Cardinal
+  tree_of LongInteger = tree.LongInteger
+  tree_of LongCardinal = tree.LongCardinal
   tree_of Boolean = tree.Boolean
   tree_of Character = tree.Character
   tree_of String = tree.String
@@ -281,6 +323,8 @@ interface_of i = record { face = face_of i; constants = map constant_of i.consta
 abbrev pub plain_step : TypeTree-F PlainType PlainField → PlainType
 plain_step TypeTree-F.Integer = Integer
 plain_step TypeTree-F.Cardinal = Cardinal
+plain_step TypeTree-F.LongInteger = LongInteger
+plain_step TypeTree-F.LongCardinal = LongCardinal
 plain_step TypeTree-F.Boolean = Boolean
 plain_step TypeTree-F.Character = Character
 plain_step TypeTree-F.String = String

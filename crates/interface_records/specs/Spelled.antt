@@ -1,5 +1,5 @@
--- What the form of files can spell (rule of this project): names, stamps of six bytes, counts and numbers of four, words of two,
--- and types within their limits, in which a bound is a value of its type.
+-- What the form of files can spell (rule of this project): names, stamps of six bytes, counts and numbers of four, words of two, the
+-- numbers of LONG constants of four, and types within their limits, in which a bound is a value of its type.
 use Rattle.std.specs.Prelude.{◌≡◌, ℕ, ◌≤◌, ◌<◌, ◌⊎◌, true, false, is_some, Option, Some, None, List, [], ◌∷◌, ◌++◌, length, map}
 use Rattle.std.specs.List.{All}
 use Rattle.check_scopes.specs.mesa_base.specs.Name.{IsName}
@@ -12,7 +12,7 @@ use Rattle.typed_answers.specs.mesa_types.specs.declared.faces.Import.{Import}
 use Rattle.typed_answers.specs.mesa_types.specs.declared.faces.Export.{Export}
 use Rattle.typed_answers.specs.mesa_types.specs.declared.faces.Shape.{Shape}
 use Rattle.interface_records.specs.Lists.{Ascend, NoneTwice}
-use Rattle.interface_records.specs.PlainTypes.{HasPart, PlainType, Integer, Cardinal, Boolean, Character, String, Enumeration, Subrange, Array, Record, Parts, NoPart, AndPart, PlainField, PlainItem, PlainConstant, PlainName, PlainInterface, base_of, depth_of, fields_of_parts, plain_item, sign_of, words_of}
+use Rattle.interface_records.specs.PlainTypes.{HasPart, PlainType, Integer, Cardinal, Boolean, Character, String, Enumeration, Subrange, Array, Record, LongInteger, LongCardinal, Parts, NoPart, AndPart, PlainField, PlainItem, PlainConstant, PlainName, PlainInterface, base_of, depth_of, fields_of_parts, is_ordinal, plain_item, sign_of, words_of}
 use Rattle.interface_records.specs.Sorts.{is_index}
 
 -- a count or a number of four bytes, and a stamp of six
@@ -28,10 +28,12 @@ pub record OriginCanBeSpelled (o : Origin) : Type 0 where
   pub stamp : (n : ℕ) × (o.stamp ≡ Some n) × InSixBytes n
   pub number : InFourBytes o.number
 
--- the words of the values of a type; none of a type that is not ordinal
+-- the words of the values of an ordinal type, and the numbers of a LONG type as two words spell them; of no other type
 unfoldable pub IsValueOf : PlainType → ℕ → Type 0
 IsValueOf Integer n = n < 65536
 IsValueOf Cardinal n = n < 65536
+IsValueOf LongInteger n = n < 4294967296
+IsValueOf LongCardinal n = n < 4294967296
 IsValueOf Boolean n = n < 2
 IsValueOf Character n = n < 256
 IsValueOf String n = ⊥
@@ -68,14 +70,16 @@ unfoldable mutual
   pub TypeCanBeSpelled : PlainType → Type 0
   TypeCanBeSpelled Integer = Unit {0}
   TypeCanBeSpelled Cardinal = Unit {0}
+  TypeCanBeSpelled LongInteger = Unit {0}
+  TypeCanBeSpelled LongCardinal = Unit {0}
   TypeCanBeSpelled Boolean = Unit {0}
   TypeCanBeSpelled Character = Unit {0}
   TypeCanBeSpelled String = Unit {0}
   TypeCanBeSpelled (Enumeration o xs) =
       OriginCanBeSpelled o × (0 < length xs) × (length xs ≤ ENUMERATION_ELEMENTS) × All IsName xs × NoneTwice xs
-  -- of a base, whose order the bounds keep
+  -- of an ordinal base, whose order the bounds keep
   TypeCanBeSpelled (Subrange k first last) =
-      TypeCanBeSpelled k × (base_of k ≡ Some k) × IsValueOf k first × IsValueOf k last × (shifted (sign_of k) first ≤ shifted (sign_of k) last)
+      TypeCanBeSpelled k × (base_of k ≡ Some k) × (is_ordinal k ≡ true) × IsValueOf k first × IsValueOf k last × (shifted (sign_of k) first ≤ shifted (sign_of k) last)
   TypeCanBeSpelled (Array i e) =
       (is_index i ≡ true) × TypeCanBeSpelled i × TypeCanBeSpelled e × (words_of (Array i e) ≤ TYPE_WORDS) × (depth_of (Array i e) ≤ TYPE_DEPTH)
   TypeCanBeSpelled (Record o ps) = OriginCanBeSpelled o × HasPart ps × PartsCanBeSpelled ps × NamesCanBeSpelled (fields_of_parts ps)
@@ -119,11 +123,11 @@ pub record FaceCanBeSpelled (name : List ℕ) (stamp : ℕ) (items : List PlainI
   pub each : ItemsCanBeSpelled items
   pub distinct : NoneTwice (names_of_items items)
 
--- a constant is a value of its type, which is ordinal
+-- a constant is a value of its type, which is ordinal or a LONG type
 pub record ConstantCanBeSpelled (c : PlainConstant) : Type 0 where
   pub name : IsName c.name
   pub kind : TypeCanBeSpelled c.kind
-  pub ordinal : is_some (base_of c.kind) ≡ true
+  pub based : is_some (base_of c.kind) ≡ true
   pub value : IsValueOf c.kind c.value
 
 unfoldable pub ConstantsCanBeSpelled : List PlainConstant → Type 0

@@ -1,3 +1,5 @@
+//! The built-in interface, made item by item.
+
 ghost use Rattle.std.specs.Prelude.{◌≡◌, [], IfOk};
 ghost use Rattle.check_scopes.specs.mesa_base.specs.Name.{IsName};
 ghost use Rattle.interface_records.specs.Faces.{parameter, unnamed, procedure, error, io_items, iodefs as built_in};

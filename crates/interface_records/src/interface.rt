@@ -1,3 +1,5 @@
+//! Interfaces, with the constants and types that they declare.
+
 use check_scopes::mesa_base::{List, Name};
 use std::mem::drop;
 use typed_answers::held_trees::LetGo;
@@ -9,12 +11,12 @@ pub type NamedTypes = List<NamedType>;
 
 pub type Interfaces = List<Interface>;
 
-/// A constant of an interface: its type is ordinal, and the word is the constant's value.
+/// A constant of an interface: its type is ordinal or a LONG type, and the value is its word, or its number as two words.
 #[derive(Drop)]
 pub struct Constant {
     pub name: Name,
     pub kind: TypeTree,
-    pub value: u16,
+    pub value: u32,
 }
 
 /// A type that an interface declares.

@@ -1,3 +1,5 @@
+//! Whether two faces are the same, and whether two items have one signature.
+
 ghost use Rattle.std.specs.Prelude.{◌≡◌, ◌↔◌, IsTrue};
 ghost use Rattle.interface_records.specs.Faces.{SameFace, SameSignature};
 

@@ -1,3 +1,5 @@
+//! Items that an image leaves to its loader, and how a fault names one.
+
 use check_scopes::mesa_base::{List, Name, Path, Stamp};
 use typed_answers::mesa_types::Item;
 

@@ -1,5 +1,5 @@
 -- What the elements of a list fit and spell, whatever stands before them.
-use Rattle.std.proofs.Common.{◌≡◌, ℕ, ◌+◌, ◌<◌, List, [], ◌∷◌, ◌++◌, length, take, get_or, refl, sym, ap, subst, ◌∙◌}
+use Rattle.std.proofs.Common.{◌≡◌, ℕ, ◌+◌, ◌<◌, ◌^◌, List, [], ◌∷◌, ◌++◌, length, take, get_or, refl, sym, ap, subst, ◌∙◌}
 use Rattle.mesa_types.specs.declared.types.TypeTree.{TypeTree}
 use Rattle.mesa_types.specs.declared.types.FieldType.{FieldType, out-FieldType}
 use Rattle.mesa_types.specs.declared.faces.Item.{Item}
@@ -11,7 +11,8 @@ use Rattle.file_forms.specs.Written.{Written, appended}
 use Rattle.file_forms.proofs.WrittenLaws.{appended_both}
 use Rattle.face_rules.specs.TypeForms.{label, field_form}
 use Rattle.face_rules.specs.FaceForms.{item_named, item}
-use Rattle.face_rules.specs.InterfaceForms.{constant, constants, named_type, named_types}
+use Rattle.face_rules.specs.Layers.{value_bytes}
+use Rattle.face_rules.specs.InterfaceForms.{constant, constants, named_type, named_types, value_of}
 use Rattle.face_rules.proofs.WriteLaws.{fits-at}
 use Rattle.interface_writers.specs.Elements.{each_item, each_constant, each_named_type}
 use Rattle.interface_writers.proofs.Loops.{one_more}
@@ -64,6 +65,10 @@ unfolding item_named fresh_name
 item_alike before x = refl
 
 -- ---- constants
+
+-- a value of two bytes is a word
+pub word_fits : (t : TypeTree) (n : ℕ) → value_bytes t ≡ 2 → (value_of t).fits n → n < 65536
+word_fits t n is fits = let word : n < 256 ^ 2 = subst (λ k. n < 256 ^ k) is fits.0 in word
 
 pub constant_fits : (seen : List (List ℕ)) (all : List Constant) (i : ℕ) (x : Constant) → FitEach (each_constant seen) [] all → i < length all → x ≡ get_or all i x
     → (names : List (List ℕ)) × (constant 2 names).fits x

@@ -8,10 +8,23 @@ ghost use Rattle.interface_writers.specs.Elements.{each_constant, each_named_typ
 
 use crate::faces::put_face;
 use crate::types::put_type;
-use face_rules::Sort;
+use face_rules::{Sort, has_long_values};
 use file_forms::FileWriter;
 use interface_records::{Constant, Constants, Interface, NamedType, NamedTypes};
 use mesa_base::OutOfMemory;
+use mesa_types::TypeTree;
+
+// A value of the type: a number of four bytes where it is LONG, else a word.
+fn put_value(out: &mut FileWriter, kind: &TypeTree, value: u32) -> Result<(), OutOfMemory>
+    requires { (form.value_of kind.now).fits value }
+    ensures { OnOk result (out.new ≡ appended out.old ((form.value_of kind.now).spell value)) }
+{
+    if has_long_values(kind) {
+        out.u32(value)
+    } else {
+        out.u16(value as u16)
+    }
+}
 
 #[tactic(auto, using(file_forms::proofs::WrittenLaws::appended_twice), unfolding(face_rules::specs::InterfaceForms::constant, file_forms::specs::Names::fresh_name))]
 fn put_constant(out: &mut FileWriter, constant: &Constant) -> Result<(), OutOfMemory>
@@ -19,8 +32,8 @@ fn put_constant(out: &mut FileWriter, constant: &Constant) -> Result<(), OutOfMe
     ensures { OnOk result (out.new ≡ appended out.old ((form.constant 2 []).spell constant.now)) }
 {
     out.name(&constant.name)?;
-    put_type(out, &constant.kind, Sort::Ordinal)?;
-    out.u16(constant.value)
+    put_type(out, &constant.kind, Sort::OfConstant)?;
+    put_value(out, &constant.kind, constant.value)
 }
 
 fn put_each_constant(out: &mut FileWriter, constants: &[Constant]) -> Result<(), OutOfMemory>

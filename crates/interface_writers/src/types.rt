@@ -29,6 +29,8 @@ fn tag_of(t: &TypeTree) -> u8
         TypeTree::Subrange(_, _, _) => 7,
         TypeTree::Array(_, _) => 8,
         TypeTree::Record(_, _) => 9,
+        TypeTree::LongInteger => 10,
+        TypeTree::LongCardinal => 11,
     }
 }
 
@@ -104,6 +106,8 @@ fn put_parts(out: &mut FileWriter, t: &TypeTree, levels: u32) -> Result<(), OutO
         TypeTree::Record(origin, fields) => put_record(out, origin, fields.get(), levels),
         TypeTree::Integer => Ok(()),
         TypeTree::Cardinal => Ok(()),
+        TypeTree::LongInteger => Ok(()),
+        TypeTree::LongCardinal => Ok(()),
         TypeTree::Boolean => Ok(()),
         TypeTree::Character => Ok(()),
         TypeTree::String => Ok(()),

@@ -1,3 +1,4 @@
+//! The law of images that want, offer or start more than four bytes count.
 ghost use Rattle.large_images.specs.Laws.{LargeCountsAreLargeFiles};
 
 /// A law: where four bytes do not count what an image wants, what it offers or what it starts, its bytes are more than a file

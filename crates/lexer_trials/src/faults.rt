@@ -50,10 +50,12 @@ fn open_strings(rt: HostRuntime) {
 #[test]
 fn large_numbers(rt: HostRuntime) {
     let alloc = rt.alloc();
-    assert!(rt; is_too_large(alloc, b"65536", 0, 1, 1) && is_too_large(alloc, b"65536 ?", 0, 1, 1));
+    assert!(rt;
+        is_too_large(alloc, b"4294967296", 0, 1, 1) && is_too_large(alloc, b"4294967296 ?", 0, 1, 1)
+    );
     assert!(rt; is_too_large(alloc, b" 99999999999999999999999D", 0, 1, 2));
     assert!(rt;
-        is_too_large(alloc, b"200000B", 0, 1, 1) && is_too_large(alloc, b"x 400C", 1, 1, 3)
+        is_too_large(alloc, b"40000000000B", 0, 1, 1) && is_too_large(alloc, b"x 400C", 1, 1, 3)
     );
 }
 

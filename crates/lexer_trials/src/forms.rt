@@ -22,12 +22,12 @@ fn names_and_words(rt: HostRuntime) -> Result<(), Fail> {
         Is::Name(b"begin"),
     ];
     assert!(rt; reads(alloc, b"x Y1z BEGIN begin", &begins)?);
-    let long = [
+    let left_out = [
         Is::Word(Word::LongWord),
         Is::Word(Word::LoopholeWord),
         Is::Name(b"ENDs"),
     ];
-    assert!(rt; reads(alloc, b"LONG LOOPHOLE ENDs", &long)?);
+    assert!(rt; reads(alloc, b"LONG LOOPHOLE ENDs", &left_out)?);
     Ok(())
 }
 
@@ -38,12 +38,12 @@ fn numbers(rt: HostRuntime) -> Result<(), Fail> {
     assert!(rt; reads(alloc, b"101C 377C", &[Is::Char(65), Is::Char(255)])?);
     assert!(rt; reads(alloc, b"18C", &[Is::Number(18), Is::Name(b"C")])?);
     let four = [
-        Is::Number(65_535),
+        Is::Number(4_294_967_295),
         Is::Number(17),
         Is::Number(15),
         Is::Number(0),
     ];
-    assert!(rt; reads(alloc, b"65535 17D 17B 0", &four)?);
+    assert!(rt; reads(alloc, b"4294967295 17D 17B 0", &four)?);
     assert!(rt;
         reads(
             alloc,

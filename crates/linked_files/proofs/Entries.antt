@@ -36,11 +36,11 @@ face_spelled W w K =
     let i = All-contains ImportCanBeSpelled K.instance.shape.imports K.want.import s.imports (mem_contains K.instance.shape.imports K.want.import K.want.is) in
     subst Spelled (sym K.want.face) i.face
 
-want_fits : (W : World) (w : Want) → Known W w → (entry W.version).fits (entry_of w)
+want_fits : (W : World) (w : Want) → Known W w → (entry 2).fits (entry_of w)
 unfolding entry
 want_fits W w K =
     let f = face_spelled W w K in
-    (name_fits w.face.name f.its_name, (f.its_stamp, (items_fit W.version w.item).0 (item_spelled w.face.items f.each K.want.number w.item K.there)))
+    (name_fits w.face.name f.its_name, (f.its_stamp, (items_fit w.item).0 (item_spelled w.face.items f.each K.want.number w.item K.there)))
 
 all_good : (W : World) (w : Want) → Mem w (wants W.tree) → is_bad w.answer ≡ false
 all_good W w m = (known W w m).good
@@ -49,8 +49,8 @@ entry_is : (W : World) (e : Entry) → Mem e (wanted_of (wants W.tree)) → Entr
 entry_is W e m = entries_are (wants W.tree) (all_good W) e m
 
 -- each entry has its form
-pub entry_fits : (W : World) (e : Entry) → Mem e (wanted_of (wants W.tree)) → (entry W.version).fits e
-entry_fits W e m = let O = entry_is W e m in subst (entry W.version).fits O.its (want_fits W O.want (known W O.want O.is))
+pub entry_fits : (W : World) (e : Entry) → Mem e (wanted_of (wants W.tree)) → (entry 2).fits e
+entry_fits W e m = let O = entry_is W e m in subst (entry 2).fits O.its (want_fits W O.want (known W O.want O.is))
 
 -- the entry of an item that is left is like what is needed
 pub record LeftTo (W : World) (w : Want) : Type 0 where

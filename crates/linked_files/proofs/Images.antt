@@ -24,26 +24,26 @@ use Rattle.linked_files.proofs.Offers.{few_modules, instances_fit, offer_has_for
 all_of : {A : Type 0} (P : A → Type 0) (xs : List A) → ((x : A) → Mem x xs → P x) → All P xs
 all_of P xs h = all_by P xs (λ k x e. h x (mem_get xs k x e))
 
-kept_fit : (W : World) → All (λ (o : Object). (module_form W.version).fits (parts_of o)) (kept W.tree.instances 0 W.objects)
+kept_fit : (W : World) → All (λ (o : Object). (module_form 2).fits (parts_of o)) (kept W.tree.instances 0 W.objects)
 kept_fit W =
-    all_of (λ (o : Object). (module_form W.version).fits (parts_of o)) (kept W.tree.instances 0 W.objects) (λ o m.
-    all_mem (λ (x : Object). (module_form W.version).fits (parts_of x)) W.objects W.can.fit o (kept_mem W.tree.instances 0 W.objects o m))
+    all_of (λ (o : Object). (module_form 2).fits (parts_of o)) (kept W.tree.instances 0 W.objects) (λ o m.
+    all_mem (λ (x : Object). (module_form 2).fits (parts_of x)) W.objects W.can.fit o (kept_mem W.tree.instances 0 W.objects o m))
 
-image_fits : (W : World) → (image_form W.version).fits (parts_of_image (image_of W.tree W.objects))
+image_fits : (W : World) → (image_form 2).fits (parts_of_image (image_of W.tree W.objects))
 unfolding image_form image_of
 image_fits W =
     let few = few_modules W in
     let some = few_instances W in
     let many : length (instances W) ≡ length W.tree.instances = length-map W.tree.instances (instance_of W.tree.instances) in
-    let M = (module_form W.version).fits in (
+    let M = (module_form 2).fits in (
       (
         (omega (arith, few), le-leb (length (modules W)) IMAGE_MODULES (omega (arith, few))),
-        (refl, each_of (module_form W.version) M (λ m f. f) [] (modules W) (all_mapped M parts_of (kept W.tree.instances 0 W.objects) (kept_fit W))),
+        (refl, each_of (module_form 2) M (λ m f. f) [] (modules W) (all_mapped M parts_of (kept W.tree.instances 0 W.objects) (kept_fit W))),
       ),
       (
         (
           (W.can.spelled.wanted, le-leb 0 (length (wanted W)) (omega arith)),
-          (refl, each_of (entry W.version) (entry W.version).fits (λ e f. f) [] (wanted W) (all_of (entry W.version).fits (wanted W) (entry_fits W))),
+          (refl, each_of (entry 2) (entry 2).fits (λ e f. f) [] (wanted W) (all_of (entry 2).fits (wanted W) (entry_fits W))),
         ),
         (
           (
@@ -76,4 +76,4 @@ image_fits W =
     )
 
 pub linked_images_fit : LinkedImagesFit
-linked_images_fit version t objects can = image_fits (record { version = version; tree = t; objects = objects; can = can })
+linked_images_fit t objects can = image_fits (record { tree = t; objects = objects; can = can })

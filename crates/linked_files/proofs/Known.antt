@@ -25,10 +25,9 @@ abbrev shape : Object → Shape
 shape o = o.shape
 
 pub record World : Type 0 where
-  pub version : ℕ
   pub tree : Tree
   pub objects : List Object
-  pub can : CanBeLinked version tree objects
+  pub can : CanBeLinked tree objects
 
 abbrev pub faces : World → List Face
 faces W = all_faces (shapes_of W.objects)
@@ -39,7 +38,7 @@ pub record ObjectOf (W : World) (x : TreeInstance) : Type 0 where
   pub its : Object
   pub there : slice_get W.objects x.component ≡ Some its
   pub shape_is : its.shape ≡ x.shape
-  pub fits : (module_form W.version).fits (parts_of its)
+  pub fits : (module_form 2).fits (parts_of its)
 
 pub object_for : (W : World) (j : ℕ) (x : TreeInstance) → slice_get W.tree.instances j ≡ Some x → ObjectOf W x
 object_for W j x at =
@@ -48,7 +47,7 @@ object_for W j x at =
       its = r.0;
       there = r.1;
       shape_is = r.2;
-      fits = all_mem (λ (o : Object). (module_form W.version).fits (parts_of o)) W.objects W.can.fit r.0 (mem_get W.objects x.component r.0 r.1);
+      fits = all_mem (λ (o : Object). (module_form 2).fits (parts_of o)) W.objects W.can.fit r.0 (mem_get W.objects x.component r.0 r.1);
     }
 
 abbrev import_face : Import → Face
@@ -65,7 +64,7 @@ face_of_export s e h = mem_behind (map import_face s.imports) (map export_face s
 
 module _ (W : World) (x : TreeInstance) (O : ObjectOf W x) where
   pub shape_spelled : ShapeCanBeSpelled x.shape
-  shape_spelled = subst ShapeCanBeSpelled O.shape_is (shapes_can_be_spelled W.version O.its O.fits)
+  shape_spelled = subst ShapeCanBeSpelled O.shape_is (shapes_can_be_spelled 2 O.its O.fits)
 
   pub shape_in_order : ShapeInOrder x.shape
   shape_in_order = spelled_shapes_are_in_order x.shape shape_spelled

@@ -80,18 +80,18 @@ module _ (W : World) where
 
   -- ---- what an object gives
 
-  export_fits : (x : TreeInstance) (O : ObjectOf W x) (e : Export) → Mem e x.shape.exports → (export_form W.version (parts_of O.its).signals (parts_of O.its).procedures).fits e
+  export_fits : (x : TreeInstance) (O : ObjectOf W x) (e : Export) → Mem e x.shape.exports → (export_form 2 (parts_of O.its).signals (parts_of O.its).procedures).fits e
   unfolding module_form
   export_fits x O e m =
-      let P = (export_form W.version (parts_of O.its).signals (parts_of O.its).procedures).fits in
+      let P = (export_form 2 (parts_of O.its).signals (parts_of O.its).procedures).fits in
       all_mem P O.its.shape.exports
-      (all_fit P (λ _. export_form W.version (parts_of O.its).signals (parts_of O.its).procedures) (λ _ y f. f) [] O.its.shape.exports O.fits.1.1.1.1.1.1.1.1) e
+      (all_fit P (λ _. export_form 2 (parts_of O.its).signals (parts_of O.its).procedures) (λ _ y f. f) [] O.its.shape.exports O.fits.1.1.1.1.1.1.1.1) e
       (subst (λ (s : Shape). Mem e s.exports) (sym O.shape_is) m)
 
   abbrev Gives : ModulePart → Export → Pair → Type 0
   Gives m e p = (p.number < 4294967296) × (gives_item m.signals m.procedures (slice_get e.face.items p.item) p.number ≡ true)
 
-  pair_fits : (m : ModulePart) (e : Export) → (export_form W.version m.signals m.procedures).fits e → (p : Pair) → Mem p e.given → Gives m e p
+  pair_fits : (m : ModulePart) (e : Export) → (export_form 2 m.signals m.procedures).fits e → (p : Pair) → Mem p e.given → Gives m e p
   unfolding export_form given
   pair_fits m e h p is = all_mem (Gives m e) e.given (all_fit (Gives m e) (given m.signals m.procedures e.face.items) (λ before q f. f.1) [] e.given h.1.1.1) p is
 

@@ -1,5 +1,5 @@
 -- An image that is linked from objects which files can spell has a file (rule of this project).
-use Rattle.std.specs.Prelude.{◌≡◌, ℕ, List, length, map, All, None}
+use Rattle.std.specs.Prelude.{◌≡◌, List, length, map, All, None}
 use Rattle.mesa_types.specs.declared.faces.Shape.{Shape}
 use Rattle.object_files.specs.declared.object.Object.{Object}
 use Rattle.config_rules.specs.declared.tree.Tree.{Tree}
@@ -24,13 +24,13 @@ abbrev pub shapes_of : List Object → List Shape
 shapes_of objects = map (λ (o : Object). o.shape) objects
 
 -- a tree in order with objects of its components, which agree on their faces and whose items all bind
-pub record CanBeLinked (version : ℕ) (t : Tree) (objects : List Object) : Type 0 where
+pub record CanBeLinked (t : Tree) (objects : List Object) : Type 0 where
   pub tree : TreeIn (shapes_of objects) t
   pub agree : Agree (all_faces (shapes_of objects))
   pub none_bad : first_bad (wants t) ≡ None
-  pub fit : All (λ (o : Object). (module_form version).fits (parts_of o)) objects
+  pub fit : All (λ (o : Object). (module_form 2).fits (parts_of o)) objects
   pub spelled : TreeCanBeSpelled t
 
--- the form of images fits the linked image
+-- the form of images in version 2 fits the linked image
 abbrev pub LinkedImagesFit : Type 0
-LinkedImagesFit = (version : ℕ) (t : Tree) (objects : List Object) → CanBeLinked version t objects → (image_form version).fits (parts_of_image (image_of t objects))
+LinkedImagesFit = (t : Tree) (objects : List Object) → CanBeLinked t objects → (image_form 2).fits (parts_of_image (image_of t objects))

@@ -10,10 +10,10 @@ use Rattle.link_tables.specs.Parts.{shapes_of}
 use Rattle.linked_files.specs.read_files.proofs.Files.{objects_of_files_are_in_order}
 use Rattle.linked_objects.specs.Filed.{IsFiled}
 use Rattle.linked_objects.specs.Laws.{FiledTreesAreInOrder}
-use Rattle.linked_objects.proofs.Versions.{versions_fit_alike}
+use Rattle.linked_objects.proofs.Versions.{versions_fit_the_second}
 
 pub fits : (o : Object) → IsFiled o → (module_form 2).fits (parts_of o)
-fits o h = versions_fit_alike h.version 2 (parts_of o) h.is_file.file.spells.fits.1
+fits o h = versions_fit_the_second h.version (parts_of o) h.is_file.file.spells.fits.1
 
 in_order : (o : Object) → IsFiled o → ShapeInOrder o.shape
 in_order o h = objects_of_files_are_in_order h.version o h.bytes h.is_file

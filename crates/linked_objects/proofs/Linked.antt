@@ -30,7 +30,7 @@ linked : (t : Tree) (objects : List Object) → IsOfShapes (shapes_of objects) t
 unfolding image_of
 linked t objects shapes h named none = record {
   fits = λ counts.
-      linked_images_fit 2 t objects (record {
+      linked_images_fit t objects (record {
         tree = shapes.tree;
         agree = shapes.agree;
         none_bad = none;

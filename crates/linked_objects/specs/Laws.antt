@@ -9,9 +9,9 @@ use Rattle.link_tables.specs.Parts.{shapes_of}
 use Rattle.linked_programs.specs.Laws.{IsOfShapes}
 use Rattle.linked_objects.specs.Filed.{IsFiled}
 
--- what the form of objects fits in one version it fits in each
-abbrev pub VersionsFitAlike : Type 0
-VersionsFitAlike = (version other : ℕ) (m : ModulePart) → (module_form version).fits m → (module_form other).fits m
+-- what the form of objects fits in some version it fits in version 2
+abbrev pub VersionsFitTheSecond : Type 0
+VersionsFitTheSecond = (version : ℕ) (m : ModulePart) → (module_form version).fits m → (module_form 2).fits m
 
 -- a tree of the shapes of such objects can be bound
 abbrev pub FiledTreesAreInOrder : Type 0

@@ -1,10 +1,9 @@
 //! What is so of objects that came of files, and of the trees of their shapes.
-ghost use Rattle.linked_objects.specs.Laws.{FiledTreesAreInOrder, VersionsFitAlike};
+ghost use Rattle.linked_objects.specs.Laws.{FiledTreesAreInOrder, VersionsFitTheSecond};
 
-/// A law: what the form of objects fits in one version it fits in each, so an object of a file can be spelled in version 2.
-#[tactic(auto, using(crate::proofs::Versions::versions_fit_alike))]
-pub fn versions_fit_alike()
-    ensures { VersionsFitAlike }
+/// A law: what the form of objects fits in some version it fits in version 2, so an object of a file can be spelled in that one.
+pub fn versions_fit_the_second()
+    ensures { VersionsFitTheSecond }
 {}
 
 /// A law: a tree of the shapes of objects that came of files is in order, so it can be bound.

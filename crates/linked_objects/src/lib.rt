@@ -8,7 +8,7 @@ mod shapes;
 mod trees;
 
 pub use files::linked_file;
-pub use laws::{filed_trees_are_in_order, versions_fit_alike};
+pub use laws::{filed_trees_are_in_order, versions_fit_the_second};
 pub use linked_programs;
 pub use linked_programs::built_runs;
 pub use trees::object_tree_of;

@@ -1,3 +1,4 @@
+//! The run of a machine's image, in the words of the programs for which it stands.
 ghost use Rattle.std.specs.Prelude.{◌≡◌, ◌-◌, ◌≤◌, IfOk, IfSome, IsErrOf};
 ghost use Rattle.mesa_base.specs.Asked.{AskedOnce};
 ghost use Rattle.mesa_base.specs.Outside.{Rose};

@@ -19,7 +19,7 @@ use Rattle.listing_rules.specs.Interfaces.{constant_line, interface_listing}
 use Rattle.listing_rules.specs.Code.{operand_texts, entry_line, procedure_lines}
 use Rattle.listing_rules.specs.Images.{bound_lines, instances_from}
 use Rattle.listing_rules.specs.Objects.{import_lines, export_lines}
-use Rattle.listing_rules.proofs.TypeLaws.{integer_printed, cardinal_printed, character_printed, subrange_printed, array_printed, made_field_printed}
+use Rattle.listing_rules.proofs.TypeLaws.{integer_printed, cardinal_printed, long_integer_printed, long_cardinal_printed, character_printed, subrange_printed, array_printed, made_field_printed, cardinal_value, subrange_value, long_integer_value, long_cardinal_value}
 
 -- lines, each with its line feed
 lines : List (List ℕ) → List ℕ
@@ -59,8 +59,22 @@ the_array =
     ∙ ap (λ (p : Printed). codes "ARRAY INTEGER [-5..9] OF " ++ p.text) character_printed
 
 a_constant : constant_line (record { name = codes "Least"; kind = small; value = 0xFFFB }) ≡ lines (codes "CONSTANT Least INTEGER [-5..9] -5" ∷ [])
+unfolding digits lines between line small
+a_constant =
+    ap (λ (t : List ℕ). line (codes "CONSTANT" ∷ codes "Least" ∷ type_text small ∷ t ∷ [])) (subrange_value v.Integer 0xFFFB 9 0xFFFB)
+    ∙ ap (λ (p : Printed). line (codes "CONSTANT" ∷ codes "Least" ∷ p.text ∷ word_text p.is_signed 0xFFFB ∷ [])) small_printed
+
+a_long_constant : constant_line (record { name = codes "Far"; kind = v.LongInteger; value = 0xFFFFFFFB }) ≡ lines (codes "CONSTANT Far LONG INTEGER -5" ∷ [])
 unfolding digits lines between line
-a_constant = ap (λ (p : Printed). line (codes "CONSTANT" ∷ codes "Least" ∷ p.text ∷ word_text p.is_signed 0xFFFB ∷ [])) small_printed
+a_long_constant =
+    ap (λ (t : List ℕ). line (codes "CONSTANT" ∷ codes "Far" ∷ type_text v.LongInteger ∷ t ∷ [])) (long_integer_value 0xFFFFFFFB)
+    ∙ ap (λ (p : Printed). line (codes "CONSTANT" ∷ codes "Far" ∷ p.text ∷ codes "-5" ∷ [])) long_integer_printed
+
+an_unsigned_long : constant_line (record { name = codes "Far"; kind = v.LongCardinal; value = 0xFFFFFFFB }) ≡ lines (codes "CONSTANT Far LONG CARDINAL 4294967291" ∷ [])
+unfolding digits lines between line
+an_unsigned_long =
+    ap (λ (t : List ℕ). line (codes "CONSTANT" ∷ codes "Far" ∷ type_text v.LongCardinal ∷ t ∷ [])) (long_cardinal_value 0xFFFFFFFB)
+    ∙ ap (λ (p : Printed). line (codes "CONSTANT" ∷ codes "Far" ∷ p.text ∷ word_text p.is_signed 0xFFFFFFFB ∷ [])) long_cardinal_printed
 
 -- ---- interfaces
 
@@ -82,7 +96,7 @@ two = record {
 
 the_second_interface : interface_listing two ≡ lines (codes "INTERFACE Two 00000000000B" ∷ codes "ERROR Full []" ∷ codes "CONSTANT Size CARDINAL 3" ∷ [])
 unfolding digits two lines between line
-the_second_interface = rw cardinal_printed refl
+the_second_interface = rw (cardinal_value 3, cardinal_printed) refl
 
 -- ---- code, imports and exports
 

@@ -9,7 +9,7 @@ use Rattle.interface_records.specs.declared.interface.Constant.{Constant}
 use Rattle.interface_records.specs.declared.interface.NamedType.{NamedType}
 use Rattle.interface_records.specs.declared.interface.Interface.{Interface}
 use Rattle.listing_rules.specs.Lines.{line}
-use Rattle.listing_rules.specs.Types.{word_text, type_text, is_signed, fields_text}
+use Rattle.listing_rules.specs.Types.{type_text, value_text, fields_text}
 
 -- INTERFACE NAME STAMP
 abbrev pub head_line : List ℕ → ℕ → List ℕ
@@ -26,7 +26,7 @@ item_line i = kind_line i.kind i.name i.takes i.gives
 
 -- CONSTANT NAME TYPE NUMBER
 abbrev pub constant_line : Constant → List ℕ
-constant_line c = line (codes "CONSTANT" ∷ c.name ∷ type_text c.kind ∷ word_text (is_signed c.kind) c.value ∷ [])
+constant_line c = line (codes "CONSTANT" ∷ c.name ∷ type_text c.kind ∷ value_text c.kind c.value ∷ [])
 
 -- TYPE NAME TYPE
 abbrev pub type_line : NamedType → List ℕ

@@ -1,8 +1,8 @@
 -- Types in a listing (rule of this project). A type prints as in a source; a record or an enumeration prints without its origin, and the
--- bounds of a subrange are numbers, signed where its base is INTEGER.
-use Rattle.std.specs.Prelude.{ℕ, Bool, true, false, List, [], ◌++◌, map, codes, decimal, Option, Some, None, if◌then◌else◌}
+-- bounds of a subrange are numbers, signed where its base is INTEGER. The number of a constant of LONG INTEGER is signed too.
+use Rattle.std.specs.Prelude.{ℕ, ◌-◌, Bool, true, false, List, [], ◌∷◌, ◌++◌, map, codes, decimal, Option, Some, None, if◌then◌else◌, nat_lt}
 use Rattle.mesa_base.specs.Decimal.{signed_word}
-use Rattle.mesa_types.specs.declared.types.TypeTree.{TypeTree}
+use Rattle.mesa_types.specs.declared.types.TypeTree.{TypeTree, out-TypeTree}
 use Rattle.mesa_types.specs.declared.types.FieldType.{FieldType}
 use Rattle.mesa_types.specs.declared.types.TypeTree.TheOpen.{TypeTree-F, FieldType-F}
 use Rattle.mesa_types.specs.declared.types.TypeTree.TheFolds.{fold-TypeTree, fold-FieldType}
@@ -43,6 +43,8 @@ label_text (Some name) = name ++ codes ": "
 abbrev pub print_step : TypeTree-F Printed (List ℕ) → Printed
 print_step TypeTree-F.Integer = signed (codes "INTEGER")
 print_step TypeTree-F.Cardinal = unsigned (codes "CARDINAL")
+print_step TypeTree-F.LongInteger = unsigned (codes "LONG INTEGER")
+print_step TypeTree-F.LongCardinal = unsigned (codes "LONG CARDINAL")
 print_step TypeTree-F.Boolean = unsigned (codes "BOOLEAN")
 print_step TypeTree-F.Character = unsigned (codes "CHARACTER")
 print_step TypeTree-F.String = unsigned (codes "STRING")
@@ -63,6 +65,18 @@ type_text t = (printed t).text
 -- the words of its values are signed numbers
 abbrev pub is_signed : TypeTree → Bool
 is_signed t = (printed t).is_signed
+
+-- two words as a number with a sign
+abbrev pub signed_long : ℕ → List ℕ
+signed_long n = if nat_lt n 2147483648 then decimal n else 45 ∷ decimal (4294967296 - n)
+
+abbrev pub value_by : TypeTree-F TypeTree FieldType → Bool → ℕ → List ℕ
+value_by TypeTree-F.LongInteger is_signed n = signed_long n
+value_by _ is_signed n = word_text is_signed n
+
+-- a value of an ordinal type or a LONG type
+abbrev pub value_text : TypeTree → ℕ → List ℕ
+value_text t n = value_by (out-TypeTree t) (is_signed t) n
 
 abbrev pub field_text : FieldType → List ℕ
 field_text = fold-FieldType Printed (List ℕ) print_step print_field

@@ -6,7 +6,7 @@ use Rattle.listing_rules.specs.Code.{signal_word, labels_text}
 use Rattle.listing_rules.specs.Images.{path_at}
 use Rattle.listing_rules.specs.Lines.{offset_text}
 use Rattle.listing_rules.specs.Objects.{item_name}
-use Rattle.listing_rules.specs.Types.{word_text, type_text, is_signed, fields_text}
+use Rattle.listing_rules.specs.Types.{type_text, value_text, fields_text}
 use Rattle.listing_writers.specs.declared.lines.Word.{Word}
 use Rattle.listing_writers.specs.declared.lines.Word.TheVariants as w
 
@@ -18,7 +18,7 @@ text_of (w.Offset offset) = offset_text offset
 text_of (w.Stamp stamp) = stamp_text stamp.now
 text_of (w.Type t) = type_text t.now
 text_of (w.Fields fields) = fields_text fields.now
-text_of (w.ValueOf constant) = word_text (is_signed constant.now.kind) constant.now.value
+text_of (w.ValueOf constant) = value_text constant.now.kind constant.now.value
 text_of (w.ItemAt items n) = item_name items.now n
 text_of (w.ItemOf wanted) = wanted.now.face ++ (codes "." ++ wanted.now.item.name)
 text_of (w.Operation instruction) = name_of instruction

@@ -11,7 +11,9 @@ mod links;
 mod offering;
 mod places;
 mod resolving;
+mod several;
 mod turn;
 mod wanting;
 
 pub use resolving::{Resolved, resolve};
+pub use several::first_fault;

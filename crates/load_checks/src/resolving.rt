@@ -9,9 +9,9 @@ ghost use Rattle.load_checks.specs.Links.{AreResolved, wanted_links};
 ghost use Rattle.load_checks.specs.Turns.{after, part_of, IsSeen};
 ghost use Rattle.load_checks.specs.Wanting.{IsIndexed, entries_shown};
 
-use crate::checking::checked;
 use crate::links::links_of;
-use crate::turn::{Seen, Turn, nothing_seen, see};
+use crate::several::take_in;
+use crate::turn::{Seen, Turn, nothing_seen};
 use crate::wanting::{Wanting, copied, still_wanted};
 use interface_records::Wanteds;
 use loader_rules::{Images, LoadFault};
@@ -27,7 +27,7 @@ pub struct Resolved {
     pub links: LinkTables,
 }
 
-// The links of the image whose turn it is; then it is one of those before.
+// The image whose turn it is, taken in, and its links.
 fn take_turn<'a>(
     alloc: Global,
     wanting: &Wanting,
@@ -43,11 +43,11 @@ fn take_turn<'a>(
     ensures links { OnOk result (links.new ≡ links.old ++ wanted_links (entries_shown wanting.now.entries.items) (part_of turn.now) ∷ []) }
     ensures err { IfErr result (λ e. e ≢ LoadFault.Memory → first_of (faults_in (part_of turn.now)) ≡ Some e) }
 {
-    let chosen = checked(alloc, turn, seen)?;
+    let chosen = take_in(alloc, turn, seen)?;
     let wanteds = turn.image.wanted.as_slice();
     let table = links_of(alloc, wanting, wanteds, chosen.as_slice())?;
     links.push(table)?;
-    Ok(see(alloc, turn, seen)?)
+    Ok(())
 }
 
 fn tables_of(alloc: Global, wanting: &Wanting, images: &[Image]) -> Result<LinkTables, LoadFault>

@@ -27,7 +27,7 @@ use Rattle.bound_images.proofs.Modules.{World, module_for, all_there, known, amo
 use Rattle.bound_images.proofs.Standing.{all_wanted}
 use Rattle.bound_images.proofs.Wanted.{EntryFor, entry_for}
 use Rattle.bound_images.proofs.Wanting.{the_want, want_there}
-use Rattle.loader_rules.specs.Exporters.{Offered, stamped}
+use Rattle.loader_rules.specs.Exporters.{stamped}
 use Rattle.loader_rules.specs.Exporters as loader
 use Rattle.loader_rules.specs.Loaded.{link_to, replaced, link_in}
 use Rattle.loader_rules.specs.Wanted.{is_built_in, entry_number}

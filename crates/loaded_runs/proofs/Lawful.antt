@@ -23,7 +23,7 @@ use Rattle.interface_records.specs.Hosts.{IsHostItem}
 use Rattle.object_files.specs.declared.image.Image.{Image}
 use Rattle.agreement_laws.specs.agreement_rules.specs.Stands.{WantsTheHost}
 use Rattle.source_meaning.specs.Program as source
-use Rattle.source_meaning.specs.Program.{Program, Target, host_of, host_target}
+use Rattle.source_meaning.specs.Program.{Program, host_of, host_target}
 use Rattle.source_meaning.specs.Lawful.{host_takes, host_gives, Supplies, StandsFor, LawfulInstance, Lawful}
 use Rattle.config_rules.specs.Exporters.{Outlet, outlets, is_given, goes_to, exporters}
 use Rattle.config_rules.specs.Resolves.{under, given_for}
@@ -34,7 +34,7 @@ use Rattle.bound_images.proofs.Chosen.{given_there}
 use Rattle.bound_images.proofs.Elements.{all_mem, all_by, get_map, mem_map, map_mem, mem_flat, mem_filter, one_there}
 use Rattle.bound_images.proofs.Lawful.{supplied}
 use Rattle.bound_images.proofs.Modules as built
-use Rattle.bound_images.proofs.Modules.{World, ModuleOf, module_for, code_is, Known, known}
+use Rattle.bound_images.proofs.Modules.{World, module_for, code_is, Known, known}
 use Rattle.loader_rules.specs.Wanted.{still_wanted}
 use Rattle.loader_rules.proofs.Wanting.{are_same, still_stands}
 use Rattle.loaded_runs.specs.Together.{Source, Place, places, modules_of, instances_before, instance_in, started_in, together}

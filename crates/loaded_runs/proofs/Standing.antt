@@ -28,7 +28,7 @@ use Rattle.bound_images.specs.Programs.{given_as, target_by, target, instance_fo
 use Rattle.bound_images.proofs.Elements.{get_map, get_mem, mem_map, map_mem, mem_flat}
 use Rattle.bound_images.proofs.Modules.{ModuleOf, module_for}
 use Rattle.bound_images.proofs.Standing as built
-use Rattle.bound_images.proofs.Standing.{ObjectFor, object_for}
+use Rattle.bound_images.proofs.Standing.{object_for}
 use Rattle.loader_rules.specs.Loaded as loader
 use Rattle.loader_rules.specs.Parts as loader_parts
 use Rattle.loader_rules.specs.Parts.{Part, parts}

@@ -1,3 +1,5 @@
+//! The law that the topmost activation runs as the machine does, up to its pause.
+
 ghost use Rattle.machine_activations.specs.Laws.{RunsAsDefined};
 
 /// Where the region shows activations of a prepared image, the run of the topmost one up to its pause is a run of the

@@ -1,3 +1,5 @@
+//! What the table keeps of an activation, why arms run, and how the region is laid out.
+
 use machine_rules::signaller::{Search, SignalId};
 
 /// Where a jump out of arms goes: the place of its activation, the place of the frame to which that belongs, and the

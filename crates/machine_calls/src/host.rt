@@ -1,3 +1,5 @@
+//! The procedures of the host, and the one for which a wanted item stands.
+
 ghost use Rattle.std.specs.Prelude.{◌≡◌, IsSome, Some, option_map};
 ghost use Rattle.machine_rules.specs.LookUps.{host_named, host_of};
 ghost use Rattle.machine_calls.specs.Hosts.{host_is};

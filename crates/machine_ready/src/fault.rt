@@ -1,3 +1,5 @@
+//! Why an image is not made ready.
+
 ghost use Rattle.std.specs.Prelude.{◌≡◌};
 ghost use Rattle.machine_ready.specs.declared.fault.ReadyFault.TheVariants.{Memory};
 

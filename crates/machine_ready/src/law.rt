@@ -1,3 +1,5 @@
+//! The laws of machines that are ready, and of wanted items that are none of the host's.
+
 ghost use Rattle.machine_ready.specs.Laws.{OrderedCanRun, ReadyCanRun, ReadyHasDepths, PlansAreThere, PartsFit, ReadyIsPrepared, OneUnresolved, NoneUnresolved};
 
 /// An image in order with valid code, whose wanted items are the host's, can be run: no run of it is ever stuck.

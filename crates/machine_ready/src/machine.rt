@@ -1,3 +1,5 @@
+//! An image that is ready to run, and how one is made ready.
+
 ghost use Rattle.std.specs.Prelude.{◌≡◌, ◌<◌, length, All, Some, IsSome, IfOk, IfErr, OnOk, option_map, slice_get};
 ghost use Rattle.code_forms.specs.declared.module_code.CodeSignal.{CodeSignal};
 ghost use Rattle.object_files.specs.declared.image.Instance.{Instance};

@@ -1,3 +1,5 @@
+//! All that a run needs beside its image: tables, globals, and memory for the activations.
+
 ghost use Rattle.std.specs.Prelude.{◌≡◌, ◌+◌, ◌^◌, ◌<◌, length, All, IfOk};
 ghost use Rattle.mesa_base.specs.declared.limits.TheConstants.{ACTIVATIONS};
 ghost use Rattle.machine_ready.specs.Hosts.{IsHostItem};

@@ -1,3 +1,4 @@
+//! How a run ends.
 use signaller::SignalId;
 
 /// How a run ends: it is done, a signal is caught by no arm, its turns are spent, or one activation more is wanted where

@@ -1,3 +1,4 @@
+//! The laws of the machine: runs have one result and are never stuck, and jumps out of arms unwind.
 ghost use Rattle.machine_rules.specs.Laws.{EndsAtMostOnce, HasOneResult, IsNeverStuck};
 ghost use Rattle.machine_rules.specs.Unwinding.{JumpsUnwind, JumpsOfRunsUnwind};
 

@@ -1,3 +1,5 @@
+//! The laws of raises at faults and of predeclared signals, and of running arms under a new frame.
+
 ghost use Rattle.machine_signals.specs.Laws.{FaultsRaise, FramesKeepArms, PredeclaredRaise};
 
 /// Where the run of the topmost activation pauses at a fault, the machine raises the fault's signal.

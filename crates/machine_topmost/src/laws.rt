@@ -1,3 +1,5 @@
+//! The law that instructions on the topmost activation work as the machine's definition says.
+
 ghost use Rattle.machine_topmost.specs.Laws.{WorksAsDefined};
 
 /// In valid code, an instruction on the topmost activation that is no jump makes of the region what the machine's

@@ -4,7 +4,6 @@
 mod indexed;
 mod jumps;
 mod laws;
-mod long_numbers;
 mod long_operate;
 mod operate;
 mod perform;

@@ -9,13 +9,13 @@ ghost use Rattle.mesa_types.specs.declared.typed_parts.Base.TheVariants.{Signed}
 ghost use Rattle.machine_topmost.specs.Flat.{FlowsInRegion, behind, with_part, operand, long_operand, over, over_long, over_long_tried, in_bounds, leaves, operates_long};
 ghost use Rattle.machine_topmost.specs.Fits.{Holds, FitsOperator};
 
-use crate::long_numbers::{
-    extended, is_in_common, is_less, is_word_of, joined, less_of, more_of, opposite, quotient,
-    remainder,
-};
 use crate::region::leave;
 use crate::registers::{Registers, Why};
 use code_forms::Instruction;
+use machine_rules::typed_answers::long_operators::{
+    extended, is_in_common, is_less, is_word_of, joined, less_of, more_of, opposite, quotient,
+    remainder,
+};
 use machine_rules::typed_answers::truth;
 use mesa_types::Base;
 

@@ -1,3 +1,5 @@
+//! Where the topmost activation stands, and where and why its run pauses.
+
 use code_forms::Instruction;
 
 /// Where the topmost activation stands: its place, the number of its next entry, where the next operand goes in the region

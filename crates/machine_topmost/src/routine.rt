@@ -1,3 +1,5 @@
+//! What the topmost activation runs: a procedure, of a module of an image.
+
 use code_forms::{CodeProcedure, ModuleCode};
 use machine_rules::object_files::Image;
 

@@ -1,3 +1,4 @@
+//! Why bytes are no file of their kind, and why a value is not written as a file.
 use thiserror::Error;
 
 /// What is wrong with a field of an interface, object or image file (rule of this project).

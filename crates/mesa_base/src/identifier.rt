@@ -1,3 +1,4 @@
+//! Names with the places where they stand.
 use crate::list::List;
 use crate::name::Name;
 use crate::place::Place;

@@ -10,7 +10,7 @@ pub const IDENTIFIER_BYTES: usize = 255;
 pub const STRING_BYTES: usize = 32_767;
 
 /// The greatest number that a literal writes.
-pub const GREATEST_NUMBER: u64 = 65_535;
+pub const GREATEST_NUMBER: u64 = 4_294_967_295;
 
 /// The greatest code of a character.
 pub const GREATEST_CHARACTER: u64 = 255;

@@ -1,3 +1,4 @@
+//! Parts of a text with the places where they begin.
 use crate::place::Place;
 
 /// A part of a text and where it begins.

@@ -1,3 +1,4 @@
+//! Values with several owners.
 ghost use Rattle.std.specs.Prelude.{◌≡◌, IfOk};
 
 use crate::out_of_memory::OutOfMemory;

@@ -1,17 +1,15 @@
 -- From the files of a folder to a machine, and from its run to the case that comes.
-use Rattle.std.proofs.Common.{◌≡◌, ℕ, List, [], ◌∷◌, length, map, Ok, Err, refl, sym, ◌∙◌, subst, arith}
+use Rattle.std.proofs.Common.{◌≡◌, ℕ, List, [], ◌∷◌, length, Ok, Err, refl, sym, ◌∙◌, subst}
 use Rattle.std.specs.Prelude.{Result}
-use Rattle.std.specs.List.{AllZip}
 use Rattle.std.proofs.lemmas.List.{length-map}
 use Rattle.std.proofs.lemmas.Slice.Zip.{AllZip-long}
 use Rattle.mesa_types.specs.Plain.{plain}
 use Rattle.object_files.specs.declared.image.Image.{Image}
 use Rattle.object_rules.specs.ObjectFiles.{IsObjectFile}
-use Rattle.command_rules.specs.bound_images.specs.Programs.{program_of}
 use Rattle.command_laws.specs.Laws.{RunsAreMeant}
 use Rattle.command_rules.specs.Case.{Case, Memory}
 use Rattle.command_rules.specs.Comes as rules
-use Rattle.command_rules.specs.Comes.{Goes, Loads, Made, linked, targets_of, not_configured, not_read}
+use Rattle.command_rules.specs.Comes.{Goes, Loads, Made, linked, not_configured, not_read}
 use Rattle.command_rules.specs.Configurations.{Configured, program, source_in}
 use Rattle.command_rules.specs.Ends.{Ends}
 use Rattle.command_rules.specs.Forms.{Source}
@@ -30,7 +28,6 @@ use Rattle.command_sources.specs.Made as sources
 use Rattle.command_sources.specs.Made.{IsMadeOf, Unmade, targets_for}
 use Rattle.command_sources.specs.declared.making.MadeProgram.{MadeProgram}
 use Rattle.command_sources.specs.declared.sources.BoundSource.{BoundSource}
-use Rattle.command_writes.specs.Storing.{StoreEnds}
 use Rattle.command_loads.specs.Loaded.{LoadsTo}
 use Rattle.mesa_command.specs.Machines.{IsWritten, IsUnwritten, unmade, not_stored, WritesTo, GoesTo, RunEnds}
 

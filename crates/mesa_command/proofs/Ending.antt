@@ -1,5 +1,5 @@
 -- How the run of a machine ends, from what the run ensures.
-use Rattle.std.proofs.Common.{◌≡◌, ℕ, zero, suc, ◌+◌, ◌-◌, ◌<◌, ◌≤◌, List, [], ◌∷◌, length, Result, Ok, Err, Option, Some, None, refl, sym, ap, subst, ◌∙◌, arith}
+use Rattle.std.proofs.Common.{◌≡◌, ℕ, zero, suc, ◌+◌, ◌-◌, ◌<◌, ◌≤◌, List, [], ◌∷◌, length, Result, Ok, Err, Option, Some, None, refl, sym, ap, ◌∙◌, arith}
 use Rattle.std.specs.Prelude.{IfOk, IsErrOf, IsSome, option_and_then, option_map, slice_get}
 use Rattle.std.proofs.lemmas.Bool.{false≢true}
 use Rattle.mesa_base.specs.Outside.{Rose}
@@ -16,7 +16,7 @@ use Rattle.frame_machine.specs.declared.outcome.RunFault.{RunFault}
 use Rattle.frame_machine.specs.declared.outcome.RunFault.TheVariants as fault
 use Rattle.line_pieces.specs.Outputs.{HasFaulted}
 use Rattle.line_pieces.specs.Texts.{dotted}
-use Rattle.command_rules.specs.Case.{Case, status_of, IsBeforeRun}
+use Rattle.command_rules.specs.Case.{status_of, IsBeforeRun}
 use Rattle.command_rules.specs.Ends.{Runs, RunsTo, ended, read_fault, write_fault}
 use Rattle.command_rules.specs.Shown.{Names, case_of_end, case_of_run, image_names, path_of, signal_name}
 use Rattle.command_rules.specs.Worlds.{Scene}

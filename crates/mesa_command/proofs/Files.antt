@@ -1,17 +1,16 @@
 -- What comes of a file that is listed or upgraded.
 use Rattle.std.proofs.Common.{◌≡◌, ℕ, List, [], ◌∷◌, Option, Result, Ok, Err, refl, sym, subst}
-use Rattle.line_pieces.specs.Outputs.{Stream}
-use Rattle.command_rules.specs.Case.{Case, Done, WriteFault, Memory}
+use Rattle.command_rules.specs.Case.{Case, Memory}
 use Rattle.command_rules.specs.Comes.{Upgrades, not_held, stored, not_stored}
 use Rattle.command_rules.specs.Comes as rules
 use Rattle.command_rules.specs.Forms.{FileKind, kind_file}
 use Rattle.command_rules.specs.Listing.{listing_in, value_in}
-use Rattle.command_rules.specs.Passes.{Has, Trail}
+use Rattle.command_rules.specs.Passes.{Has}
 use Rattle.command_rules.specs.Passing.{Fails, Gives}
 use Rattle.command_rules.specs.Passing as passing
-use Rattle.command_rules.specs.Reading.{Asked, Onward}
-use Rattle.command_rules.specs.Worlds.{Shelf, Feed, scene}
-use Rattle.command_rules.specs.Writing.{Value, IsFileOf, holding}
+use Rattle.command_rules.specs.Reading.{Onward}
+use Rattle.command_rules.specs.Worlds.{Shelf}
+use Rattle.command_rules.specs.Writing.{Value, holding}
 use Rattle.command_rules.proofs.Passing.{onward_same}
 use Rattle.command_lines.specs.command_passes.specs.Shelves.{Passes}
 use Rattle.command_lines.specs.command_passes.specs.Stops.{stop_case}
@@ -19,7 +18,6 @@ use Rattle.command_lines.specs.command_passes.specs.declared.stop.Stop.{Stop}
 use Rattle.command_lines.specs.command_passes.specs.declared.stop.Stop.TheVariants as stop
 use Rattle.command_sources.specs.Stops.{stored_case}
 use Rattle.command_writes.specs.Storing.{StoreEnds}
-use Rattle.command_listings.specs.Upgrading.{IsUpgraded}
 use Rattle.mesa_command.specs.Printing.{ReportPasses}
 
 -- ---- list FILE

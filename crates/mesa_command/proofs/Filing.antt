@@ -8,7 +8,6 @@ use Rattle.mesa_base.specs.declared.file_fault.WriteFault.TheVariants as write
 use Rattle.mesa_base.specs.declared.limits.TheConstants.{FILE_BYTES}
 use Rattle.mesa_types.specs.Typed.{Module}
 use Rattle.interface_records.specs.declared.interface.Interface.{Interface}
-use Rattle.object_files.specs.declared.image.Image.{Image}
 use Rattle.object_files.specs.declared.object.Object.{Object}
 use Rattle.object_rules.specs.Parts.{IsWhole}
 use Rattle.link_tables.specs.Linked.{image_of}

@@ -3,7 +3,7 @@ use Rattle.std.proofs.Common.{◌≡◌, ℕ, List, [], Result, Ok, Err, refl, s
 use Rattle.line_pieces.specs.Outputs.{Stream, PrintsAll, PrintsPrefix}
 use Rattle.command_rules.specs.Case.{Case}
 use Rattle.command_rules.specs.Passes.{Pass}
-use Rattle.command_rules.specs.Passing.{Fails, Gives, memory}
+use Rattle.command_rules.specs.Passing.{Fails, memory}
 use Rattle.command_rules.specs.Printing.{Report, text_alone, AreMissed, Prints, not_read, printed, not_printed}
 use Rattle.command_rules.specs.Reading.{Onward}
 use Rattle.command_rules.specs.Worlds.{Shelf, Feed, scene}

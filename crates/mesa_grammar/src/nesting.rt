@@ -1,3 +1,5 @@
+//! The parsers of statements over which declarations and modules are parsed.
+
 use grammar_statements::StatementParser;
 
 /// The parsers of declarations and modules, over those of statements.

@@ -6,7 +6,7 @@ use Rattle.std.proofs.lemmas.Slice.Eq.{bytes_eq-Decides}
 use Rattle.std.proofs.lemmas.Bool.{and_parts, eqb-true, eq-eqb, not-true, and_from, not_from_false, ne_eqb}
 use Rattle.mesa_lexer.specs.Blanks.{begins_with}
 use Rattle.mesa_lexer.specs.Words.{spelled, words, words_from, word_of}
-use Rattle.mesa_lexer.specs.declared.word.Word.TheVariants.{AndWord, AnyWord, ArrayWord, BeginWord, BooleanWord, CardinalWord, CharacterWord, CodeWord, ConfigurationWord, ContinueWord, ControlWord, DecreasingWord, DefinitionsWord, DirectoryWord, DoWord, ElseWord, EnableWord, EndWord, EndcaseWord, EndloopWord, ErrorWord, ExitWord, ExitsWord, ExportsWord, FalseWord, FinishedWord, ForWord, FromWord, GoWord, GotoWord, IfWord, ImportsWord, InWord, IntegerWord, LoopWord, ModWord, NotWord, NullWord, OfWord, OpenWord, OrWord, PrivateWord, ProcWord, ProcedureWord, ProgramWord, PublicWord, RecordWord, RejectWord, RepeatWord, ResumeWord, RetryWord, ReturnWord, ReturnsWord, SelectWord, SignalWord, StringWord, ThenWord, ThroughWord, ToWord, TrueWord, TypeWord, UntilWord, UnwindWord, UsingWord, WhileWord, AbsWord, BaseWord, BroadcastWord, DependentWord, DescriptorWord, EntryWord, FirstWord, ForkWord, InlineWord, InternalWord, JoinWord, LastWord, LengthWord, LinksWord, LongWord, LoopholeWord, MachineWord, MaxWord, MinWord, MonitorWord, NewWord, NotifyWord, PackWord, PackedWord, PlusWord, PointerWord, PortWord, ProcessWord, RealWord, RelativeWord, RestartWord, SharesWord, SizeWord, StartWord, StateWord, StopWord, TransferWord, WaitWord, WithWord}
+use Rattle.mesa_lexer.specs.declared.word.Word.TheVariants.{AndWord, AnyWord, ArrayWord, BeginWord, BooleanWord, CardinalWord, CharacterWord, CodeWord, ConfigurationWord, ContinueWord, ControlWord, DecreasingWord, DefinitionsWord, DirectoryWord, DoWord, ElseWord, EnableWord, EndWord, EndcaseWord, EndloopWord, ErrorWord, ExitWord, ExitsWord, ExportsWord, FalseWord, FinishedWord, ForWord, FromWord, GoWord, GotoWord, IfWord, ImportsWord, InWord, IntegerWord, LongWord, LoopWord, ModWord, NotWord, NullWord, OfWord, OpenWord, OrWord, PrivateWord, ProcWord, ProcedureWord, ProgramWord, PublicWord, RecordWord, RejectWord, RepeatWord, ResumeWord, RetryWord, ReturnWord, ReturnsWord, SelectWord, SignalWord, StringWord, ThenWord, ThroughWord, ToWord, TrueWord, TypeWord, UntilWord, UnwindWord, UsingWord, WhileWord, AbsWord, BaseWord, BroadcastWord, DependentWord, DescriptorWord, EntryWord, FirstWord, ForkWord, InlineWord, InternalWord, JoinWord, LastWord, LengthWord, LinksWord, LoopholeWord, MachineWord, MaxWord, MinWord, MonitorWord, NewWord, NotifyWord, PackWord, PackedWord, PlusWord, PointerWord, PortWord, ProcessWord, RealWord, RelativeWord, RestartWord, SharesWord, SizeWord, StartWord, StateWord, StopWord, TransferWord, WaitWord, WithWord}
 
 -- a spelling is found among those with its first letter
 by_letter : {A : Type 0} (rows : List (List ℕ × A)) (b : ℕ) (bytes : List ℕ) → spelled rows (b ∷ bytes) ≡ spelled (filter (λ row. begins_with b row.0) rows) (b ∷ bytes)
@@ -128,11 +128,11 @@ j_words = refl
 pub from_j : (b : ℕ) → b ≡ 74 → (codes "JOIN", JoinWord) ∷ [] ≡ words_from b
 from_j b e = j_words ∙ ap words_from (sym e)
 
-l_words : (codes "LOOP", LoopWord) ∷ (codes "LAST", LastWord) ∷ (codes "LENGTH", LengthWord) ∷ (codes "LINKS", LinksWord) ∷ (codes "LONG", LongWord) ∷ (codes "LOOPHOLE", LoopholeWord) ∷ [] ≡ words_from 76
+l_words : (codes "LONG", LongWord) ∷ (codes "LOOP", LoopWord) ∷ (codes "LAST", LastWord) ∷ (codes "LENGTH", LengthWord) ∷ (codes "LINKS", LinksWord) ∷ (codes "LOOPHOLE", LoopholeWord) ∷ [] ≡ words_from 76
 unfolding words_from words
 l_words = refl
 
-pub from_l : (b : ℕ) → b ≡ 76 → (codes "LOOP", LoopWord) ∷ (codes "LAST", LastWord) ∷ (codes "LENGTH", LengthWord) ∷ (codes "LINKS", LinksWord) ∷ (codes "LONG", LongWord) ∷ (codes "LOOPHOLE", LoopholeWord) ∷ [] ≡ words_from b
+pub from_l : (b : ℕ) → b ≡ 76 → (codes "LONG", LongWord) ∷ (codes "LOOP", LoopWord) ∷ (codes "LAST", LastWord) ∷ (codes "LENGTH", LengthWord) ∷ (codes "LINKS", LinksWord) ∷ (codes "LOOPHOLE", LoopholeWord) ∷ [] ≡ words_from b
 from_l b e = l_words ∙ ap words_from (sym e)
 
 m_words : (codes "MOD", ModWord) ∷ (codes "MACHINE", MachineWord) ∷ (codes "MAX", MaxWord) ∷ (codes "MIN", MinWord) ∷ (codes "MONITOR", MonitorWord) ∷ [] ≡ words_from 77

@@ -25,11 +25,11 @@ identified_stands rest bytes gapless long = go (word_of bytes) refl (nat_lt 255 
     go (Some w) e false over long = rw e (record { no_gap = gapless; longest = long; not_large = λ h. h; not_long = λ h. h })
 
 pub numbered_stands : (rest : List ℕ) (n value : ℕ) → NoGap rest → Longest rest n (Whole (k.Number value)) → Stands rest (numbered n value)
-numbered_stands rest n value gapless long = go (nat_lt 65535 value) refl
+numbered_stands rest n value gapless long = go (nat_lt 4294967295 value) refl
   where
-    go : (b : Bool) → nat_lt 65535 value ≡ b → Stands rest (cond b TooLarge (Token n (k.Number value)))
-    go true over = (gapless, record { n = n; kind = k.Number value; longest = long; passed = ltb-true 65535 value over })
-    go false over = record { no_gap = gapless; longest = long; not_large = λ h. let low = ltb-false 65535 value over in absurd (omega arith); not_long = λ h. h }
+    go : (b : Bool) → nat_lt 4294967295 value ≡ b → Stands rest (cond b TooLarge (Token n (k.Number value)))
+    go true over = (gapless, record { n = n; kind = k.Number value; longest = long; passed = ltb-true 4294967295 value over })
+    go false over = record { no_gap = gapless; longest = long; not_large = λ h. let low = ltb-false 4294967295 value over in absurd (omega arith); not_long = λ h. h }
 
 pub coded_stands : (rest : List ℕ) (n code : ℕ) → NoGap rest → Longest rest n (Whole (k.Char code)) → Stands rest (coded n code)
 coded_stands rest n code gapless long = go (nat_lt 255 code) refl

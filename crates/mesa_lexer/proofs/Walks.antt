@@ -86,7 +86,7 @@ reads_same rest (Some t) (Some u) one two =
 
 -- whether a token is refused as too large, or as too long
 abbrev is_large : Kind → Bool
-is_large (k.Number n) = nat_lt 65535 n
+is_large (k.Number n) = nat_lt 4294967295 n
 is_large (k.Char code) = nat_lt 255 code
 is_large (k.Name bytes) = false
 is_large (k.Word w) = false
@@ -94,7 +94,7 @@ is_large (k.Text value) = false
 is_large (k.Mark m) = false
 
 large_is : (kind : Kind) → IsTooLarge kind → is_large kind ≡ true
-large_is (k.Number n) large = lt-ltb 65535 n large
+large_is (k.Number n) large = lt-ltb 4294967295 n large
 large_is (k.Char code) large = lt-ltb 255 code large
 large_is (k.Name bytes) large = absurd large
 large_is (k.Word w) large = absurd large

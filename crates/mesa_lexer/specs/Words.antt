@@ -3,7 +3,7 @@ use Rattle.std.specs.Prelude.{ℕ, List, [], ◌∷◌, Option, Some, None, if�
 use Rattle.std.specs.Borrow.{Bor}
 use Rattle.mesa_lexer.specs.Blanks.{begins_with}
 use Rattle.mesa_lexer.specs.declared.word.Word.{Word}
-use Rattle.mesa_lexer.specs.declared.word.Word.TheVariants.{AndWord, AnyWord, ArrayWord, BeginWord, BooleanWord, CardinalWord, CharacterWord, CodeWord, ConfigurationWord, ContinueWord, ControlWord, DecreasingWord, DefinitionsWord, DirectoryWord, DoWord, ElseWord, EnableWord, EndWord, EndcaseWord, EndloopWord, ErrorWord, ExitWord, ExitsWord, ExportsWord, FalseWord, FinishedWord, ForWord, FromWord, GoWord, GotoWord, IfWord, ImportsWord, InWord, IntegerWord, LoopWord, ModWord, NotWord, NullWord, OfWord, OpenWord, OrWord, PrivateWord, ProcWord, ProcedureWord, ProgramWord, PublicWord, RecordWord, RejectWord, RepeatWord, ResumeWord, RetryWord, ReturnWord, ReturnsWord, SelectWord, SignalWord, StringWord, ThenWord, ThroughWord, ToWord, TrueWord, TypeWord, UntilWord, UnwindWord, UsingWord, WhileWord, AbsWord, BaseWord, BroadcastWord, DependentWord, DescriptorWord, EntryWord, FirstWord, ForkWord, InlineWord, InternalWord, JoinWord, LastWord, LengthWord, LinksWord, LongWord, LoopholeWord, MachineWord, MaxWord, MinWord, MonitorWord, NewWord, NotifyWord, PackWord, PackedWord, PlusWord, PointerWord, PortWord, ProcessWord, RealWord, RelativeWord, RestartWord, SharesWord, SizeWord, StartWord, StateWord, StopWord, TransferWord, WaitWord, WithWord}
+use Rattle.mesa_lexer.specs.declared.word.Word.TheVariants.{AndWord, AnyWord, ArrayWord, BeginWord, BooleanWord, CardinalWord, CharacterWord, CodeWord, ConfigurationWord, ContinueWord, ControlWord, DecreasingWord, DefinitionsWord, DirectoryWord, DoWord, ElseWord, EnableWord, EndWord, EndcaseWord, EndloopWord, ErrorWord, ExitWord, ExitsWord, ExportsWord, FalseWord, FinishedWord, ForWord, FromWord, GoWord, GotoWord, IfWord, ImportsWord, InWord, IntegerWord, LongWord, LoopWord, ModWord, NotWord, NullWord, OfWord, OpenWord, OrWord, PrivateWord, ProcWord, ProcedureWord, ProgramWord, PublicWord, RecordWord, RejectWord, RepeatWord, ResumeWord, RetryWord, ReturnWord, ReturnsWord, SelectWord, SignalWord, StringWord, ThenWord, ThroughWord, ToWord, TrueWord, TypeWord, UntilWord, UnwindWord, UsingWord, WhileWord, AbsWord, BaseWord, BroadcastWord, DependentWord, DescriptorWord, EntryWord, FirstWord, ForkWord, InlineWord, InternalWord, JoinWord, LastWord, LengthWord, LinksWord, LoopholeWord, MachineWord, MaxWord, MinWord, MonitorWord, NewWord, NotifyWord, PackWord, PackedWord, PlusWord, PointerWord, PortWord, ProcessWord, RealWord, RelativeWord, RestartWord, SharesWord, SizeWord, StartWord, StateWord, StopWord, TransferWord, WaitWord, WithWord}
 
 -- the value beside this spelling in a table, if there is one
 abbrev pub spelled : {A : Type 0} → List (List ℕ × A) → List ℕ → Option A
@@ -46,6 +46,7 @@ words = (codes "AND", AndWord)
     ∷ (codes "IMPORTS", ImportsWord)
     ∷ (codes "IN", InWord)
     ∷ (codes "INTEGER", IntegerWord)
+    ∷ (codes "LONG", LongWord)
     ∷ (codes "LOOP", LoopWord)
     ∷ (codes "MOD", ModWord)
     ∷ (codes "NOT", NotWord)
@@ -91,7 +92,6 @@ words = (codes "AND", AndWord)
     ∷ (codes "LAST", LastWord)
     ∷ (codes "LENGTH", LengthWord)
     ∷ (codes "LINKS", LinksWord)
-    ∷ (codes "LONG", LongWord)
     ∷ (codes "LOOPHOLE", LoopholeWord)
     ∷ (codes "MACHINE", MachineWord)
     ∷ (codes "MAX", MaxWord)

@@ -1,3 +1,4 @@
+//! How long a comment is.
 ghost use Rattle.std.specs.Prelude.{◌≡◌, ◌≤◌, length};
 ghost use Rattle.mesa_lexer.specs.Lexed.{comment_len};
 

@@ -1,3 +1,4 @@
+//! Why a text has no list of tokens, and why the tokens of a text are none of a grammar.
 ghost use Rattle.std.specs.Prelude.{◌≡◌};
 ghost use Rattle.mesa_lexer.specs.Faults.{lexical_name, lexical_place, syntax_name, syntax_place};
 
@@ -11,7 +12,7 @@ pub enum LexFault {
     BadByte(Place),
     /// The text ends inside this string.
     OpenString(Place),
-    /// The number is above 65,535, or the character's code above 255.
+    /// The number is above 4,294,967,295, or the character's code above 255.
     NumberTooLarge(Place),
     /// The identifier has more than 255 bytes, or the string's value more than 32,767.
     TokenTooLong(Place),

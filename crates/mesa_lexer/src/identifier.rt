@@ -1,3 +1,4 @@
+//! The name or word that begins with a letter.
 ghost use Rattle.std.specs.Prelude.{◌≡◌, IfOk, IsTrue};
 ghost use Rattle.mesa_base.specs.Name.{begins_with_letter};
 ghost use Rattle.mesa_lexer.specs.Lexed.{identifier_lexed};

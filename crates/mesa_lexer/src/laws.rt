@@ -1,3 +1,4 @@
+//! The law that a text has either a list of tokens or a lexical fault.
 ghost use Rattle.std.specs.Prelude.{ℕ, List};
 ghost use Rattle.mesa_lexer.specs.Answer.{HasOneAnswer};
 

@@ -1,3 +1,4 @@
+//! What may stand at a place of a text: a gap, a token, or why there is neither.
 use crate::token::Kind;
 
 /// What stands at a place of a text, with the count of its bytes.

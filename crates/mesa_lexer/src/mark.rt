@@ -1,3 +1,5 @@
+//! The marks of the language.
+
 /// The marks. `_` and U+2190 are one mark, the arrow.
 #[derive(Clone, Copy, PartialEq, Eq)]
 pub enum Mark {

@@ -1,3 +1,4 @@
+//! Lines and columns, kept while bytes are passed.
 ghost use Rattle.std.specs.Prelude.{◌≡◌, ◌+◌, ◌<◌, ◌^◌, ◌-◌, ℕ, List, [], ◌++◌, length};
 ghost use Rattle.mesa_lexer.specs.Positions.{IsBehind, passed, place_of, step_over};
 

@@ -1,3 +1,4 @@
+//! The scan of a text for its tokens, or for its first fault.
 ghost use Rattle.std.specs.Prelude.{◌≡◌, ◌≢◌, ◌+◌, ◌^◌, ◌<◌, ◌≤◌, length, IfOk, IfErr, MatchResult};
 ghost use Rattle.mesa_lexer.specs.Lexed.{Stands};
 ghost use Rattle.mesa_lexer.specs.Advances.{Refuses, Advances};

@@ -1,3 +1,4 @@
+//! Tokens, and the list of those of a text.
 ghost use Rattle.std.specs.Prelude.{◌≡◌, length, slice_get};
 ghost use Rattle.std.specs.Option.{option_copied};
 

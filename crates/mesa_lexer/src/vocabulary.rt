@@ -75,11 +75,11 @@ const WITH_I: [Row; 6] = [
 const WITH_J: [Row; 1] = [(b"JOIN", Word::JoinWord)];
 
 const WITH_L: [Row; 6] = [
+    (b"LONG", Word::LongWord),
     (b"LOOP", Word::LoopWord),
     (b"LAST", Word::LastWord),
     (b"LENGTH", Word::LengthWord),
     (b"LINKS", Word::LinksWord),
-    (b"LONG", Word::LongWord),
     (b"LOOPHOLE", Word::LoopholeWord),
 ];
 

@@ -1,3 +1,5 @@
+//! The reserved words of the language.
+
 /// The reserved words of the language, and behind them the words that the language reserves and this project leaves out:
 /// tokens that no production takes (Language Manual, appendix on reserved words).
 #[derive(Clone, Copy, PartialEq, Eq)]
@@ -36,6 +38,7 @@ pub enum Word {
     ImportsWord,
     InWord,
     IntegerWord,
+    LongWord,
     LoopWord,
     ModWord,
     NotWord,
@@ -81,7 +84,6 @@ pub enum Word {
     LastWord,
     LengthWord,
     LinksWord,
-    LongWord,
     LoopholeWord,
     MachineWord,
     MaxWord,

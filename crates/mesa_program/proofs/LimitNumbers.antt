@@ -11,7 +11,7 @@ identifier = refl
 pub string : STRING_BYTES ≡ 32767
 string = refl
 
-pub number : GREATEST_NUMBER ≡ 65535
+pub number : GREATEST_NUMBER ≡ 4294967295
 number = refl
 
 pub character : GREATEST_CHARACTER ≡ 255

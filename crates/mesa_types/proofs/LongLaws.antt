@@ -1,5 +1,5 @@
 -- What conversions and operators make of LONG numbers are LONG numbers, or words; two words and their number lead to each other.
-use Rattle.std.proofs.Common.{◌≡◌, ℕ, zero, suc, ◌+◌, ◌-◌, ◌*◌, ◌/◌, ◌%◌, ◌<◌, ◌≤◌, Bool, true, false, refl, arith}
+use Rattle.std.proofs.Common.{◌≡◌, ℕ, zero, suc, ◌+◌, ◌-◌, ◌*◌, ◌/◌, ◌%◌, ◌<◌, ◌≤◌, Bool, true, false, refl, ap, arith}
 use Rattle.std.specs.Prelude.{◌&&◌, nat_lt, nat_le}
 use Rattle.std.proofs.Math.Nat.{div-le_self, mod-le}
 use Rattle.std.proofs.lemmas.Bool.Decides.{nat_tests}
@@ -7,8 +7,8 @@ use Rattle.mesa_types.specs.declared.typed_parts.Base.{Base}
 use Rattle.mesa_types.specs.declared.typed_parts.Base.TheVariants.{Signed, Unsigned}
 use Rattle.mesa_types.specs.declared.typed_parts.Operator.{Operator}
 use Rattle.mesa_types.specs.declared.typed_parts.Operator.TheVariants.{Add, Subtract, Multiply, Divide, Modulo, AddToCharacter, SubtractFromCharacter}
-use Rattle.mesa_types.specs.Operators.{Tried, Fine, Faulty, differ, by_divisor}
-use Rattle.mesa_types.specs.Longs.{more_of, less_of, long_of, wrap_long, shifted_long, opposite_long, is_negative_long, long_magnitude_if, long_magnitude, with_sign_long, quotient_long, remainder_long, tried_long, is_word_of}
+use Rattle.mesa_types.specs.Operators.{Tried, Fine, Faulty, differ, by_divisor, is_negative, fine_if}
+use Rattle.mesa_types.specs.Longs.{more_of, less_of, long_of, wrap_long, shifted_long, opposite_long, is_negative_long, long_magnitude_if, long_magnitude, with_sign_long, quotient_long, remainder_long, tried_long, extended_if, extended, is_word_of, narrowed}
 
 -- Words.
 

@@ -1,7 +1,7 @@
 -- Each part of a sound tree has a node; a statement has at most three hidden words for each of its nodes.
 use Rattle.std.proofs.Common.{◌≡◌, ℕ, zero, suc, ◌+◌, ◌-◌, ◌*◌, ◌<◌, ◌≤◌, List, [], ◌∷◌, length, refl, ap, arith}
 use Rattle.std.specs.Prelude.{◌≢◌, true, false}
-use Rattle.mesa_types.specs.Typed.{Home, PastStatement, ToLabel, ToReturn, Point, Start, point_of, Kinds, Expr, Number, Literal, Variable, FieldOf, LengthOf, ByteOf, Checked, Operate, Negate, Relate, Within, Not, AllOf, SomeOf, Construct, Call, Raise, Exprs, NoExprs, AndExpr, Suffixes, NoSuffix, Field, Index, Operations, NoOperation, Then, Interval, Between, Phrase, NoPhrase, Catch, Arms, NoArms, AndArm, Stmt, Null, Marked, Declare, DeclareAs, Assign, Extract, Perform, If, Select, Block, Repeat, For, Jump, ReturnWith, Resume, Reject, Retry, Continue, Stmts, NoStmts, AndStmt, Targets, NoTargets, AndTarget, Cases, Otherwise, AndCase, Tests, NoTests, IfRelated, IfWithin, Exits, NoExits, AndExit, Loop, LoopOf, Finish, NoFinish, Finished, Condition, Always, While, Until}
+use Rattle.mesa_types.specs.Typed.{Home, PastStatement, ToLabel, ToReturn, Point, Start, point_of, Kinds, Expr, Number, Literal, Variable, FieldOf, LengthOf, ByteOf, Checked, Operate, Negate, Relate, Within, Not, AllOf, SomeOf, Construct, Call, Raise, Exprs, NoExprs, AndExpr, Suffixes, NoSuffix, Field, Index, Operations, NoOperation, Then, Interval, Between, Phrase, NoPhrase, Catch, Arms, NoArms, AndArm, Stmt, Null, Marked, Declare, DeclareAs, Assign, Extract, Perform, If, Select, Block, Repeat, For, Jump, ReturnWith, Resume, Reject, Retry, Continue, Stmts, NoStmts, AndStmt, Targets, NoTargets, AndTarget, Cases, Otherwise, AndCase, Tests, NoTests, IfRelated, IfWithin, Exits, NoExits, AndExit, Loop, LoopOf, Finish, NoFinish, Finished, Condition, Always, While, Until, LongNumber, Converted, OperateLong, NegateLong, RelateLong, WithinLong, SelectLong, AndConverted, IfRelatedLong, IfWithinLong}
 use Rattle.mesa_types.specs.Shapes.{one}
 use Rattle.mesa_types.specs.Counts.{hidden, hidden_expr, hidden_exprs, hidden_suffixes, hidden_operations, hidden_interval, hidden_phrase, hidden_arms, hidden_stmts, hidden_targets, hidden_cases, hidden_tests, hidden_exits, hidden_loop, hidden_finish, hidden_condition}
 use Rattle.mesa_types.specs.Nodes.{count_of, expr_nodes, exprs_nodes, suffixes_nodes, operations_nodes, interval_nodes, phrase_nodes, arms_nodes, stmt_nodes, stmts_nodes, targets_nodes, cases_nodes, tests_nodes, exits_nodes, loop_nodes, finish_nodes, condition_nodes}
@@ -26,16 +26,22 @@ module _ (Γ : Scope) where
   expr_has_node : (e : Expr) (ks : Kinds) → ExprIn Γ e ks → 0 < expr_nodes e
   unfolding ExprIn expr_nodes
   expr_has_node (Number n) ks h = omega arith
+  expr_has_node (LongNumber n) ks h = omega arith
   expr_has_node (Literal k) ks h = omega arith
   expr_has_node (Variable v s words) ks h = omega arith
   expr_has_node (FieldOf e parts) ks h = omega arith
   expr_has_node (LengthOf e) ks h = omega arith
   expr_has_node (ByteOf e i) ks h = omega arith
   expr_has_node (Checked r e) ks h = omega arith
+  expr_has_node (Converted c e) ks h = omega arith
   expr_has_node (Operate e os) ks h = omega (arith, expr_has_node e _ h.0)
+  expr_has_node (OperateLong e os) ks h = omega (arith, expr_has_node e _ h.0)
   expr_has_node (Negate e) ks h = omega arith
+  expr_has_node (NegateLong e) ks h = omega arith
   expr_has_node (Relate b o d e) ks h = omega arith
+  expr_has_node (RelateLong b o d e) ks h = omega arith
   expr_has_node (Within b e i) ks h = omega arith
+  expr_has_node (WithinLong b e i) ks h = omega arith
   expr_has_node (Not e) ks h = omega arith
   expr_has_node (AllOf es) ks h = omega (arith, h.0)
   expr_has_node (SomeOf es) ks h = omega (arith, h.0)
@@ -59,6 +65,7 @@ stmt_has_node (Extract of_record ts e) Γ h = omega arith
 stmt_has_node (Perform e) Γ h = omega arith
 stmt_has_node (If e s t) Γ h = omega arith
 stmt_has_node (Select e cs) Γ h = omega arith
+stmt_has_node (SelectLong e cs) Γ h = omega arith
 stmt_has_node (Block ph ss es) Γ h = omega arith
 stmt_has_node (Repeat c l) Γ h = omega arith
 stmt_has_node (For g down b i l) Γ h = omega arith
@@ -77,16 +84,22 @@ mutual
 
   of_expr : (e : Expr) → hidden_expr e ≤ 3 * expr_nodes e
   of_expr (Number n) = omega arith
+  of_expr (LongNumber n) = omega arith
   of_expr (Literal k) = omega arith
   of_expr (Variable h s words) = omega (arith, of_suffixes s)
   of_expr (FieldOf e parts) = omega (arith, of_expr e)
   of_expr (LengthOf e) = omega (arith, of_expr e)
   of_expr (ByteOf e i) = omega (arith, of_expr e, of_expr i)
   of_expr (Checked r e) = omega (arith, of_expr e)
+  of_expr (Converted c e) = omega (arith, of_expr e)
   of_expr (Operate e os) = omega (arith, of_expr e, of_operations os)
+  of_expr (OperateLong e os) = omega (arith, of_expr e, of_operations os)
   of_expr (Negate e) = omega (arith, of_expr e)
+  of_expr (NegateLong e) = omega (arith, of_expr e)
   of_expr (Relate b o d e) = omega (arith, of_expr d, of_expr e)
+  of_expr (RelateLong b o d e) = omega (arith, of_expr d, of_expr e)
   of_expr (Within b e i) = omega (arith, of_expr e, of_interval i)
+  of_expr (WithinLong b e i) = omega (arith, of_expr e, of_interval i)
   of_expr (Not e) = omega (arith, of_expr e)
   of_expr (AllOf es) = omega (arith, of_exprs es)
   of_expr (SomeOf es) = omega (arith, of_exprs es)
@@ -128,6 +141,7 @@ mutual
   of_stmt (Perform e) = omega (arith, of_expr e)
   of_stmt (If e s t) = omega (arith, of_expr e, of_stmt s, of_stmt t)
   of_stmt (Select e cs) = omega (arith, of_expr e, of_cases cs)
+  of_stmt (SelectLong e cs) = omega (arith, of_expr e, of_cases cs)
   of_stmt (Block ph ss es) = omega (arith, of_phrase ph, of_stmts ss, of_exits es)
   of_stmt (Repeat c l) = omega (arith, of_loop l)
   of_stmt (For g down b i l) = omega (arith, of_interval i, of_loop l)
@@ -145,6 +159,7 @@ mutual
   of_targets : (ts : Targets) → hidden_targets ts ≤ 3 * targets_nodes ts
   of_targets NoTargets = omega arith
   of_targets (AndTarget p h s r ts) = omega (arith, of_suffixes s, of_targets ts)
+  of_targets (AndConverted p h s c ts) = omega (arith, of_suffixes s, of_targets ts)
 
   of_cases : (cs : Cases) → hidden_cases cs ≤ 3 * cases_nodes cs
   of_cases (Otherwise s) = of_stmt s
@@ -153,7 +168,9 @@ mutual
   of_tests : (ts : Tests) → hidden_tests ts ≤ 3 * tests_nodes ts
   of_tests NoTests = omega arith
   of_tests (IfRelated r b o e ts) = omega (arith, of_expr e, of_tests ts)
+  of_tests (IfRelatedLong c b o e ts) = omega (arith, of_expr e, of_tests ts)
   of_tests (IfWithin negated b i ts) = omega (arith, of_interval i, of_tests ts)
+  of_tests (IfWithinLong negated c b i ts) = omega (arith, of_interval i, of_tests ts)
 
   of_exits : (es : Exits) → hidden_exits es ≤ 3 * exits_nodes es
   of_exits NoExits = omega arith

@@ -1,15 +1,18 @@
 -- What operators, relations and conversions make of LONG numbers: a number, a word, or the fault that is raised in its place.
 -- LONG INTEGER is -2147483648 to 2147483647, LONG CARDINAL 0 to 4294967295 (rule of this project, beside Operators, which has
 -- the same of words). A LONG number stands here as what its two words spell, the more significant one first: below 4294967296.
-use Rattle.std.specs.Prelude.{ℕ, ◌+◌, ◌-◌, ◌*◌, ◌/◌, ◌%◌, List, [], ◌∷◌, Bool, true, false, not, ◌&&◌, nat_eq, nat_lt, nat_le}
+use Rattle.std.specs.Prelude.{ℕ, zero, suc, ◌+◌, ◌-◌, ◌*◌, ◌/◌, ◌%◌, List, [], ◌∷◌, Bool, true, false, not, ◌&&◌, nat_eq, nat_lt, nat_le}
 use Rattle.mesa_types.specs.declared.typed_parts.Base.{Base}
 use Rattle.mesa_types.specs.declared.typed_parts.Base.TheVariants.{Signed, Unsigned}
 use Rattle.mesa_types.specs.declared.typed_parts.Bases.{Bases}
+use Rattle.mesa_types.specs.declared.typed_parts.Range.{Range}
 use Rattle.mesa_types.specs.declared.typed_parts.Operator.{Operator}
 use Rattle.mesa_types.specs.declared.typed_parts.Operator.TheVariants.{Add, Subtract, Multiply, Divide, Modulo, AddToCharacter, SubtractFromCharacter}
+use Rattle.mesa_types.specs.declared.typed_parts.Conversion.{Conversion}
+use Rattle.mesa_types.specs.declared.typed_parts.Conversion.TheVariants.{Kept, Widened, Narrowed, InCommon}
 use Rattle.held_trees.specs.mesa_base.specs.declared.relation.Relation.{Relation}
 use Rattle.held_trees.specs.mesa_base.specs.declared.relation.Relation.TheVariants.{Equal, NotEqual, Less, AtMost, Greater, AtLeast}
-use Rattle.mesa_types.specs.Operators.{Tried, Fine, differ, past, fine_if, by_divisor, is_negative}
+use Rattle.mesa_types.specs.Operators.{Tried, Fine, Faulty, differ, past, fine_if, by_divisor, checked, wrap, is_negative}
 
 -- the two words of a LONG number, the more significant one first; and the number of two words
 unfoldable pub more_of : ℕ → ℕ
@@ -112,3 +115,14 @@ is_word_of Unsigned p = nat_le 2147483648 p && nat_lt p 2147549184
 
 unfoldable pub narrowed : (from to : Base) → ℕ → Tried
 narrowed from to n = fine_if (is_word_of to (shifted_long from n)) (less_of n)
+
+unfoldable pub on_fine : Tried → (ℕ → Tried) → Tried
+on_fine (Fine n) k = k n
+on_fine (Faulty f) k = Faulty f
+
+-- what a conversion makes of a number; the number that it takes is a word where it widens, else a LONG one
+unfoldable pub converted : Conversion → ℕ → Tried
+converted Kept n = Fine n
+converted (Widened from to) w = widened from to w
+converted (Narrowed from to r) n = on_fine (narrowed from to n) (checked r)
+converted InCommon n = fine_if (is_in_common n) n

@@ -1,15 +1,15 @@
 -- The turns of loops over the instructions and the procedures of a module.
-use Rattle.std.proofs.Common.{◌≡◌, ℕ, zero, suc, ◌+◌, ◌-◌, ◌<◌, ◌≤◌, List, [], ◌∷◌, ◌++◌, length, map, Result, Ok, Err, refl, sym, ap, subst, ◌∙◌, append_assoc, arith}
+use Rattle.std.proofs.Common.{◌≡◌, ℕ, zero, suc, ◌+◌, ◌-◌, ◌<◌, ◌≤◌, List, [], ◌∷◌, ◌++◌, length, map, Ok, Err, refl, sym, ap, subst, ◌∙◌, arith}
 use Rattle.std.proofs.lemmas.List.{map-append}
 use Rattle.code_forms.specs.Instructions.{bytes_of}
 use Rattle.code_forms.specs.declared.instruction.Instruction.{Instruction}
 use Rattle.code_forms.specs.declared.module_code.CodeEntry.{CodeEntry}
 use Rattle.code_forms.specs.declared.module_code.CodeProcedure.{CodeProcedure}
 use Rattle.file_forms.specs.declared.stopped.Stopped.{Stopped}
-use Rattle.file_forms.specs.Forms.{Form, Reading, ◌>>=◌}
+use Rattle.file_forms.specs.Forms.{◌>>=◌}
 use Rattle.object_rules.specs.Filling.{read_full, size_of_all}
 use Rattle.object_rules.specs.Instructions.{instruction}
-use Rattle.object_rules.specs.Parts.{ProcedurePart, instructions, entries_from, procedure_part, procedure_code}
+use Rattle.object_rules.specs.Parts.{instructions, entries_from, procedure_part, procedure_code}
 
 -- ---- instructions
 

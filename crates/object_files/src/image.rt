@@ -1,3 +1,4 @@
+//! Images: their instances with links, and what they want, offer and start.
 use crate::object::Objects;
 use code_forms::mesa_base::{List, Name, Numbers, Path};
 use interface_records::Wanteds;

@@ -1,3 +1,4 @@
+//! Objects: modules that are compiled.
 use code_forms::ValidCode;
 use code_forms::mesa_base::List;
 use interface_records::mesa_types::Shape;

@@ -11,3 +11,4 @@ pub mod SameTypes
 pub mod WholeLaws
 pub mod ObjectLaws
 pub mod ImageFileLaws
+pub mod Versions

@@ -104,6 +104,8 @@ mutual
   plain_same v.Boolean v.Boolean e = refl
   plain_same v.Character v.Character e = refl
   plain_same v.String v.String e = refl
+  plain_same v.LongInteger v.LongInteger e = refl
+  plain_same v.LongCardinal v.LongCardinal e = refl
   plain_same (v.Enumeration o xs) (v.Enumeration p ys) e =
       let head : o ≡ p = origin_same o p (both_left (same_origin o p) (same_names xs ys) e) in
       let rest : xs ≡ ys = names_same xs ys (both_right (same_origin o p) (same_names xs ys) e) in
@@ -144,6 +146,8 @@ mutual
   plain_self v.Boolean = refl
   plain_self v.Character = refl
   plain_self v.String = refl
+  plain_self v.LongInteger = refl
+  plain_self v.LongCardinal = refl
   plain_self (v.Enumeration o xs) = and_both _ _ (origin_self o) (names_self xs)
   plain_self (v.Subrange k m n) = and_both _ _ (plain_self k) (and_both _ _ (nat_self m) (nat_self n))
   plain_self (v.Array i e) = and_both _ _ (plain_self i) (plain_self e)
@@ -185,6 +189,8 @@ type_here TypeTree-F.Cardinal = simp fold-roll-TypeTree (sym tree.rolls-Cardinal
 type_here TypeTree-F.Boolean = simp fold-roll-TypeTree (sym tree.rolls-Boolean)
 type_here TypeTree-F.Character = simp fold-roll-TypeTree (sym tree.rolls-Character)
 type_here TypeTree-F.String = simp fold-roll-TypeTree (sym tree.rolls-String)
+type_here TypeTree-F.LongInteger = simp fold-roll-TypeTree (sym tree.rolls-LongInteger)
+type_here TypeTree-F.LongCardinal = simp fold-roll-TypeTree (sym tree.rolls-LongCardinal)
 type_here (TypeTree-F.Enumeration o xs) = simp fold-roll-TypeTree (sym (tree.rolls-Enumeration o xs))
 type_here (TypeTree-F.Subrange k m n) = simp fold-roll-TypeTree (ap (λ j. tree.Subrange j m n) k.1 ∙ sym (tree.rolls-Subrange k.0 m n))
 type_here (TypeTree-F.Array i e) =

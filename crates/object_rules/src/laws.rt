@@ -1,3 +1,4 @@
+//! The laws of files of objects and images: one value, one spelling in a version, and one first fault at most.
 ghost use Rattle.object_rules.specs.Exact.{OneObject, OneObjectSpelling, OneObjectFault, ObjectOrFault, OneImage, OneImageSpelling, OneImageFault, ImageOrFault};
 
 /// Bytes are the file of one object at most, in one version, depths aside.

@@ -1,3 +1,4 @@
+//! Why bytes are no file of an object or an image.
 use code_forms::CodeFault;
 use mesa_base::Field;
 

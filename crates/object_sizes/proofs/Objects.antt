@@ -10,7 +10,7 @@ use Rattle.interface_records.specs.declared.interface.Interface.{Interface}
 use Rattle.check_rules.specs.CheckedModule.{checked}
 use Rattle.check_rules.specs.Steps.{Checked}
 use Rattle.check_rules.specs.Typed as t
-use Rattle.check_rules.proofs.KeptModule.{few_nodes}
+use Rattle.typing_laws.proofs.KeptModule.{few_nodes}
 use Rattle.checking_laws.specs.Sizes.{SizedBy, item_bytes, head_bytes, literal_bytes, imports_count, exports_count, interfaces_count}
 use Rattle.checking_laws.specs.UsedItems.{used_items}
 use Rattle.checking_laws.specs.Weights.{one_each, kind_weight, module_weight}

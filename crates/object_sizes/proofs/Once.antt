@@ -16,8 +16,7 @@ use Rattle.check_rules.specs.CheckedModule.{checked, program, program_by, lists,
 use Rattle.check_rules.specs.Typed as t
 use Rattle.check_rules.specs.declared.fault.Cause.{Cause}
 use Rattle.check_rules.specs.declared.fault.Cause.TheVariants.{TwiceDeclared, UnknownName}
-use Rattle.check_rules.proofs.SoundSame.{bytes_same}
-use Rattle.check_rules.proofs.SoundDirectory.{bytes_itself}
+use Rattle.check_rules.proofs.SoundSame.{bytes_itself, bytes_same}
 use Rattle.object_sizes.specs.TextSizes.{is_built_in}
 
 -- a step that gives a value, before another that does

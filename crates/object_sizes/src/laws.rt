@@ -1,3 +1,4 @@
+//! The laws of the size of a text's object, and of what an instance of it adds to an image.
 ghost use Rattle.object_sizes.specs.Laws.{InstancesAreShort, ObjectsAreShort};
 
 /// A law: the file of a text's object has at most 160 bytes for each byte of the text and 4 for each byte of its interfaces' files, and 1,000 more.

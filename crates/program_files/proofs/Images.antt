@@ -36,7 +36,7 @@ linked : (t : Tree) (modules : List Module) (objects : List Object) (files : Lis
 unfolding image_of
 linked t modules objects files shapes are none named h = record {
   fits = λ counts.
-      linked_images_fit 2 t objects (record {
+      linked_images_fit t objects (record {
         tree = link_tree t modules objects are shapes;
         agree = subst (λ (ss : List Shape). Agree (all_faces ss)) (sym (shapes_are modules objects are)) shapes.agree;
         none_bad = none;

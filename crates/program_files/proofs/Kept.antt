@@ -81,7 +81,7 @@ its o h few = record {
 }
 
 pub fits : (o : Object) → CanBeFiled o → FewLinksAndArms o.code.links o.code.procedures → (module_form 2).fits (parts_of o)
-fits o h few = objects_of_modules_fit 2 h.typed o h.kept.sound h.kept.named (subst ShapeCanBeSpelled (sym h.object.object.shape) h.kept.shape) (its o h few)
+fits o h few = objects_of_modules_fit h.typed o h.kept.sound h.kept.named (subst ShapeCanBeSpelled (sym h.object.object.shape) h.kept.shape) (its o h few)
 
 pub whole : (o : Object) → CanBeFiled o → FewLinksAndArms o.code.links o.code.procedures → IsWhole o
 whole o h few = objects_are_whole h.typed o (its o h few)

@@ -14,7 +14,7 @@ use Rattle.mesa_types.specs.declared.faces.Pair.{Pair}
 use Rattle.check_scopes.specs.Scopes.{has}
 use Rattle.interface_records.specs.Lists.{Ascend, NoneTwice}
 use Rattle.interface_records.specs.PlainTypes.{plain_item}
-use Rattle.interface_records.specs.Spelled.{InFourBytes, ImportCanBeSpelled, ExportCanBeSpelled, FaceCanBeSpelled, item_numbers}
+use Rattle.interface_records.specs.Spelled.{InFourBytes, ImportCanBeSpelled, ExportCanBeSpelled, FaceCanBeSpelled, ShapeCanBeSpelled, item_numbers}
 use Rattle.config_rules.specs.InOrder.{NamesDiffer, NumbersIn}
 use Rattle.code_forms.specs.declared.module_code.CodeSignal.{CodeSignal}
 use Rattle.spelled_laws.specs.face_rules.specs.FaceForms.{item_names}
@@ -25,6 +25,8 @@ use Rattle.object_rules.specs.Numbers.{number_where, last_of}
 use Rattle.object_rules.specs.ModuleForms.{is_next}
 use Rattle.object_rules.specs.Parts.{ProcedurePart, parts_of}
 use Rattle.object_rules.proofs.AllFit.{all_fit}
+use Rattle.object_rules.proofs.Versions.{module_grows}
+use Rattle.object_files.specs.declared.object.Object.{Object}
 use Rattle.read_files.specs.Laws.{ImportsFit, SpelledShapesAreInOrder, ShapesOfObjectsCanBeSpelled, ShapesOfObjectsAreInOrder}
 use Rattle.read_files.proofs.Ascending.{each_ascends, ascend_each, last_grows, ascending, all_below}
 
@@ -34,11 +36,11 @@ word_before : (i : Import) (n : ℕ) → ImportCanBeSpelled i → n < length i.f
 word_before i n h less =
     let few : length (map plain_item i.face.items) < 4294967296 = h.face.count in omega (arith, less, few, length-map i.face.items plain_item)
 
-import_fits : (version : ℕ) (i : Import) → ImportCanBeSpelled i → (import_form version).fits i
+import_fits : (i : Import) → ImportCanBeSpelled i → (import_form 2).fits i
 unfolding import_form
-import_fits version i h =
+import_fits i h =
     let few : length i.used < 4294967296 = h.count in (
-      (faces_fit version i.face).0 h.face,
+      (faces_fit i.face).0 h.face,
       (
         (few, le-leb 0 (length i.used) (omega arith)),
         (
@@ -50,27 +52,27 @@ import_fits version i h =
       ),
     )
 
-import_can : (version : ℕ) (i : Import) → (import_form version).fits i → ImportCanBeSpelled i
+import_can : (i : Import) → (import_form 2).fits i → ImportCanBeSpelled i
 unfolding import_form
-import_can version i h = record {
-  face = (faces_fit version i.face).1 h.0;
+import_can i h = record {
+  face = (faces_fit i.face).1 h.0;
   count = h.1.0.0;
   used = subst (Ascend 0 (length i.face.items)) (map-id i.used)
       (each_ascends (λ before. number_where 4 (is_next (length i.face.items) (last_of before))) (λ n. n) last_of last_grows (length i.face.items) (λ before n f. f.1) [] i.used h.1.1.1);
 }
 
 pub imports_fit : ImportsFit
-imports_fit version i = (import_fits version i, import_can version i)
+imports_fit i = (import_fits i, import_can i)
 
 -- ---- exports
 
 pub item_grows : (before : List Pair) (p : Pair) → last_item (before ++ p ∷ []) ≡ Some p.item
 item_grows before p = ap (option_map (λ (q : Pair). q.item)) (last_grows before p)
 
-export_can : (version : ℕ) (signals : List CodeSignal) (procedures : List ProcedurePart) (e : Export) → (export_form version signals procedures).fits e → ExportCanBeSpelled e
+export_can : (signals : List CodeSignal) (procedures : List ProcedurePart) (e : Export) → (export_form 2 signals procedures).fits e → ExportCanBeSpelled e
 unfolding export_form given
-export_can version signals procedures e h = record {
-  face = (faces_fit version e.face).1 h.0;
+export_can signals procedures e h = record {
+  face = (faces_fit e.face).1 h.0;
   count = h.1.0.0;
   items = each_ascends (given signals procedures e.face.items) (λ (p : Pair). p.item) last_item item_grows (length e.face.items) (λ before p f. f.0.1) [] e.given h.1.1.1;
   numbers = all_fit (λ (p : Pair). InFourBytes p.number) (given signals procedures e.face.items) (λ before p f. f.1.0) [] e.given h.1.1.1;
@@ -78,16 +80,20 @@ export_can version signals procedures e h = record {
 
 -- ---- shapes
 
-pub shapes_can_be_spelled : ShapesOfObjectsCanBeSpelled
+shape_can : (o : Object) → (module_form 2).fits (parts_of o) → ShapeCanBeSpelled o.shape
 unfolding module_form
-shapes_can_be_spelled version o h = record {
+shape_can o h = record {
   name = name_is o.shape.name h.0;
   import_count = h.1.0.0.0;
-  imports = all_fit ImportCanBeSpelled (λ _. import_form version) (λ _ i. import_can version i) [] o.shape.imports h.1.0.1.1;
+  imports = all_fit ImportCanBeSpelled (λ _. import_form 2) (λ _ i. import_can i) [] o.shape.imports h.1.0.1.1;
   export_count = h.1.1.1.1.1.1.0.0;
-  exports = all_fit ExportCanBeSpelled (λ _. export_form version (parts_of o).signals (parts_of o).procedures)
-      (λ _ e. export_can version (parts_of o).signals (parts_of o).procedures e) [] o.shape.exports h.1.1.1.1.1.1.1.1;
+  exports = all_fit ExportCanBeSpelled (λ _. export_form 2 (parts_of o).signals (parts_of o).procedures)
+      (λ _ e. export_can (parts_of o).signals (parts_of o).procedures e) [] o.shape.exports h.1.1.1.1.1.1.1.1;
 }
+
+-- what fits in some version fits in version 2
+pub shapes_can_be_spelled : ShapesOfObjectsCanBeSpelled
+shapes_can_be_spelled version o h = shape_can o ((module_grows version).fits (parts_of o) h)
 
 -- names of which none stands twice differ
 among : (is : List Item) (b : ℕ) (j : Item) → slice_get is b ≡ Some j → (x : List ℕ) → x ≡ j.name → has x (item_names is) ≡ true

@@ -13,9 +13,9 @@ use Rattle.object_rules.specs.ModuleForms.{import_form, module_form}
 use Rattle.object_rules.specs.ObjectFiles.{IsObjectFile}
 use Rattle.object_rules.specs.Parts.{parts_of, IsWhole}
 
--- files can spell an import exactly where its form fits it
+-- files can spell an import exactly where its form in version 2 fits it
 abbrev pub ImportsFit : Type 0
-ImportsFit = (version : ℕ) (i : Import) → ImportCanBeSpelled i ↔ (import_form version).fits i
+ImportsFit = (i : Import) → ImportCanBeSpelled i ↔ (import_form 2).fits i
 
 -- a shape that files can spell is in order
 abbrev pub SpelledShapesAreInOrder : Type 0

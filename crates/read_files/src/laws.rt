@@ -1,3 +1,4 @@
+//! The laws of imports, shapes and images: what files can spell, what forms fit, and what is in order.
 ghost use Rattle.read_files.specs.Laws.{
   ImagesOfFilesAreInOrder,
   ImagesThatFitAreInOrder,
@@ -9,7 +10,6 @@ ghost use Rattle.read_files.specs.Laws.{
 };
 
 /// A law: files can spell an import exactly where its form fits it.
-#[tactic(auto, using(crate::proofs::Shapes::imports_fit))]
 pub fn imports_fit()
     ensures { ImportsFit }
 {}

@@ -1,14 +1,19 @@
 -- What the walk does at a catch phrase, and what is told of a statement whose parts it reads one by one.
-use Rattle.std.proofs.Common.{◌≡◌, ℕ, List, [], ◌∷◌, ◌++◌, length, map, refl, sym, ap, ◌∙◌, append_assoc}
+use Rattle.std.proofs.Common.{◌≡◌, ◌⊎◌, inl, inr, ℕ, List, [], ◌∷◌, ◌++◌, length, map, refl, sym, ap, ◌∙◌, append_assoc}
 use Rattle.std.specs.Prelude.{Bool, slice_set, IfOk, Result}
 use Rattle.std.proofs.lemmas.Result.{IfOk-equal}
 use Rattle.std.proofs.Math.Seq.{set-append_seam}
 use Rattle.std.proofs.lemmas.List.{map-set, map-append, length-map}
 use Rattle.mesa_base.specs.Chain.{chain}
-use Rattle.mesa_types.specs.Plain.{arm, case, exit, expr, exprs, interval, loop, phrase, stmt, stmts, condition_step, phrase_step, suffix_step, test_step, expr_step, stmt_step, arm_step, case_step, exit_step, interval_step, loop_step, operation_step, target_step}
+use Rattle.mesa_types.specs.Plain.{arm, case, exit, expr, exprs, interval, loop, phrase, stmt, stmts, suffix, target, target_by, condition_step, phrase_step, suffix_step, test_step, expr_step, stmt_step, arm_step, case_step, exit_step, interval_step, loop_step, operation_step, target_step}
 use Rattle.mesa_types.specs.Typed as t
 use Rattle.mesa_types.specs.declared.typed_parts.Base.{Base}
+use Rattle.mesa_types.specs.declared.typed_parts.Conversion.{Conversion}
+use Rattle.mesa_types.specs.declared.typed_parts.Conversion.TheVariants.{Kept, Widened, Narrowed, InCommon}
 use Rattle.mesa_types.specs.declared.typed_parts.Given.{Given}
+use Rattle.mesa_types.specs.declared.typed_parts.Home.{Home}
+use Rattle.mesa_types.specs.declared.typed_parts.Part.{Part}
+use Rattle.mesa_types.specs.declared.typed_parts.Range.{Range}
 use Rattle.mesa_types.specs.declared.typed_tree.Arm.{Arm}
 use Rattle.mesa_types.specs.declared.typed_tree.Case.{Case}
 use Rattle.mesa_types.specs.declared.typed_tree.Exit.{Exit}
@@ -16,13 +21,14 @@ use Rattle.mesa_types.specs.declared.typed_tree.Interval.{Interval}
 use Rattle.mesa_types.specs.declared.typed_tree.Loop.{Loop}
 use Rattle.mesa_types.specs.declared.typed_tree.Phrase.{Phrase}
 use Rattle.mesa_types.specs.declared.typed_tree.Phrase.TheVariants as v
+use Rattle.mesa_types.specs.declared.typed_tree.Target.{Target}
 use Rattle.mesa_types.specs.declared.typed_tree.TypedExpr.{TypedExpr}
 use Rattle.mesa_types.specs.declared.typed_tree.TypedStmt.{TypedStmt}
 use Rattle.mesa_types.specs.declared.typed_tree.TypedStmt.TheVariants as v_stmt
-use Rattle.mesa_types.specs.declared.typed_tree.Condition.TheFolds.{fold_out-Case, fold-roll-Phrase, fold-roll-TypedStmt}
+use Rattle.mesa_types.specs.declared.typed_tree.Condition.TheFolds.{fold_out-Case, fold_out-Target, fold-roll-Phrase, fold-roll-TypedStmt}
 use Rattle.code_rules.specs.Scopes.{Found, JumpScope, PhraseScope, ◌&◌, scopes, the_phrase}
 use Rattle.code_rules.specs.Scopes as spec
-use Rattle.code_rules.specs.Told.{a_told_jump, told_arms, told_cases, told_exits, told_expr, told_exprs, told_interval, told_loop, told_phrase, told_scopes, told_stmt, told_stmts, told_tests}
+use Rattle.code_rules.specs.Told.{a_told_jump, told_arms, told_cases, told_exits, told_expr, told_exprs, told_interval, told_loop, told_phrase, told_scopes, told_stmt, told_stmts, told_suffixes, told_targets, told_tests}
 use Rattle.code_rules.proofs.Counted.{scopes_are_told}
 use Rattle.signal_scopes.specs.Bodies.{IsSoundBody}
 use Rattle.signal_scopes.specs.declared.scope_types.ArmScope.{ArmScope}
@@ -67,6 +73,26 @@ of_case c long short f h =
     (t.Exits → t.Exits) t.Interval t.Loop (t.Operations → t.Operations) (t.Targets → t.Targets)
     condition_step phrase_step suffix_step test_step expr_step stmt_step arm_step case_step
     exit_step interval_step loop_step operation_step target_step c) long short f h
+
+-- a target tells what its suffixes do, whether it converts what it takes or checks it
+told_given : (c : Conversion) (r : Range) (part : Part) (h : Home) (s : t.Suffixes) (ts : t.Targets)
+    → told_targets (target_by c r part h s ts) ≡ told_suffixes s & told_targets ts
+unfolding told_targets
+told_given Kept r part h s ts = refl
+told_given (Widened from to) r part h s ts = refl
+told_given (Narrowed from to q) r part h s ts = refl
+told_given InCommon r part h s ts = refl
+
+told_target : (x : Target) (ts : t.Targets) → told_targets (target x ts) ≡ told_suffixes (chain (map suffix x.suffixes) t.NoSuffix) & told_targets ts
+told_target x ts = rw fold_out-Target (told_given x.conversion x.check x.part x.home (chain (map suffix x.suffixes) t.NoSuffix) ts)
+
+pub target_jumps : (x : Target) (ts : t.Targets)
+    → (told_targets (target x ts)).jumps ≡ (told_suffixes (chain (map suffix x.suffixes) t.NoSuffix)).jumps ++ (told_targets ts).jumps
+target_jumps x ts = ap (λ (f : Found). f.jumps) (told_target x ts)
+
+pub target_phrases : (x : Target) (ts : t.Targets)
+    → (told_targets (target x ts)).phrases ≡ (told_suffixes (chain (map suffix x.suffixes) t.NoSuffix)).phrases ++ (told_targets ts).phrases
+target_phrases x ts = ap (λ (f : Found). f.phrases) (told_target x ts)
 
 -- the last case has no test
 told_last : (cs : List Case) (s : t.Stmt) → told_cases (chain (map case cs) (t.Otherwise s)) ≡ told_first_cases cs & told_stmt s
@@ -114,6 +140,10 @@ same_phrases f g e = ap (λ (h : Found). h.phrases) e
 select_is : (e : TypedExpr) (cs : List Case) (s : TypedStmt) → stmt (v_stmt.Select e cs s) ≡ t.Select (expr e) (chain (map case cs) (t.Otherwise (stmt s)))
 select_is e cs s = ap stmt (sym (v_stmt.rolls-Select e cs s)) ∙ rw fold-roll-TypedStmt refl
 
+select_long_is : (e : TypedExpr) (cs : List Case) (s : TypedStmt)
+    → stmt (v_stmt.SelectLong e cs s) ≡ t.SelectLong (expr e) (chain (map case cs) (t.Otherwise (stmt s)))
+select_long_is e cs s = ap stmt (sym (v_stmt.rolls-SelectLong e cs s)) ∙ rw fold-roll-TypedStmt refl
+
 block_is : (p : Phrase) (ss : List TypedStmt) (es : List Exit) → stmt (v_stmt.Block p ss es)
     ≡ t.Block (phrase p) (stmts (map stmt ss)) (chain (map exit es) t.NoExits)
 block_is p ss es = ap stmt (sym (v_stmt.rolls-Block p ss es)) ∙ rw fold-roll-TypedStmt refl
@@ -126,15 +156,26 @@ return_is : (arms : ℕ) (first : ℕ) (places : List ℕ) (es : List TypedExpr)
 return_is arms first places es = ap stmt (sym (v_stmt.rolls-ReturnWith arms first places es)) ∙ rw fold-roll-TypedStmt refl
 
 -- what is told of each, in the parts that the walk reads
-pub of_select : (x : TypedStmt) (e : TypedExpr) (cs : List Case) (s : TypedStmt) (read_cs : List Case) (read_s : TypedStmt)
-    → x ≡ v_stmt.Select e cs s → read_cs ≡ cs → read_s ≡ s → told_stmt (stmt x) ≡ told_expr (expr e) & (told_first_cases read_cs & told_stmt (stmt read_s))
-unfolding told_stmt
-of_select x e cs s read_cs read_s is is_cs is_s =
-    ap (λ y. told_stmt (stmt y)) is
-    ∙ ap told_stmt (select_is e cs s)
-    ∙ ap (λ f. told_expr (expr e) & f) (told_last cs (stmt s))
+told_selected : (e : TypedExpr) (cs : List Case) (s : TypedStmt) (read_cs : List Case) (read_s : TypedStmt) → read_cs ≡ cs → read_s ≡ s
+    → told_expr (expr e) & told_cases (chain (map case cs) (t.Otherwise (stmt s)))
+    ≡ told_expr (expr e) & (told_first_cases read_cs & told_stmt (stmt read_s))
+told_selected e cs s read_cs read_s is_cs is_s =
+    ap (λ f. told_expr (expr e) & f) (told_last cs (stmt s))
     ∙ ap (λ l. told_expr (expr e) & (told_first_cases l & told_stmt (stmt s))) (sym is_cs)
     ∙ ap (λ y. told_expr (expr e) & (told_first_cases read_cs & told_stmt (stmt y))) (sym is_s)
+
+pub of_select : (x : TypedStmt) (e : TypedExpr) (cs : List Case) (s : TypedStmt) (read_cs : List Case) (read_s : TypedStmt)
+    → (x ≡ v_stmt.Select e cs s) ⊎ (x ≡ v_stmt.SelectLong e cs s) → read_cs ≡ cs → read_s ≡ s
+    → told_stmt (stmt x) ≡ told_expr (expr e) & (told_first_cases read_cs & told_stmt (stmt read_s))
+unfolding told_stmt
+of_select x e cs s read_cs read_s (inl is) is_cs is_s =
+    ap (λ y. told_stmt (stmt y)) is
+    ∙ ap told_stmt (select_is e cs s)
+    ∙ told_selected e cs s read_cs read_s is_cs is_s
+of_select x e cs s read_cs read_s (inr is) is_cs is_s =
+    ap (λ y. told_stmt (stmt y)) is
+    ∙ ap told_stmt (select_long_is e cs s)
+    ∙ told_selected e cs s read_cs read_s is_cs is_s
 
 pub of_block : (x : TypedStmt) (p : Phrase) (ss : List TypedStmt) (es : List Exit) (read_p : Phrase) (read_ss : List TypedStmt) (read_es : List Exit)
     → x ≡ v_stmt.Block p ss es → read_p ≡ p → read_ss ≡ ss → read_es ≡ es

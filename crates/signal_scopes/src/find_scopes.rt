@@ -1,3 +1,4 @@
+//! The search of a body for its catch phrases, and for the jumps in their arms.
 ghost use Rattle.std.specs.Prelude.{◌≡◌, [], ◌∷◌, ◌++◌, map, option_map, IfOk, OnOk};
 ghost use Rattle.mesa_base.specs.Chain.{chain};
 ghost use Rattle.mesa_types.specs.Plain.{arm, case, condition, exit, expr, exprs, finish, interval, loop, operation, phrase, plain_body, stmt, stmts, suffix, target, test};
@@ -59,24 +60,28 @@ fn find_in_expr(
     ensures phrases { OnOk result (phrases_of phrases.new ≡ phrases_of phrases.old ++ (told_expr (expr e.now)).phrases) }
 {
     match e {
-        TypedExpr::Number(_) | TypedExpr::Literal(_) => Ok(()),
+        TypedExpr::Number(_) | TypedExpr::LongNumber(_) | TypedExpr::Literal(_) => Ok(()),
         TypedExpr::Variable(_, suffixes, _) => {
             find_in_suffixes(alloc, suffixes.as_slice(), jumps, phrases)
         }
         TypedExpr::FieldOf(of, _)
         | TypedExpr::LengthOf(of)
         | TypedExpr::Checked(_, of)
+        | TypedExpr::Converted(_, of)
         | TypedExpr::Negate(of)
+        | TypedExpr::NegateLong(of)
         | TypedExpr::Not(of) => find_in_expr(alloc, of.get(), jumps, phrases),
-        TypedExpr::ByteOf(left, right) | TypedExpr::Relate(_, _, left, right) => {
+        TypedExpr::ByteOf(left, right)
+        | TypedExpr::Relate(_, _, left, right)
+        | TypedExpr::RelateLong(_, _, left, right) => {
             find_in_expr(alloc, left.get(), jumps, phrases)?;
             find_in_expr(alloc, right.get(), jumps, phrases)
         }
-        TypedExpr::Operate(first, rest) => {
+        TypedExpr::Operate(first, rest) | TypedExpr::OperateLong(first, rest) => {
             find_in_expr(alloc, first.get(), jumps, phrases)?;
             find_in_operations(alloc, rest.as_slice(), jumps, phrases)
         }
-        TypedExpr::Within(_, of, interval) => {
+        TypedExpr::Within(_, of, interval) | TypedExpr::WithinLong(_, of, interval) => {
             find_in_expr(alloc, of.get(), jumps, phrases)?;
             find_in_interval(alloc, interval.get(), jumps, phrases)
         }
@@ -230,7 +235,7 @@ fn find_in_stmt(
             find_in_stmt(alloc, then.get(), jumps, phrases)?;
             find_in_stmt(alloc, otherwise.get(), jumps, phrases)
         }
-        TypedStmt::Select(e, cases, otherwise) => {
+        TypedStmt::Select(e, cases, otherwise) | TypedStmt::SelectLong(e, cases, otherwise) => {
             find_in_expr(alloc, e, jumps, phrases)?;
             find_in_cases(alloc, cases.as_slice(), jumps, phrases)?;
             find_in_stmt(alloc, otherwise.get(), jumps, phrases)
@@ -274,7 +279,7 @@ fn find_in_stmts(
 }
 
 #[cycle(scopes)]
-#[tactic(auto, unfolding(code_rules::specs::Told::told_expr))]
+#[tactic(auto, unfolding(code_rules::specs::Told::told_expr), using(crate::proofs::Steps::target_jumps, crate::proofs::Steps::target_phrases))]
 fn find_in_targets(
     alloc: Global,
     targets: &[Target],
@@ -322,8 +327,12 @@ fn find_in_tests(
 {
     for test in tests {
         match test {
-            Test::IfRelated(_, _, _, e) => find_in_expr(alloc, e, jumps, phrases)?,
-            Test::IfWithin(_, _, interval) => find_in_interval(alloc, interval, jumps, phrases)?,
+            Test::IfRelated(_, _, _, e) | Test::IfRelatedLong(_, _, _, e) => {
+                find_in_expr(alloc, e, jumps, phrases)?
+            }
+            Test::IfWithin(_, _, interval) | Test::IfWithinLong(_, _, _, interval) => {
+                find_in_interval(alloc, interval, jumps, phrases)?
+            }
         }
     }
     Ok(())

@@ -1,3 +1,4 @@
+//! Catch phrases and their arms, with the jumps that stand in each arm.
 use mesa_base::List;
 use mesa_types::Labels;
 

@@ -1,3 +1,4 @@
+//! The segments of a procedure's code, each with its innermost phrase, and the look-up at an offset.
 ghost use Rattle.std.specs.Prelude.{◌≡◌, ℕ, ◌+◌, ◌^◌, ◌*◌, ◌<◌, ◌≤◌, length, List, IfOk};
 ghost use Rattle.code_forms.specs.declared.module_code.Phrase.{Phrase};
 ghost use Rattle.signaller.specs.Index.{Indexes};

@@ -1,3 +1,4 @@
+//! The laws of searches for an arm, and of the innermost phrase at an offset.
 ghost use Rattle.signaller.specs.Laws.{TablesOfValid, AsksEnabled, BeginsInnermost, FindsEnabled, GoesOutward, StaysInside, FindsInnermost, FindsNone, AsksAll, LeavesTheRest, FindsFirst, NumbersArms};
 
 /// The phrases of each procedure of valid code are a table as the calls ask for it.

@@ -1,3 +1,4 @@
+//! The phrases outward of one: the first that has an arm that fits, and the search beyond.
 ghost use Rattle.std.specs.Prelude.{◌≡◌, ℕ, ◌+◌, ◌<◌, ◌≤◌, ◌^◌, length, Option, IfSome, position, slice_get};
 ghost use Rattle.std.specs.List.{list_any};
 ghost use Rattle.signaller.specs.Search.{covers, has, same_signal, linked, meant, is_meant, is_any, is_unwind, label_fits, first_of, around, first_place, next_place, asked, beyond, search_from};

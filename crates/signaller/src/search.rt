@@ -1,3 +1,4 @@
+//! The search for an arm: the next one for a signal, or the next UNWIND arm of a region.
 ghost use Rattle.std.specs.Prelude.{◌≡◌, ℕ, ◌+◌, ◌<◌, ◌^◌, length, IfSome};
 ghost use Rattle.signaller.specs.Search.{arms_before, numbered, next_arm, unwind_next};
 ghost use Rattle.signaller.specs.Sought.{IsPlace};

@@ -1,3 +1,4 @@
+//! The sweep over a table of phrases that gives its segments.
 ghost use Rattle.std.specs.Prelude.{◌≡◌, [], ◌∷◌, ◌++◌, ℕ, ◌+◌, ◌-◌, ◌*◌, ◌^◌, ◌<◌, ◌≤◌, length, List, IfOk, OnOk, IsTrue, false, slice_index, slice_index_or};
 ghost use Rattle.std.specs.List.Sorted.{IsNonDecreasingBy};
 ghost use Rattle.code_forms.specs.declared.module_code.Phrase.{Phrase};

@@ -1,3 +1,4 @@
+//! A hundred ranges, and the innermost phrase at each offset.
 ghost use Rattle.std.specs.Prelude.{◌≡◌, ◌<◌, ◌≤◌, IfOk};
 ghost use Rattle.signaller_examples.specs.Apart.{apart};
 

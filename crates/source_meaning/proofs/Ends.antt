@@ -2,21 +2,21 @@
 use Rattle.std.specs.Prelude.{◌≡◌, refl, ℕ, zero, suc, List, [], ◌∷◌, true, false}
 use mathlib.Core.Path.{sym, subst}
 use Rattle.std.proofs.Common.{inr}
-use Rattle.mesa_types.specs.Typed.{Number, Literal, Variable, FieldOf, LengthOf, ByteOf, Checked, Operate, Negate, Relate, Within, Not, AllOf, SomeOf, Construct, Call, Raise, Expr, Exprs, NoExprs, AndExpr, Suffixes, NoSuffix, Field, Index, Operations, NoOperation, Then, Between, Stmt, Null, Marked, Declare, DeclareAs, Assign, Extract, Perform, If, Select, Block, Repeat, For, Jump, ReturnWith, Resume, Reject, Retry, Continue, Stmts, NoStmts, AndStmt, Targets, NoTargets, AndTarget, Cases, Otherwise, AndCase, Tests, NoTests, IfRelated, IfWithin, Exits, NoExits, AndExit, Loop, LoopOf, Finish, NoFinish, Finished, Condition, Always, While, Until, Count, Endless, Counting, Phrase, Point, At, Leave, point_of, Kind, Kinds, Procedure}
+use Rattle.mesa_types.specs.Typed.{Number, LongNumber, Literal, Variable, FieldOf, LengthOf, ByteOf, Checked, Converted, Operate, OperateLong, Negate, NegateLong, Relate, RelateLong, Within, WithinLong, Not, AllOf, SomeOf, Construct, Call, Raise, Expr, Exprs, NoExprs, AndExpr, Suffixes, NoSuffix, Field, Index, Operations, NoOperation, Then, Between, Stmt, Null, Marked, Declare, DeclareAs, Assign, Extract, Perform, If, Select, SelectLong, Block, Repeat, For, Jump, ReturnWith, Resume, Reject, Retry, Continue, Stmts, NoStmts, AndStmt, Targets, NoTargets, AndTarget, AndConverted, Cases, Otherwise, AndCase, Tests, NoTests, IfRelated, IfWithin, IfRelatedLong, IfWithinLong, Exits, NoExits, AndExit, Loop, LoopOf, Finish, NoFinish, Finished, Condition, Always, While, Until, Count, Endless, Counting, Phrase, Point, At, Leave, point_of, Kind, Kinds, Procedure}
 use Rattle.mesa_types.specs.declared.typed_parts.Given.TheVariants.{NoVariable, GivenTo}
-use Rattle.mesa_types.specs.Sound.{Seen, Scope, labels_in, in_marked, in_labelled, in_arm, ExprIn, ExprsIn, WordsIn, SuffixesIn, OperationsIn, PhraseIn, StmtIn, StmtsIn, TargetsIn, CasesIn, TestsIn, ExitsIn, LoopIn, FinishIn, ConditionIn}
+use Rattle.mesa_types.specs.Sound.{Seen, Scope, labels_in, in_marked, in_labelled, in_arm, ExprIn, ExprsIn, WordsIn, SuffixesIn, OperationsIn, LongOperationsIn, PhraseIn, StmtIn, StmtsIn, TargetsIn, CasesIn, TestsIn, ExitsIn, LoopIn, FinishIn, ConditionIn}
 use Rattle.source_meaning.specs.Value.{Values, NoValues}
 use Rattle.mesa_types.specs.Operators.{WordFault, OutOfBounds, DividedByZero, Tried, Fine, Faulty}
 use Rattle.source_meaning.specs.Program.{Program, Host, WriteChar, WriteString, WriteDecimal, ReadChar, EndOfInput, Signal, NoInput, Target, ToProcedure, ToHost, ToSignal, procedure_of, resumes}
 use Rattle.source_meaning.specs.Lawful.{Lawful}
-use Rattle.source_meaning.specs.State.{Ending, Answer, Normal, Gives, Go, Resumed, Rejected, Retried, Continued, Uncaught, Spent, FrameLimit, Broken, Run, give_word}
+use Rattle.source_meaning.specs.State.{Ending, Answer, Normal, Gives, Go, Resumed, Rejected, Retried, Continued, Uncaught, Spent, FrameLimit, Broken, Run, give_word, give_long}
 use Rattle.source_meaning.specs.Variables.{Enabled, Where}
 use Rattle.source_meaning.specs.Signals.{Next, Arm, NoArm, TheArm, catching, arm_body, run_arm, run_unwind_arm, ask_arm, ask, raise, raised_for, on_tried, unwind, through_of, through}
 use Rattle.source_meaning.specs.Calls.{run_procedure, start, start_first, results, host, call_to, call}
-use Rattle.source_meaning.specs.Meaning.{has_label, counted, value, values, all_of, some_of, path, operations, does, sequence, targets, cases, tests, exits, loop, finish, condition, meaning}
+use Rattle.source_meaning.specs.Meaning.{has_label, counted, value, values, all_of, some_of, path, operations, long_operations, does, sequence, targets, cases, tests, exits, loop, finish, condition, meaning}
 use Rattle.source_meaning.specs.Means.{control, outcome, first_state}
 use Rattle.source_meaning.specs.Laws.{IsEnd, AlwaysEnds}
-use Rattle.source_meaning.proofs.Only.{Answers, Allow, Only, only_give, only_wider, only_after, only_look, only_change, only_spend, only_enter, only_put, only_read, only_peek, only_branch, only_frame, only_values, only_value, only_word, only_result, only_number, only_normal, only_dropped}
+use Rattle.source_meaning.proofs.Only.{Answers, Allow, Only, only_give, only_wider, only_after, only_look, only_change, only_spend, only_enter, only_put, only_read, only_peek, only_branch, only_frame, only_values, only_value, only_word, only_long, only_result, only_number, only_long_number, only_normal, only_dropped}
 use Rattle.source_meaning.proofs.Points.{among_of, Jumps, Beyond, Here, ChainIn, chain_scopes, caught_chain, beyond_caught, here_caught, beyond_here, true≢false, label_points, here_labels, not_these}
 use Rattle.source_meaning.proofs.Bodies.{bodies}
 use Rattle.source_meaning.proofs.Outward.{of_statement, of_expression, of_start, of_arm, more_statement, more_expression, choice, ArmFits, first_arm_fits, arm_points, arm_answer_only, asked_only, unwound_only, marked_only, labelled_only, go_only, body_end_only}
@@ -185,6 +185,9 @@ module _ (e : Ending) (P : Program) (lawful : Lawful P) (next : Next)
   number : (J : Jumps) (n : ℕ) → Only (of_expression e J) (give_word n)
   number J n = only_number (of_expression e J) tt n
 
+  long_number : (J : Jumps) (n : ℕ) → Only (of_expression e J) (give_long n)
+  long_number J n = only_long_number (of_expression e J) tt n
+
   counted_only : (Γ : Scope) (w : Where) (c : Count) (pts : List Seen) (cs : List Scope) {m n : Run} → ChainIn w.chain cs →
       Only (of_statement e Γ (Here pts w cs)) m → Only (of_statement e Γ (Here pts w cs)) n → Only (of_statement e Γ (Here pts w cs)) (counted P next w c m n)
   unfolding counted
@@ -200,6 +203,7 @@ module _ (e : Ending) (P : Program) (lawful : Lawful P) (next : Next)
 
     value_only : (t : Expr) (w : Where) (Γ : Scope) (cs : List Scope) (ks : Kinds) → ExprIn Γ t ks → ChainIn w.chain cs → Only (of_expression e (Here Γ.points w cs)) (value P next t w)
     value_only (Number n) w Γ cs ks h g = number _ _
+    value_only (LongNumber n) w Γ cs ks h g = long_number _ _
     value_only (Literal k) w Γ cs ks h g = only_result (of_expression e _) tt _
     value_only (Variable x s words) w Γ cs ks h g = only_values (of_expression e _) (path_only s w Γ cs _ _ h.3 g) λ p. only_look λ st. only_result (of_expression e _) tt _
     value_only (FieldOf t ps) w Γ cs ks h g = only_value (of_expression e _) (value_only t w Γ cs _ h.3 g) λ x. only_result (of_expression e _) tt _
@@ -207,13 +211,21 @@ module _ (e : Ending) (P : Program) (lawful : Lawful P) (next : Next)
     value_only (ByteOf t i) w Γ cs ks h g =
         only_value (of_expression e _) (value_only t w Γ cs _ h.0 g) λ x. only_word (of_expression e _) (value_only i w Γ cs _ h.1 g) λ n. tried_value w _ Γ.points cs g λ b. number _ _
     value_only (Checked r t) w Γ cs ks h g = only_word (of_expression e _) (value_only t w Γ cs _ h.1 g) λ x. tried_value w _ Γ.points cs g λ y. number _ _
+    value_only (Converted c t) w Γ cs ks h g = only_value (of_expression e _) (value_only t w Γ cs _ h.4 g) λ x. tried_value w _ Γ.points cs g λ y. only_result (of_expression e _) tt _
     value_only (Operate t os) w Γ cs ks h g = only_word (of_expression e _) (value_only t w Γ cs _ h.0 g) λ x. operations_only os w x Γ cs h.1 g
+    value_only (OperateLong t os) w Γ cs ks h g = only_long (of_expression e _) (value_only t w Γ cs _ h.0 g) λ x. long_operations_only os w x Γ cs h.1 g
     value_only (Negate t) w Γ cs ks h g = only_word (of_expression e _) (value_only t w Γ cs _ h.0 g) λ x. number _ _
+    value_only (NegateLong t) w Γ cs ks h g = only_long (of_expression e _) (value_only t w Γ cs _ h.0 g) λ x. long_number _ _
     value_only (Relate b r d t) w Γ cs ks h g =
         only_word (of_expression e _) (value_only d w Γ cs _ h.0 g) λ x. only_word (of_expression e _) (value_only t w Γ cs _ h.1 g) λ y. number _ _
+    value_only (RelateLong b r d t) w Γ cs ks h g =
+        only_long (of_expression e _) (value_only d w Γ cs _ h.0 g) λ x. only_long (of_expression e _) (value_only t w Γ cs _ h.1 g) λ y. number _ _
     value_only (Within bs t (Between c p d q)) w Γ cs ks h g =
         only_word (of_expression e _) (value_only t w Γ cs _ h.0 g) λ x. only_word (of_expression e _) (value_only c w Γ cs _ (h.1).0 g) λ y.
         only_word (of_expression e _) (value_only d w Γ cs _ (h.1).1 g) λ z. number _ _
+    value_only (WithinLong bs t (Between c p d q)) w Γ cs ks h g =
+        only_long (of_expression e _) (value_only t w Γ cs _ h.0 g) λ x. only_long (of_expression e _) (value_only c w Γ cs _ (h.1).0 g) λ y.
+        only_long (of_expression e _) (value_only d w Γ cs _ (h.1).1 g) λ z. number _ _
     value_only (Not t) w Γ cs ks h g = only_word (of_expression e _) (value_only t w Γ cs _ h.0 g) λ x. number _ _
     value_only (AllOf es) w Γ cs ks h g = all_of_only es w Γ cs h.1 g
     value_only (SomeOf es) w Γ cs ks h g = some_of_only es w Γ cs h.1 g
@@ -249,11 +261,18 @@ module _ (e : Ending) (P : Program) (lawful : Lawful P) (next : Next)
         tried_value w _ Γ.points cs g λ left. only_word (of_expression e _) (value_only t w Γ cs _ h.1 g) λ right.
         tried_value w _ Γ.points cs g λ y. operations_only os w y Γ cs h.2 g
 
+    long_operations_only : (os : Operations) (w : Where) (x : ℕ) (Γ : Scope) (cs : List Scope) → LongOperationsIn Γ os → ChainIn w.chain cs → Only (of_expression e (Here Γ.points w cs)) (long_operations P next os w x)
+    long_operations_only NoOperation w x Γ cs h g = long_number _ _
+    long_operations_only (Then r o t os) w x Γ cs h g =
+        only_long (of_expression e _) (value_only t w Γ cs _ h.2 g) λ right. tried_value w _ Γ.points cs g λ y. long_operations_only os w y Γ cs h.3 g
+
   targets_only : (ts : Targets) (w : Where) (vs : Values) (Γ : Scope) (cs : List Scope) (ks : Kinds) → TargetsIn Γ ts ks → ChainIn w.chain cs → Only (of_statement e Γ (Here Γ.points w cs)) (targets P next ts w vs)
   unfolding targets StmtIn Allow
   targets_only NoTargets w vs Γ cs ks h g = only_give (of_statement e Γ _) Normal tt
   targets_only (AndTarget part x s r ts) w vs Γ cs ks h g =
       only_values (of_statement e Γ _) (path_only s w Γ cs _ _ h.5 g) λ p. tried_statement Γ w _ Γ.points cs g λ y. only_change _ (targets_only ts w vs Γ cs ks h.7 g)
+  targets_only (AndConverted part x s c ts) w vs Γ cs ks h g =
+      only_values (of_statement e Γ _) (path_only s w Γ cs _ _ h.8 g) λ p. tried_statement Γ w _ Γ.points cs g λ y. only_change _ (targets_only ts w vs Γ cs ks h.9 g)
 
   tests_only : (ts : Tests) (w : Where) (x : ℕ) (Γ : Scope) (cs : List Scope) → TestsIn Γ ts → ChainIn w.chain cs → Only (of_expression e (Here Γ.points w cs)) (tests P next ts w x)
   unfolding tests StmtIn
@@ -262,6 +281,11 @@ module _ (e : Ending) (P : Program) (lawful : Lawful P) (next : Next)
       tried_value w _ Γ.points cs g λ left. only_word (of_expression e _) (value_only t w Γ cs _ h.1 g) λ right. only_branch _ (number _ _) (tests_only ts w x Γ cs h.2 g)
   tests_only (IfWithin negated bs (Between c p d q) ts) w x Γ cs h g =
       only_word (of_expression e _) (value_only c w Γ cs _ (h.0).0 g) λ y. only_word (of_expression e _) (value_only d w Γ cs _ (h.0).1 g) λ z. only_branch _ (number _ _) (tests_only ts w x Γ cs h.1 g)
+  tests_only (IfRelatedLong c b o t ts) w x Γ cs h g =
+      tried_value w _ Γ.points cs g λ left. only_long (of_expression e _) (value_only t w Γ cs _ h.0 g) λ right. only_branch _ (number _ _) (tests_only ts w x Γ cs h.1 g)
+  tests_only (IfWithinLong negated conversion bs (Between c p d q) ts) w x Γ cs h g =
+      tried_value w _ Γ.points cs g λ left. only_long (of_expression e _) (value_only c w Γ cs _ (h.0).0 g) λ y. only_long (of_expression e _) (value_only d w Γ cs _ (h.0).1 g) λ z.
+      only_branch _ (number _ _) (tests_only ts w x Γ cs h.1 g)
 
   condition_only : (c : Condition) (w : Where) (Γ : Scope) (cs : List Scope) → ConditionIn Γ c → ChainIn w.chain cs → Only (of_expression e (Here Γ.points w cs)) (condition P next c w)
   unfolding condition StmtIn
@@ -286,6 +310,7 @@ module _ (e : Ending) (P : Program) (lawful : Lawful P) (next : Next)
     does_only (Perform t) w Γ cs h g = only_dropped (of_statement e Γ _) tt (value_only t w Γ cs _ h.3 g)
     does_only (If t s u) w Γ cs h g = only_word (of_statement e Γ _) (value_only t w Γ cs _ h.1 g) λ x. only_branch _ (does_only s w Γ cs h.2 g) (does_only u w Γ cs h.3 g)
     does_only (Select t ks) w Γ cs h g = only_word (of_statement e Γ _) (value_only t w Γ cs _ h.2 g) λ x. cases_only ks w x Γ cs h.4 g
+    does_only (SelectLong t ks) w Γ cs h g = only_long (of_statement e Γ _) (value_only t w Γ cs _ h.1 g) λ x. cases_only ks w x Γ cs h.3 g
     does_only (Block ph ss es) w Γ cs h g =
         let Δ = in_labelled h.0 es Γ in
         labelled_only e Γ w cs (labels_in es) Γ.depth

@@ -2,8 +2,8 @@
 -- start on, and loose where it is so once a turn has been spent.
 use Rattle.std.specs.Prelude.{◌≡◌, refl, ℕ, List, Bool, true, false, ◌&&◌, nat_eq}
 use Rattle.mesa_types.specs.Typed.{Start, After, At, Leave}
-use Rattle.source_meaning.specs.Value.{Value, Values, nth, word}
-use Rattle.source_meaning.specs.State.{State, Store, Answer, Normal, Gives, Go, Resumed, Rejected, Retried, Continued, Uncaught, Spent, FrameLimit, Broken, Run, give, give_value, give_word, after, look, change, spend, enter, put, read, peek, branch, value_then, on_values, on_value, on_word, normal_then, on_normal, dropped_of, dropped, marked_of, marked, labelled_of, labelled, body_end_of, body_end}
+use Rattle.source_meaning.specs.Value.{Value, Values, nth, word, long}
+use Rattle.source_meaning.specs.State.{State, Store, Answer, Normal, Gives, Go, Resumed, Rejected, Retried, Continued, Uncaught, Spent, FrameLimit, Broken, Run, give, give_value, give_word, give_long, after, look, change, spend, enter, put, read, peek, branch, value_then, on_values, on_value, on_word, on_long, normal_then, on_normal, dropped_of, dropped, marked_of, marked, labelled_of, labelled, body_end_of, body_end}
 use Rattle.source_meaning.specs.Laws.{GoesOn}
 
 -- a change of the store that keeps the frames
@@ -132,6 +132,10 @@ module _ (L T : Pairs) (kept : Kept L T) where
   unfolding give_word
   word_kept n = value_kept _
 
+  pub long_kept : (n : ℕ) → T (give_long n) (give_long n)
+  unfolding give_long
+  long_kept n = value_kept _
+
   value_then_kept : {k k' : Values → Run} → ((vs : Values) → T (k vs) (k' vs)) → (a : Answer) → Follows L T a (value_then k a) (value_then k' a)
   unfolding value_then
   value_then_kept h (Gives vs) = h vs
@@ -148,6 +152,10 @@ module _ (L T : Pairs) (kept : Kept L T) where
   pub on_word_kept : {m m' : Run} {k k' : ℕ → Run} → T m m' → ((n : ℕ) → T (k n) (k' n)) → T (on_word m k) (on_word m' k')
   unfolding on_word
   on_word_kept h g = on_values_kept h λ vs. g (word (nth vs 0))
+
+  pub on_long_kept : {m m' : Run} {k k' : ℕ → Run} → T m m' → ((n : ℕ) → T (k n) (k' n)) → T (on_long m k) (on_long m' k')
+  unfolding on_long
+  on_long_kept h g = on_values_kept h λ vs. g (long (nth vs 0))
 
   normal_then_kept : {n n' : Run} → T n n' → (a : Answer) → Follows L T a (normal_then n a) (normal_then n' a)
   unfolding normal_then

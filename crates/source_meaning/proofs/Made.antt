@@ -17,13 +17,14 @@ use Rattle.mesa_types.specs.declared.faces.ItemKind.TheVariants as kind
 use Rattle.mesa_types.specs.declared.faces.Item.{Item}
 use Rattle.mesa_types.specs.declared.faces.Import.{Import}
 use Rattle.source_meaning.specs.Value as v
+use Rattle.mesa_types.specs.Longs as l
 use Rattle.mesa_types.specs.Operators as o
 use Rattle.source_meaning.specs.Program.{Target, ToSignal, Unnamed, Instance, Program, or_else, no_body, head_named, no_procedure, no_module, no_instance, instance_of, module_of, main_of, procedure_in, procedure_of, beyond_parameters, string_of, callee_of, signal_in, linked_signal, raised_of, is_signal, takes_back, resumes, host_of, host_target, target_of, single}
-use Rattle.source_meaning.specs.State.{Ending, End, Answer, Result, give, carry, after, look, change, spend_of, spend, leave, enter_if, enter, put, read_of, read, peek_of, peek, branch, value_then, on_values, on_value, on_word, give_value, give_word, normal_then, on_normal, dropped_of, dropped, marked_of, marked, labelled_of, labelled, body_end_of, body_end}
+use Rattle.source_meaning.specs.State.{Ending, End, Answer, Result, give, carry, after, look, change, spend_of, spend, leave, enter_if, enter, put, read_of, read, peek_of, peek, branch, value_then, on_values, on_value, on_word, on_long, give_value, give_word, give_long, normal_then, on_normal, dropped_of, dropped, marked_of, marked, labelled_of, labelled, body_end_of, body_end}
 use Rattle.source_meaning.specs.Variables.{at_if, put_at, set_globals, set_variables, fetch, store, store_part, store_all, store_from, add_frame, in_frame}
 use Rattle.source_meaning.specs.Signals.{same_signal, is_for, is_unwind, some_label, arm_in, first_arm, catching, arm_answer, arm_body, put_parameters, run_arm, run_unwind_arm, asked, ask_arm, ask, raise, raised_for, on_tried, unwound, unwind, through_of, through}
 use Rattle.source_meaning.specs.Calls.{run_procedure, mark_started, start, start_first, results, host, call_to, call}
-use Rattle.source_meaning.specs.Meaning.{has_label, fields_in, counted, one_round_less, rounds_of, value, values, all_of, some_of, path, operations, targets, tests, condition, does, sequence, cases, exits, loop, finish, meaning}
+use Rattle.source_meaning.specs.Meaning.{has_label, fields_in, number_for, value_by, counted, one_round_less, rounds_of, value, values, all_of, some_of, path, operations, long_operations, targets, tests, condition, does, sequence, cases, exits, loop, finish, meaning}
 use Rattle.source_meaning.specs.Means.{control, first_state, outcome}
 
 -- What is seen of a run.
@@ -37,7 +38,7 @@ shown r = Saw r.state.output r.answer r.state.turns
 
 -- a program over an input, with what follows it, where so many activations stand already
 unfoldable pub seen_among : (standing : ℕ) → Program → List ℕ → Ending → (turns : ℕ) → Seen
-unfolding digits shown v.word v.bytes v.parts v.nth v.with_nth v.one v.join v.how_many v.with_from v.some_from v.find_place v.arranged_from v.arrange v.copies v.zero_of v.zeros v.part_at v.with_part v.path_of o.wrap o.shifted o.unshifted o.opposite o.is_negative o.magnitude_if o.magnitude o.with_sign o.differ o.quotient o.remainder o.related o.past o.first_of o.beyond o.lies_in o.truth o.is_true o.fits o.fine_if o.checked o.by_divisor o.character o.tried o.element o.indexed o.fine_or o.byte_at join count_in item_in imported point_of or_else no_body head_named no_procedure no_module no_instance instance_of module_of main_of procedure_in procedure_of beyond_parameters string_of callee_of signal_in linked_signal raised_of is_signal takes_back resumes host_of host_target target_of single give carry after look change spend_of spend leave enter_if enter put read_of read peek_of peek branch value_then on_values on_value on_word give_value give_word normal_then on_normal dropped_of dropped marked_of marked labelled_of labelled body_end_of body_end at_if put_at set_globals set_variables fetch store store_part store_all store_from add_frame in_frame same_signal is_for is_unwind some_label arm_in first_arm catching arm_answer arm_body put_parameters run_arm run_unwind_arm asked ask_arm ask raise raised_for on_tried unwound unwind through_of through run_procedure mark_started start start_first results host call_to call has_label fields_in counted one_round_less rounds_of value values all_of some_of path operations targets tests condition does sequence cases exits loop finish meaning control first_state outcome
+unfolding digits shown v.word v.long v.bytes v.parts v.nth v.with_nth v.one v.join v.how_many v.with_from v.some_from v.find_place v.arranged_from v.arrange v.copies v.zero_of v.zeros v.part_at v.with_part v.path_of o.wrap o.shifted o.unshifted o.opposite o.is_negative o.magnitude_if o.magnitude o.with_sign o.differ o.quotient o.remainder o.related o.past o.first_of o.beyond o.lies_in o.truth o.is_true o.fits o.fine_if o.checked o.by_divisor o.character o.tried o.element o.indexed o.fine_or o.byte_at l.more_of l.less_of l.two_words l.long_of l.wrap_long l.shifted_long l.opposite_long l.is_negative_long l.long_magnitude_if l.long_magnitude l.with_sign_long l.quotient_long l.remainder_long l.tried_long l.related_long l.lies_in_long l.extended_if l.extended l.is_in_common l.widened l.is_word_of l.narrowed l.on_fine l.converted join count_in item_in imported point_of or_else no_body head_named no_procedure no_module no_instance instance_of module_of main_of procedure_in procedure_of beyond_parameters string_of callee_of signal_in linked_signal raised_of is_signal takes_back resumes host_of host_target target_of single give carry after look change spend_of spend leave enter_if enter put read_of read peek_of peek branch value_then on_values on_value on_word on_long give_value give_word give_long normal_then on_normal dropped_of dropped marked_of marked labelled_of labelled body_end_of body_end at_if put_at set_globals set_variables fetch store store_part store_all store_from add_frame in_frame same_signal is_for is_unwind some_label arm_in first_arm catching arm_answer arm_body put_parameters run_arm run_unwind_arm asked ask_arm ask raise raised_for on_tried unwound unwind through_of through run_procedure mark_started start start_first results host call_to call has_label fields_in number_for value_by counted one_round_less rounds_of value values all_of some_of path operations long_operations targets tests condition does sequence cases exits loop finish meaning control first_state outcome
 seen_among standing P input e turns = shown (control P (meaning P (suc turns)) P.control (record (first_state P input e turns) { standing = standing }))
 
 unfoldable pub seen : Program → (turns : ℕ) → Seen

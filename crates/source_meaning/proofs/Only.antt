@@ -2,8 +2,8 @@
 use Rattle.std.specs.Prelude.{◌≡◌, refl, ℕ, zero, suc, List, [], ◌∷◌, Bool, true, false}
 use mathlib.Core.Path.{◌∙◌, sym}
 use Rattle.mesa_types.specs.Typed.{Point}
-use Rattle.source_meaning.specs.Value.{Value, Values, nth, word}
-use Rattle.source_meaning.specs.State.{ProcedureId, State, Store, Ending, End, Fault, Answer, Normal, Gives, Go, Resumed, Rejected, Retried, Continued, Uncaught, Spent, FrameLimit, Broken, Run, give, give_value, give_word, carry, after, look, change, spend_of, spend, leave, enter_if, enter, put, read_of, read, peek_of, peek, branch, value_then, on_values, on_value, on_word, normal_then, on_normal, dropped_of, dropped}
+use Rattle.source_meaning.specs.Value.{Value, Values, nth, word, long}
+use Rattle.source_meaning.specs.State.{ProcedureId, State, Store, Ending, End, Fault, Answer, Normal, Gives, Go, Resumed, Rejected, Retried, Continued, Uncaught, Spent, FrameLimit, Broken, Run, give, give_value, give_word, give_long, carry, after, look, change, spend_of, spend, leave, enter_if, enter, put, read_of, read, peek_of, peek, branch, value_then, on_values, on_value, on_word, on_long, normal_then, on_normal, dropped_of, dropped}
 use Rattle.source_meaning.specs.Variables.{add_frame, in_frame}
 
 -- which answers: `again` says of which statements RETRY and CONTINUE may be, `jumps` to which points of which frames
@@ -170,6 +170,10 @@ pub only_word : (A : Answers) {m : Run} {k : ℕ → Run} → Only (as_expressio
 unfolding on_word
 only_word A h g = only_values A h λ vs. g (word (nth vs 0))
 
+pub only_long : (A : Answers) {m : Run} {k : ℕ → Run} → Only (as_expression A) m → ((n : ℕ) → Only A (k n)) → Only A (on_long m k)
+unfolding on_long
+only_long A h g = only_values A h λ vs. g (long (nth vs 0))
+
 pub only_result : (A : Answers) → A.gives → (v : Value) → Only A (give_value v)
 unfolding give_value Allow
 only_result A g v = only_give A _ g
@@ -177,6 +181,10 @@ only_result A g v = only_give A _ g
 pub only_number : (A : Answers) → A.gives → (n : ℕ) → Only A (give_word n)
 unfolding give_word
 only_number A g n = only_result A g _
+
+pub only_long_number : (A : Answers) → A.gives → (n : ℕ) → Only A (give_long n)
+unfolding give_long
+only_long_number A g n = only_result A g _
 
 -- of a statement before others: it may end
 abbrev pub as_first : Answers → Answers

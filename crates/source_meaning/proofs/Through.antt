@@ -1,7 +1,7 @@
 -- The whole meaning keeps what its parts keep: where what is run through `next` is a loose pair, what a construct does is
 -- a tight one.
 use Rattle.std.specs.Prelude.{ℕ, zero, suc, List, [], ◌∷◌, Bool, true, false}
-use Rattle.mesa_types.specs.Typed.{Number, Literal, Variable, FieldOf, LengthOf, ByteOf, Checked, Operate, Negate, Relate, Within, Not, AllOf, SomeOf, Construct, Call, Raise, Expr, Exprs, NoExprs, AndExpr, Suffixes, NoSuffix, Field, Index, Operations, NoOperation, Then, Between, Stmt, Null, Marked, Declare, DeclareAs, Assign, Extract, Perform, If, Select, Block, Repeat, For, Jump, ReturnWith, Resume, Reject, Retry, Continue, Stmts, NoStmts, AndStmt, Targets, NoTargets, AndTarget, Cases, Otherwise, AndCase, Tests, NoTests, IfRelated, IfWithin, Exits, NoExits, AndExit, Loop, LoopOf, Finish, NoFinish, Finished, Condition, Always, While, Until, Count, Endless, Counting, Phrase, Procedure, Point, Start, After, At, Leave, point_of}
+use Rattle.mesa_types.specs.Typed.{Number, LongNumber, Literal, Variable, FieldOf, LengthOf, ByteOf, Checked, Converted, Operate, OperateLong, Negate, NegateLong, Relate, RelateLong, Within, WithinLong, Not, AllOf, SomeOf, Construct, Call, Raise, Expr, Exprs, NoExprs, AndExpr, Suffixes, NoSuffix, Field, Index, Operations, NoOperation, Then, Between, Stmt, Null, Marked, Declare, DeclareAs, Assign, Extract, Perform, If, Select, SelectLong, Block, Repeat, For, Jump, ReturnWith, Resume, Reject, Retry, Continue, Stmts, NoStmts, AndStmt, Targets, NoTargets, AndTarget, AndConverted, Cases, Otherwise, AndCase, Tests, NoTests, IfRelated, IfWithin, IfRelatedLong, IfWithinLong, Exits, NoExits, AndExit, Loop, LoopOf, Finish, NoFinish, Finished, Condition, Always, While, Until, Count, Endless, Counting, Phrase, Procedure, Point, Start, After, At, Leave, point_of}
 use Rattle.mesa_types.specs.declared.typed_parts.Goal.{Goal}
 use Rattle.mesa_types.specs.declared.typed_parts.Goal.TheVariants.{PastStatement, ToLabel, ToReturn}
 use Rattle.mesa_types.specs.declared.typed_parts.Given.TheVariants.{NoVariable, GivenTo}
@@ -12,10 +12,10 @@ use Rattle.source_meaning.specs.State.{ProcedureId, Answer, Normal, Gives, Go, R
 use Rattle.source_meaning.specs.Variables.{Enabled, Where, in_frame}
 use Rattle.source_meaning.specs.Signals.{Next, Arm, NoArm, TheArm, arm_answer, arm_body, run_arm, run_unwind_arm, asked, ask_arm, ask, raise, on_tried, unwound, unwind, through_of, through}
 use Rattle.source_meaning.specs.Calls.{run_procedure, start, start_first, results, host, call_to, call}
-use Rattle.source_meaning.specs.Meaning.{counted, value, values, all_of, some_of, path, operations, does, sequence, targets, cases, tests, exits, loop, finish, condition}
+use Rattle.source_meaning.specs.Meaning.{counted, value, values, all_of, some_of, path, operations, long_operations, does, sequence, targets, cases, tests, exits, loop, finish, condition}
 use Rattle.source_meaning.specs.Means.{control}
 use Rattle.source_meaning.proofs.Mild.{store_mild, store_part_mild, store_all_mild, store_from_mild, put_parameters_mild, mark_started_mild, add_frame_mild}
-use Rattle.source_meaning.proofs.Kept.{Pairs, Kept, IsCalm, Follows, Passes, give_quits, branch_kept, pass, value_kept as given_kept, word_kept, on_values_kept, on_value_kept, on_word_kept, on_normal_kept, dropped_kept, marked_kept, labelled_kept, loose_word, loose_on_normal, loose_body_end}
+use Rattle.source_meaning.proofs.Kept.{Pairs, Kept, IsCalm, Follows, Passes, give_quits, branch_kept, pass, value_kept as given_kept, word_kept, long_kept, on_values_kept, on_value_kept, on_word_kept, on_long_kept, on_normal_kept, dropped_kept, marked_kept, labelled_kept, loose_word, loose_on_normal, loose_body_end}
 
 arm_answer_passes : (f : ℕ) → Passes (arm_answer f)
 unfolding arm_answer
@@ -189,17 +189,24 @@ module _ (L T : Pairs) (kept : Kept L T) (P : Program) (next next' : Next) (late
 
     pub value_kept : (e : Expr) (w : Where) → T (value P next e w) (value P next' e w)
     value_kept (Number n) w = word_kept L T kept _
+    value_kept (LongNumber n) w = long_kept L T kept _
     value_kept (Literal k) w = given_kept L T kept _
     value_kept (Variable h s words) w = on_values_kept L T kept (path_kept s w) λ p. kept.tight_look λ st. given_kept L T kept _
     value_kept (FieldOf e ps) w = on_value_kept L T kept (value_kept e w) λ v. given_kept L T kept _
     value_kept (LengthOf e) w = on_value_kept L T kept (value_kept e w) λ v. word_kept L T kept _
     value_kept (ByteOf e i) w = on_value_kept L T kept (value_kept e w) λ v. on_word_kept L T kept (value_kept i w) λ n. on_tried_kept w _ λ b. word_kept L T kept b
     value_kept (Checked r e) w = on_word_kept L T kept (value_kept e w) λ x. on_tried_kept w _ λ y. word_kept L T kept y
+    value_kept (Converted c e) w = on_value_kept L T kept (value_kept e w) λ v. on_tried_kept w _ λ x. given_kept L T kept _
     value_kept (Operate e os) w = on_word_kept L T kept (value_kept e w) λ x. operations_kept os w x
+    value_kept (OperateLong e os) w = on_long_kept L T kept (value_kept e w) λ x. long_operations_kept os w x
     value_kept (Negate e) w = on_word_kept L T kept (value_kept e w) λ x. word_kept L T kept _
+    value_kept (NegateLong e) w = on_long_kept L T kept (value_kept e w) λ x. long_kept L T kept _
     value_kept (Relate b r d e) w = on_word_kept L T kept (value_kept d w) λ x. on_word_kept L T kept (value_kept e w) λ y. word_kept L T kept _
+    value_kept (RelateLong b r d e) w = on_long_kept L T kept (value_kept d w) λ x. on_long_kept L T kept (value_kept e w) λ y. word_kept L T kept _
     value_kept (Within bs e (Between c p d q)) w =
         on_word_kept L T kept (value_kept e w) λ x. on_word_kept L T kept (value_kept c w) λ y. on_word_kept L T kept (value_kept d w) λ z. word_kept L T kept _
+    value_kept (WithinLong bs e (Between c p d q)) w =
+        on_long_kept L T kept (value_kept e w) λ x. on_long_kept L T kept (value_kept c w) λ y. on_long_kept L T kept (value_kept d w) λ z. word_kept L T kept _
     value_kept (Not e) w = on_word_kept L T kept (value_kept e w) λ x. word_kept L T kept _
     value_kept (AllOf es) w = all_of_kept es w
     value_kept (SomeOf es) w = some_of_kept es w
@@ -230,10 +237,16 @@ module _ (L T : Pairs) (kept : Kept L T) (P : Program) (next next' : Next) (late
     operations_kept (Then r o e os) w x =
         on_tried_kept w _ λ left. on_word_kept L T kept (value_kept e w) λ right. on_tried_kept w _ λ y. operations_kept os w y
 
+    long_operations_kept : (os : Operations) (w : Where) (x : ℕ) → T (long_operations P next os w x) (long_operations P next' os w x)
+    long_operations_kept NoOperation w x = long_kept L T kept _
+    long_operations_kept (Then r o e os) w x = on_long_kept L T kept (value_kept e w) λ right. on_tried_kept w _ λ y. long_operations_kept os w y
+
   targets_kept : (ts : Targets) (w : Where) (vs : Values) → T (targets P next ts w vs) (targets P next' ts w vs)
   unfolding targets
   targets_kept NoTargets w vs = kept.tight_give _ tt
   targets_kept (AndTarget part h s r ts) w vs =
+      on_values_kept L T kept (path_kept s w) λ p. on_tried_kept w _ λ x. kept.tight_change _ (store_part_mild w h _ _) (targets_kept ts w vs)
+  targets_kept (AndConverted part h s c ts) w vs =
       on_values_kept L T kept (path_kept s w) λ p. on_tried_kept w _ λ x. kept.tight_change _ (store_part_mild w h _ _) (targets_kept ts w vs)
 
   tests_kept : (ts : Tests) (w : Where) (x : ℕ) → T (tests P next ts w x) (tests P next' ts w x)
@@ -243,6 +256,10 @@ module _ (L T : Pairs) (kept : Kept L T) (P : Program) (next next' : Next) (late
       on_tried_kept w _ λ left. on_word_kept L T kept (value_kept e w) λ right. branch_kept T _ (word_kept L T kept _) (tests_kept ts w x)
   tests_kept (IfWithin negated bs (Between c p d q) ts) w x =
       on_word_kept L T kept (value_kept c w) λ y. on_word_kept L T kept (value_kept d w) λ z. branch_kept T _ (word_kept L T kept _) (tests_kept ts w x)
+  tests_kept (IfRelatedLong c b o e ts) w x =
+      on_tried_kept w _ λ left. on_long_kept L T kept (value_kept e w) λ right. branch_kept T _ (word_kept L T kept _) (tests_kept ts w x)
+  tests_kept (IfWithinLong negated conversion bs (Between c p d q) ts) w x =
+      on_tried_kept w _ λ left. on_long_kept L T kept (value_kept c w) λ y. on_long_kept L T kept (value_kept d w) λ z. branch_kept T _ (word_kept L T kept _) (tests_kept ts w x)
 
   condition_kept : (c : Condition) (w : Where) → T (condition P next c w) (condition P next' c w)
   unfolding condition
@@ -271,6 +288,7 @@ module _ (L T : Pairs) (kept : Kept L T) (P : Program) (next next' : Next) (late
     does_kept (Perform e) w = dropped_kept L T kept (value_kept e w)
     does_kept (If e s t) w = on_word_kept L T kept (value_kept e w) λ x. branch_kept T _ (does_kept s w) (does_kept t w)
     does_kept (Select e cs) w = on_word_kept L T kept (value_kept e w) λ x. cases_kept cs w x
+    does_kept (SelectLong e cs) w = on_long_kept L T kept (value_kept e w) λ x. cases_kept cs w x
     does_kept (Block ph ss es) w = labelled_kept L T kept _ (through_kept w ph (sequence_kept ss _)) λ l. exits_kept es w l
     does_kept (Repeat c l) w = loop_kept l w c
     does_kept (For g down b (Between c p d q) l) w =

@@ -1,14 +1,17 @@
 -- What each construct means, one row for each (Language Manual, chapters 2 to 5 and 8; turns are a rule of this project).
 -- A further round of a loop, a statement that is run again, a called body and an arm are run through `next`.
 use Rattle.std.specs.Prelude.{ℕ, zero, suc, ◌+◌, ◌-◌, List, [], ◌∷◌, map, Bool, true, false, not, ◌||◌, nat_eq, length}
-use Rattle.mesa_types.specs.Typed.{point_of, At, Leave, Count, Endless, Counting, Expr, Number, Literal, Variable, FieldOf, LengthOf, ByteOf, Checked, Operate, Negate, Relate, Within, Not, AllOf, SomeOf, Construct, Call, Raise, Exprs, NoExprs, AndExpr, Suffixes, NoSuffix, Field, Index, Operations, NoOperation, Then, Between, Stmt, Null, Marked, Declare, DeclareAs, Assign, Extract, Perform, If, Select, Block, Repeat, For, Jump, ReturnWith, Resume, Reject, Retry, Continue, Stmts, NoStmts, AndStmt, Targets, NoTargets, AndTarget, Cases, Otherwise, AndCase, Tests, NoTests, IfRelated, IfWithin, Exits, NoExits, AndExit, Loop, LoopOf, Finish, NoFinish, Finished, Condition, Always, While, Until}
+use Rattle.mesa_types.specs.Typed.{point_of, At, Leave, Count, Endless, Counting, Expr, Number, LongNumber, Literal, Variable, FieldOf, LengthOf, ByteOf, Checked, Converted, Operate, OperateLong, Negate, NegateLong, Relate, RelateLong, Within, WithinLong, Not, AllOf, SomeOf, Construct, Call, Raise, Exprs, NoExprs, AndExpr, Suffixes, NoSuffix, Field, Index, Operations, NoOperation, Then, Between, Stmt, Null, Marked, Declare, DeclareAs, Assign, Extract, Perform, If, Select, SelectLong, Block, Repeat, For, Jump, ReturnWith, Resume, Reject, Retry, Continue, Stmts, NoStmts, AndStmt, Targets, NoTargets, AndTarget, AndConverted, Cases, Otherwise, AndCase, Tests, NoTests, IfRelated, IfWithin, IfRelatedLong, IfWithinLong, Exits, NoExits, AndExit, Loop, LoopOf, Finish, NoFinish, Finished, Condition, Always, While, Until}
 use Rattle.mesa_types.specs.declared.typed_parts.Part.{Part}
+use Rattle.mesa_types.specs.declared.typed_parts.Conversion.{Conversion}
+use Rattle.mesa_types.specs.declared.typed_parts.Conversion.TheVariants.{Kept, Widened, Narrowed, InCommon}
 use Rattle.mesa_types.specs.declared.typed_parts.Given.{Given}
 use Rattle.mesa_types.specs.declared.typed_parts.Given.TheVariants.{NoVariable, GivenTo}
-use Rattle.source_meaning.specs.Value.{Word, Text, Many, Values, NoValues, AndValue, word, bytes, parts, nth, zero_of, part_at, path_of, arrange}
+use Rattle.source_meaning.specs.Value.{Value, Word, Long, Text, Many, Values, NoValues, AndValue, word, long, bytes, parts, nth, zero_of, part_at, path_of, arrange}
 use Rattle.mesa_types.specs.Operators.{wrap, unshifted, opposite, differ, related, first_of, beyond, lies_in, truth, is_true, checked, tried, indexed, byte_at}
+use Rattle.mesa_types.specs.Longs.{opposite_long, related_long, lies_in_long, tried_long, converted}
 use Rattle.source_meaning.specs.Program.{Program, string_of, callee_of, raised_of}
-use Rattle.source_meaning.specs.State.{Normal, Gives, Go, Resumed, Rejected, Retried, Continued, Spent, Run, give, give_value, give_word, look, change, spend, branch, on_values, on_value, on_word, on_normal, dropped, marked, labelled}
+use Rattle.source_meaning.specs.State.{Normal, Gives, Go, Resumed, Rejected, Retried, Continued, Spent, Run, give, give_value, give_word, give_long, look, change, spend, branch, on_values, on_value, on_word, on_long, on_normal, dropped, marked, labelled}
 use Rattle.source_meaning.specs.Variables.{Where, fetch, store, store_part, store_all, store_from}
 use Rattle.source_meaning.specs.Signals.{Next, catching, raise, on_tried, through}
 use Rattle.source_meaning.specs.Calls.{call}
@@ -19,6 +22,20 @@ has_label l (x ∷ xs) = nat_eq l x || has_label l xs
 
 unfoldable pub fields_in : List Part → List ℕ
 fields_in ps = map (λ (p : Part). p.field) ps
+
+-- Conversions: the number that one takes of a value, and the value that it gives.
+
+unfoldable pub number_for : Conversion → Value → ℕ
+number_for Kept v = long v
+number_for (Widened from to) v = word v
+number_for (Narrowed from to r) v = long v
+number_for InCommon v = long v
+
+unfoldable pub value_by : Conversion → ℕ → Value
+value_by Kept n = Long n
+value_by (Widened from to) n = Long n
+value_by (Narrowed from to r) n = Word n
+value_by InCommon n = Long n
 
 -- Counts of loops.
 
@@ -44,6 +61,7 @@ rounds_of g false first past = Counting g false (past - first) (unshifted first)
 unfoldable mutual
   pub value : Program → Next → Expr → Where → Run
   value P next (Number n) w = give_word n
+  value P next (LongNumber n) w = give_long n
   value P next (Literal k) w = give_value (Text (string_of P w.instance k))
   value P next (Variable h s words) w = on_values (path P next s w) λ p. look λ st. give_value (part_at (path_of p) (fetch w h st))
   value P next (FieldOf e ps) w = on_value (value P next e w) λ v. give_value (part_at (fields_in ps) v)
@@ -51,13 +69,22 @@ unfoldable mutual
   value P next (ByteOf e i) w =
       on_value (value P next e w) λ v. on_word (value P next i w) λ n. on_tried P next w (byte_at (bytes v) n) λ b. give_word b
   value P next (Checked r e) w = on_word (value P next e w) λ x. on_tried P next w (checked r x) λ y. give_word y
+  value P next (Converted c e) w =
+      on_value (value P next e w) λ v. on_tried P next w (converted c (number_for c v)) λ x. give_value (value_by c x)
   value P next (Operate e os) w = on_word (value P next e w) λ x. operations P next os w x
+  value P next (OperateLong e os) w = on_long (value P next e w) λ x. long_operations P next os w x
   value P next (Negate e) w = on_word (value P next e w) λ x. give_word (opposite x)
+  value P next (NegateLong e) w = on_long (value P next e w) λ x. give_long (opposite_long x)
   value P next (Relate b r d e) w =
       on_word (value P next d w) λ x. on_word (value P next e w) λ y. give_word (truth (related r b x y))
+  value P next (RelateLong b r d e) w =
+      on_long (value P next d w) λ x. on_long (value P next e w) λ y. give_word (truth (related_long r b x y))
   value P next (Within bs e (Between c p d q)) w =
       on_word (value P next e w) λ x. on_word (value P next c w) λ y. on_word (value P next d w) λ z.
       give_word (truth (lies_in bs x p y q z))
+  value P next (WithinLong bs e (Between c p d q)) w =
+      on_long (value P next e w) λ x. on_long (value P next c w) λ y. on_long (value P next d w) λ z.
+      give_word (truth (lies_in_long bs x p y q z))
   value P next (Not e) w = on_word (value P next e w) λ x. give_word (truth (not (is_true x)))
   value P next (AllOf es) w = all_of P next es w
   value P next (SomeOf es) w = some_of P next es w
@@ -101,14 +128,23 @@ unfoldable mutual
       on_tried P next w (checked r x) λ left. on_word (value P next e w) λ right.
       on_tried P next w (tried o left right) λ y. operations P next os w y
 
--- each target is evaluated, its value checked and stored, before the next
+  -- over LONG numbers, in which nothing is checked
+  pub long_operations : Program → Next → Operations → Where → ℕ → Run
+  long_operations P next NoOperation w x = give_long x
+  long_operations P next (Then r o e os) w x =
+      on_long (value P next e w) λ right. on_tried P next w (tried_long o x right) λ y. long_operations P next os w y
+
+-- each target is evaluated, its value checked or converted and stored, before the next
 unfoldable pub targets : Program → Next → Targets → Where → Values → Run
 targets P next NoTargets w vs = give Normal
 targets P next (AndTarget part h s r ts) w vs =
     on_values (path P next s w) λ p. on_tried P next w (checked r (word (nth vs part.field))) λ x.
     change (store_part w h (path_of p) (nth vs part.field)) (targets P next ts w vs)
+targets P next (AndConverted part h s c ts) w vs =
+    on_values (path P next s w) λ p. on_tried P next w (converted c (number_for c (nth vs part.field))) λ x.
+    change (store_part w h (path_of p) (value_by c x)) (targets P next ts w vs)
 
--- whether a test fits x, which is checked when the test is reached
+-- whether a test fits x, which is checked or made LONG when the test is reached
 unfoldable pub tests : Program → Next → Tests → Where → ℕ → Run
 tests P next NoTests w x = give_word (truth false)
 tests P next (IfRelated r b o e ts) w x =
@@ -117,6 +153,12 @@ tests P next (IfRelated r b o e ts) w x =
 tests P next (IfWithin negated bs (Between c p d q) ts) w x =
     on_word (value P next c w) λ y. on_word (value P next d w) λ z.
     branch (differ negated (lies_in bs x p y q z)) (give_word (truth true)) (tests P next ts w x)
+tests P next (IfRelatedLong c b o e ts) w x =
+    on_tried P next w (converted c x) λ left. on_long (value P next e w) λ right.
+    branch (related_long o b left right) (give_word (truth true)) (tests P next ts w x)
+tests P next (IfWithinLong negated conversion bs (Between c p d q) ts) w x =
+    on_tried P next w (converted conversion x) λ left. on_long (value P next c w) λ y. on_long (value P next d w) λ z.
+    branch (differ negated (lies_in_long bs left p y q z)) (give_word (truth true)) (tests P next ts w x)
 
 unfoldable pub condition : Program → Next → Condition → Where → Run
 condition P next Always w = give_word (truth true)
@@ -137,6 +179,7 @@ unfoldable mutual
   does P next (Perform e) w = dropped (value P next e w)
   does P next (If e s t) w = on_word (value P next e w) λ x. branch (is_true x) (does P next s w) (does P next t w)
   does P next (Select e cs) w = on_word (value P next e w) λ x. cases P next cs w x
+  does P next (SelectLong e cs) w = on_long (value P next e w) λ x. cases P next cs w x
   does P next (Block ph ss es) w =
       labelled w.frame (through next w ph (sequence P next ss (catching ph w))) λ l. exits P next es w l
   does P next (Repeat c l) w = loop P next l w c

@@ -3,7 +3,7 @@
 use Rattle.std.specs.Prelude.{ℕ, zero, suc, ◌+◌, ◌-◌, List, [], ◌∷◌, ◌++◌, Bool, true, false, ◌&&◌, nat_eq, nat_lt}
 use Rattle.mesa_base.specs.declared.limits.TheConstants.{ACTIVATIONS}
 use Rattle.mesa_types.specs.Typed.{Point, Start, After, At, Leave}
-use Rattle.source_meaning.specs.Value.{Value, Word, Values, one, nth, word}
+use Rattle.source_meaning.specs.Value.{Value, Word, Long, Values, one, nth, word, long}
 use Rattle.source_meaning.specs.Program.{Signal}
 
 -- a procedure of an instance; 0 is the body of its module
@@ -131,11 +131,17 @@ on_value m k = on_values m (λ vs. k (nth vs 0))
 unfoldable pub on_word : Run → (ℕ → Run) → Run
 on_word m k = on_values m (λ vs. k (word (nth vs 0)))
 
+unfoldable pub on_long : Run → (ℕ → Run) → Run
+on_long m k = on_values m (λ vs. k (long (nth vs 0)))
+
 unfoldable pub give_value : Value → Run
 give_value v = give (Gives (one v))
 
 unfoldable pub give_word : ℕ → Run
 give_word n = give_value (Word n)
+
+unfoldable pub give_long : ℕ → Run
+give_long n = give_value (Long n)
 
 -- the first answer that is not Normal is the answer
 unfoldable pub normal_then : Run → Answer → Run

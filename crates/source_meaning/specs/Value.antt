@@ -1,11 +1,13 @@
 -- Values (Language Manual, chapters 2 and 3), and how parts of them are found, changed and put in order.
 use Rattle.std.specs.Prelude.{ℕ, zero, suc, List, [], ◌∷◌, nat_eq, if◌then◌else◌}
-use Rattle.mesa_types.specs.Typed.{Kind, Ordinal, Texts, Array, Record, Kinds, NoKinds, AndKind}
+use Rattle.mesa_types.specs.Typed.{Kind, Ordinal, Longs, Texts, Array, Record, Kinds, NoKinds, AndKind}
 
--- a word, the bytes of a string, or the elements of an array or the fields of a record
+-- a word, a number of a LONG type as its two words spell it, the bytes of a string, or the elements of an array or the fields of
+-- a record
 mutual
   pub data Value : Type 0 where
     Word : ℕ → Value
+    Long : ℕ → Value
     Text : List ℕ → Value
     Many : Values → Value
 
@@ -16,6 +18,10 @@ mutual
 unfoldable pub word : Value → ℕ
 word (Word n) = n
 word _ = 0
+
+unfoldable pub long : Value → ℕ
+long (Long n) = n
+long _ = 0
 
 unfoldable pub bytes : Value → List ℕ
 bytes (Text t) = t
@@ -82,6 +88,7 @@ copies (suc n) v = AndValue v (copies n v)
 unfoldable mutual
   pub zero_of : Kind → Value
   zero_of Ordinal = Word 0
+  zero_of Longs = Long 0
   zero_of Texts = Text []
   zero_of (Array n k) = Many (copies n (zero_of k))
   zero_of (Record ks) = Many (zeros ks)

@@ -1,3 +1,4 @@
+//! The laws of what programs mean: one result, an end, and what more turns or more input change.
 ghost use Rattle.source_meaning.specs.Laws.{AlwaysEnds, BoundsAreCuts, FaultsAreCuts, FuelNeverShows, HasOneResult, InputIsTakenInOrder, NothingIsLeftStanding, PhrasesArePassedAsFound};
 
 /// A program has one result for each input and each number of turns, and no other.

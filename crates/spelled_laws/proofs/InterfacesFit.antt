@@ -1,5 +1,5 @@
 -- Interfaces that can be spelled are those that their form fits; and the built-in one is such.
-use Rattle.std.proofs.Common.{◌≡◌, ℕ, ◌<◌, false, List, [], ◌∷◌, ◌++◌, length, refl, sym, ap, subst, ◌∙◌, arith}
+use Rattle.std.proofs.Common.{◌≡◌, ℕ, ◌^◌, ◌<◌, false, List, [], ◌∷◌, ◌++◌, length, refl, sym, ap, subst, ◌∙◌, arith}
 use Rattle.std.specs.Prelude.{map}
 use Rattle.std.proofs.lemmas.Bool.{le-leb}
 use Rattle.std.proofs.lemmas.List.{length-map, map-append, append-nil}
@@ -14,16 +14,16 @@ use Rattle.interface_records.specs.PlainTypes.{PlainConstant, PlainName, plain, 
 use Rattle.interface_records.specs.Spelled.{IsValueOf, TypeCanBeSpelled, ConstantCanBeSpelled, ConstantsCanBeSpelled, NamedTypesCanBeSpelled, InterfaceCanBeSpelled, names_of_items, names_of_constants, names_of_types}
 use Rattle.interface_records.proofs.BuiltIn.{built_in_can_be_spelled}
 use Rattle.file_forms.specs.Names.{is_among}
-use Rattle.face_rules.specs.Layers.{holds}
+use Rattle.face_rules.specs.Layers.{value_bytes, holds}
 use Rattle.face_rules.specs.FaceForms.{item_names}
-use Rattle.face_rules.specs.InterfaceForms.{word_of, constant, constant_names, constants, named_type, type_names, named_types, interface}
+use Rattle.face_rules.specs.InterfaceForms.{value_of, constant, constant_names, constants, named_type, type_names, named_types, interface}
 use Rattle.spelled_laws.specs.Laws.{InterfacesFit, FacesOfInterfacesFit, BuiltInFits}
 use Rattle.spelled_laws.proofs.Names.{fresh_fits, fresh_is}
 use Rattle.spelled_laws.proofs.Once.{Each, Fresh, fresh, together, each_fits, each_fine, map-map}
 use Rattle.spelled_laws.proofs.Labels.{fresh_append, append_fresh}
 use Rattle.spelled_laws.proofs.Twins.{type_back}
-use Rattle.spelled_laws.proofs.Measures.{value_holds, holds_value, value_word}
-use Rattle.spelled_laws.proofs.FacesFit.{types_fit, ordinal_types_fit, faces_fit, names_same}
+use Rattle.spelled_laws.proofs.Measures.{room_for, room_same, value_holds, holds_value, value_room}
+use Rattle.spelled_laws.proofs.FacesFit.{types_fit, constant_types_fit, faces_fit, names_same}
 
 -- ---- constants
 
@@ -46,23 +46,28 @@ unfolding ConstantsCanBeSpelled Each
 constant_each [] h = tt
 constant_each (c ∷ cs) h = (h.0, constant_each cs h.1)
 
-put_word : (t : TypeTree) (n : ℕ) → TypeCanBeSpelled (plain t) → IsValueOf (plain t) n → (word_of t).fits n
-put_word t n h v = (value_word (plain t) n h v, ap (λ u. holds u n) (sym (type_back t)) ∙ value_holds (plain t) n v)
+room_is : (t : TypeTree) → 256 ^ value_bytes t ≡ room_for (plain t)
+room_is t = ap (λ u. 256 ^ value_bytes u) (sym (type_back t)) ∙ room_same (plain t)
 
-got_word : (t : TypeTree) (n : ℕ) → (word_of t).fits n → IsValueOf (plain t) n
-got_word t n h = holds_value (plain t) n h.0 (ap (λ u. holds u n) (type_back t) ∙ h.1)
+put_value : (t : TypeTree) (n : ℕ) → TypeCanBeSpelled (plain t) → IsValueOf (plain t) n → (value_of t).fits n
+put_value t n h v = (
+  omega (arith, value_room (plain t) n h v, room_is t),
+  ap (λ u. holds u n) (sym (type_back t)) ∙ value_holds (plain t) h n v,
+)
 
-module _ (version : ℕ) where
-  put_constant : (known : List (List ℕ)) (c : Constant) → FineConstant c → is_among known c.name ≡ false → (constant version known).fits c
-  unfolding constant
-  put_constant known c h e = (fresh_fits known c.name h.name e, ((ordinal_types_fit version c.kind).0 (h.kind, h.ordinal), put_word c.kind c.value h.kind h.value))
+got_value : (t : TypeTree) (n : ℕ) → TypeCanBeSpelled (plain t) → (value_of t).fits n → IsValueOf (plain t) n
+got_value t n h f = holds_value (plain t) h n (omega (arith, f.0, room_is t)) (ap (λ u. holds u n) (type_back t) ∙ f.1)
 
-  got_constant : (known : List (List ℕ)) (c : Constant) → (constant version known).fits c → FineConstant c × (is_among known c.name ≡ false)
-  unfolding constant
-  got_constant known c h =
-      let n = fresh_is known c.name h.0 in
-      let k = (ordinal_types_fit version c.kind).1 h.1.0 in
-      (record { name = n.0; kind = k.0; ordinal = k.1; value = got_word c.kind c.value h.1.1 }, n.1)
+put_constant : (known : List (List ℕ)) (c : Constant) → FineConstant c → is_among known c.name ≡ false → (constant 2 known).fits c
+unfolding constant
+put_constant known c h e = (fresh_fits known c.name h.name e, ((constant_types_fit c.kind).0 (h.kind, h.based), put_value c.kind c.value h.kind h.value))
+
+got_constant : (known : List (List ℕ)) (c : Constant) → (constant 2 known).fits c → FineConstant c × (is_among known c.name ≡ false)
+unfolding constant
+got_constant known c h =
+    let n = fresh_is known c.name h.0 in
+    let k = (constant_types_fit c.kind).1 h.1.0 in
+    (record { name = n.0; kind = k.0; based = k.1; value = got_value c.kind c.value k.0 h.1.1 }, n.1)
 
 -- ---- named types
 
@@ -85,14 +90,13 @@ unfolding NamedTypesCanBeSpelled Each
 type_each [] h = tt
 type_each (x ∷ xs) h = (h.0.0, h.0.1, type_each xs h.1)
 
-module _ (version : ℕ) where
-  put_type : (known : List (List ℕ)) (x : NamedType) → FineType x → is_among known x.name ≡ false → (named_type version known).fits x
-  unfolding named_type
-  put_type known x h e = (fresh_fits known x.name h.0 e, (types_fit version x.kind).0 h.1)
+put_type : (known : List (List ℕ)) (x : NamedType) → FineType x → is_among known x.name ≡ false → (named_type 2 known).fits x
+unfolding named_type
+put_type known x h e = (fresh_fits known x.name h.0 e, (types_fit x.kind).0 h.1)
 
-  got_type : (known : List (List ℕ)) (x : NamedType) → (named_type version known).fits x → FineType x × (is_among known x.name ≡ false)
-  unfolding named_type
-  got_type known x h = let n = fresh_is known x.name h.0 in ((n.0, (types_fit version x.kind).1 h.1), n.1)
+got_type : (known : List (List ℕ)) (x : NamedType) → (named_type 2 known).fits x → FineType x × (is_among known x.name ≡ false)
+unfolding named_type
+got_type known x h = let n = fresh_is known x.name h.0 in ((n.0, (types_fit x.kind).1 h.1), n.1)
 
 -- ---- interfaces
 
@@ -105,14 +109,14 @@ all_names i =
     ∙ (ap (λ xs. item_names i.face.items ++ (xs ++ names_of_types (map plain_name i.types))) (map-map plain_constant (λ (c : PlainConstant). c.name) i.constants)
     ∙ ap (λ xs. item_names i.face.items ++ (constant_names i.constants ++ xs)) (map-map plain_name (λ (x : PlainName). x.name) i.types))
 
-module _ (version : ℕ) (i : Interface) where
+module _ (i : Interface) where
   abbrev seen : List (List ℕ)
   seen = item_names i.face.items
 
   abbrev known : List (List ℕ)
   known = item_names i.face.items ++ constant_names i.constants
 
-  put_interface : InterfaceCanBeSpelled (plain_interface i) → (interface version).fits i
+  put_interface : InterfaceCanBeSpelled (plain_interface i) → (interface 2).fits i
   unfolding interface constants named_types
   put_interface h =
       let once = subst NoneTwice (all_names i) h.distinct in
@@ -120,13 +124,13 @@ module _ (version : ℕ) (i : Interface) where
       let b = fresh_append seen (constant_names i.constants) (type_names i.types) a.1 in
       let few : length (map plain_constant i.constants) < 4294967296 = h.constant_count in
       let few_types : length (map plain_name i.types) < 4294967296 = h.type_count in (
-        (faces_fit version i.face).0 h.face,
+        (faces_fit i.face).0 h.face,
         (
           (
             (omega (arith, few, length-map i.constants plain_constant), le-leb 0 (length i.constants) (omega arith)),
             (
               refl,
-              each_fits (constant version) constant_name FineConstant constant_names constants_grow seen (put_constant version) [] i.constants (each_constant i.constants h.constants)
+              each_fits (constant 2) constant_name FineConstant constant_names constants_grow seen put_constant [] i.constants (each_constant i.constants h.constants)
                   (subst (λ xs. Fresh xs (constant_names i.constants)) (sym (append-nil seen)) b.0),
             ),
           ),
@@ -134,19 +138,19 @@ module _ (version : ℕ) (i : Interface) where
             (omega (arith, few_types, length-map i.types plain_name), le-leb 0 (length i.types) (omega arith)),
             (
               refl,
-              each_fits (named_type version) type_name FineType type_names types_grow known (put_type version) [] i.types (each_type i.types h.types)
+              each_fits (named_type 2) type_name FineType type_names types_grow known put_type [] i.types (each_type i.types h.types)
                   (subst (λ xs. Fresh xs (type_names i.types)) (sym (append-nil known)) b.1),
             ),
           ),
         ),
       )
 
-  got_interface : (interface version).fits i → InterfaceCanBeSpelled (plain_interface i)
+  got_interface : (interface 2).fits i → InterfaceCanBeSpelled (plain_interface i)
   unfolding interface constants named_types
   got_interface h =
-      let f = (faces_fit version i.face).1 h.0 in
-      let c = each_fine (constant version) constant_name FineConstant constant_names constants_grow seen (got_constant version) [] i.constants h.1.0.1.1 in
-      let t = each_fine (named_type version) type_name FineType type_names types_grow known (got_type version) [] i.types h.1.1.1.1 in
+      let f = (faces_fit i.face).1 h.0 in
+      let c = each_fine (constant 2) constant_name FineConstant constant_names constants_grow seen got_constant [] i.constants h.1.0.1.1 in
+      let t = each_fine (named_type 2) type_name FineType type_names types_grow known got_type [] i.types h.1.1.1.1 in
       let few : length i.constants < 4294967296 = h.1.0.0.0 in
       let few_types : length i.types < 4294967296 = h.1.1.0.0 in
       let more = append_fresh seen (constant_names i.constants) (type_names i.types)
@@ -161,11 +165,11 @@ module _ (version : ℕ) (i : Interface) where
       }
 
 pub interfaces_fit : InterfacesFit
-interfaces_fit version i = (put_interface version i, got_interface version i)
+interfaces_fit i = (put_interface i, got_interface i)
 
 pub faces_of_interfaces_fit : FacesOfInterfacesFit
 unfolding interface
 faces_of_interfaces_fit version i h = h.0
 
 pub built_in_fits : BuiltInFits
-built_in_fits version = (interfaces_fit version iodefs).0 built_in_can_be_spelled
+built_in_fits = (interfaces_fit iodefs).0 built_in_can_be_spelled

@@ -49,6 +49,8 @@ layer_back : (y : TypeTree-F Types Fields) → TypeBack (roll-TypeTree (map-Type
 unfolding tree_of
 layer_back TypeTree-F.Integer = simp fold-roll-TypeTree (sym tree.rolls-Integer)
 layer_back TypeTree-F.Cardinal = simp fold-roll-TypeTree (sym tree.rolls-Cardinal)
+layer_back TypeTree-F.LongInteger = simp fold-roll-TypeTree (sym tree.rolls-LongInteger)
+layer_back TypeTree-F.LongCardinal = simp fold-roll-TypeTree (sym tree.rolls-LongCardinal)
 layer_back TypeTree-F.Boolean = simp fold-roll-TypeTree (sym tree.rolls-Boolean)
 layer_back TypeTree-F.Character = simp fold-roll-TypeTree (sym tree.rolls-Character)
 layer_back TypeTree-F.String = simp fold-roll-TypeTree (sym tree.rolls-String)
@@ -77,6 +79,8 @@ mutual
   again : (k : PlainType) → of_tree (tree_of k) ≡ k
   again p.Integer = folded PlainType PlainField plain_step plain_field_step TypeTree-F.Integer tree.Integer tree.rolls-Integer
   again p.Cardinal = folded PlainType PlainField plain_step plain_field_step TypeTree-F.Cardinal tree.Cardinal tree.rolls-Cardinal
+  again p.LongInteger = folded PlainType PlainField plain_step plain_field_step TypeTree-F.LongInteger tree.LongInteger tree.rolls-LongInteger
+  again p.LongCardinal = folded PlainType PlainField plain_step plain_field_step TypeTree-F.LongCardinal tree.LongCardinal tree.rolls-LongCardinal
   again p.Boolean = folded PlainType PlainField plain_step plain_field_step TypeTree-F.Boolean tree.Boolean tree.rolls-Boolean
   again p.Character = folded PlainType PlainField plain_step plain_field_step TypeTree-F.Character tree.Character tree.rolls-Character
   again p.String = folded PlainType PlainField plain_step plain_field_step TypeTree-F.String tree.String tree.rolls-String

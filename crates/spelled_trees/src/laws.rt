@@ -1,3 +1,4 @@
+//! The laws of the paths, records and names in trees of configurations.
 ghost use Rattle.spelled_trees.specs.Laws.{ParsedNamesAreNames, SinglesCanBeSpelled, TreesCanBeSpelled};
 
 use written_trees::tokens_are_within;

@@ -35,7 +35,7 @@ use Rattle.survey_rules.proofs.Instructions.{reached_starts}
 use Rattle.survey_rules.proofs.Living.{Alive, search_alive, next_alive}
 use Rattle.survey_code.specs.Around.{no_phrase}
 use Rattle.survey_code.specs.Graphs.{IsGraph, IsReached, first, onward}
-use Rattle.survey_code.specs.Leads.{BeginBefore, phrase_node, EntryLeads, PhraseLeads, Lists, IsGraphOf}
+use Rattle.survey_code.specs.Leads.{BeginBefore, phrase_node, EntryLeads, PhraseLeads, IsGraphOf}
 use Rattle.survey_code.specs.Leads as l
 use Rattle.survey_code.proofs.Endings.{instruction_there}
 

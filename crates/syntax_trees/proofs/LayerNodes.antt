@@ -186,6 +186,8 @@ test_step (Test-F.Inside b p i) = 2 + negation b + i
 abbrev pub type_step : Layer TypeExp-F → ℕ
 type_step (TypeExp-F.Integer p) = 1
 type_step (TypeExp-F.Cardinal p) = 1
+type_step (TypeExp-F.LongInteger p) = 1
+type_step (TypeExp-F.LongCardinal p) = 1
 type_step (TypeExp-F.Boolean p) = 1
 type_step (TypeExp-F.Character p) = 1
 type_step (TypeExp-F.String p) = 1

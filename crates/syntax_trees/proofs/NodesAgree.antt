@@ -339,6 +339,8 @@ here_typeexp : (y : TypeExp-F Such-Condition Such-Count Such-Expr Such-FieldList
 unfolding n.arms_nodes n.block_nodes n.brackets_nodes n.cases_nodes n.condition_nodes n.control_nodes n.count_nodes n.exits_nodes n.expr_nodes n.exprs_nodes n.field_list_nodes n.interval_nodes n.items_nodes n.keyed_exprs_nodes n.keyed_lefts_nodes n.left_nodes n.lefts_nodes n.locals_nodes n.maybe_brackets_nodes n.maybe_items_nodes n.maybe_statement_nodes n.named_fields_nodes n.operations_nodes n.phrase_nodes n.plain_item_nodes n.raise_nodes n.repeats_nodes n.statement_nodes n.statements_nodes n.suffixes_nodes n.targets_nodes n.tests_nodes n.type_nodes n.types_nodes
 here_typeexp (TypeExp-F.Integer q) = agree (ap n.type_nodes (pf.type_exp_at (TypeExp-F.Integer q) refl)) (f.type_at (TypeExp-F.Integer q) refl) (refl)
 here_typeexp (TypeExp-F.Cardinal q) = agree (ap n.type_nodes (pf.type_exp_at (TypeExp-F.Cardinal q) refl)) (f.type_at (TypeExp-F.Cardinal q) refl) (refl)
+here_typeexp (TypeExp-F.LongInteger q) = agree (ap n.type_nodes (pf.type_exp_at (TypeExp-F.LongInteger q) refl)) (f.type_at (TypeExp-F.LongInteger q) refl) (refl)
+here_typeexp (TypeExp-F.LongCardinal q) = agree (ap n.type_nodes (pf.type_exp_at (TypeExp-F.LongCardinal q) refl)) (f.type_at (TypeExp-F.LongCardinal q) refl) (refl)
 here_typeexp (TypeExp-F.Boolean q) = agree (ap n.type_nodes (pf.type_exp_at (TypeExp-F.Boolean q) refl)) (f.type_at (TypeExp-F.Boolean q) refl) (refl)
 here_typeexp (TypeExp-F.Character q) = agree (ap n.type_nodes (pf.type_exp_at (TypeExp-F.Character q) refl)) (f.type_at (TypeExp-F.Character q) refl) (refl)
 here_typeexp (TypeExp-F.String q) = agree (ap n.type_nodes (pf.type_exp_at (TypeExp-F.String q) refl)) (f.type_at (TypeExp-F.String q) refl) (refl)

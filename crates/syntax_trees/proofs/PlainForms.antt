@@ -300,6 +300,12 @@ of_integer p = type_exp_at (TypeExp-F.Integer p) (yv.rolls-Integer p)
 pub of_cardinal : (p : Place) → type_exp (yv.Cardinal p) ≡ s.Cardinal p
 of_cardinal p = type_exp_at (TypeExp-F.Cardinal p) (yv.rolls-Cardinal p)
 
+pub of_long_integer : (p : Place) → type_exp (yv.LongInteger p) ≡ s.LongInteger p
+of_long_integer p = type_exp_at (TypeExp-F.LongInteger p) (yv.rolls-LongInteger p)
+
+pub of_long_cardinal : (p : Place) → type_exp (yv.LongCardinal p) ≡ s.LongCardinal p
+of_long_cardinal p = type_exp_at (TypeExp-F.LongCardinal p) (yv.rolls-LongCardinal p)
+
 pub of_boolean : (p : Place) → type_exp (yv.Boolean p) ≡ s.Boolean p
 of_boolean p = type_exp_at (TypeExp-F.Boolean p) (yv.rolls-Boolean p)
 
@@ -403,6 +409,6 @@ pub ruleset suffix_forms = (of_field, of_applied)
 
 pub ruleset test_forms = (of_value, of_compared, of_inside)
 
-pub ruleset type_exp_forms = (of_integer, of_cardinal, of_boolean, of_character, of_string, of_called, of_enumeration, of_subrange, of_array, of_record)
+pub ruleset type_exp_forms = (of_integer, of_cardinal, of_long_integer, of_long_cardinal, of_boolean, of_character, of_string, of_called, of_enumeration, of_subrange, of_array, of_record)
 
 pub ruleset parts = (parts_of_arm, parts_of_block, parts_of_brackets, parts_of_case, parts_of_control, parts_of_interval, parts_of_left, parts_of_operation)

@@ -315,6 +315,12 @@ of_integer p = type_at (TypeExp-F.Integer p) (yv.rolls-Integer p)
 pub of_cardinal : (p : Place) → type_nodes (yv.Cardinal p) ≡ 1
 of_cardinal p = type_at (TypeExp-F.Cardinal p) (yv.rolls-Cardinal p)
 
+pub of_long_integer : (p : Place) → type_nodes (yv.LongInteger p) ≡ 1
+of_long_integer p = type_at (TypeExp-F.LongInteger p) (yv.rolls-LongInteger p)
+
+pub of_long_cardinal : (p : Place) → type_nodes (yv.LongCardinal p) ≡ 1
+of_long_cardinal p = type_at (TypeExp-F.LongCardinal p) (yv.rolls-LongCardinal p)
+
 pub of_boolean : (p : Place) → type_nodes (yv.Boolean p) ≡ 1
 of_boolean p = type_at (TypeExp-F.Boolean p) (yv.rolls-Boolean p)
 

@@ -195,6 +195,8 @@ test_step (Test-F.Inside negated p i) = s.Inside negated p i
 abbrev pub type_exp_step : Layer TypeExp-F → s.TypeExp
 type_exp_step (TypeExp-F.Integer p) = s.Integer p
 type_exp_step (TypeExp-F.Cardinal p) = s.Cardinal p
+type_exp_step (TypeExp-F.LongInteger p) = s.LongInteger p
+type_exp_step (TypeExp-F.LongCardinal p) = s.LongCardinal p
 type_exp_step (TypeExp-F.Boolean p) = s.Boolean p
 type_exp_step (TypeExp-F.Character p) = s.Character p
 type_exp_step (TypeExp-F.String p) = s.String p

@@ -27,6 +27,9 @@ mutual
   pub data TypeExp : Type 0 where
     Integer : Place → TypeExp
     Cardinal : Place → TypeExp
+    -- at the word LONG
+    LongInteger : Place → TypeExp
+    LongCardinal : Place → TypeExp
     Boolean : Place → TypeExp
     Character : Place → TypeExp
     String : Place → TypeExp

@@ -7,7 +7,7 @@
 use Rattle.std.specs.Prelude.{ℕ, ◌+◌, Bool, true, false, List, [], ◌∷◌, length, Option, Some, None}
 use Rattle.syntax_trees.specs.Syntax.{Labels, Any, Unwind, Signals, RepeatLabels, Named, Finished}
 use Rattle.syntax_trees.specs.Syntax.{TypeBase, Unsaid, OfInteger, OfCardinal, OfCharacter, OfName}
-use Rattle.syntax_trees.specs.Syntax.{TypeExp, Integer, Cardinal, Boolean, Character, String, Called, Enumeration, Subrange, Array, Record}
+use Rattle.syntax_trees.specs.Syntax.{TypeExp, Integer, Cardinal, LongInteger, LongCardinal, Boolean, Character, String, Called, Enumeration, Subrange, Array, Record}
 use Rattle.syntax_trees.specs.Syntax.{FieldList, WithNames, Unnamed, NamedFields, NoFields, AndFields, TypeExps, NoTypes, AndType}
 use Rattle.syntax_trees.specs.Syntax.{Interval, Between, Expr, Run, Not, Compare, Within, Signed, NumberLiteral, CharacterLiteral, StringLiteral}
 use Rattle.syntax_trees.specs.Syntax.{Truth, Parenthesis, Reference, Constructor, Raised, Operations, NoOperation, AndOperation}
@@ -53,6 +53,8 @@ unfoldable mutual
   pub type_nodes : TypeExp → ℕ
   type_nodes (Integer p) = 1
   type_nodes (Cardinal p) = 1
+  type_nodes (LongInteger p) = 1
+  type_nodes (LongCardinal p) = 1
   type_nodes (Boolean p) = 1
   type_nodes (Character p) = 1
   type_nodes (String p) = 1

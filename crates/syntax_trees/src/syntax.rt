@@ -121,6 +121,9 @@ pub type ListExpr = Placed<Entries<Expr>>;
 pub enum TypeExp {
     Integer(Place),
     Cardinal(Place),
+    /// At the word LONG.
+    LongInteger(Place),
+    LongCardinal(Place),
     Boolean(Place),
     Character(Place),
     String(Place),

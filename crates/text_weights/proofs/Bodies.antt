@@ -160,6 +160,8 @@ module _ (w : Weights) where
     pub type_f : {ts rest : List Token} {x : TypeExp} → g.IsType ts x rest → Fits w (tree.type_weight w (plain.type_exp x)) ts rest
     type_f (g.integer {p = p}) = record { fits = omega (arith, ap (tree.type_weight w) (of.of_integer p)) }
     type_f (g.cardinal {p = p}) = record { fits = omega (arith, ap (tree.type_weight w) (of.of_cardinal p)) }
+    type_f (g.long_integer {p = p}) = record { fits = omega (arith, ap (tree.type_weight w) (of.of_long_integer p)) }
+    type_f (g.long_cardinal {p = p}) = record { fits = omega (arith, ap (tree.type_weight w) (of.of_long_cardinal p)) }
     type_f (g.boolean {p = p}) = record { fits = omega (arith, ap (tree.type_weight w) (of.of_boolean p)) }
     type_f (g.character {p = p}) = record { fits = omega (arith, ap (tree.type_weight w) (of.of_character p)) }
     type_f (g.string {p = p}) = record { fits = omega (arith, ap (tree.type_weight w) (of.of_string p)) }

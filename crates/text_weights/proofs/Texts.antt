@@ -6,7 +6,7 @@ use Rattle.std.proofs.lemmas.List.{length-append, length-take-le, drop-drop, get
 use Rattle.mesa_base.specs.Name.{is_letter, is_letter_or_digit, begins_with_letter}
 use Rattle.mesa_lexer.specs.Blanks.{IsGap, blank, comment}
 use Rattle.mesa_lexer.specs.Forms as f
-use Rattle.mesa_lexer.specs.Forms.{Form, Inside, Writes, Lexeme, Whole, Unended, Longest, is_identifier}
+use Rattle.mesa_lexer.specs.Forms.{Form, Inside, Writes, Lexeme, Whole, Unended, is_identifier}
 use Rattle.mesa_lexer.specs.Tokens.{IsToken, Reaches, start, gap, token, place_in}
 use Rattle.mesa_lexer.specs.Words.{word_of}
 use Rattle.mesa_lexer.specs.declared.word.Word.{Word}

@@ -1,3 +1,4 @@
+//! The laws of what a text weighs: its tokens, its names and literals, and the nodes of its tree.
 ghost use Rattle.text_weights.specs.Laws.{TokensAreInTheirText, TreesAreOfTheirTokens, TreesAreSizedByTheirText};
 
 /// A law: a text has at most a token for each byte, its names and string literals take no more bytes than it has, and between two names stands a byte.

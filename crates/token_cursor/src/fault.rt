@@ -1,3 +1,4 @@
+//! Why a parser function stopped.
 use mesa_base::OutOfMemory;
 use std::alloc::{AllocError, AllocFailed};
 

@@ -6,7 +6,8 @@ use Rattle.mesa_types.specs.Typed as t
 use Rattle.mesa_types.specs.mesa_base.specs.Chain.{chain}
 use Rattle.mesa_types.specs.Plain.{Layer, expr, exprs, operation, operation_step}
 use Rattle.mesa_types.specs.Operators.{is_true, checked, tried}
-use Rattle.mesa_types.specs.Constants.{◌>>=◌, fine, constant, constant_run, all_true, some_true, and_true, or_true}
+use Rattle.mesa_types.specs.Longs.{tried_long}
+use Rattle.mesa_types.specs.Constants.{◌>>=◌, fine, as_word, constant, constant_run, constant_long_run, all_true, some_true, and_true, or_true}
 use Rattle.mesa_types.specs.declared.typed_tree.TypedExpr.{TypedExpr}
 use Rattle.mesa_types.specs.declared.typed_tree.Operation.{Operation}
 use Rattle.mesa_types.specs.declared.typed_tree.Condition.TheOpen.{Operation-F}
@@ -26,7 +27,7 @@ bind_inner (Some x) (Some y) c k = bind_more (c x y) k
 
 layer_more : (o : Layer Operation-F) (rest : t.Operations) (w : ℕ) → constant_run (operation_step o rest) w ≡ constant_run (operation_step o t.NoOperation) w >>= constant_run rest
 unfolding constant_run
-layer_more o rest w = bind_inner (fine (checked o.check w)) (constant o.right) (λ x y. fine (tried o.operator x y)) (constant_run rest)
+layer_more o rest w = bind_inner (fine (checked o.check w)) (constant o.right >>= as_word) (λ x y. fine (tried o.operator x y)) (constant_run rest)
 
 one_more : (x : Operation) (rest : t.Operations) (w : ℕ) → constant_run (operation x rest) w ≡ constant_run (operation x t.NoOperation) w >>= constant_run rest
 one_more x rest w = rw fold_out-Operation (layer_more _ rest w)
@@ -40,6 +41,29 @@ run_more rest i w x inside here =
 pub run_end : (rest : List Operation) (i w : ℕ) → length rest ≤ i → constant_run (chain (map operation (drop i rest)) t.NoOperation) w ≡ Some w
 unfolding constant_run
 run_end rest i w outside = ap (λ ys. constant_run (chain (map operation ys) t.NoOperation) w) (drop_all i rest outside)
+
+-- ---- a run over LONG numbers
+
+bind_right : (b : Option ℕ) (c : ℕ → Option ℕ) (k : ℕ → Option ℕ) → b >>= (λ y. c y >>= k) ≡ (b >>= λ y. c y >>= λ z. Some z) >>= k
+bind_right None c k = refl
+bind_right (Some y) c k = bind_more (c y) k
+
+long_layer_more : (o : Layer Operation-F) (rest : t.Operations) (n : ℕ) → constant_long_run (operation_step o rest) n ≡ constant_long_run (operation_step o t.NoOperation) n >>= constant_long_run rest
+unfolding constant_long_run
+long_layer_more o rest n = bind_right (constant o.right) (λ y. fine (tried_long o.operator n y)) (constant_long_run rest)
+
+one_more_long : (x : Operation) (rest : t.Operations) (n : ℕ) → constant_long_run (operation x rest) n ≡ constant_long_run (operation x t.NoOperation) n >>= constant_long_run rest
+one_more_long x rest n = rw fold_out-Operation (long_layer_more _ rest n)
+
+pub long_run_more : (rest : List Operation) (i n : ℕ) (x : Operation) → i < length rest → x ≡ get_or rest i x →
+    constant_long_run (chain (map operation (drop i rest)) t.NoOperation) n ≡ constant_long_run (operation x t.NoOperation) n >>= constant_long_run (chain (map operation (drop (i + 1) rest)) t.NoOperation)
+long_run_more rest i n x inside here =
+    ap (λ ys. constant_long_run (chain (map operation ys) t.NoOperation) n) (drop_more rest i x inside ∙ ap (λ y. y ∷ drop (i + 1) rest) (sym here))
+    ∙ one_more_long x (chain (map operation (drop (i + 1) rest)) t.NoOperation) n
+
+pub long_run_end : (rest : List Operation) (i n : ℕ) → length rest ≤ i → constant_long_run (chain (map operation (drop i rest)) t.NoOperation) n ≡ Some n
+unfolding constant_long_run
+long_run_end rest i n outside = ap (λ ys. constant_long_run (chain (map operation ys) t.NoOperation) n) (drop_all i rest outside)
 
 -- ---- AND
 
@@ -61,7 +85,7 @@ pub all_more : (all : List TypedExpr) (i : ℕ) (a : Bool) (e : TypedExpr) → i
 unfolding all_true
 all_more all i a e inside here =
     ap (λ ys. all_true (exprs (map expr ys)) >>= (λ c. Some (a && c))) (drop_more all i e inside ∙ ap (λ y. y ∷ drop (i + 1) all) (sym here))
-    ∙ and_inner (constant (expr e)) a (all_true (exprs (map expr (drop (i + 1) all))))
+    ∙ and_inner (constant (expr e) >>= as_word) a (all_true (exprs (map expr (drop (i + 1) all))))
 
 pub all_end : (all : List TypedExpr) (i : ℕ) (a : Bool) → length all ≤ i → all_true (exprs (map expr (drop i all))) >>= (λ c. Some (a && c)) ≡ Some a
 unfolding all_true
@@ -87,7 +111,7 @@ pub some_more : (all : List TypedExpr) (i : ℕ) (a : Bool) (e : TypedExpr) → 
 unfolding some_true
 some_more all i a e inside here =
     ap (λ ys. some_true (exprs (map expr ys)) >>= (λ c. Some (a || c))) (drop_more all i e inside ∙ ap (λ y. y ∷ drop (i + 1) all) (sym here))
-    ∙ or_inner (constant (expr e)) a (some_true (exprs (map expr (drop (i + 1) all))))
+    ∙ or_inner (constant (expr e) >>= as_word) a (some_true (exprs (map expr (drop (i + 1) all))))
 
 pub some_end : (all : List TypedExpr) (i : ℕ) (a : Bool) → length all ≤ i → some_true (exprs (map expr (drop i all))) >>= (λ c. Some (a || c)) ≡ Some a
 unfolding some_true

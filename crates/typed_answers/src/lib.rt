@@ -2,6 +2,7 @@
 #![tactic(auto)]
 
 mod constants;
+pub mod long_operators;
 mod operators;
 mod sameness;
 mod sizes;

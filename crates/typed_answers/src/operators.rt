@@ -60,7 +60,7 @@ fn with_sign(has_minus: bool, word: u16) -> u16
 
 #[inline(always)]
 #[tactic(auto, unfolding(mesa_types::specs::Operators::differ))]
-fn differ(left: bool, right: bool) -> bool
+pub(crate) fn differ(left: bool, right: bool) -> bool
     ensures { result ≡ spec.differ left right }
 {
     if left { !right } else { right }

@@ -1,3 +1,5 @@
+//! Whether types are the same, and whether a value of one may be given to a target of another.
+
 ghost use Rattle.std.specs.Prelude.{◌≡◌, ◌↔◌, IsTrue};
 ghost use Rattle.std.specs.Option.{option_copied};
 ghost use Rattle.mesa_types.specs.Types.{SameType, types_in, Conforms, IsOneBase, IsNumber, base_of};
@@ -60,6 +62,8 @@ pub fn same_type(a: &TypeTree, b: &TypeTree) -> bool
     match (a, b) {
         (TypeTree::Integer, TypeTree::Integer)
         | (TypeTree::Cardinal, TypeTree::Cardinal)
+        | (TypeTree::LongInteger, TypeTree::LongInteger)
+        | (TypeTree::LongCardinal, TypeTree::LongCardinal)
         | (TypeTree::Boolean, TypeTree::Boolean)
         | (TypeTree::Character, TypeTree::Character)
         | (TypeTree::String, TypeTree::String) => true,
@@ -110,7 +114,8 @@ pub fn same_types(a: &[FieldType], b: &[FieldType]) -> bool
     true
 }
 
-/// The base of an ordinal type, which for a subrange is that of the type whose values it has; else None.
+/// The base of an ordinal type, which for a subrange is that of the type whose values it has, and of a LONG type, which is
+/// the type itself; else None.
 pub fn base(t: &TypeTree) -> Option<&TypeTree>
     ensures { option_copied result ≡ base_of t.now }
 {
@@ -124,7 +129,10 @@ pub fn base(t: &TypeTree) -> Option<&TypeTree>
 fn is_number(base: &TypeTree) -> bool
     ensures { IsTrue result ↔ IsNumber base.now }
 {
-    matches!(base, TypeTree::Integer | TypeTree::Cardinal)
+    matches!(
+        base,
+        TypeTree::Integer | TypeTree::Cardinal | TypeTree::LongInteger | TypeTree::LongCardinal
+    )
 }
 
 fn is_one_base(a: &TypeTree, b: &TypeTree) -> bool
@@ -133,8 +141,8 @@ fn is_one_base(a: &TypeTree, b: &TypeTree) -> bool
     (is_number(a) && is_number(b)) || same_type(a, b)
 }
 
-/// Whether a value of the first type may be given to a target of the second: both have one base, where INTEGER and
-/// CARDINAL count as one, or are the same type.
+/// Whether a value of the first type may be given to a target of the second: both have one base, where the four
+/// number types count as one, or are the same type.
 pub fn conforms(from: &TypeTree, to: &TypeTree) -> bool
     ensures { IsTrue result ↔ Conforms from.now to.now }
 {

@@ -1,3 +1,5 @@
+//! The sizes of types: their elements, words, depths and longest enumerations, and the limits of these.
+
 ghost use Rattle.std.specs.Prelude.{◌≡◌, ◌*◌, ◌↔◌, min, IsTrue};
 ghost use Rattle.mesa_types.specs.Types.{words_of, words_of_fields, elements_of, depth_of, depth_of_fields, longest_of, longest_of_fields, IsWithinLimits};
 
@@ -14,7 +16,11 @@ pub fn elements(index: &TypeTree) -> usize
         TypeTree::Character => 256,
         TypeTree::Enumeration(_, names) => names.get().len(),
         TypeTree::Subrange(_, first, last) => usize::from(last.wrapping_sub(*first)) + 1,
-        TypeTree::String | TypeTree::Array(_, _) | TypeTree::Record(_, _) => 0,
+        TypeTree::LongInteger
+        | TypeTree::LongCardinal
+        | TypeTree::String
+        | TypeTree::Array(_, _)
+        | TypeTree::Record(_, _) => 0,
     }
 }
 
@@ -30,7 +36,7 @@ pub fn size_words(t: &TypeTree) -> u32
     ensures { result ≡ min (words_of t.now) 4294967295 }
 {
     match t {
-        TypeTree::String => 2,
+        TypeTree::LongInteger | TypeTree::LongCardinal | TypeTree::String => 2,
         TypeTree::Array(index, element) => product(
             elements(index.get()),
             size_words(element.get()),

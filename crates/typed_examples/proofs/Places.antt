@@ -2,7 +2,7 @@
 -- stand in.
 use Rattle.std.proofs.Common.{◌≡◌, ℕ, zero, suc, ◌+◌, List, [], ◌∷◌, Option, Some, None, refl, sym, ap, ◌∙◌, arith}
 use Rattle.std.specs.Prelude.{All, Contains}
-use Rattle.mesa_types.specs.Typed.{Kind, Ordinal, Texts, Array, Record, Kinds, NoKinds, AndKind, Point, Start, After, At, Leave}
+use Rattle.mesa_types.specs.Typed.{Kind, Ordinal, Longs, Texts, Array, Record, Kinds, NoKinds, AndKind, Point, Start, After, At, Leave}
 use Rattle.mesa_types.specs.declared.typed_parts.Label.{Label}
 use Rattle.mesa_types.specs.Plain.{Shaped, shape_step, field_kind_step, kind_of, kinds_of}
 use Rattle.mesa_types.specs.Shapes.{one}
@@ -34,6 +34,7 @@ kind_number Ordinal = 0
 kind_number Texts = 1
 kind_number (Array n k) = 2
 kind_number (Record ks) = 3
+kind_number Longs = 4
 
 unfoldable pub how_many : Kinds → ℕ
 how_many NoKinds = 0

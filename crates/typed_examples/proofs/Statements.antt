@@ -11,7 +11,7 @@ use Rattle.mesa_types.specs.declared.typed_parts.Part.{Part}
 use Rattle.mesa_types.specs.declared.typed_parts.Goal.TheVariants.{PastStatement, ToLabel}
 use Rattle.mesa_types.specs.Counts.{operands, operands_of, operands_in, operands_of_targets, operands_of_cases, operands_of_tests, operands_of_loop, operands_of_condition, operands_of_stmt}
 use Rattle.mesa_types.specs.Shapes.{words_in, words_in_all, words_before, one, KindAt}
-use Rattle.mesa_types.specs.Sound.{Fits, VariableIn, RangeIn, IsCheck, ChecksKind, AllDiffer, Arranged, Reaches, in_marked, labels_in, in_labelled, LabelsIn, CountIn, GivenIn, Selects, HasTest, HasValue, IsCall, taken, a_word, ExprIn, SuffixesIn, PhraseIn, StmtIn, StmtsIn, TargetsIn, CasesIn, TestsIn, ExitsIn, LoopIn, FinishIn, ConditionIn}
+use Rattle.mesa_types.specs.Sound.{Fits, VariableIn, RangeIn, IsCheck, ChecksKind, AllDiffer, Arranged, Reaches, in_marked, labels_in, in_labelled, LabelsIn, CountIn, GivenIn, Selects, TestsTake, CasesTake, HasTest, HasValue, IsCall, taken, a_word, ExprIn, SuffixesIn, PhraseIn, StmtIn, StmtsIn, TargetsIn, CasesIn, TestsIn, ExitsIn, LoopIn, FinishIn, ConditionIn}
 use Rattle.typed_examples.proofs.Places.{all_none, all_one, all_two, how_many, kind_number, here, pair}
 use Rattle.typed_examples.proofs.Expressions.{one_word, one_word_in}
 
@@ -87,11 +87,11 @@ of_record = (Record pair, omega arith, (Record pair, Record pair, refl, refl, re
 
 compared_record : (ts : Tests) (s : Stmt) (cs : Cases) → Selects (Record pair) (AndCase ts s cs) → ⊥
 unfolding Selects kind_number
-compared_record ts s cs h = omega (arith, ap kind_number h)
+compared_record ts s cs h = omega (arith, ap kind_number h.0)
 
 one_test : StmtIn here (Select (Number 1) (AndCase (IfRelated Every Signed Equal (Number 1) NoTests) Null (Otherwise Null)))
-unfolding StmtIn Fits operands_of_stmt operands_of_cases operands_of_tests operands ExprIn one a_word Selects CasesIn HasTest TestsIn RangeIn
-one_test = (Ordinal, omega arith, (omega arith, refl), refl, (tt, (tt, (omega arith, refl), tt), tt, tt))
+unfolding StmtIn Fits operands_of_stmt operands_of_cases operands_of_tests operands ExprIn one a_word Selects TestsTake CasesTake CasesIn HasTest TestsIn RangeIn
+one_test = (Ordinal, omega arith, (omega arith, refl), (refl, ((refl, tt), tt)), (tt, (tt, (omega arith, refl), tt), tt, tt))
 
 no_test : (s : Stmt) (cs : Cases) → CasesIn here (AndCase NoTests s cs) → ⊥
 unfolding CasesIn HasTest

@@ -2,6 +2,8 @@
 #![tactic(auto)]
 
 #[cfg(test)]
+mod long_tests;
+#[cfg(test)]
 mod tests;
 #[cfg(test)]
 mod typed_tests;

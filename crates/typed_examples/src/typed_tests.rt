@@ -1,3 +1,4 @@
+//! Values of constant expressions over words, and copies of modules, tried.
 use held_trees::{LetGo, both, boxed, boxed_pair, pushed, shared};
 use mesa_base::{Boxed, Bytes, List, Name, Relation, Texts};
 use mesa_types::{
@@ -19,7 +20,7 @@ fn run(alloc: Global, left: u16, operator: Operator, right: u16) -> Result<Typed
     Ok(TypedExpr::Operate(left, rest))
 }
 
-fn check_constant(rt: &impl Abort, whole: TypedExpr, value: Option<u16>) {
+fn check_constant(rt: &impl Abort, whole: TypedExpr, value: Option<u32>) {
     assert_eq!(rt; constant(&whole), value);
     whole.let_go();
 }
@@ -30,7 +31,7 @@ fn check_run(
     left: u16,
     operator: Operator,
     right: u16,
-    value: Option<u16>,
+    value: Option<u32>,
 ) -> Result<(), Fail> {
     check_constant(rt, run(alloc, left, operator, right)?, value);
     Ok(())

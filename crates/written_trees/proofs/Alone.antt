@@ -16,7 +16,7 @@ use Rattle.check_rules.specs.Laws.{ShapesAreGiven, faces}
 use Rattle.interface_records.specs.PlainTypes.{plain_interface}
 use Rattle.check_rules.specs.Steps.{Checked}
 use Rattle.check_rules.specs.Typed as t
-use Rattle.check_rules.proofs.KeptModule.{few_nodes}
+use Rattle.typing_laws.proofs.KeptModule.{few_nodes}
 use Rattle.written_trees.specs.Alone.{StandsAlone, built_in, CheckedTextsStandAlone}
 use Rattle.written_trees.proofs.InOrder as order
 use Rattle.written_trees.proofs.LawProofs.{checked_texts_are_sound}

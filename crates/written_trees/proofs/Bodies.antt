@@ -166,6 +166,8 @@ mutual
   pub type : {ts rest : List Token} {x : TypeExp} → g.IsType ts x rest → AreWithin ts → TypeRead x rest
   type (g.integer {p = p}) h = whole w.TypeWritten n.TypeNamed (of.of_integer p) tt tt h.1
   type (g.cardinal {p = p}) h = whole w.TypeWritten n.TypeNamed (of.of_cardinal p) tt tt h.1
+  type (g.long_integer {p = p}) h = whole w.TypeWritten n.TypeNamed (of.of_long_integer p) tt tt h.1.1
+  type (g.long_cardinal {p = p}) h = whole w.TypeWritten n.TypeNamed (of.of_long_cardinal p) tt tt h.1.1
   type (g.boolean {p = p}) h = whole w.TypeWritten n.TypeNamed (of.of_boolean p) tt tt h.1
   type (g.character {p = p}) h = whole w.TypeWritten n.TypeNamed (of.of_character p) tt tt h.1
   type (g.string {p = p}) h = whole w.TypeWritten n.TypeNamed (of.of_string p) tt tt h.1

@@ -5,11 +5,11 @@ use Rattle.interface_records.specs.Faces.{iodefs}
 use Rattle.interface_records.specs.PlainTypes.{plain_interface}
 use Rattle.interface_records.specs.Spelled.{InterfacesCanBeSpelled}
 use Rattle.interface_records.proofs.BuiltIn.{built_in_can_be_spelled}
-use Rattle.check_rules.proofs.HeadNames.{modules_have_names}
-use Rattle.check_rules.proofs.SoundLaw.{checked_modules_are_sound}
-use Rattle.check_rules.proofs.OrderKept.{interfaces_in_order}
-use Rattle.check_rules.proofs.SpelledShapes.{modules_can_be_spelled}
-use Rattle.check_rules.proofs.SpelledLaw.{interfaces_can_be_spelled}
+use Rattle.typing_laws.proofs.HeadNames.{modules_have_names}
+use Rattle.typing_laws.proofs.SoundLaw.{checked_modules_are_sound}
+use Rattle.typing_laws.proofs.OrderKept.{interfaces_in_order}
+use Rattle.typing_laws.proofs.SpelledShapes.{modules_can_be_spelled}
+use Rattle.typing_laws.proofs.SpelledLaw.{interfaces_can_be_spelled}
 use Rattle.written_trees.specs.Laws.{TreesAreWritten, NamesOfTreesAreNames, CheckedTextsAreSound, CheckedDefinitionsAreInOrder, CheckedTextsHaveNames, CheckedTextsCanBeSpelled}
 use Rattle.written_trees.proofs.Tokens.{tokens_are_within}
 use Rattle.written_trees.proofs.Modules.{module_read}

@@ -8,7 +8,7 @@ use Rattle.syntax_trees.specs.PlainSyntax.{syntax}
 use Rattle.check_rules.specs.Places.{places_in}
 use Rattle.check_rules.specs.Steps.{Checked, Fault}
 use Rattle.check_rules.specs.CheckedModule.{checked, checked_definitions}
-use Rattle.check_rules.proofs.KeptModule.{in_the_text}
+use Rattle.typing_laws.proofs.KeptModule.{in_the_text}
 use Rattle.written_trees.specs.Laws.{IsOfToken, PlacesAreOfTokens, FaultsStandAtTokens}
 use Rattle.written_trees.proofs.Tokened.{Stand, none, more, TokensStand}
 use Rattle.written_trees.proofs.TokenedModules.{module_stands}

@@ -194,6 +194,8 @@ module _ (S : Place → Type 0) where
         → Read S places.of_type (plain.type_exp x) rest
     type (g.integer {p = p}) h = whole places.of_type (of.of_integer p) (one h.0) h.1
     type (g.cardinal {p = p}) h = whole places.of_type (of.of_cardinal p) (one h.0) h.1
+    type (g.long_integer {p = p}) h = whole places.of_type (of.of_long_integer p) (one h.0) h.1.1
+    type (g.long_cardinal {p = p}) h = whole places.of_type (of.of_long_cardinal p) (one h.0) h.1.1
     type (g.boolean {p = p}) h = whole places.of_type (of.of_boolean p) (one h.0) h.1
     type (g.character {p = p}) h = whole places.of_type (of.of_character p) (one h.0) h.1
     type (g.string {p = p}) h = whole places.of_type (of.of_string p) (one h.0) h.1

@@ -1,7 +1,8 @@
+//! The laws of trees of texts: how they are written, and what checking gives of them.
 ghost use Rattle.written_trees.specs.Alone.{CheckedTextsStandAlone};
 ghost use Rattle.written_trees.specs.Laws.{CheckedDefinitionsAreInOrder, CheckedTextsAreSound, CheckedTextsCanBeSpelled, CheckedTextsHaveNames, FaultsStandAtTokens, NamesOfTreesAreNames, PlacesAreOfTokens, TokensAreWithin, TreesAreWritten};
 
-use check_rules::laws::shapes_are_given;
+use typing_laws::laws::shapes_are_given;
 
 /// The tokens of a text are within their limits: what is written as a name is one, and strings have at most their bytes.
 #[tactic(auto, using(crate::proofs::Tokens::tokens_are_within))]

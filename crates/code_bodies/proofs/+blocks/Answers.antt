@@ -24,8 +24,14 @@ expressions::operands-room_for_jump-requires-clause-fits = of_expressions.expres
 pub expressions::operations-room_for_value-requires-clause-room : goal.expressions::operations-room_for_value-requires-clause-room
 expressions::operations-room_for_value-requires-clause-room = of_expressions.expressions::operations-room_for_value-requires-clause-room
 
+pub expressions::long_operations-room_for_value-requires-clause-room : goal.expressions::long_operations-room_for_value-requires-clause-room
+expressions::long_operations-room_for_value-requires-clause-room = of_expressions.expressions::long_operations-room_for_value-requires-clause-room
+
 pub expressions::operations-room_for_value-requires-clause-fits : goal.expressions::operations-room_for_value-requires-clause-fits
 expressions::operations-room_for_value-requires-clause-fits = of_expressions.expressions::operations-room_for_value-requires-clause-fits
+
+pub expressions::long_operations-room_for_value-requires-clause-fits : goal.expressions::long_operations-room_for_value-requires-clause-fits
+expressions::long_operations-room_for_value-requires-clause-fits = of_expressions.expressions::long_operations-room_for_value-requires-clause-fits
 
 pub expressions::path-room_for_value-requires-clause-room : goal.expressions::path-room_for_value-requires-clause-room
 expressions::path-room_for_value-requires-clause-room = of_expressions.expressions::path-room_for_value-requires-clause-room
@@ -48,6 +54,9 @@ expressions::operands-loop-e-preserved = of_expressions.expressions::operands-lo
 pub expressions::operations-loop-step-preserved : goal.expressions::operations-loop-step-preserved
 expressions::operations-loop-step-preserved = of_expressions.expressions::operations-loop-step-preserved
 
+pub expressions::long_operations-loop-step-preserved : goal.expressions::long_operations-loop-step-preserved
+expressions::long_operations-loop-step-preserved = of_expressions.expressions::long_operations-loop-step-preserved
+
 pub expressions::values-loop-e-init : goal.expressions::values-loop-e-init
 expressions::values-loop-e-init = of_expressions.expressions::values-loop-e-init
 
@@ -56,6 +65,9 @@ expressions::operands-loop-e-init = of_expressions.expressions::operands-loop-e-
 
 pub expressions::operations-loop-step-init : goal.expressions::operations-loop-step-init
 expressions::operations-loop-step-init = of_expressions.expressions::operations-loop-step-init
+
+pub expressions::long_operations-loop-step-init : goal.expressions::long_operations-loop-step-init
+expressions::long_operations-loop-step-init = of_expressions.expressions::long_operations-loop-step-init
 
 pub expressions::path-loop-suffix-init : goal.expressions::path-loop-suffix-init
 expressions::path-loop-suffix-init = of_expressions.expressions::path-loop-suffix-init
@@ -318,20 +330,38 @@ cases::tests-returns-clause-next = of_lists.cases::tests-returns-clause-next
 pub cases::a_test-room_for_value-requires-clause-room : goal.cases::a_test-room_for_value-requires-clause-room
 cases::a_test-room_for_value-requires-clause-room = of_lists.cases::a_test-room_for_value-requires-clause-room
 
+pub cases::a_test-room_for_value-requires-in-IfRelatedLong-clause-room : goal.cases::a_test-room_for_value-requires-in-IfRelatedLong-clause-room
+cases::a_test-room_for_value-requires-in-IfRelatedLong-clause-room = of_lists.cases::a_test-room_for_value-requires-in-IfRelatedLong-clause-room
+
 pub cases::a_test-room_for_value-requires-clause-fits : goal.cases::a_test-room_for_value-requires-clause-fits
 cases::a_test-room_for_value-requires-clause-fits = of_lists.cases::a_test-room_for_value-requires-clause-fits
+
+pub cases::a_test-room_for_value-requires-in-IfRelatedLong-clause-fits : goal.cases::a_test-room_for_value-requires-in-IfRelatedLong-clause-fits
+cases::a_test-room_for_value-requires-in-IfRelatedLong-clause-fits = of_lists.cases::a_test-room_for_value-requires-in-IfRelatedLong-clause-fits
 
 pub cases::a_test-room_for_bounds-requires-clause-room : goal.cases::a_test-room_for_bounds-requires-clause-room
 cases::a_test-room_for_bounds-requires-clause-room = of_lists.cases::a_test-room_for_bounds-requires-clause-room
 
+pub cases::a_test-room_for_bounds-requires-in-IfWithinLong-clause-room : goal.cases::a_test-room_for_bounds-requires-in-IfWithinLong-clause-room
+cases::a_test-room_for_bounds-requires-in-IfWithinLong-clause-room = of_lists.cases::a_test-room_for_bounds-requires-in-IfWithinLong-clause-room
+
 pub cases::a_test-room_for_bounds-requires-clause-fits : goal.cases::a_test-room_for_bounds-requires-clause-fits
 cases::a_test-room_for_bounds-requires-clause-fits = of_lists.cases::a_test-room_for_bounds-requires-clause-fits
+
+pub cases::a_test-room_for_bounds-requires-in-IfWithinLong-clause-fits : goal.cases::a_test-room_for_bounds-requires-in-IfWithinLong-clause-fits
+cases::a_test-room_for_bounds-requires-in-IfWithinLong-clause-fits = of_lists.cases::a_test-room_for_bounds-requires-in-IfWithinLong-clause-fits
 
 pub cases::a_test-returns-in_ok-right-in-IfRelated-clause-next : goal.cases::a_test-returns-in_ok-right-in-IfRelated-clause-next
 cases::a_test-returns-in_ok-right-in-IfRelated-clause-next = of_lists.cases::a_test-returns-in_ok-right-in-IfRelated-clause-next
 
+pub cases::a_test-returns-in_ok-right-in-IfRelatedLong-clause-next : goal.cases::a_test-returns-in_ok-right-in-IfRelatedLong-clause-next
+cases::a_test-returns-in_ok-right-in-IfRelatedLong-clause-next = of_lists.cases::a_test-returns-in_ok-right-in-IfRelatedLong-clause-next
+
 pub cases::a_test-returns-in_ok-ends-in-IfWithin-clause-next : goal.cases::a_test-returns-in_ok-ends-in-IfWithin-clause-next
 cases::a_test-returns-in_ok-ends-in-IfWithin-clause-next = of_lists.cases::a_test-returns-in_ok-ends-in-IfWithin-clause-next
+
+pub cases::a_test-returns-in_ok-ends-in-IfWithinLong-clause-next : goal.cases::a_test-returns-in_ok-ends-in-IfWithinLong-clause-next
+cases::a_test-returns-in_ok-ends-in-IfWithinLong-clause-next = of_lists.cases::a_test-returns-in_ok-ends-in-IfWithinLong-clause-next
 
 pub targets::targets-room_for_path-requires-clause-room : goal.targets::targets-room_for_path-requires-clause-room
 targets::targets-room_for_path-requires-clause-room = of_lists.targets::targets-room_for_path-requires-clause-room

@@ -47,6 +47,18 @@ invariant-expressions::operations-loop-step l = record {
       ≡ l.fn.next + hidden_operations (chain (map operation l.rest) t.NoOperation);
 }
 
+abbrev pub invariant-expressions::long_operations-loop-step : goal.invariant-expressions::long_operations-loop-step
+invariant-expressions::long_operations-loop-step l = record {
+  block : in_order (plain_blocks l.row.blocks) (spec.long_operations (coded l.routine) l.next (chain (map operation (drop l.step-index l.rest))
+      t.NoOperation))
+      ≡ spec.long_operations (coded l.routine) l.fn.next (chain (map operation l.rest) t.NoOperation);
+  fits : excess (spec.long_operations (coded l.routine) l.next (chain (map operation (drop l.step-index l.rest)) t.NoOperation)) ≡ 0;
+  small : sizes_in (plain_blocks l.row.blocks) + size (spec.long_operations (coded l.routine) l.next (chain (map operation (drop l.step-index l.rest))
+      t.NoOperation)) ≤ 4294967295;
+  next : l.next + hidden_operations (chain (map operation (drop l.step-index l.rest)) t.NoOperation)
+      ≡ l.fn.next + hidden_operations (chain (map operation l.rest) t.NoOperation);
+}
+
 abbrev pub invariant-expressions::path-loop-suffix : goal.invariant-expressions::path-loop-suffix
 invariant-expressions::path-loop-suffix l = record {
   block : in_order (plain_blocks l.row.blocks) (spec.path (coded l.routine) l.next (chain (map suffix (drop l.suffix-index l.suffixes)) t.NoSuffix))

@@ -18,13 +18,19 @@ pub in_type-returns-in-Integer-2 : goal.in_type-returns-in-Integer-2
 in_type-returns-in-Integer-2 t c = forms.in_cardinal (plain_interface c.args.interface.now) (names c.args.names.now) c.args.kind.now (search rules)
 
 pub in_type-returns-in-Integer-3 : goal.in_type-returns-in-Integer-3
-in_type-returns-in-Integer-3 t c = forms.in_boolean (plain_interface c.args.interface.now) (names c.args.names.now) c.args.kind.now (search rules)
+in_type-returns-in-Integer-3 t c = forms.in_long_integer (plain_interface c.args.interface.now) (names c.args.names.now) c.args.kind.now (search rules)
 
 pub in_type-returns-in-Integer-4 : goal.in_type-returns-in-Integer-4
-in_type-returns-in-Integer-4 t c = forms.in_character (plain_interface c.args.interface.now) (names c.args.names.now) c.args.kind.now (search rules)
+in_type-returns-in-Integer-4 t c = forms.in_long_cardinal (plain_interface c.args.interface.now) (names c.args.names.now) c.args.kind.now (search rules)
 
 pub in_type-returns-in-Integer-5 : goal.in_type-returns-in-Integer-5
-in_type-returns-in-Integer-5 t c = forms.in_string (plain_interface c.args.interface.now) (names c.args.names.now) c.args.kind.now (search rules)
+in_type-returns-in-Integer-5 t c = forms.in_boolean (plain_interface c.args.interface.now) (names c.args.names.now) c.args.kind.now (search rules)
+
+pub in_type-returns-in-Integer-6 : goal.in_type-returns-in-Integer-6
+in_type-returns-in-Integer-6 t c = forms.in_character (plain_interface c.args.interface.now) (names c.args.names.now) c.args.kind.now (search rules)
+
+pub in_type-returns-in-Integer-7 : goal.in_type-returns-in-Integer-7
+in_type-returns-in-Integer-7 t c = forms.in_string (plain_interface c.args.interface.now) (names c.args.names.now) c.args.kind.now (search rules)
 
 pub in_type-returns-else-is_own : goal.in_type-returns-else-is_own
 in_type-returns-else-is_own t c =

@@ -38,6 +38,12 @@ also_elements-returns-in-Integer-6 t c = forms.in_leaf (names c.args.scope.now) 
 pub also_elements-returns-in-Integer-7 : goal.also_elements-returns-in-Integer-7
 also_elements-returns-in-Integer-7 t c = forms.in_leaf (names c.args.scope.now) c.args.e.now c.in-Integer.is
 
+pub also_elements-returns-in-Integer-8 : goal.also_elements-returns-in-Integer-8
+also_elements-returns-in-Integer-8 t c = forms.in_leaf (names c.args.scope.now) c.args.e.now c.in-Integer.is
+
+pub also_elements-returns-in-Integer-9 : goal.also_elements-returns-in-Integer-9
+also_elements-returns-in-Integer-9 t c = forms.in_leaf (names c.args.scope.now) c.args.e.now c.in-Integer.is
+
 pub also_elements-returns-in_ok-also_elements-in-Array : goal.also_elements-returns-in_ok-also_elements-in-Array
 also_elements-returns-in_ok-also_elements-in-Array t c =
     then_ok c.also_elements-in-Array.result c.also_elements-in-Array.ensures (λ h.

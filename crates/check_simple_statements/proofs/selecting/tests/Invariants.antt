@@ -8,5 +8,5 @@ use Rattle.check_simple_statements.proofs.selecting.tests.Given as goal
 
 abbrev pub invariant-loop-one : goal.invariant-loop-one
 invariant-loop-one g l =
-    spec.tests (words.around l.around) (words.typed l.selector) (plain.tests l.all) (words.state l.fn.state)
-    ≡ onto (map test l.done) (spec.tests (words.around l.around) (words.typed l.selector) (plain.tests (drop l.one-index l.all)) (words.state l.state))
+    spec.tests (words.around l.around) l.start (words.typed l.selector) (plain.tests l.all) (words.state l.fn.state)
+    ≡ onto (map test l.done) (spec.tests (words.around l.around) l.start (words.typed l.selector) (plain.tests (drop l.one-index l.all)) (words.state l.state))

@@ -3,14 +3,14 @@ use Rattle.std.proofs.Common.{[], ap, arith, drop, map, refl, sym, ◌+◌, ◌�
 use Rattle.mesa_base.specs.Chain.{chain}
 use Rattle.mesa_types.specs.Plain.{expr, exprs, operation, suffix}
 use Rattle.mesa_types.specs.Typed as t
-use Rattle.code_rules.specs.OwnCode.{check_code, index_code, operator_code}
+use Rattle.code_rules.specs.OwnCode.{check_code, index_code, long_operator_code, operator_code}
 use Rattle.code_rules.specs.Reading.{scratch}
 use Rattle.code_blocks.specs.Blocks.{Does}
 use Rattle.code_blocks.specs.Sizes.{size}
 use Rattle.code_blocks.specs.Translation as spec
 use Rattle.code_trees.proofs.RowLaws.{row_begun, turn_block, turn_fits}
 use Rattle.code_trees.proofs.Splits.{exprs_split, field_split, index_split, operations_split}
-use Rattle.code_trees.proofs.Walks.{hidden_index_next, hidden_next, hidden_operation_next, hidden_passed, operands_next, operations_next, path_index, path_next, path_passed, sizes_next, values_next}
+use Rattle.code_trees.proofs.Walks.{hidden_index_next, hidden_next, hidden_operation_next, hidden_passed, long_operations_next, operands_next, operations_next, path_index, path_next, path_passed, sizes_next, values_next}
 use Rattle.code_trees.specs.Excess.{excess}
 use Rattle.code_trees.specs.Plain.{in_order, plain, plain_blocks}
 use Rattle.code_trees.specs.Routines.{coded}
@@ -19,7 +19,7 @@ use Rattle.code_trees.specs.declared.part.Row.{Row}
 use Rattle.code_trees.specs.declared.part.Values.{Values}
 use Rattle.code_bodies.proofs.ExpressionLaws.{call_form, raise_form, variable_form, variable_hidden}
 use Rattle.code_bodies.proofs.FormLaws.{call_made, fits_call}
-use Rattle.code_bodies.proofs.ItemLaws.{index_fits, index_room, operand_fits, right_fits, right_room, value_fits, value_room}
+use Rattle.code_bodies.proofs.ItemLaws.{index_fits, index_room, long_right_fits, operand_fits, right_fits, right_room, value_fits, value_room}
 use Rattle.code_bodies.proofs.ReadLaws.{path_fits}
 use Rattle.code_bodies.proofs.RowTurns.{begun_small, one_put, sizes_begun, three_put, turn_room, two_put}
 use Rattle.code_bodies.proofs.+blocks.Goals as goal
@@ -50,9 +50,19 @@ expressions::operations-room_for_value-requires-clause-room m c =
     right_room (coded c.args.routine.now) c.loop-step.next c.step-item.result c.loop-step.step-index c.args.rest.now c.loop-step-test.true
     c.step-item.is _ c.loop-step.invariant.next c.requires.room
 
+pub expressions::long_operations-room_for_value-requires-clause-room : goal.expressions::long_operations-room_for_value-requires-clause-room
+expressions::long_operations-room_for_value-requires-clause-room m c =
+    right_room (coded c.args.routine.now) c.loop-step.next c.step-item.result c.loop-step.step-index c.args.rest.now c.loop-step-test.true
+    c.step-item.is _ c.loop-step.invariant.next c.requires.room
+
 pub expressions::operations-room_for_value-requires-clause-fits : goal.expressions::operations-room_for_value-requires-clause-fits
 expressions::operations-room_for_value-requires-clause-fits m c =
     right_fits (coded c.args.routine.now) c.loop-step.next c.step-item.result c.loop-step.step-index c.args.rest.now c.loop-step-test.true
+    c.step-item.is c.loop-step.invariant.fits
+
+pub expressions::long_operations-room_for_value-requires-clause-fits : goal.expressions::long_operations-room_for_value-requires-clause-fits
+expressions::long_operations-room_for_value-requires-clause-fits m c =
+    long_right_fits (coded c.args.routine.now) c.loop-step.next c.step-item.result c.loop-step.step-index c.args.rest.now c.loop-step-test.true
     c.step-item.is c.loop-step.invariant.fits
 
 pub expressions::path-room_for_value-requires-clause-room : goal.expressions::path-room_for_value-requires-clause-room
@@ -154,6 +164,30 @@ expressions::operations-loop-step-preserved m c =
       next = hidden_operation_next P c.loop-step.next _ _ _ _ _ _ split after ∙ c.loop-step.invariant.next;
     }
 
+pub expressions::long_operations-loop-step-preserved : goal.expressions::long_operations-loop-step-preserved
+expressions::long_operations-loop-step-preserved m c =
+    let P = coded c.args.routine.now in
+    let split = operations_split c.args.rest.now c.loop-step.step-index c.step-item.result c.loop-step-test.true c.step-item.is in
+    let made = rw c.in_ok-held.ensures.1 at c.value.ensures.block in
+    let after = rw c.in_ok-held.ensures.1 at c.value.ensures.next in
+    let next = long_operations_next P c.loop-step.next _ _ _ _ _ _ split after in
+    let row = ap (λ (x : Row). plain_blocks x.blocks) c.in_ok-held.ensures.0 in
+    let put = two_put _ _ _ _ _ _ row made c.in_ok-row.ensures in
+    let rest = chain (map operation (drop c.loop-step.step-index c.args.rest.now)) t.NoOperation in
+    let later = chain (map operation (drop (c.loop-step.step-index + 1) c.args.rest.now)) t.NoOperation in
+    let all = spec.long_operations P c.loop-step.next rest in
+    let tail = spec.long_operations P c.value.new.next later in
+    let old = plain_blocks c.loop-step.row.blocks in
+    let new = plain_blocks c.in_ok-row.row.blocks in
+    let step = c.step-item.result in
+    let bs = (spec.forms P c.loop-step.next (expr step.right)).value ∷ Does (long_operator_code step.operator) ∷ [] in
+    record {
+      block = turn_block old bs new all tail next put _ c.loop-step.invariant.block;
+      fits = turn_fits old bs new all tail next put c.loop-step.invariant.fits;
+      small = turn_room old bs new all tail next put c.loop-step.invariant.small;
+      next = hidden_operation_next P c.loop-step.next _ _ _ _ _ _ split after ∙ c.loop-step.invariant.next;
+    }
+
 pub expressions::values-loop-e-init : goal.expressions::values-loop-e-init
 expressions::values-loop-e-init m c = record {
   block = row_begun _ _ c.no_row-row.ensures;
@@ -173,6 +207,14 @@ expressions::operands-loop-e-init m c = record {
 
 pub expressions::operations-loop-step-init : goal.expressions::operations-loop-step-init
 expressions::operations-loop-step-init m c = record {
+  block = row_begun _ _ c.no_row-row.ensures;
+  fits = c.requires.fits;
+  small = begun_small _ _ c.no_row-row.ensures c.requires.fits;
+  next = refl;
+}
+
+pub expressions::long_operations-loop-step-init : goal.expressions::long_operations-loop-step-init
+expressions::long_operations-loop-step-init m c = record {
   block = row_begun _ _ c.no_row-row.ensures;
   fits = c.requires.fits;
   small = begun_small _ _ c.no_row-row.ensures c.requires.fits;

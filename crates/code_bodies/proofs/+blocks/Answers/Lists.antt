@@ -25,7 +25,7 @@ use Rattle.code_bodies.proofs.ListWalks.{case_more, case_small, cases_end_hidden
 use Rattle.code_bodies.proofs.LoopWalks.{held_together}
 use Rattle.code_bodies.proofs.RowWalks.{made_as, next_held, next_made, one_fewer, part_made, tail_among, tail_fits, whole_small}
 use Rattle.code_bodies.proofs.StatementWalks.{case_same}
-use Rattle.code_bodies.proofs.TestWalks.{case_parts, related_form, related_hidden, related_value_fits, test_fits, test_more, test_small, tests_end_hidden, tests_end_is, tests_hidden, tests_whole, within_bounds_fit, within_form, within_hidden}
+use Rattle.code_bodies.proofs.TestWalks.{case_parts, long_related_form, long_related_hidden, long_related_value_fits, long_within_bounds_fit, long_within_form, long_within_hidden, related_form, related_hidden, related_value_fits, test_fits, test_more, test_small, tests_end_hidden, tests_end_is, tests_hidden, tests_whole, within_bounds_fit, within_form, within_hidden}
 use Rattle.code_bodies.proofs.+blocks.Goals as goal
 
 way_is : {E : Type 0} (P : Coded) (z : ℕ) (r : Result Part E) (x : Part) (read ss : List Suffix) → r ≡ Ok x
@@ -330,10 +330,24 @@ cases::a_test-room_for_value-requires-clause-room m c =
       c.requires.room,
     )
 
+pub cases::a_test-room_for_value-requires-in-IfRelatedLong-clause-room : goal.cases::a_test-room_for_value-requires-in-IfRelatedLong-clause-room
+cases::a_test-room_for_value-requires-in-IfRelatedLong-clause-room m c =
+    omega (
+      arith,
+      long_related_hidden (coded c.args.routine.now) c.args.next.now c.args.slot c.args.last c.args.of.now _ _ _ _ c.in-IfRelatedLong.is,
+      c.requires.room,
+    )
+
 pub cases::a_test-room_for_value-requires-clause-fits : goal.cases::a_test-room_for_value-requires-clause-fits
 cases::a_test-room_for_value-requires-clause-fits m c =
     related_value_fits _ _ _ _ _ _
     (ap excess (sym (related_form (coded c.args.routine.now) c.args.next.now c.args.slot c.args.last c.args.of.now _ _ _ _ c.in-IfRelated.is))
+    ∙ c.requires.fits)
+
+pub cases::a_test-room_for_value-requires-in-IfRelatedLong-clause-fits : goal.cases::a_test-room_for_value-requires-in-IfRelatedLong-clause-fits
+cases::a_test-room_for_value-requires-in-IfRelatedLong-clause-fits m c =
+    long_related_value_fits _ _ _ _ _ _
+    (ap excess (sym (long_related_form (coded c.args.routine.now) c.args.next.now c.args.slot c.args.last c.args.of.now _ _ _ _ c.in-IfRelatedLong.is))
     ∙ c.requires.fits)
 
 pub cases::a_test-room_for_bounds-requires-clause-room : goal.cases::a_test-room_for_bounds-requires-clause-room
@@ -344,10 +358,24 @@ cases::a_test-room_for_bounds-requires-clause-room m c =
       c.requires.room,
     )
 
+pub cases::a_test-room_for_bounds-requires-in-IfWithinLong-clause-room : goal.cases::a_test-room_for_bounds-requires-in-IfWithinLong-clause-room
+cases::a_test-room_for_bounds-requires-in-IfWithinLong-clause-room m c =
+    omega (
+      arith,
+      long_within_hidden (coded c.args.routine.now) c.args.next.now c.args.slot c.args.last c.args.of.now _ _ _ _ c.in-IfWithinLong.is,
+      c.requires.room,
+    )
+
 pub cases::a_test-room_for_bounds-requires-clause-fits : goal.cases::a_test-room_for_bounds-requires-clause-fits
 cases::a_test-room_for_bounds-requires-clause-fits m c =
     within_bounds_fit (coded c.args.routine.now) _ _ _ _ _ _
     (ap excess (sym (within_form (coded c.args.routine.now) c.args.next.now c.args.slot c.args.last c.args.of.now _ _ _ c.in-IfWithin.is))
+    ∙ c.requires.fits)
+
+pub cases::a_test-room_for_bounds-requires-in-IfWithinLong-clause-fits : goal.cases::a_test-room_for_bounds-requires-in-IfWithinLong-clause-fits
+cases::a_test-room_for_bounds-requires-in-IfWithinLong-clause-fits m c =
+    long_within_bounds_fit (coded c.args.routine.now) _ _ _ _ _ _ _
+    (ap excess (sym (long_within_form (coded c.args.routine.now) c.args.next.now c.args.slot c.args.last c.args.of.now _ _ _ _ c.in-IfWithinLong.is))
     ∙ c.requires.fits)
 
 pub cases::a_test-returns-in_ok-right-in-IfRelated-clause-next : goal.cases::a_test-returns-in_ok-right-in-IfRelated-clause-next
@@ -359,6 +387,15 @@ cases::a_test-returns-in_ok-right-in-IfRelated-clause-next m c =
       c.in_ok-right-in-IfRelated.ensures.next,
     ))
 
+pub cases::a_test-returns-in_ok-right-in-IfRelatedLong-clause-next : goal.cases::a_test-returns-in_ok-right-in-IfRelatedLong-clause-next
+cases::a_test-returns-in_ok-right-in-IfRelatedLong-clause-next m c =
+    next_held c.long_related.result _ _
+    (omega (
+      arith,
+      long_related_hidden (coded c.args.routine.now) c.args.next.now c.args.slot c.args.last c.args.of.now _ _ _ _ c.in-IfRelatedLong.is,
+      c.in_ok-right-in-IfRelatedLong.ensures.next,
+    ))
+
 pub cases::a_test-returns-in_ok-ends-in-IfWithin-clause-next : goal.cases::a_test-returns-in_ok-ends-in-IfWithin-clause-next
 cases::a_test-returns-in_ok-ends-in-IfWithin-clause-next m c =
     next_held c.within.result _ _
@@ -366,6 +403,15 @@ cases::a_test-returns-in_ok-ends-in-IfWithin-clause-next m c =
       arith,
       within_hidden (coded c.args.routine.now) c.args.next.now c.args.slot c.args.last c.args.of.now _ _ _ c.in-IfWithin.is,
       c.in_ok-ends-in-IfWithin.ensures.next,
+    ))
+
+pub cases::a_test-returns-in_ok-ends-in-IfWithinLong-clause-next : goal.cases::a_test-returns-in_ok-ends-in-IfWithinLong-clause-next
+cases::a_test-returns-in_ok-ends-in-IfWithinLong-clause-next m c =
+    next_held c.long_within.result _ _
+    (omega (
+      arith,
+      long_within_hidden (coded c.args.routine.now) c.args.next.now c.args.slot c.args.last c.args.of.now _ _ _ _ c.in-IfWithinLong.is,
+      c.in_ok-ends-in-IfWithinLong.ensures.next,
     ))
 
 pub targets::targets-room_for_path-requires-clause-room : goal.targets::targets-room_for_path-requires-clause-room

@@ -177,36 +177,43 @@ statements::block-returns-in-Repeat-clause-next m c =
 
 pub statements::block-room_for_value-requires-in-Select-clause-room : goal.statements::block-room_for_value-requires-in-Select-clause-room
 statements::block-room_for_value-requires-in-Select-clause-room m c =
-    omega (arith, select_hidden (coded c.args.routine.now) c.args.next.now c.args.s.now _ _ _ _ _ c.in-Select.is refl refl, c.requires.room)
+    omega (
+      arith,
+      select_hidden (coded c.args.routine.now) c.args.next.now c.args.s.now _ _ _ _ _ refl refl c.in-Select.is _ c.held_words-words_held.ensures,
+      c.requires.room,
+    )
 
 pub statements::block-room_for_value-requires-in-Select-clause-fits : goal.statements::block-room_for_value-requires-in-Select-clause-fits
 statements::block-room_for_value-requires-in-Select-clause-fits m c =
-    selector_value (coded c.args.routine.now) c.args.next.now (c.args.next.now + 1) c.args.s.now _ _ refl c.requires.fits _ c.in-Select.is
+    selector_value (coded c.args.routine.now) c.args.next.now _ (c.args.next.now + c.held_words-words_held.result) c.args.s.now _ _
+    c.held_words-words_held.ensures refl c.requires.fits _ c.in-Select.is
 
 pub statements::block-selected-requires : goal.statements::block-selected-requires
 statements::block-selected-requires m c =
-    ap excess (select_same c.is_empty.result c.args.next.now _ _ _ _ _ _ _ _ c.in_ok-words-in-Select.ensures (ap (λ (p : Part × Row). plain p.0.block)
+    ap excess (select_same c.is_empty.result c.args.next.now c.held_words-words_held.result _ _ _ _ _ _ _ _ c.in_ok-words-in-Select.ensures (ap (λ (p : Part × Row). plain p.0.block)
     c.in_ok-parts-in-Select.ensures.0 ∙ ap (λ (p : Part). plain p.block) c.in_ok-kept-in-Select.ensures.0 ∙ c.in_ok-selector-in-Select.ensures.block)
     (ap (λ (p : Part × Row). plain_blocks p.1.blocks) c.in_ok-parts-in-Select.ensures.0 ∙ row_made c.cases.result c.in_ok-kept-in-Select.row _
     c.in_ok-kept-in-Select.ensures.1 c.cases.ensures.blocks ∙ ap (λ b. case_blocks (coded c.args.routine.now) c.value-in-Select.new.next
     c.args.next.now (not b) (chain (map case c.as_slice-rest.result.now) (t.Otherwise t.Null))) c.is_null-passes.ensures)
     (part_made c.block-in-Select.result c.in_ok-parts-in-Select.last _ c.in_ok-parts-in-Select.ensures.1 c.block-in-Select.ensures.block)
-    ∙ sym (select_form (coded c.args.routine.now) c.args.next.now c.args.s.now _ _ _ _ _ c.in-Select.is c.as_slice-rest.ensures
-    c.get-otherwise-in-Select.ensures (c.args.next.now + 1) c.value-in-Select.new.next c.cases.new.next c.is_empty.result refl
+    ∙ sym (select_form (coded c.args.routine.now) c.args.next.now c.args.s.now _ _ _ _ _ c.as_slice-rest.ensures
+    c.get-otherwise-in-Select.ensures c.in-Select.is c.held_words-words_held.result c.held_words-words_held.ensures
+    (c.args.next.now + c.held_words-words_held.result) c.value-in-Select.new.next c.cases.new.next c.is_empty.result refl
     c.in_ok-selector-in-Select.ensures.next (next_made c.cases.result c.in_ok-kept-in-Select.row _ _ c.in_ok-kept-in-Select.ensures.1
     c.cases.ensures.next) (λ h. c.as_slice-rest.ensures ∙ c.is_empty.ensures.0 h)
     (λ h e. false≢true (sym h ∙ c.is_empty.ensures.1 (sym c.as_slice-rest.ensures ∙ e))))) ∙ c.requires.fits
 
 pub statements::block-returns-in_ok-parts-in-Select-clause-block : goal.statements::block-returns-in_ok-parts-in-Select-clause-block
 statements::block-returns-in_ok-parts-in-Select-clause-block m c =
-    made_as c.selected.result _ _ c.selected.ensures (select_same c.is_empty.result c.args.next.now _ _ _ _ _ _ _ _ c.in_ok-words-in-Select.ensures
+    made_as c.selected.result _ _ c.selected.ensures (select_same c.is_empty.result c.args.next.now c.held_words-words_held.result _ _ _ _ _ _ _ _ c.in_ok-words-in-Select.ensures
     (ap (λ (p : Part × Row). plain p.0.block) c.in_ok-parts-in-Select.ensures.0 ∙ ap (λ (p : Part). plain p.block) c.in_ok-kept-in-Select.ensures.0
     ∙ c.in_ok-selector-in-Select.ensures.block) (ap (λ (p : Part × Row). plain_blocks p.1.blocks) c.in_ok-parts-in-Select.ensures.0
     ∙ row_made c.cases.result c.in_ok-kept-in-Select.row _ c.in_ok-kept-in-Select.ensures.1 c.cases.ensures.blocks
     ∙ ap (λ b. case_blocks (coded c.args.routine.now) c.value-in-Select.new.next c.args.next.now (not b) (chain (map case c.as_slice-rest.result.now)
     (t.Otherwise t.Null))) c.is_null-passes.ensures) (part_made c.block-in-Select.result c.in_ok-parts-in-Select.last _
-    c.in_ok-parts-in-Select.ensures.1 c.block-in-Select.ensures.block) ∙ sym (select_form (coded c.args.routine.now) c.args.next.now c.args.s.now _ _
-    _ _ _ c.in-Select.is c.as_slice-rest.ensures c.get-otherwise-in-Select.ensures (c.args.next.now + 1) c.value-in-Select.new.next c.cases.new.next
+    c.in_ok-parts-in-Select.ensures.1 c.block-in-Select.ensures.block) ∙ sym (select_form (coded c.args.routine.now) c.args.next.now c.args.s.now _ _ _ _ _ c.as_slice-rest.ensures
+    c.get-otherwise-in-Select.ensures c.in-Select.is c.held_words-words_held.result c.held_words-words_held.ensures
+    (c.args.next.now + c.held_words-words_held.result) c.value-in-Select.new.next c.cases.new.next
     c.is_empty.result refl c.in_ok-selector-in-Select.ensures.next (next_made c.cases.result c.in_ok-kept-in-Select.row _ _
     c.in_ok-kept-in-Select.ensures.1 c.cases.ensures.next) (λ h. c.as_slice-rest.ensures ∙ c.is_empty.ensures.0 h)
     (λ h e. false≢true (sym h ∙ c.is_empty.ensures.1 (sym c.as_slice-rest.ensures ∙ e)))))
@@ -215,8 +222,8 @@ pub statements::block-returns-in_ok-parts-in-Select-clause-next : goal.statement
 statements::block-returns-in_ok-parts-in-Select-clause-next m c =
     next_held c.selected.result _ _ (omega (
       arith,
-      select_hidden (coded c.args.routine.now) c.args.next.now c.args.s.now _ _ _ _ _ c.in-Select.is
-          c.as_slice-rest.ensures c.get-otherwise-in-Select.ensures,
+      select_hidden (coded c.args.routine.now) c.args.next.now c.args.s.now _ _ _ _ _ c.as_slice-rest.ensures
+          c.get-otherwise-in-Select.ensures c.in-Select.is _ c.held_words-words_held.ensures,
       c.in_ok-selector-in-Select.ensures.next,
       (next_made c.cases.result c.in_ok-kept-in-Select.row _ _ c.in_ok-kept-in-Select.ensures.1 c.cases.ensures.next),
       next_made
@@ -351,8 +358,8 @@ pub statements::block-room_for_cases-requires-clause-room : goal.statements::blo
 statements::block-room_for_cases-requires-clause-room m c =
     omega (
       arith,
-      select_hidden (coded c.args.routine.now) c.args.next.now c.args.s.now _ _ _ _ _ c.in-Select.is c.as_slice-rest.ensures
-          c.get-otherwise-in-Select.ensures,
+      select_hidden (coded c.args.routine.now) c.args.next.now c.args.s.now _ _ _ _ _ c.as_slice-rest.ensures
+          c.get-otherwise-in-Select.ensures c.in-Select.is _ c.held_words-words_held.ensures,
       c.in_ok-selector-in-Select.ensures.next,
       c.requires.room,
     )
@@ -361,7 +368,8 @@ pub statements::block-room_for_cases-requires-clause-fits : goal.statements::blo
 statements::block-room_for_cases-requires-clause-fits m c =
     ap (λ b. excess_among (case_blocks (coded c.args.routine.now) c.value-in-Select.new.next c.args.next.now (not b)
     (chain (map case c.as_slice-rest.result.now) (t.Otherwise t.Null)))) c.is_null-passes.ensures ∙ cases_fit (coded c.args.routine.now)
-    c.args.next.now c.args.s.now _ _ _ (c.args.next.now + 1) c.value-in-Select.new.next c.get-otherwise-in-Select.ensures refl
+    c.args.next.now c.args.s.now _ _ _ _ (c.args.next.now + c.held_words-words_held.result) c.value-in-Select.new.next
+    c.get-otherwise-in-Select.ensures c.held_words-words_held.ensures refl
     c.in_ok-selector-in-Select.ensures.next c.requires.fits _ _ c.in-Select.is c.as_slice-rest.ensures
 
 pub statements::block-room_for_cases-requires-clause-small : goal.statements::block-room_for_cases-requires-clause-small
@@ -371,7 +379,8 @@ statements::block-room_for_cases-requires-clause-small m c =
       ap (λ b. sizes_in (case_blocks (coded c.args.routine.now) c.value-in-Select.new.next c.args.next.now (not b)
           (chain (map case c.as_slice-rest.result.now) (t.Otherwise t.Null)))) c.is_null-passes.ensures,
       cases_small (coded c.args.routine.now)
-          c.args.next.now c.args.s.now _ _ _ (c.args.next.now + 1) c.value-in-Select.new.next c.get-otherwise-in-Select.ensures refl
+          c.args.next.now c.args.s.now _ _ _ _ (c.args.next.now + c.held_words-words_held.result) c.value-in-Select.new.next
+          c.get-otherwise-in-Select.ensures c.held_words-words_held.ensures refl
           c.in_ok-selector-in-Select.ensures.next c.requires.fits _ _ c.in-Select.is c.as_slice-rest.ensures,
     )
 
@@ -379,8 +388,8 @@ pub statements::block-room_for_statement-requires-clause-room : goal.statements:
 statements::block-room_for_statement-requires-clause-room m c =
     omega (
       arith,
-      select_hidden (coded c.args.routine.now) c.args.next.now c.args.s.now _ _ _ _ _ c.in-Select.is c.as_slice-rest.ensures
-          c.get-otherwise-in-Select.ensures,
+      select_hidden (coded c.args.routine.now) c.args.next.now c.args.s.now _ _ _ _ _ c.as_slice-rest.ensures
+          c.get-otherwise-in-Select.ensures c.in-Select.is _ c.held_words-words_held.ensures,
       c.in_ok-selector-in-Select.ensures.next,
       (next_made c.cases.result c.in_ok-kept-in-Select.row _ _
           c.in_ok-kept-in-Select.ensures.1 c.cases.ensures.next),
@@ -389,8 +398,8 @@ statements::block-room_for_statement-requires-clause-room m c =
 
 pub statements::block-room_for_statement-requires-clause-fits : goal.statements::block-room_for_statement-requires-clause-fits
 statements::block-room_for_statement-requires-clause-fits m c =
-    last_statement (coded c.args.routine.now) c.args.next.now (c.args.next.now + 1) c.value-in-Select.new.next c.cases.new.next c.args.s.now _ _ _
-    c.get-otherwise-in-Select.ensures refl c.in_ok-selector-in-Select.ensures.next c.requires.fits _ _ c.in-Select.is c.as_slice-rest.ensures
+    last_statement (coded c.args.routine.now) c.args.next.now _ (c.args.next.now + c.held_words-words_held.result) c.value-in-Select.new.next
+    c.cases.new.next c.args.s.now _ _ _ c.get-otherwise-in-Select.ensures c.held_words-words_held.ensures refl c.in_ok-selector-in-Select.ensures.next c.requires.fits _ _ c.in-Select.is c.as_slice-rest.ensures
     (next_made c.cases.result c.in_ok-kept-in-Select.row _ _ c.in_ok-kept-in-Select.ensures.1 c.cases.ensures.next)
 
 pub statements::block-room_for_statements-requires-clause-room : goal.statements::block-room_for_statements-requires-clause-room

@@ -1,38 +1,7 @@
-use Rattle.std.proofs.Common.{◌<◌, length, subst}
-use Rattle.command_passes.specs.command_rules.specs.Loading.{faulty}
-use Rattle.command_passes.specs.Stops.{stop_case}
-use Rattle.command_loads.proofs.Faulty.{faulty_there}
-use Rattle.command_loads.proofs.Joining.{fault_so, have_files, lack_so, loaded_has, loaded_in_order, machine_so}
 use Rattle.command_loads.proofs.together.joined.Goals as goal
 
-pub load-requires-clause-filed : goal.load-requires-clause-filed
-load-requires-clause-filed c = have_files c.files_are_upgraded.ensures c.args.images.items c.requires.filed
+pub with_lack-requires-clause-lack : goal.with_lack-requires-clause-lack
+with_lack-requires-clause-lack c = rw c.in-Some.is at c.requires.lack
 
-pub readied-requires-clause-order : goal.readied-requires-clause-order
-readied-requires-clause-order c =
-    loaded_in_order c.files_are_upgraded.ensures c.loaded_images_are_in_order.ensures c.images_are_in_order.ensures c.args.images.items c.in-Ok.image
-    c.requires.few c.requires.filed c.in-Ok.ensures.found
-
-pub readied-requires-clause-hosts : goal.readied-requires-clause-hosts
-readied-requires-clause-hosts c =
-    loaded_has c.wanted_by_one.ensures c.args.images.items c.in-Ok.image c.in-Ok.ensures.found (rw c.in-None.is at c.requires.lack)
-
-pub unloaded-requires-clause-one : goal.unloaded-requires-clause-one
-unloaded-requires-clause-one c = λ some.
-    subst (λ n. faulty c.in-Err.fault < n) c.requires.each
-    (faulty_there c.first_image_has_the_fault.ensures c.args.images.items c.in-Err.fault (c.in-Err.ensures.fault some))
-
-pub returns-in-Some : goal.returns-in-Some
-returns-in-Some c =
-    lack_so c.args.bases.now c.args.images.items c.requires.several c.requires.filed c.in-Ok.image c.in-Ok.ensures.found c.in-Some.lack
-    (stop_case c.lacking.result) (rw c.in-Some.is at c.requires.lack) c.lacking.ensures
-
-pub returns-in-None : goal.returns-in-None
-returns-in-None c =
-    machine_so c.args.bases.now c.args.images.items c.requires.several c.requires.filed c.in-Ok.image c.in-Ok.ensures.found c.readied.result
-    (rw c.in-None.is at c.requires.lack) c.readied.ensures.same c.readied.ensures.memory
-
-pub returns-in-Err : goal.returns-in-Err
-returns-in-Err c =
-    fault_so c.args.bases.now c.args.images.items c.requires.several c.requires.filed c.in-Err.fault (stop_case c.unloaded.result) c.in-Err.ensures.fault
-    c.unloaded.ensures
+pub without_lack-requires-clause-had : goal.without_lack-requires-clause-had
+without_lack-requires-clause-had c = rw c.in-None.is at c.requires.lack

@@ -3,7 +3,7 @@ use Rattle.file_forms.specs.Written.{Written, appended}
 use Rattle.file_forms.proofs.WrittenLaws.{appended_nothing}
 use Rattle.face_rules.specs.Layers.{tag_of}
 use Rattle.face_rules.specs.TypeForms.{any, field_form, type_form, tagged}
-use Rattle.face_rules.proofs.WriteLaws.{array_fits, array_spells, subrange_fits, subrange_spells, record_fits, record_spells, enumeration_fits, enumeration_spells, integer_spells, cardinal_spells, boolean_spells, character_spells, string_spells}
+use Rattle.face_rules.proofs.WriteLaws.{array_fits, array_spells, subrange_fits, subrange_spells, record_fits, record_spells, enumeration_fits, enumeration_spells, integer_spells, long_cardinal_spelled, long_integer_spelled, cardinal_spells, boolean_spells, character_spells, string_spells}
 use Rattle.interface_writers.proofs.Loops.{none_yet, full_already}
 use Rattle.interface_writers.proofs.ElementLaws.{field_fits, field_written}
 use Rattle.interface_writers.proofs.types.+writing.Goals as goal
@@ -16,6 +16,12 @@ put_parts-returns-in-Integer t c = rw c.in-Integer.is (nothing c.args.out.now _ 
 
 pub put_parts-returns-in-Cardinal : goal.put_parts-returns-in-Cardinal
 put_parts-returns-in-Cardinal t c = rw c.in-Cardinal.is (nothing c.args.out.now _ (cardinal_spells (type_form 2 c.args.levels)))
+
+pub put_parts-returns-in-LongInteger : goal.put_parts-returns-in-LongInteger
+put_parts-returns-in-LongInteger t c = rw c.in-LongInteger.is (nothing c.args.out.now _ (long_integer_spelled (type_form 2 c.args.levels)))
+
+pub put_parts-returns-in-LongCardinal : goal.put_parts-returns-in-LongCardinal
+put_parts-returns-in-LongCardinal t c = rw c.in-LongCardinal.is (nothing c.args.out.now _ (long_cardinal_spelled (type_form 2 c.args.levels)))
 
 pub put_parts-returns-in-Boolean : goal.put_parts-returns-in-Boolean
 put_parts-returns-in-Boolean t c = rw c.in-Boolean.is (nothing c.args.out.now _ (boolean_spells (type_form 2 c.args.levels)))

@@ -1,5 +1,4 @@
 use Rattle.std.proofs.Common.{refl}
-use Rattle.command_lines.specs.command_passes.specs.Stops.{stop_case}
 use Rattle.mesa_command.proofs.running.run_or_tell.Goals as goal
 
 pub returns-in-Ok-clause-before_run_input : goal.returns-in-Ok-clause-before_run_input

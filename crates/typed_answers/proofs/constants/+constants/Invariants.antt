@@ -1,7 +1,7 @@
 use Rattle.std.proofs.Common.{◌≡◌, map, drop, Some}
 use Rattle.std.specs.Prelude.{◌&&◌, ◌||◌}
 use Rattle.mesa_types.specs.mesa_base.specs.Chain.{chain}
-use Rattle.mesa_types.specs.Constants.{constant_run, all_true, some_true, ◌>>=◌}
+use Rattle.mesa_types.specs.Constants.{constant_run, constant_long_run, all_true, some_true, ◌>>=◌}
 use Rattle.mesa_types.specs.Plain.{expr, exprs, operation}
 use Rattle.mesa_types.specs.Typed.{NoOperation}
 use Rattle.typed_answers.proofs.constants.+constants.Given as goal
@@ -9,6 +9,10 @@ use Rattle.typed_answers.proofs.constants.+constants.Given as goal
 abbrev pub invariant-constant_run-loop-step : goal.invariant-constant_run-loop-step
 invariant-constant_run-loop-step l =
     constant_run (chain (map operation l.rest) NoOperation) l.first ≡ constant_run (chain (map operation (drop l.step-index l.rest)) NoOperation) l.word
+
+abbrev pub invariant-constant_long_run-loop-step : goal.invariant-constant_long_run-loop-step
+invariant-constant_long_run-loop-step l =
+    constant_long_run (chain (map operation l.rest) NoOperation) l.first ≡ constant_long_run (chain (map operation (drop l.step-index l.rest)) NoOperation) l.number
 
 abbrev pub invariant-all_true-loop-e : goal.invariant-all_true-loop-e
 invariant-all_true-loop-e l =

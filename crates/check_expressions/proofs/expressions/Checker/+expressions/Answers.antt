@@ -14,13 +14,13 @@ use Rattle.check_expressions.proofs.RunLaws.{sums_folded, truths_folded, truth_a
 use Rattle.check_expressions.proofs.expressions.Checker.+expressions.Goals as goal
 
 pub sums-loop-one-preserved : goal.sums-loop-one-preserved
-sums-loop-one-preserved g t c = rw c.loop-one.invariant (rw (folded_at (runs.sum_turn (words.around c.args.around.now)) (view.sum c.loop-one.done) c.args.all.now c.loop-one.one-index c.one-item.result (words.state c.loop-one.state) (search rules) (search rules)) (search rules))
+sums-loop-one-preserved g t c = rw c.loop-one.invariant (rw (folded_at (runs.sum_turn (words.around c.args.around.now)) (view.run c.loop-one.done) c.args.all.now c.loop-one.one-index c.one-item.result (words.state c.loop-one.state) (search rules) (search rules)) (search rules))
 
 pub sums-returns-in_err-done : goal.sums-returns-in_err-done
-sums-returns-in_err-done g t c = rw (sums_folded (words.around c.args.around.now) (words.typed c.args.first) c.args.all.now (words.state c.args.state.now)) (rw c.loop-one.invariant (rw (folded_at (runs.sum_turn (words.around c.args.around.now)) (view.sum c.loop-one.done) c.args.all.now c.loop-one.one-index c.one-item.result (words.state c.loop-one.state) (search rules) (search rules)) (search rules)))
+sums-returns-in_err-done g t c = rw (sums_folded (words.around c.args.around.now) c.args.start (words.typed c.args.first) c.args.all.now (words.state c.args.state.now)) (rw c.loop-one.invariant (rw (folded_at (runs.sum_turn (words.around c.args.around.now)) (view.run c.loop-one.done) c.args.all.now c.loop-one.one-index c.one-item.result (words.state c.loop-one.state) (search rules) (search rules)) (search rules)))
 
 pub sums-returns : goal.sums-returns
-sums-returns g t c = rw (sums_folded (words.around c.args.around.now) (words.typed c.args.first) c.args.all.now (words.state c.args.state.now)) (rw c.loop-one.invariant (rw (folded_end (runs.sum_turn (words.around c.args.around.now)) (view.sum c.loop-one.done) c.args.all.now c.loop-one.one-index (words.state c.loop-one.state) (search rules)) (search rules)))
+sums-returns g t c = rw (sums_folded (words.around c.args.around.now) c.args.start (words.typed c.args.first) c.args.all.now (words.state c.args.state.now)) (rw c.loop-one.invariant (rw (folded_end (runs.sum_turn (words.around c.args.around.now)) (view.run c.loop-one.done) c.args.all.now c.loop-one.one-index (words.state c.loop-one.state) (search rules)) (search rules)))
 
 pub truths-loop-one-preserved : goal.truths-loop-one-preserved
 truths-loop-one-preserved g t c = rw c.loop-one.invariant (rw (truth_at (words.around c.args.around.now) c.loop-one.done c.loop-one.fits c.args.all.now c.loop-one.one-index c.one-item.result (words.state c.loop-one.state) (search rules) (search rules)) (search (rules, exprs_more)))

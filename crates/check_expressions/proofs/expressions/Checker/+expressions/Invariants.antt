@@ -14,8 +14,8 @@ use Rattle.check_expressions.proofs.expressions.Checker.+expressions.Given as go
 
 abbrev pub invariant-sums-loop-one : goal.invariant-sums-loop-one
 invariant-sums-loop-one g l =
-    folded (runs.sum_turn (words.around l.around)) (runs.begun (words.typed l.fn.first)) l.all (words.state l.fn.state)
-    ≡ folded (runs.sum_turn (words.around l.around)) (view.sum l.done) (drop l.one-index l.all) (words.state l.state)
+    folded (runs.sum_turn (words.around l.around)) (runs.begun l.fn.start (words.typed l.fn.first)) l.all (words.state l.fn.state)
+    ≡ folded (runs.sum_turn (words.around l.around)) (view.run l.done) (drop l.one-index l.all) (words.state l.state)
 
 abbrev pub invariant-truths-loop-one : goal.invariant-truths-loop-one
 invariant-truths-loop-one g l =

@@ -7,5 +7,5 @@ use Rattle.check_statements.proofs.checker.StatementChecker.cases.Given as goal
 
 abbrev pub invariant-loop-one : goal.invariant-loop-one
 invariant-loop-one g l =
-    chained (case_before (view.around l.around) (view.typed l.selector)) stays (λ cs. cs) tt l.all (view.state l.fn.state)
-    ≡ behind (cases_before l.done) (chained (case_before (view.around l.around) (view.typed l.selector)) stays (λ cs. cs) tt (drop l.one-index l.all) (view.state l.state))
+    chained (case_before (view.around l.around) l.start (view.typed l.selector)) stays (λ cs. cs) tt l.all (view.state l.fn.state)
+    ≡ behind (cases_before l.done) (chained (case_before (view.around l.around) l.start (view.typed l.selector)) stays (λ cs. cs) tt (drop l.one-index l.all) (view.state l.state))
