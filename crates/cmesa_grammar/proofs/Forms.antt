@@ -4,7 +4,7 @@ use Rattle.cmesa_grammar.specs.declared.syntax.Heading.{Heading}
 use Rattle.cmesa_grammar.specs.declared.syntax.Instantiation.{Instantiation}
 use Rattle.cmesa_grammar.specs.declared.syntax.Configuration.{Configuration}
 use Rattle.cmesa_grammar.specs.declared.syntax.ConfigStatement.{ConfigStatement, out-ConfigStatement}
-use Rattle.cmesa_grammar.specs.declared.syntax.ConfigStatement.TheOpen.{Configuration-F, ConfigStatement-F}
+use Rattle.cmesa_grammar.specs.declared.syntax.ConfigStatement.TheOpen.{ConfigStatement-F}
 use Rattle.cmesa_grammar.specs.declared.syntax.ConfigStatement.TheFolds.{fold-roll-Configuration, fold-roll-ConfigStatement, fold_out-ConfigStatement, map-ConfigStatement}
 use Rattle.cmesa_grammar.specs.declared.syntax.ConfigStatement.TheVariants as v
 use Rattle.cmesa_grammar.specs.Syntax as s

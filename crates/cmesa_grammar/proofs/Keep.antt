@@ -1,5 +1,5 @@
 -- The parser functions of configurations keep to the grammar.
-use Rattle.std.proofs.Common.{◌≡◌, ℕ, zero, suc, Bool, true, false, List, [], ◌∷◌, ◌++◌, Option, Some, None, refl, sym, ap, subst, ◌∙◌}
+use Rattle.std.proofs.Common.{◌≡◌, ℕ, zero, suc, true, false, List, [], ◌∷◌, ◌++◌, Option, Some, None, refl, sym, ap, subst, ◌∙◌}
 use Rattle.mesa_base.specs.declared.place.Place.{Place}
 use Rattle.mesa_base.specs.declared.identifier.Identifier.{Identifier}
 use Rattle.mesa_lexer.specs.declared.token.Token.{Token}
@@ -8,9 +8,9 @@ use Rattle.mesa_lexer.specs.declared.token.Kind.TheVariants as k
 use Rattle.mesa_lexer.specs.declared.word.Word.{Word}
 use Rattle.mesa_lexer.specs.declared.word.Word.TheVariants.{BeginWord, ConfigurationWord, ControlWord, DirectoryWord, EndWord, ExportsWord, FromWord, ImportsWord}
 use Rattle.mesa_lexer.specs.declared.mark.Mark.TheVariants.{Arrow, Semicolon, Colon, Comma, Dot, LeftBracket, RightBracket, LeftBrace, RightBrace, Equal}
-use Rattle.token_cursor.specs.Parsing.{token, mark, spelled, first, Parser, ◌>>=◌, ◌>>◌, pure, need, a_text, many, many_turn, ended, ended_turn}
+use Rattle.token_cursor.specs.Parsing.{token, mark, spelled, Parser, ◌>>=◌, ◌>>◌, pure, a_text, many_turn, ended_turn}
 use Rattle.token_cursor.specs.Parsing as w
-use Rattle.token_cursor.proofs.Exact.{Test, Rel, first_none, Keeps, Took, Then, Past, Plainly, Pre, bind, bind_plain, done, imply, alone, single, both}
+use Rattle.token_cursor.proofs.Exact.{Test, Rel, first_none, Keeps, Took, Then, Past, Plainly, bind, bind_plain, done, imply, alone, single, both}
 use Rattle.token_cursor.proofs.Branches.{somewhere, word, choose_must, option_or, option_must, of_kind, only_is, when_keeps, Deep, deep_keeps}
 use Rattle.token_cursor.proofs.Loops.{Eats, many_eats, many_keeps, ended_eats, ended_keeps, listed as first_of_list}
 use Rattle.token_cursor.proofs.Names as nm

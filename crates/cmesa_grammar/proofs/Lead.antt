@@ -1,14 +1,13 @@
 -- What a reading of a configuration says, the parser finds, or it stops before what is too deep.
-use Rattle.std.proofs.Common.{◌≡◌, ◌≤◌, ◌+◌, ℕ, zero, suc, arith, false, List, [], ◌∷◌, ◌++◌, length, Option, Some, None, refl, sym, ap, ◌∙◌}
+use Rattle.std.proofs.Common.{◌≡◌, ◌≤◌, ◌+◌, ℕ, zero, suc, arith, false, List, [], ◌∷◌, ◌++◌, length, Option, Some, None, refl, ap}
 use Rattle.mesa_base.specs.declared.place.Place.{Place}
 use Rattle.mesa_base.specs.declared.identifier.Identifier.{Identifier}
 use Rattle.mesa_lexer.specs.declared.token.Token.{Token}
-use Rattle.mesa_lexer.specs.declared.token.Kind.{Kind}
 use Rattle.mesa_lexer.specs.declared.token.Kind.TheVariants as k
 use Rattle.mesa_lexer.specs.declared.word.Word.{Word}
 use Rattle.mesa_lexer.specs.declared.word.Word.TheVariants.{ConfigurationWord, ControlWord, DirectoryWord, ExportsWord, ImportsWord}
-use Rattle.mesa_lexer.specs.declared.mark.Mark.TheVariants.{Arrow, Semicolon, Colon, Comma, Dot, LeftBracket, RightBracket, Equal}
-use Rattle.token_cursor.specs.Parsing.{mark, spelled, first, Parser, and_then, ◌>>=◌, ◌>>◌, pure, exactly, finds, a_name, choose, option, need, when, many, ended}
+use Rattle.mesa_lexer.specs.declared.mark.Mark.TheVariants.{Arrow, Semicolon, Colon, Comma, LeftBracket, RightBracket}
+use Rattle.token_cursor.specs.Parsing.{mark, spelled, Parser, and_then, ◌>>=◌, ◌>>◌, pure, exactly, finds, choose, option, need, when, many, ended}
 use Rattle.token_cursor.specs.Parsing as w
 use Rattle.token_cursor.specs.ReadNames as rn
 use Rattle.token_cursor.specs.Names as gn

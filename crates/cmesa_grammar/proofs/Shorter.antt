@@ -1,5 +1,5 @@
 -- What is left behind a reading is no longer than what it began with.
-use Rattle.std.proofs.Common.{◌≤◌, ◌+◌, List, [], ◌∷◌, length, Option, arith}
+use Rattle.std.proofs.Common.{◌≤◌, ◌+◌, List, length, Option, arith}
 use Rattle.mesa_base.specs.declared.identifier.Identifier.{Identifier}
 use Rattle.mesa_lexer.specs.declared.token.Token.{Token}
 use Rattle.mesa_lexer.specs.declared.word.Word.{Word}

@@ -1,6 +1,6 @@
 -- Small texts with their whole trees, and small texts with their faults: the parser functions give each its answer by computation, and hence the
 -- tokens have that answer and no other.
-use Rattle.std.proofs.Common.{◌≡◌, ℕ, suc, List, [], ◌∷◌, ◌++◌, length, None, Some, refl}
+use Rattle.std.proofs.Common.{◌≡◌, ℕ, suc, List, [], ◌∷◌, None, Some, refl}
 use Rattle.std.specs.Prelude.{codes}
 use Prim.Native.String.{String}
 use Rattle.mesa_base.specs.declared.place.Place.{Place}

@@ -1,17 +1,16 @@
 -- The operands of an instruction have the bytes that files have for them.
-use Rattle.std.proofs.Common.{◌≡◌, refl, ℕ, ◌<◌, ◌^◌, length, Option, Some, None, arith}
+use Rattle.std.proofs.Common.{◌≡◌, refl, ℕ, ◌<◌, length, Option, Some, None, arith}
 use Rattle.std.proofs.lemmas.Option.{slice_get_within}
 use Rattle.std.specs.Prelude.{slice_get}
 use Rattle.code_forms.specs.declared.instruction.Instruction.{Instruction}
 use Rattle.code_forms.specs.declared.instruction.Instruction.TheVariants as i
 use Rattle.code_forms.specs.declared.module_code.CodeLink.{CodeLink}
 use Rattle.code_forms.specs.declared.region.Region.{Region}
-use Rattle.code_forms.specs.Instructions.{number_of}
 use Rattle.code_forms.specs.Jumps.{JumpsRightly}
 use Rattle.code_forms.specs.Operands.{CalledLink, RaisedLink, OperandsFit}
 use Rattle.code_forms.specs.Routine.{Routine, IsStart}
 use Rattle.code_trees.specs.Excess.{excess_of}
-use Rattle.object_rules.specs.Instructions.{sizes_of, operands_of}
+use Rattle.object_rules.specs.Instructions.{sizes_of}
 use Rattle.built_files.specs.Objects.{OperandsInBytes}
 use Rattle.code_limits.specs.Few.{arms_left}
 

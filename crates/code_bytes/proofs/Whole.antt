@@ -1,5 +1,5 @@
 -- Each number of the code of a sound module has its bytes.
-use Rattle.std.proofs.Common.{◌≡◌, refl, sym, subst, ap, ◌∙◌, ℕ, zero, suc, ◌+◌, ◌*◌, ◌<◌, ◌≤◌, ◌^◌, List, [], ◌∷◌, length, map, All, Option, Some, None, arith}
+use Rattle.std.proofs.Common.{◌≡◌, refl, sym, subst, ap, ◌∙◌, ℕ, zero, suc, ◌+◌, ◌<◌, ◌≤◌, ◌^◌, List, [], ◌∷◌, length, All, Option, Some, None, arith}
 use Rattle.std.proofs.lemmas.List.Elements.{All-map}
 use Rattle.std.proofs.lemmas.Option.{slice_get_within, slice_get-map}
 use Rattle.std.specs.Prelude.{slice_get, option_map}
@@ -14,10 +14,8 @@ use Rattle.code_forms.specs.declared.module_code.CodeProcedure.{CodeProcedure}
 use Rattle.code_forms.specs.declared.module_code.CodeSignal.{CodeSignal}
 use Rattle.code_forms.specs.declared.module_code.Label.{Label}
 use Rattle.code_forms.specs.declared.module_code.Label.TheVariants as l
-use Rattle.code_forms.specs.declared.module_code.ModuleCode.{ModuleCode}
 use Rattle.code_forms.specs.declared.module_code.Phrase.{Phrase}
 use Rattle.code_forms.specs.Instructions.{bytes_of}
-use Rattle.code_forms.specs.Phrases.{PhraseIsRight}
 use Rattle.code_forms.specs.Ranges.{InOrder, IsSignalLink, LabelInRange, ProcedureInRange}
 use Rattle.code_forms.specs.Regions.{region_at}
 use Rattle.code_forms.specs.Routine.{Routine, Spot, IsStart, spot_of, spots}
@@ -25,7 +23,7 @@ use Rattle.code_rules.specs.Modules.{procedures_of, signal_code}
 use Rattle.code_blocks.specs.Blocks.{Block}
 use Rattle.code_blocks.specs.Laws.{routine_in, JumpsRight, OperandsRight}
 use Rattle.code_blocks.specs.Modules.{Parts, body_block, procedure_code, module_code}
-use Rattle.code_blocks.specs.Regions.{Written, returning, written}
+use Rattle.code_blocks.specs.Regions.{returning, written}
 use Rattle.code_blocks.specs.Sizes.{size}
 use Rattle.code_blocks.specs.Weights.{entries_bytes, procedure_bytes, procedures_bytes}
 use Rattle.code_blocks.proofs.Coding.{BodyFine, AllFine, main_fine, all_fine}
@@ -39,9 +37,9 @@ use Rattle.code_blocks.proofs.RangeRules.{ranges_are_kept}
 use Rattle.code_blocks.proofs.SpotRules.{phrase_arms, jumps_are_right, operands_are_in_range}
 use Rattle.code_blocks.proofs.Telling.{all_from, arms_end}
 use Rattle.code_ranges.proofs.Whole.{bodies_are_in_range}
-use Rattle.built_files.specs.Objects.{InBytes, OperandsInBytes, LabelInBytes, ArmInBytes, PhraseInBytes, ProcedureInBytes, NumbersInBytes}
+use Rattle.built_files.specs.Objects.{InBytes, OperandsInBytes, LabelInBytes, ArmInBytes, PhraseInBytes, ProcedureInBytes}
 use Rattle.code_limits.specs.Few.{LeavesFew, FewLinksAndArms}
-use Rattle.code_bytes.specs.Laws.{code_parts, ChosenCodesAreInBytes}
+use Rattle.code_bytes.specs.Laws.{ChosenCodesAreInBytes}
 use Rattle.code_bytes.proofs.Lean.{lean_get, written_lean}
 use Rattle.code_bytes.proofs.Operands.{in_bytes}
 

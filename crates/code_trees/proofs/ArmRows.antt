@@ -1,5 +1,5 @@
 -- Arms one behind the other, before the last one is known.
-use Rattle.std.proofs.Common.{◌≡◌, refl, ap, ◌∙◌, ℕ, ◌+◌, List, [], ◌∷◌, ◌++◌, map, arith}
+use Rattle.std.proofs.Common.{◌≡◌, refl, ap, ◌∙◌, ◌+◌, List, [], ◌∷◌, ◌++◌, map, arith}
 use Rattle.code_blocks.specs.Blocks as tree
 use Rattle.code_trees.specs.Plain.{SeenArm, Seen, seen_arm, arm_step, block_step, arms_in, arms_off, plain, plain_arms, off, off_in_arms}
 use Rattle.code_trees.specs.ArmRows.{arms_before}

@@ -1,5 +1,5 @@
 -- IF and SELECT: the block of a list of tests or cases by the blocks of each.
-use Rattle.std.proofs.Common.{◌≡◌, refl, sym, ap, ◌∙◌, ℕ, zero, suc, ◌+◌, ◌≤◌, ◌<◌, List, [], ◌∷◌, ◌++◌, length, map, Bool, true, false, not, arith}
+use Rattle.std.proofs.Common.{◌≡◌, refl, sym, ap, ◌∙◌, ℕ, ◌+◌, ◌<◌, List, [], ◌∷◌, length, map, Bool, true, false, not, arith}
 use Rattle.mesa_base.specs.Chain.{chain}
 use Rattle.mesa_types.specs.Counts.{hidden, hidden_cases, hidden_expr, hidden_interval, hidden_tests}
 use Rattle.mesa_types.specs.Plain.{Layer, case, stmt, test, test_step}

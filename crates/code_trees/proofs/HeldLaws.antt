@@ -1,5 +1,5 @@
 -- Parts that are held: one more, and one fewer.
-use Rattle.std.proofs.Common.{◌≡◌, refl, ◌∙◌, ℕ, List, [], ◌∷◌, ◌++◌}
+use Rattle.std.proofs.Common.{◌≡◌, refl, List, [], ◌∷◌, ◌++◌}
 use Rattle.std.proofs.lemmas.List.{map-append}
 use Rattle.code_blocks.specs.Blocks as tree
 use Rattle.code_trees.specs.Forms.{blocks_of}

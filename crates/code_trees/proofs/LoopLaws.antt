@@ -1,6 +1,6 @@
 -- The block of blocks with labels, of loops and of returns by those of their parts, where each part begins with its hidden words behind
 -- those before it.
-use Rattle.std.proofs.Common.{◌≡◌, refl, sym, ap, ◌∙◌, ℕ, suc, ◌+◌, ◌≤◌, List, [], ◌∷◌, ◌++◌, map, Bool, true, false, arith}
+use Rattle.std.proofs.Common.{◌≡◌, refl, sym, ap, ◌∙◌, ℕ, ◌+◌, List, [], ◌∷◌, ◌++◌, map, Bool, arith}
 use Rattle.std.specs.Prelude.{option_map}
 use Rattle.mesa_base.specs.Chain.{chain}
 use Rattle.mesa_types.specs.Counts.{hidden, hidden_condition, hidden_exits, hidden_exprs, hidden_finish, hidden_interval, hidden_loop, hidden_phrase, hidden_stmts, words_given, words_of}

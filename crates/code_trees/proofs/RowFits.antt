@@ -1,5 +1,5 @@
 -- Blocks one behind the other: what those in two lists come to, and what the numbers in them are above.
-use Rattle.std.proofs.Common.{◌≡◌, refl, ap, ◌∙◌, ℕ, ◌+◌, ◌≤◌, List, [], ◌∷◌, ◌++◌, arith}
+use Rattle.std.proofs.Common.{◌≡◌, refl, ap, ◌+◌, ◌≤◌, List, [], ◌∷◌, ◌++◌, arith}
 use Rattle.code_blocks.specs.Blocks.{Block, Both}
 use Rattle.code_blocks.specs.Sizes.{size}
 use Rattle.code_trees.specs.Excess.{excess}

@@ -1,5 +1,5 @@
 -- The block of each form of a statement by those of its parts, where each part begins with its hidden words behind those before it.
-use Rattle.std.proofs.Common.{◌≡◌, refl, sym, ap, ◌∙◌, ℕ, suc, ◌+◌, ◌≤◌, ◌⊎◌, inl, inr, List, [], ◌∷◌, ◌++◌, map, Bool, true, false, not, if◌then◌else◌, arith}
+use Rattle.std.proofs.Common.{◌≡◌, refl, sym, ap, ◌∙◌, ℕ, ◌+◌, ◌⊎◌, inl, inr, List, [], ◌∷◌, map, Bool, true, false, not, arith}
 use Rattle.mesa_base.specs.Chain.{chain}
 use Rattle.mesa_types.specs.Counts.{hidden, hidden_cases, hidden_expr, hidden_suffixes, hidden_targets, words_of}
 use Rattle.mesa_types.specs.Plain.{case, expr, kind_of, stmt, suffix, target}

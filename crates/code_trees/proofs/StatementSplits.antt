@@ -1,5 +1,5 @@
 -- Lists of statements and their parts, one element at a time.
-use Rattle.std.proofs.Common.{◌≡◌, refl, sym, ap, ◌∙◌, ℕ, ◌+◌, ◌<◌, List, [], ◌∷◌, length, get_or, drop, map, Option, Some, None}
+use Rattle.std.proofs.Common.{◌≡◌, refl, sym, ap, ◌∙◌, ℕ, ◌+◌, ◌<◌, List, length, get_or, drop, map, Option, Some, None}
 use Rattle.std.specs.Prelude.{option_map}
 use Rattle.mesa_base.specs.Chain.{chain}
 use Rattle.mesa_types.specs.Plain.{case, condition, exit, expr, finish, interval, loop, stmt, stmts, suffix, target, target_by, test}

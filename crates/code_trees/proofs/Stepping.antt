@@ -1,5 +1,5 @@
 -- What the next element of a list of statements, targets, cases, tests or labels puts before the rest.
-use Rattle.std.proofs.Common.{◌≡◌, refl, sym, ap, ◌∙◌, ℕ, suc, ◌+◌, ◌≤◌, List, [], ◌∷◌, ◌++◌, Bool, append_assoc, arith}
+use Rattle.std.proofs.Common.{◌≡◌, sym, ap, ◌∙◌, ℕ, ◌+◌, ◌≤◌, List, [], ◌∷◌, ◌++◌, Bool, append_assoc, arith}
 use Rattle.mesa_types.specs.Counts.{hidden, hidden_cases, hidden_exits, hidden_stmts, hidden_suffixes, hidden_targets, hidden_tests}
 use Rattle.mesa_types.specs.Plain.{target_by}
 use Rattle.mesa_types.specs.Typed as t

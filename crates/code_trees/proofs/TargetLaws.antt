@@ -1,5 +1,5 @@
 -- The targets of an extractor, and the parts that were taken in the order of the text or in the other one.
-use Rattle.std.proofs.Common.{◌≡◌, refl, ap, ◌∙◌, ℕ, zero, suc, ◌+◌, ◌-◌, ◌≤◌, List, [], ◌∷◌, ◌++◌, reverse, Bool, true, false, if◌then◌else◌, arith}
+use Rattle.std.proofs.Common.{◌≡◌, refl, ap, ℕ, ◌+◌, ◌-◌, List, [], ◌∷◌, ◌++◌, reverse, Bool, true, false, arith}
 use Rattle.std.proofs.lemmas.List.{reverse-append}
 use Rattle.mesa_types.specs.Counts.{hidden_suffixes}
 use Rattle.mesa_types.specs.Plain.{target_by}

@@ -1,5 +1,5 @@
 -- What the next element of a list puts before the rest of its blocks.
-use Rattle.std.proofs.Common.{◌≡◌, refl, sym, ap, ◌∙◌, ℕ, suc, ◌+◌, ◌≤◌, List, [], ◌∷◌, ◌++◌, Bool, append_assoc, map, arith}
+use Rattle.std.proofs.Common.{◌≡◌, sym, ap, ◌∙◌, ℕ, ◌+◌, ◌≤◌, List, [], ◌∷◌, ◌++◌, Bool, append_assoc, map, arith}
 use Rattle.mesa_types.specs.Counts.{hidden, hidden_arms, hidden_expr, hidden_exprs, hidden_operations, hidden_suffixes, words_of}
 use Rattle.mesa_types.specs.Typed as t
 use Rattle.mesa_types.specs.declared.typed_parts.Label.{Label}

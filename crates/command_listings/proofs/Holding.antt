@@ -1,5 +1,5 @@
 -- What the bytes of a file hold: of bytes that were read up to a byte past the limit, and of the first fault.
-use Rattle.std.proofs.Common.{◌≡◌, ℕ, List, codes, subst, sym}
+use Rattle.std.proofs.Common.{ℕ, List, codes, subst, sym}
 use Rattle.face_rules.specs.InterfaceForms.{interface, IsInterfaceFile}
 use Rattle.listed_files.specs.Listings.{HasFault}
 use Rattle.listed_files.specs.declared.file_kind.FileKind.{FileKind}

@@ -1,6 +1,6 @@
 -- Worked interfaces of one name and stamp: where they are one, where they differ, and which component is named then.
-use Rattle.std.proofs.Common.{◌≡◌, ℕ, zero, suc, ◌<◌, ◌⊎◌, inl, inr, List, [], ◌∷◌, length, Bool, true, false, bytes_eq, if◌then◌else◌, refl, sym, ap, subst, ◌∙◌, arith}
-use Rattle.std.specs.Prelude.{codes, Contains, Some, Ok, Err}
+use Rattle.std.proofs.Common.{◌≡◌, ℕ, zero, suc, ◌⊎◌, inl, inr, List, [], ◌∷◌, Bool, true, false, bytes_eq, refl, sym, ap, subst, ◌∙◌, arith}
+use Rattle.std.specs.Prelude.{codes, Contains, Ok, Err}
 use Rattle.mesa_types.specs.declared.faces.Face.{Face}
 use Rattle.mesa_types.specs.declared.faces.Item.{Item}
 use Rattle.mesa_types.specs.declared.faces.Shape.{Shape}
@@ -9,7 +9,6 @@ use Rattle.cmesa_grammar.specs.Syntax.{Config, AndInstance}
 use Rattle.config_rules.specs.Tree.{Agree, IsTree, IsSingle, single_tree, first_place}
 use Rattle.config_rules.specs.declared.fault.TreeCause.TheVariants.{InterfaceDiffers}
 use Rattle.config_rules.specs.declared.fault.TreeFault.TheVariants.{At}
-use Rattle.config_rules.specs.declared.tree.Tree.{Tree}
 use Rattle.config_rules.proofs.Written.{at, alone, one_of, configuration, procedure, interface_of, uses, offers, module_of, tree_of, quiet}
 
 -- ---- which faces there are

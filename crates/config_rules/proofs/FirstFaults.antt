@@ -1,6 +1,6 @@
 -- The first fault of worked configurations, by computation: one row for each fault at each step, and rows of two faults of which the earlier one counts.
 use Rattle.std.proofs.Common.{◌≡◌, refl}
-use Rattle.std.specs.Prelude.{ℕ, zero, suc, List, [], ◌∷◌, codes, Option, Some, None, Err}
+use Rattle.std.specs.Prelude.{ℕ, zero, suc, List, [], ◌∷◌, codes, Some, None, Err}
 use Rattle.mesa_types.specs.declared.faces.Shape.{Shape}
 use Rattle.cmesa_grammar.specs.Syntax.{Identifier, Config, Configuration, Configured, Statements, NoStatements, AndDeclare, AndInstance}
 use Rattle.cmesa_grammar.specs.declared.syntax.ComponentFile.{ComponentFile}
@@ -10,7 +10,7 @@ use Rattle.config_rules.specs.declared.fault.TreeCause.{TreeCause}
 use Rattle.config_rules.specs.declared.fault.TreeCause.TheVariants.{UnknownComponent, TwiceNamed, CountDiffers, RecordClash, UnknownRecord, UnknownControl, TooManyInstances, TooNested}
 use Rattle.config_rules.specs.declared.fault.TreeFault.TheVariants.{At}
 use Rattle.config_rules.specs.declared.tree.Component.{Component}
-use Rattle.config_rules.proofs.Written.{at, named, names, alone, linked, called, all_of, one_of, configuration, procedure, interface_of, uses, offers, module_of, Shown, shown, good, quiet}
+use Rattle.config_rules.proofs.Written.{at, named, alone, linked, called, all_of, one_of, configuration, interface_of, uses, offers, module_of, Shown, shown, good, quiet}
 use Rattle.interface_records.specs.check_scopes.specs.Scopes.{has}
 
 abbrev fault : TreeCause → ℕ → Answer Shown

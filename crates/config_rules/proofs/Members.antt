@@ -1,5 +1,5 @@
 -- Elements of lists: a membership by recursion, which appends and maps keep.
-use Rattle.std.proofs.Common.{◌≡◌, ℕ, zero, suc, ◌<◌, ◌⊎◌, inl, inr, ⊎_elim, List, [], ◌∷◌, ◌++◌, length, map, flat_map, Some, slice_get, refl, ap}
+use Rattle.std.proofs.Common.{◌≡◌, ℕ, zero, suc, ◌⊎◌, inl, inr, ⊎_elim, List, [], ◌∷◌, ◌++◌, length, map, flat_map, Some, slice_get, refl, ap}
 use Rattle.std.proofs.lemmas.Option.{none-some, same_Some}
 
 abbrev pub Mem : {A : Type 0} → A → List A → Type 0

@@ -1,6 +1,6 @@
 -- Worked configurations, by computation: what each item that is used stands for, the CONTROL list and the first bad item.
 use Rattle.std.proofs.Common.{◌≡◌, refl}
-use Rattle.std.specs.Prelude.{ℕ, List, [], ◌∷◌, codes, Option, Some, None, Ok}
+use Rattle.std.specs.Prelude.{ℕ, List, [], ◌∷◌, codes, Some, None, Ok}
 use Rattle.mesa_types.specs.declared.faces.Face.{Face}
 use Rattle.mesa_types.specs.declared.faces.ItemKind.TheVariants.{Signal}
 use Rattle.mesa_types.specs.declared.faces.Shape.{Shape}

@@ -1,5 +1,5 @@
 -- What going through a configuration keeps: each instance of a module is one of a module that there is, with a record for each import and export.
-use Rattle.std.proofs.Common.{◌≡◌, ℕ, zero, suc, ◌+◌, Bool, true, false, not, List, [], ◌∷◌, length, nat_eq, bytes_eq, eqb-true, Option, Some, None, Ok, Err, slice_get, cond, refl, sym, ap, subst, ◌∙◌, arith, if◌then◌else◌}
+use Rattle.std.proofs.Common.{◌≡◌, ℕ, suc, ◌+◌, Bool, true, false, not, List, [], ◌∷◌, length, nat_eq, bytes_eq, eqb-true, Option, Some, None, Ok, slice_get, cond, refl, sym, ap, subst, ◌∙◌, arith, if◌then◌else◌}
 use Rattle.std.specs.Option.{option_or}
 use Rattle.std.proofs.lemmas.Option.{none-some, same_Some}
 use Rattle.mesa_types.specs.declared.faces.Export.{Export}

@@ -4,7 +4,6 @@ use Rattle.mesa_types.specs.declared.faces.Face.{Face}
 use Rattle.mesa_types.specs.declared.faces.Import.{Import}
 use Rattle.mesa_types.specs.declared.faces.Export.{Export}
 use Rattle.mesa_types.specs.declared.faces.Item.{Item}
-use Rattle.mesa_types.specs.declared.faces.ItemKind.{ItemKind}
 use Rattle.mesa_types.specs.declared.faces.ItemKind.TheVariants.{Procedure}
 use Rattle.mesa_types.specs.declared.faces.Pair.{Pair}
 use Rattle.mesa_types.specs.declared.faces.Shape.{Shape}

@@ -1,5 +1,5 @@
 -- One form takes in another: what fits the one fits the other, and is spelled alike.
-use Rattle.std.proofs.Common.{◌≡◌, ℕ, zero, suc, Bool, true, false, List, [], ◌∷◌, ◌++◌, length, Option, Some, None, refl, ap, ◌∙◌}
+use Rattle.std.proofs.Common.{◌≡◌, ℕ, Bool, true, false, List, [], ◌∷◌, ◌++◌, length, Option, Some, None, refl, ap, ◌∙◌}
 use Rattle.std.specs.Prelude.{IsTrue, IsSomeAnd}
 use Rattle.mesa_base.specs.declared.file_fault.Field.{Field}
 use Rattle.file_forms.specs.Forms.{Form, pair, led, ruled, built, variant, spell_some, FitEach, spell_each, several, list, choose}

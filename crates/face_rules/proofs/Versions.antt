@@ -1,5 +1,5 @@
 -- What has a spelling in some version has the same in version 2, which has more types.
-use Rattle.std.proofs.Common.{◌≡◌, ℕ, zero, suc, ◌≤◌, Bool, true, false, List, ◌++◌, arith}
+use Rattle.std.proofs.Common.{ℕ, zero, suc, ◌≤◌, Bool, true, false, List, ◌++◌, arith}
 use Rattle.std.specs.Prelude.{◌&&◌, ◌==◌, nat_le, if◌then◌else◌, IsTrue}
 use Rattle.std.proofs.lemmas.Bool.Decides.{nat_tests}
 use Rattle.mesa_base.specs.declared.limits.TheConstants.{TYPE_DEPTH}
@@ -9,7 +9,7 @@ use Rattle.mesa_types.specs.declared.faces.ItemKind.TheVariants.{Procedure, Sign
 use Rattle.mesa_types.specs.declared.types.FieldType.{FieldType}
 use Rattle.mesa_types.specs.declared.types.TypeTree.{TypeTree, out-TypeTree}
 use Rattle.mesa_types.specs.declared.types.TypeTree.TheVariants as v
-use Rattle.file_forms.specs.Forms.{Form, number, always, pair, led, list, at_least}
+use Rattle.file_forms.specs.Forms.{Form, number, always, pair, led, at_least}
 use Rattle.file_forms.specs.Names.{name, fresh_name}
 use Rattle.face_rules.specs.Layers.{tag_of, of_subrange, of_array, of_record}
 use Rattle.face_rules.specs.TypeForms.{any, last_tag, is_known, is_base, is_index, is_of_constants, basic, origin, label, field_of, field_parts, field_form, fields_form, enumeration, bounds, subrange, array, record_of, tagged, is_small, tag, typed, too_deep, type_form, types, fields}

@@ -1,5 +1,5 @@
 -- Small texts with their whole trees: one or more for each row of types and expressions.
-use Rattle.std.proofs.Common.{ℕ, true, false, List, [], ◌∷◌, Some, None, refl}
+use Rattle.std.proofs.Common.{true, false, List, [], ◌∷◌, Some, None, refl}
 use Rattle.std.specs.Prelude.{codes}
 use Rattle.mesa_lexer.specs.declared.token.Kind.TheVariants as k
 use Rattle.mesa_lexer.specs.declared.word.Word.TheVariants.{AndWord, AnyWord, ArrayWord, BooleanWord, CardinalWord, CharacterWord, ErrorWord, ExitWord, FalseWord, InWord, IntegerWord, LongWord, LoopWord, ModWord, NotWord, NullWord, OfWord, OrWord, RecordWord, SignalWord, StringWord, TrueWord, UnwindWord}

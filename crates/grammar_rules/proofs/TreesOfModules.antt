@@ -1,5 +1,5 @@
 -- Small texts with their whole trees: one or more for each row of blocks, declarations and modules.
-use Rattle.std.proofs.Common.{ℕ, List, [], ◌∷◌, Some, None, refl}
+use Rattle.std.proofs.Common.{List, [], ◌∷◌, Some, None, refl}
 use Rattle.std.specs.Prelude.{codes}
 use Rattle.mesa_lexer.specs.declared.token.Kind.TheVariants as k
 use Rattle.mesa_lexer.specs.declared.word.Word.TheVariants.{AnyWord, BeginWord, CodeWord, DefinitionsWord, DirectoryWord, EnableWord, EndWord, ErrorWord, ExitWord, ExitsWord, ExportsWord, FromWord, ImportsWord, LoopWord, NullWord, OpenWord, PrivateWord, ProcWord, ProcedureWord, ProgramWord, PublicWord, ReturnsWord, SignalWord, TypeWord, UnwindWord, UsingWord}

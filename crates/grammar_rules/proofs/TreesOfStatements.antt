@@ -1,5 +1,5 @@
 -- Small texts with their whole trees: one or more for each row of statements.
-use Rattle.std.proofs.Common.{ℕ, true, false, List, [], ◌∷◌, Some, None, refl}
+use Rattle.std.proofs.Common.{true, false, List, [], ◌∷◌, Some, None, refl}
 use Rattle.mesa_lexer.specs.declared.token.Kind.TheVariants as k
 use Rattle.mesa_lexer.specs.declared.word.Word.TheVariants.{AnyWord, ContinueWord, DecreasingWord, DoWord, ElseWord, EnableWord, EndcaseWord, EndloopWord, ErrorWord, ExitWord, FinishedWord, ForWord, FromWord, GoWord, GotoWord, IfWord, InWord, LoopWord, NotWord, NullWord, RejectWord, RepeatWord, ResumeWord, RetryWord, ReturnWord, SelectWord, ThenWord, ThroughWord, ToWord, UntilWord, WhileWord}
 use Rattle.mesa_lexer.specs.declared.mark.Mark.TheVariants.{Arrow, Colon, Comma, Dot, DotDot, DoubleArrow, LeftBracket, LeftParenthesis, Less, Plus, RightBracket, RightParenthesis, Semicolon, Sharp, Tilde}

@@ -1,10 +1,8 @@
 -- Files can spell the built-in interface, by computing.
 use Rattle.std.specs.Prelude.{◌≡◌, ℕ, List, [], ◌∷◌, codes, map, Option, Some, None}
-use Rattle.std.specs.List.{All}
 use Rattle.std.proofs.Common.{refl, sym, subst, inl, inr, arith}
 use Rattle.std.proofs.lemmas.List.Elements.{All-nil, All-cons}
 use Rattle.check_scopes.specs.mesa_base.specs.Name.{IsName}
-use Rattle.typed_answers.specs.mesa_types.specs.declared.faces.Item.{Item}
 use Rattle.typed_answers.specs.mesa_types.specs.declared.faces.ItemKind.TheVariants as item
 use Rattle.typed_answers.specs.mesa_types.specs.declared.types.FieldType.{FieldType, roll-FieldType}
 use Rattle.typed_answers.specs.mesa_types.specs.declared.types.TypeTree.{TypeTree}
@@ -12,10 +10,10 @@ use Rattle.typed_answers.specs.mesa_types.specs.declared.types.TypeTree.TheOpen.
 use Rattle.typed_answers.specs.mesa_types.specs.declared.types.TypeTree.TheFolds.{fold-roll-TypeTree, fold-roll-FieldType}
 use Rattle.typed_answers.specs.mesa_types.specs.declared.types.TypeTree.TheVariants as tree
 use Rattle.check_scopes.specs.Scopes.{has}
-use Rattle.interface_records.specs.Faces.{iodefs, parameter, unnamed, procedure, error}
+use Rattle.interface_records.specs.Faces.{parameter, unnamed, procedure, error}
 use Rattle.interface_records.specs.Laws.{BuiltInCanBeSpelled}
 use Rattle.interface_records.specs.Lists.{NoneTwice}
-use Rattle.interface_records.specs.PlainTypes.{PlainType, PlainField, PlainItem, plain, plain_field, plain_item, plain_step, plain_field_step, plain_interface}
+use Rattle.interface_records.specs.PlainTypes.{PlainType, PlainField, plain, plain_field, plain_item, plain_step, plain_field_step}
 use Rattle.interface_records.specs.Spelled.{EachHasName, NoneHasName, FieldsCanBeSpelled, NamesCanBeSpelled, TypeCanBeSpelled, ItemCanBeSpelled, ItemsCanBeSpelled, ConstantsCanBeSpelled, NamedTypesCanBeSpelled}
 
 no_error : item.Procedure ≡ item.Error → ⊥

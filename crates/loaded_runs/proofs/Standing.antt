@@ -31,7 +31,7 @@ use Rattle.bound_images.proofs.Standing as built
 use Rattle.bound_images.proofs.Standing.{object_for}
 use Rattle.loader_rules.specs.Loaded as loader
 use Rattle.loader_rules.specs.Parts as loader_parts
-use Rattle.loader_rules.specs.Parts.{Part, parts}
+use Rattle.loader_rules.specs.Parts.{Part}
 use Rattle.loader_rules.specs.Wanted.{is_built_in, entry_number}
 use Rattle.loader_rules.proofs.Faultless.{are_few}
 use Rattle.loader_rules.proofs.Parting as parting

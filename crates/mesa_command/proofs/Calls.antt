@@ -1,5 +1,5 @@
 -- From the files of a folder to a machine, and from its run to the case that comes.
-use Rattle.std.proofs.Common.{◌≡◌, ℕ, List, [], ◌∷◌, length, Ok, Err, refl, sym, ◌∙◌, subst}
+use Rattle.std.proofs.Common.{◌≡◌, ℕ, List, length, Ok, Err, refl, sym, ◌∙◌, subst}
 use Rattle.std.specs.Prelude.{Result}
 use Rattle.std.proofs.lemmas.List.{length-map}
 use Rattle.std.proofs.lemmas.Slice.Zip.{AllZip-long}
@@ -9,7 +9,7 @@ use Rattle.object_rules.specs.ObjectFiles.{IsObjectFile}
 use Rattle.command_laws.specs.Laws.{RunsAreMeant}
 use Rattle.command_rules.specs.Case.{Case, Memory}
 use Rattle.command_rules.specs.Comes as rules
-use Rattle.command_rules.specs.Comes.{Goes, Loads, Made, linked, not_configured, not_read}
+use Rattle.command_rules.specs.Comes.{Goes, Loads, linked, not_configured, not_read}
 use Rattle.command_rules.specs.Configurations.{Configured, program, source_in}
 use Rattle.command_rules.specs.Ends.{Ends}
 use Rattle.command_rules.specs.Forms.{Source}

@@ -1,5 +1,5 @@
 -- What comes of a file that is listed or upgraded.
-use Rattle.std.proofs.Common.{◌≡◌, ℕ, List, [], ◌∷◌, Option, Result, Ok, Err, refl, sym, subst}
+use Rattle.std.proofs.Common.{◌≡◌, ℕ, List, [], ◌∷◌, Result, Ok, Err, sym, subst}
 use Rattle.command_rules.specs.Case.{Case, Memory}
 use Rattle.command_rules.specs.Comes.{Upgrades, not_held, stored, not_stored}
 use Rattle.command_rules.specs.Comes as rules
@@ -12,7 +12,6 @@ use Rattle.command_rules.specs.Reading.{Onward}
 use Rattle.command_rules.specs.Worlds.{Shelf}
 use Rattle.command_rules.specs.Writing.{Value, holding}
 use Rattle.command_rules.proofs.Passing.{onward_same}
-use Rattle.command_lines.specs.command_passes.specs.Shelves.{Passes}
 use Rattle.command_lines.specs.command_passes.specs.Stops.{stop_case}
 use Rattle.command_lines.specs.command_passes.specs.declared.stop.Stop.{Stop}
 use Rattle.command_lines.specs.command_passes.specs.declared.stop.Stop.TheVariants as stop

@@ -1,6 +1,6 @@
 -- The tests of sameness tell what is equal: types, signatures and paths.
 use Rattle.std.proofs.Common.{◌≡◌, ℕ, Bool, true, false, List, [], ◌∷◌, map, refl, sym, ◌∙◌, ap, subst}
-use Rattle.std.specs.Prelude.{◌&&◌, ◌↔◌, Option, Some, None, nat_eq, bytes_eq}
+use Rattle.std.specs.Prelude.{◌&&◌, Option, Some, None, nat_eq, bytes_eq}
 use Rattle.std.specs.Cmp.Lexicographic.{bytes_decides}
 use Rattle.std.proofs.lemmas.Bool.{eqb-true, eq-eqb}
 use Rattle.mesa_types.specs.Types.{types_in}

@@ -1,5 +1,5 @@
 -- The body is one of a sound module: one that has nothing else.
-use Rattle.std.proofs.Common.{◌≡◌, ℕ, zero, suc, ◌+◌, ◌<◌, ◌≤◌, List, [], ◌∷◌, length, refl, sym, subst, ap, inl, inr, arith}
+use Rattle.std.proofs.Common.{◌≡◌, zero, suc, [], ◌∷◌, length, refl, sym, subst, ap, inl, inr, arith}
 use Rattle.std.specs.Prelude.{All}
 use Rattle.mesa_types.specs.Typed.{Body, Module, NoKinds, NoExits, point_of}
 use Rattle.mesa_types.specs.declared.typed_parts.Label.{Label}

@@ -1,5 +1,5 @@
 -- The loops that find the value of a constant: the turn for one operand or operator, and the end.
-use Rattle.std.proofs.Common.{◌≡◌, ℕ, ◌+◌, ◌<◌, ◌≤◌, List, [], ◌∷◌, map, length, drop, Bool, true, false, Option, Some, None, refl, sym, ap, ◌∙◌}
+use Rattle.std.proofs.Common.{◌≡◌, ℕ, ◌+◌, ◌<◌, ◌≤◌, List, ◌∷◌, map, length, drop, Bool, true, false, Option, Some, None, refl, sym, ap, ◌∙◌}
 use Rattle.std.specs.Prelude.{get_or, ◌&&◌, ◌||◌}
 use Rattle.std.proofs.lemmas.List.{drop_more, drop_all}
 use Rattle.mesa_types.specs.Typed as t

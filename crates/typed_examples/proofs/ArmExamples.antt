@@ -1,5 +1,5 @@
 -- Catch phrases and arms that are sound at a place, and beside each one that is not.
-use Rattle.std.proofs.Common.{◌≡◌, ℕ, zero, suc, ◌+◌, List, [], ◌∷◌, length, Some, refl, sym, ap, ◌∙◌, inl, inr, arith}
+use Rattle.std.proofs.Common.{◌≡◌, ℕ, zero, suc, List, [], ◌∷◌, length, Some, refl, sym, ap, ◌∙◌, inl, inr, arith}
 use Rattle.std.specs.Prelude.{Contains}
 use Rattle.mesa_types.specs.Typed.{Kind, Ordinal, Kinds, NoKinds, AndKind, Point, Start, point_of, Exprs, Catch, Arms, NoArms, AndArm, Stmt, Jump, Resume, Reject, Retry, Continue, ReturnWith}
 use Rattle.mesa_types.specs.declared.typed_parts.Goal.{Goal}

@@ -1,6 +1,6 @@
 -- Nodes, hidden words and operands of small statements.
 use Rattle.std.proofs.Common.{◌≡◌, ℕ, List, [], ◌∷◌, refl}
-use Rattle.std.specs.Prelude.{true, false}
+use Rattle.std.specs.Prelude.{false}
 use Rattle.mesa_types.specs.Typed.{Endless, Expr, Number, Literal, Variable, FieldOf, LengthOf, ByteOf, AllOf, Call, Construct, NoExprs, AndExpr, NoSuffix, Index, Between, NoPhrase, Catch, NoArms, AndArm, Stmt, Null, Marked, Assign, Perform, Select, Block, Repeat, For, Continue, Stmts, NoStmts, AndStmt, Otherwise, AndCase, NoTests, IfRelated, NoExits, LoopOf, NoFinish, Finished, Always}
 use Rattle.mesa_types.specs.declared.typed_parts.Home.TheVariants.{Global}
 use Rattle.mesa_types.specs.declared.typed_parts.Range.TheVariants.{Every, From}

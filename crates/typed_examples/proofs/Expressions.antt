@@ -1,6 +1,6 @@
 -- Expressions that are sound at a place, and beside each one that is not.
 use Rattle.std.proofs.Common.{◌≡◌, ℕ, zero, suc, [], ◌∷◌, length, refl, sym, ap, ◌∙◌, inr, arith}
-use Rattle.std.specs.Prelude.{Contains, true, false}
+use Rattle.std.specs.Prelude.{Contains}
 use Rattle.mesa_types.specs.Typed.{Kind, Ordinal, Texts, Array, Record, Kinds, NoKinds, AndKind, Expr, Number, Literal, Variable, FieldOf, Checked, Operate, AllOf, SomeOf, Construct, Call, Raise, Exprs, NoExprs, AndExpr, NoSuffix, Field, Index, NoOperation, Then, NoPhrase}
 use Rattle.mesa_types.specs.declared.typed_parts.Home.TheVariants.{Global}
 use Rattle.mesa_types.specs.declared.typed_parts.Range.TheVariants.{Every, From}

@@ -1,12 +1,11 @@
 -- Expressions and statements over LONG numbers that are sound at a place, and beside each one that is not.
-use Rattle.std.proofs.Common.{◌≡◌, ℕ, [], ◌∷◌, refl, sym, ap, ◌∙◌, arith}
-use Rattle.std.specs.Prelude.{true, false}
+use Rattle.std.proofs.Common.{◌≡◌, refl, sym, ap, ◌∙◌, arith}
+use Rattle.std.specs.Prelude.{false}
 use Rattle.mesa_types.specs.Typed.{Kind, Ordinal, Longs, Record, Kinds, NoKinds, AndKind, Expr, LongNumber, Variable, Converted, OperateLong, NegateLong, RelateLong, WithinLong, Between, NoSuffix, NoOperation, Then, Null, Assign, Select, SelectLong, NoTargets, AndConverted, Otherwise, AndCase, NoTests, IfRelated, IfRelatedLong}
 use Rattle.mesa_types.specs.declared.typed_parts.Home.TheVariants.{Global}
 use Rattle.mesa_types.specs.declared.typed_parts.Part.{Part}
 use Rattle.mesa_types.specs.declared.typed_parts.Range.TheVariants.{Every, From}
 use Rattle.mesa_types.specs.declared.typed_parts.Base.TheVariants.{Signed}
-use Rattle.mesa_types.specs.declared.typed_parts.Conversion.{Conversion}
 use Rattle.mesa_types.specs.declared.typed_parts.Conversion.TheVariants.{Kept, Widened, Narrowed}
 use Rattle.mesa_types.specs.declared.typed_parts.Operator.TheVariants.{Add, AddToCharacter}
 use Rattle.mesa_base.specs.declared.relation.Relation.TheVariants.{Equal}

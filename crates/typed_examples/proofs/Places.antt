@@ -1,6 +1,6 @@
 -- A place in a procedure with a parameter and a result, of a module with variables, signals and an import: what the examples
 -- stand in.
-use Rattle.std.proofs.Common.{◌≡◌, ℕ, zero, suc, ◌+◌, List, [], ◌∷◌, Option, Some, None, refl, sym, ap, ◌∙◌, arith}
+use Rattle.std.proofs.Common.{◌≡◌, ℕ, zero, suc, List, [], ◌∷◌, Option, Some, None, sym, ap, ◌∙◌, arith}
 use Rattle.std.specs.Prelude.{All, Contains}
 use Rattle.mesa_types.specs.Typed.{Kind, Ordinal, Longs, Texts, Array, Record, Kinds, NoKinds, AndKind, Point, Start, After, At, Leave}
 use Rattle.mesa_types.specs.declared.typed_parts.Label.{Label}

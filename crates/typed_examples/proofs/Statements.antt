@@ -1,5 +1,5 @@
 -- Statements that are sound at a place, and beside each one that is not.
-use Rattle.std.proofs.Common.{◌≡◌, ℕ, zero, suc, ◌+◌, ◌<◌, ◌≤◌, List, [], ◌∷◌, length, refl, ap, ◌∙◌, arith}
+use Rattle.std.proofs.Common.{◌≡◌, ℕ, ◌<◌, ◌≤◌, List, [], ◌∷◌, length, refl, ap, arith}
 use Rattle.std.specs.Prelude.{true, false}
 use Rattle.mesa_types.specs.Typed.{Endless, Counting, Kind, Ordinal, Record, Kinds, point_of, Expr, Number, Variable, Exprs, NoExprs, NoSuffix, NoPhrase, Stmt, Null, Marked, Declare, DeclareAs, Extract, Perform, Select, Block, Repeat, Jump, ReturnWith, NoStmts, AndStmt, Targets, NoTargets, AndTarget, Cases, Otherwise, AndCase, Tests, NoTests, IfRelated, Exits, NoExits, AndExit, Loop, LoopOf, NoFinish, Always}
 use Rattle.mesa_types.specs.declared.typed_parts.Home.TheVariants.{Global, Local}

@@ -1,6 +1,6 @@
 -- The signals and procedures of a checked module have names: each is declared under a name of the text.
-use Rattle.std.proofs.Common.{◌≡◌, ℕ, ◌+◌, List, [], ◌∷◌, ◌++◌, length, refl, sym, subst}
-use Rattle.std.specs.Prelude.{◌≢◌, true, Option, Some, None, Ok, Err, IfOk, map, nat_le}
+use Rattle.std.proofs.Common.{ℕ, ◌+◌, List, [], ◌∷◌, length, refl, sym, subst}
+use Rattle.std.specs.Prelude.{◌≢◌, true, Option, None, Ok, Err, IfOk, map, nat_le}
 use Rattle.std.specs.List.{All}
 use Rattle.std.proofs.lemmas.List.Elements.{All-nil, All-cons, All-head, All-tail, All-append, All-map}
 use Rattle.mesa_base.specs.Name.{IsName}

@@ -1,5 +1,5 @@
 -- Each rule of checking keeps the count of nodes, and names a place of its text: one induction over the syntax tree.
-use Rattle.std.specs.Prelude.{Ok, ℕ, ◌≡◌, ◌+◌, ◌*◌, ◌≤◌, Bool, true, false, not, ◌||◌, Option, Some, None, List, [], ◌∷◌, ◌++◌, length, map, nat_eq}
+use Rattle.std.specs.Prelude.{Ok, ℕ, ◌≡◌, ◌+◌, ◌*◌, ◌≤◌, Bool, true, false, not, ◌||◌, Option, None, List, [], ◌∷◌, ◌++◌, length, map, nat_eq}
 use Rattle.std.proofs.Common.{refl, arith, ap}
 use Rattle.mesa_base.specs.declared.place.Place.{Place}
 use Rattle.mesa_base.specs.declared.identifier.Identifier.{Identifier}

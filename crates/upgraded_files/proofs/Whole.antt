@@ -1,5 +1,5 @@
 -- A whole file with its version set to 2.
-use Rattle.std.proofs.Common.{◌≡◌, ℕ, ◌<◌, ◌≤◌, List, [], ◌∷◌, ◌++◌, length, drop, set, refl, sym, ◌∙◌, ap, arith}
+use Rattle.std.proofs.Common.{◌≡◌, ℕ, ◌<◌, List, [], ◌∷◌, ◌++◌, length, drop, set, refl, sym, ◌∙◌, ap, arith}
 use Rattle.std.proofs.lemmas.List.{take-set, drop-set, drop-drop, length-set, length-drop}
 use Rattle.file_forms.specs.Files.{IsFile}
 use Rattle.file_forms.specs.Forms.{Form}

@@ -1,4 +1,4 @@
-use Rattle.std.proofs.Common.{◌<◌, length, subst}
+use Rattle.std.proofs.Common.{◌<◌, subst}
 use Rattle.command_passes.specs.command_rules.specs.Loading.{faulty}
 use Rattle.command_passes.specs.Stops.{stop_case}
 use Rattle.command_loads.proofs.Faulty.{faulty_there}

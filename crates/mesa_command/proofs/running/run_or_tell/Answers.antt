@@ -1,4 +1,3 @@
-use Rattle.std.proofs.Common.{refl}
 use Rattle.mesa_command.proofs.running.run_or_tell.Goals as goal
 
 pub returns-in-Ok-clause-before_run_input : goal.returns-in-Ok-clause-before_run_input

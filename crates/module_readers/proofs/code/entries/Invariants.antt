@@ -1,4 +1,3 @@
-use Rattle.std.proofs.Common.{◌≤◌}
 use Rattle.module_readers.proofs.Turns.{IsReadOn}
 use Rattle.module_readers.proofs.code.entries.Given as goal
 
