@@ -39,25 +39,25 @@ pub fn run_image<S: Source, K: Sink, L: Ledger>(
     requires bound { bindings.now.links ≡ bindings_of tree.now }
     requires linked { IsLinkedFrom tree.now (map plain modules.now) machine.old }
     requires host { WantsTheHost machine.old }
-    ensures ran { IfOk result (λ outcome. IfSome (S.left input.old) AreBytes
-        → Ran (program_of tree.now (map plain modules.now)) turns outcome (S.left input.old) (S.left input.new) (K.written out.old) (K.written out.new)) }
+    ensures ran { IfOk result (λ outcome. IfSome (S.feed input.old).left AreBytes
+        → Ran (program_of tree.now (map plain modules.now)) turns outcome (S.feed input.old) (S.feed input.new) (K.stream out.old) (K.stream out.new)) }
     ensures broken_off { IsErrOf result RunFault.ReadFault
-        → BrokenOff (program_of tree.now (map plain modules.now)) turns (S.left input.old) (S.left input.new) (K.written out.old) (K.written out.new) }
-    ensures cut_off { IsErrOf result RunFault.WriteFault → IfSome (S.left input.old) AreBytes
-        → CutOff (program_of tree.now (map plain modules.now)) turns (S.left input.old) (S.left input.new) (K.written out.old) (K.written out.new) }
+        → BrokenOff (program_of tree.now (map plain modules.now)) turns (S.feed input.old) (S.feed input.new) (K.stream out.old) (K.stream out.new) }
+    ensures cut_off { IsErrOf result RunFault.WriteFault → IfSome (S.feed input.old).left AreBytes
+        → CutOff (program_of tree.now (map plain modules.now)) turns (S.feed input.old) (S.feed input.new) (K.stream out.old) (K.stream out.new) }
     ensures completes { IfOk result (λ outcome.
-        Completes machine.old turns outcome (steps.new - steps.old) (S.left input.old) (S.left input.new) (K.written out.old) (K.written out.new)) }
+        Completes machine.old turns outcome (steps.new - steps.old) (S.feed input.old) (S.feed input.new) (K.stream out.old) (K.stream out.new)) }
     ensures in_range { IfOk result (λ outcome. EndIsInRange machine.old outcome.end) }
     ensures breaks_at_input { IsErrOf result RunFault.ReadFault
-        → BreaksAtInput machine.old turns (steps.new - steps.old) (S.left input.old) (S.left input.new) (K.written out.old) (K.written out.new) }
+        → BreaksAtInput machine.old turns (steps.new - steps.old) (S.feed input.old) (S.feed input.new) (K.stream out.old) (K.stream out.new) }
     ensures breaks_at_output { IsErrOf result RunFault.WriteFault
-        → BreaksAtOutput machine.old turns (steps.new - steps.old) (S.left input.old) (S.left input.new) (K.written out.old) (K.written out.new) }
-    ensures read_fault { IsErrOf result RunFault.ReadFault → Rose (S.faults input.old) (S.faults input.new) }
-    ensures write_fault { IsErrOf result RunFault.WriteFault → Rose (K.faults out.old) (K.faults out.new) }
-    ensures asked { AskedOnce (S.left input.old) (S.left input.new) (S.calls input.old) (S.calls input.new) }
+        → BreaksAtOutput machine.old turns (steps.new - steps.old) (S.feed input.old) (S.feed input.new) (K.stream out.old) (K.stream out.new) }
+    ensures read_fault { IsErrOf result RunFault.ReadFault → Rose (S.feed input.old).faults (S.feed input.new).faults }
+    ensures write_fault { IsErrOf result RunFault.WriteFault → Rose (K.stream out.old).faults (K.stream out.new).faults }
+    ensures asked { AskedOnce (S.feed input.old) (S.feed input.new) }
     ensures machine_stays { machine.new ≡ machine.old }
-    ensures input_faults_stay { S.faults input.old ≤ S.faults input.new }
-    ensures output_faults_stay { K.faults out.old ≤ K.faults out.new }
+    ensures input_faults_stay { (S.feed input.old).faults ≤ (S.feed input.new).faults }
+    ensures output_faults_stay { (K.stream out.old).faults ≤ (K.stream out.new).faults }
     ensures steps_stay { steps.old ≤ steps.new }
 {
     linked_run::run_image(machine, turns, input, out, steps)

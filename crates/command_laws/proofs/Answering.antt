@@ -1,11 +1,11 @@
 -- What a call answers, from its case and its line.
 use Rattle.std.proofs.Common.{◌≡◌, ◌≢◌, ℕ, ◌⊎◌, ◌↔◌, List, All, Some, refl, sym, ◌∙◌, ap, subst, inl, inr}
-use Rattle.mesa_base.specs.Outside.{Files}
+use Rattle.mesa_base.specs.Outside.{Shelf, Stream, Files}
 use Rattle.mesa_base.specs.declared.status.Status.{Status}
 use Rattle.mesa_base.specs.declared.status.Status.TheVariants as status
 use Rattle.depth_laws.specs.Laws.{DepthsDoNotMatter}
 use Rattle.loader_rules.specs.Laws.{LoadsAreAlike}
-use Rattle.line_pieces.specs.Outputs.{Stream, PrintsAll}
+use Rattle.line_pieces.specs.Outputs.{PrintsAll}
 use Rattle.command_rules.specs.Binding.{bound_in}
 use Rattle.command_rules.specs.Case.{Case, Absent, Done, Memory, Refused, Usage, status_of}
 use Rattle.command_rules.specs.declared.trouble.Trouble.TheVariants.{TooLarge}
@@ -23,7 +23,7 @@ use Rattle.command_rules.specs.Planning.{plan_in}
 use Rattle.command_rules.specs.Printing.{Report, Prints}
 use Rattle.command_rules.specs.Shown.{image_names, program_names}
 use Rattle.command_rules.specs.Surveying.{survey_in}
-use Rattle.command_rules.specs.Worlds.{Shelf, Scene, World}
+use Rattle.command_rules.specs.Worlds.{Scene, World}
 use Rattle.command_rules.specs.Writing.{Target, IsSmall, IsFirstTooLarge, NotStored, StoresAll, Written}
 use Rattle.command_rules.proofs.Stopping.{IsOfFiles, PassStopsSo, source_so, module_so, interface_in_so, bound_so, listing_so, runnable_so, plan_so, survey_so, value_so}
 use Rattle.command_laws.specs.Laws.{PassesAreExact, CasesAreAnswers}

@@ -1,11 +1,11 @@
 -- What a pass comes to over files that are told, where no call failed.
 use Rattle.std.proofs.Common.{◌≡◌, ◌⊎◌, List, ℕ, Some, refl, ap, subst, inl, inr}
-use Rattle.mesa_base.specs.Outside.{Files, Rose}
+use Rattle.mesa_base.specs.Outside.{Shelf, Files, Rose}
 use Rattle.command_rules.specs.Case.{Case, Memory}
 use Rattle.command_rules.specs.Complete.{NoFault}
 use Rattle.command_rules.specs.Passes.{Outcome, Has, Stops, Trail, Pass, IsExact}
 use Rattle.command_rules.specs.Passing.{Fails, refused, failed, memory, Gives}
-use Rattle.command_rules.specs.Worlds.{Shelf, Scene}
+use Rattle.command_rules.specs.Worlds.{Scene}
 use Rattle.command_laws.specs.Laws.{NoStreamFailed}
 
 pub record Came {A : Type 0} (p : Pass Case A) (files : Files) (o : Outcome Case A) : Type 0 where

@@ -4,7 +4,7 @@ use Rattle.std.specs.Prelude.{false, IfSome}
 use Rattle.std.proofs.lemmas.Bool.{cases_lt}
 use Rattle.std.proofs.lemmas.List.{take-append-le, length-append}
 use Rattle.std.proofs.Math.Seq.{take-append-add}
-use Rattle.mesa_base.specs.Outside.{AppendsPrefix}
+use Rattle.mesa_base.specs.Outside.{Feed, Stream, AppendsPrefix}
 use Rattle.object_files.specs.declared.image.Image.{Image}
 use Rattle.machine_rules.specs.Laws.{HasValidCode}
 use Rattle.machine_rules.specs.State.{Store, Runs, Ending, Stepped, Goes}
@@ -74,10 +74,10 @@ appends_so (Some bytes) holds output piece rest whole e a = further bytes output
 
 -- ---- the whole run
 
-pub cuts_off : (image : Image) (turns count : ℕ) (told left held holds : Option (List ℕ)) → HasValidCode image
-    → BreaksAtOutput image turns count told left held holds → CutsOff image turns told left held holds
+pub cuts_off : (image : Image) (turns count : ℕ) (feed feed' : Feed) (stream stream' : Stream) → HasValidCode image
+    → BreaksAtOutput image turns count feed feed' stream stream' → CutsOff image turns feed feed' stream stream'
 unfolding store_in
-cuts_off image turns count told left held holds valid b =
+cuts_off image turns count feed feed' stream stream' valid b =
     let r = has_one_result image valid b.input false turns in
     let w = b.comes in
     let next = w.writes.0 in
@@ -99,6 +99,6 @@ cuts_off image turns count told left held holds valid b =
       count = r.count;
       is_input = b.is_input;
       runs = r.is_run;
-      rest = rest_so told left b.input b.taken r.taken (length r.is_run.last.input) b.is_input.same few (sym r.is_run.its_input) b.rest;
-      appends = appends_so held holds b.output b.piece g.written r.output grown b.appends;
+      rest = rest_so feed.left feed'.left b.input b.taken r.taken (length r.is_run.last.input) b.is_input.same few (sym r.is_run.its_input) b.rest;
+      appends = appends_so stream.holds stream'.holds b.output b.piece g.written r.output grown b.appends;
     }

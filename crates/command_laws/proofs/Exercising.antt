@@ -1,6 +1,6 @@
 -- The cases of `exercise`, where `out` did not fail.
 use Rattle.std.proofs.Common.{◌≡◌, ◌≢◌, ◌⊎◌, ℕ, List, [], ◌++◌, length, map, All, Option, Some, None, IfSome, refl, sym, ◌∙◌, ap, subst, inl, inr, arith, append_assoc}
-use Rattle.mesa_base.specs.Outside.{Rose}
+use Rattle.mesa_base.specs.Outside.{Shelf, Stream, Rose}
 use Rattle.exercise_texts.specs.Files.{exercise_files}
 use Rattle.source_meaning.specs.Means.{Means}
 use Rattle.source_meaning.specs.Program.{Program}
@@ -14,7 +14,7 @@ use Rattle.link_tables.specs.Linked.{image_of}
 use Rattle.command_rules.specs.linked_programs.specs.Objects.{AreObjectsOf}
 use Rattle.command_rules.specs.frame_machine.specs.Running.{AreBytes}
 use Rattle.command_rules.specs.frame_machine.specs.declared.outcome.Outcome.{Outcome}
-use Rattle.line_pieces.specs.Outputs.{Stream, HasFaulted, PrintsAll}
+use Rattle.line_pieces.specs.Outputs.{HasFaulted, PrintsAll}
 use Rattle.command_rules.specs.Case.{Case, Memory, Refused}
 use Rattle.command_rules.specs.declared.trouble.Trouble.TheVariants.{TooLarge, Unresolved}
 use Rattle.command_rules.specs.Comes.{Exercised, Exercises, no_end, ended, not_summed}
@@ -24,7 +24,7 @@ use Rattle.command_rules.specs.Ends.{IsMeant, TellsInput}
 use Rattle.command_rules.specs.Exercise.{IsNoEnd, chain, exercise_shelf, summary, within}
 use Rattle.command_rules.specs.Forms.{OfConfig, image_file}
 use Rattle.command_rules.specs.Passes.{Has, Stops, IsExact}
-use Rattle.command_rules.specs.Worlds.{Shelf, Scene}
+use Rattle.command_rules.specs.Worlds.{Scene}
 use Rattle.command_laws.specs.Laws.{NoStreamFailed}
 use Rattle.command_laws.proofs.Came.{Came, IsStill, same_value}
 use Rattle.command_laws.proofs.Going.{Went, went, runs, goes_so, one_went, to_write, went_stopped, went_large, went_lacking, went_whole}

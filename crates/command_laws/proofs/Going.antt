@@ -1,6 +1,6 @@
 -- The cases of `go`, over files that are told and without faults.
 use Rattle.std.proofs.Common.{◌≡◌, ◌≢◌, ◌⊎◌, ℕ, List, [], ◌∷◌, ◌++◌, map, All, Some, refl, sym, ap, subst, inl, inr}
-use Rattle.mesa_base.specs.Outside.{Files}
+use Rattle.mesa_base.specs.Outside.{Shelf, Files}
 use Rattle.interface_records.specs.Hosts.{IsHostItem}
 use Rattle.interface_records.specs.declared.wanted.WantedItem.{WantedItem}
 use Rattle.machine_ready.specs.Hosts.{IsFirstUnresolved}
@@ -17,7 +17,7 @@ use Rattle.command_rules.specs.Configurations.{Configured, left_to_loader, progr
 use Rattle.command_rules.specs.Ends.{Ends, TellsInput}
 use Rattle.command_rules.specs.Forms.{Source, image_file}
 use Rattle.command_rules.specs.Passes.{Has, Stops, Trail, IsExact}
-use Rattle.command_rules.specs.Worlds.{Shelf, Scene}
+use Rattle.command_rules.specs.Worlds.{Scene}
 use Rattle.command_rules.specs.Writing.{Target, holding, OfImage, NotStored, StoresAll}
 use Rattle.command_laws.specs.Laws.{NoStreamFailed}
 use Rattle.command_laws.proofs.Came.{Came, IsStill, came_to_stop, came_so, same_stop, same_value, never_both, streams}

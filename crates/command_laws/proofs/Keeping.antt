@@ -1,5 +1,6 @@
 -- What a form leaves as it was, whatever it answers.
 use Rattle.std.proofs.Common.{◌≡◌, ℕ, List, ap, subst}
+use Rattle.mesa_base.specs.Outside.{Shelf}
 use Rattle.command_rules.specs.Case.{Case}
 use Rattle.command_rules.specs.Comes.{Comes, Exercises, no_end, ended, not_summed}
 use Rattle.command_rules.specs.Forms.{Form, Compile, Define, Bind, Run, Go, Show, Upgrade, Exercise, Plan, Survey, HasForm, HasNoForm, WritesAlone, KeepsFiles, KeepsInput, KeepsSteps, KeepsFolder, kind_file}
@@ -9,7 +10,7 @@ use Rattle.command_rules.specs.Passes.{Pass}
 use Rattle.command_rules.specs.Planning.{plan_in}
 use Rattle.command_rules.specs.Printing.{Report, Prints}
 use Rattle.command_rules.specs.Surveying.{survey_in}
-use Rattle.command_rules.specs.Worlds.{Shelf, Scene}
+use Rattle.command_rules.specs.Worlds.{Scene}
 use Rattle.command_rules.proofs.Order.{loads_keep, prints_keep}
 use Rattle.command_laws.proofs.OneForm.{one_form}
 

@@ -1,7 +1,7 @@
 -- The cases of `run`, over files that are told and without faults. What is run of the same parts differs in depths alone, and so runs alike.
 use Rattle.std.proofs.Common.{◌≡◌, ◌≢◌, ◌⊎◌, ℕ, zero, suc, List, All, Some, Result, Ok, refl, sym, ◌∙◌, ap, subst, inl, inr, arith}
 use Rattle.std.specs.Prelude.{false, slice_get}
-use Rattle.mesa_base.specs.Outside.{Files}
+use Rattle.mesa_base.specs.Outside.{Shelf, Files}
 use Rattle.interface_records.specs.Hosts.{IsHostItem}
 use Rattle.interface_records.specs.declared.wanted.Wanted.{Wanted as Entry}
 use Rattle.interface_records.specs.declared.wanted.WantedItem.{WantedItem}
@@ -28,7 +28,7 @@ use Rattle.command_rules.specs.Forms.{image_file}
 use Rattle.command_rules.specs.Loading.{HostHas, IsFirstToLack, here, there, IsRunOf, host_wants, runnable_in}
 use Rattle.command_rules.specs.Passes.{Has, Stops, IsExact}
 use Rattle.command_rules.specs.Shown.{Names, case_of_end, case_of_run, image_names, path_of, signal_name}
-use Rattle.command_rules.specs.Worlds.{Shelf, Scene}
+use Rattle.command_rules.specs.Worlds.{Scene}
 use Rattle.command_laws.specs.Laws.{NoStreamFailed}
 use Rattle.command_laws.proofs.Alike.{same_run}
 use Rattle.command_laws.proofs.Came.{Came, IsStill, came_to_stop, came_to_value, same_stop, same_value, never_both}

@@ -1,6 +1,6 @@
 -- The cases of the forms that read and write one file, over files that are told and without faults.
 use Rattle.std.proofs.Common.{◌≡◌, ◌≢◌, ◌⊎◌, ℕ, List, [], ◌∷◌, map, All, Some, refl, sym, ◌∙◌, ap, subst, inl, inr}
-use Rattle.mesa_base.specs.Outside.{Files}
+use Rattle.mesa_base.specs.Outside.{Shelf, Files}
 use Rattle.mesa_types.specs.Typed.{Module}
 use Rattle.interface_records.specs.declared.interface.Interface.{Interface}
 use Rattle.object_files.specs.declared.image.Image.{Image}
@@ -15,7 +15,6 @@ use Rattle.command_rules.specs.Forms.{module_file, interface_file, object_file, 
 use Rattle.command_rules.specs.Modules.{interface_in, module_in}
 use Rattle.command_rules.specs.Passes.{Has, Stops, Trail, Pass, IsExact}
 use Rattle.command_rules.specs.Passing.{Fails}
-use Rattle.command_rules.specs.Worlds.{Shelf}
 use Rattle.command_rules.specs.Writing.{Target, holding, OfInterface, OfObject, OfImage, IsSmall, IsFirstTooLarge, StoresAll, Written, NotStored}
 use Rattle.command_laws.proofs.Came.{Came, IsStill, came_to_stop, came_so, same_stop, same_value, never_both}
 use Rattle.command_laws.proofs.Likeness.{AreLike, same_sizes, stored_like, one_like, one_object, object_like, whole_as, image_like, IsLike}

@@ -1,6 +1,6 @@
 -- For words, files and an input that are told one case comes where no call failed, want of memory aside.
 use Rattle.std.proofs.Common.{◌≡◌, ◌≢◌, ℕ, List, Some, refl, subst}
-use Rattle.mesa_base.specs.Outside.{Files}
+use Rattle.mesa_base.specs.Outside.{Shelf, Files}
 use Rattle.depth_laws.specs.Laws.{DepthsDoNotMatter}
 use Rattle.loader_rules.specs.Laws.{LoadsAreAlike}
 use Rattle.command_rules.specs.Binding.{bound_in}
@@ -14,7 +14,7 @@ use Rattle.command_rules.specs.Listing.{listing_in}
 use Rattle.command_rules.specs.Modules.{interface_in, module_in}
 use Rattle.command_rules.specs.Planning.{plan_in}
 use Rattle.command_rules.specs.Surveying.{survey_in}
-use Rattle.command_rules.specs.Worlds.{Shelf, Scene}
+use Rattle.command_rules.specs.Worlds.{Scene}
 use Rattle.command_laws.specs.Laws.{PassesAreExact}
 use Rattle.command_laws.proofs.Came.{streams}
 use Rattle.command_laws.proofs.Exercising.{one_exercised}

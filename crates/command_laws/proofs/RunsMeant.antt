@@ -118,13 +118,13 @@ ends_as P (Continued n) e is = absurd is
 module _ (P : Program) (image : Image) (of : IsImageOf P image) (turns : ℕ) (old new : Scene) where
   as_meant : (case : Case) (r : Result Outcome RunFault) → Runs image turns old new r → case ≡ case_of_run (program_names P) r → AsMeant P turns old new case r
   as_meant case _ (ended o counts) is = λ bytes.
-      let r = ran image turns old.input.left new.input.left old.out.holds new.out.holds o counts.0 counts.2 P of bytes in
+      let r = ran image turns old.input new.input old.out new.out o counts.0 counts.2 P of bytes in
       record { ran = r; is_case = subst (λ c. IsShownAs P r.answer c) (sym is) (ends_as P r.answer o.end r.its_end) }
   as_meant case _ (read_fault rose counts) is =
-      broken_off image turns old.input.left new.input.left old.out.holds new.out.holds counts.0 counts.2 P of
+      broken_off image turns old.input new.input old.out new.out counts.0 counts.2 P of
   as_meant case _ (write_fault fell counts) is = λ bytes.
-      cut_off image turns old.input.left new.input.left old.out.holds new.out.holds counts.0
-      (counts.2, cuts_off image turns counts.0 old.input.left new.input.left old.out.holds new.out.holds of.stands.valid counts.2) P of bytes
+      cut_off image turns old.input new.input old.out new.out counts.0
+      (counts.2, cuts_off image turns counts.0 old.input new.input old.out new.out of.stands.valid counts.2) P of bytes
 
   pub runs_meant : (case : Case) (ran : RunsTo (image_names image) image turns old new case)
       → (e : Ends P image turns old new case) × (e.machine.end ≡ ran.end)

@@ -1,6 +1,6 @@
 -- The cases of `list`, `plan` and `survey`, which print what their pass comes to, and of `upgrade`, over files that are told and without faults.
 use Rattle.std.proofs.Common.{◌≡◌, ◌≢◌, ◌⊎◌, ℕ, List, [], ◌∷◌, Some, refl, sym, subst, inl, inr}
-use Rattle.mesa_base.specs.Outside.{Files}
+use Rattle.mesa_base.specs.Outside.{Shelf, Files}
 use Rattle.line_pieces.specs.Outputs.{HasFaulted, PrintsAll}
 use Rattle.command_rules.specs.Case.{Case, Done, Memory}
 use Rattle.command_rules.specs.Comes.{Upgrades, not_held}
@@ -8,7 +8,7 @@ use Rattle.command_rules.specs.Forms.{FileKind, kind_file}
 use Rattle.command_rules.specs.Listing.{value_in}
 use Rattle.command_rules.specs.Passes.{Outcome, Has, Stops, Pass, IsExact}
 use Rattle.command_rules.specs.Printing.{Report, Prints}
-use Rattle.command_rules.specs.Worlds.{Shelf, Scene}
+use Rattle.command_rules.specs.Worlds.{Scene}
 use Rattle.command_rules.specs.Writing.{Target, Value, holding, StoresAll}
 use Rattle.command_laws.proofs.Came.{Came, IsStill, came_to_stop, came_to_value, came_so, same_stop, same_value, never_both}
 use Rattle.command_laws.proofs.Holding.{part_of, to_parts, parts_in, parts_exact, part_comes, whole_comes, value_like}

@@ -2,7 +2,7 @@
 use Rattle.std.proofs.Common.{◌≡◌, ℕ, zero, suc, List, [], ◌∷◌, ◌++◌, flat_map, All, Option, Some, Result, codes, refl, sym, ◌∙◌, ap, subst, append_assoc, arith}
 use Rattle.std.specs.Prelude.{false, Contains}
 use Rattle.std.proofs.lemmas.Option.{same_Some}
-use Rattle.mesa_base.specs.Outside.{Files}
+use Rattle.mesa_base.specs.Outside.{Shelf, Files}
 use Rattle.code_blocks.proofs.Lists.{all_get}
 use Rattle.interface_records.specs.Hosts.{IsHostItem}
 use Rattle.signaller.specs.declared.signal_id.SignalId.{SignalId}
@@ -37,7 +37,7 @@ use Rattle.command_rules.specs.Passing.{Fails, refused}
 use Rattle.command_rules.specs.Printing.{Report}
 use Rattle.command_rules.specs.Shown.{Names, case_of_end, case_of_run, image_names, shown, signal_of}
 use Rattle.command_rules.specs.Surveying.{Surveys, surveyed, escape_line, survey_text, survey_in}
-use Rattle.command_rules.specs.Worlds.{Shelf, Scene}
+use Rattle.command_rules.specs.Worlds.{Scene}
 use Rattle.command_laws.specs.Laws.{HasLine, UncaughtIsSurveyed}
 use Rattle.command_rules.proofs.Stopping.{runnable_so}
 use Rattle.command_laws.proofs.Alike.{same_image}

@@ -1,6 +1,6 @@
 -- Each pass is exact, and what a call answers follows from its case (rule of this project).
 use Rattle.std.specs.Prelude.{◌≡◌, ◌↔◌, ℕ, ◌≤◌, List, [], ◌∷◌, ◌++◌, length, Option, Some, codes}
-use Rattle.mesa_base.specs.Outside.{Files, Rose}
+use Rattle.mesa_base.specs.Outside.{Shelf, Files, Rose}
 use Rattle.mesa_base.specs.declared.limits.TheConstants.{FILE_BYTES}
 use Rattle.mesa_base.specs.declared.status.Status.{Status}
 use Rattle.mesa_types.specs.Typed.{Module}
@@ -26,7 +26,7 @@ use Rattle.command_rules.specs.Planning.{plan_in}
 use Rattle.command_rules.specs.Printing.{Report}
 use Rattle.command_rules.specs.Shown.{image_names}
 use Rattle.command_rules.specs.Surveying.{survey_in}
-use Rattle.command_rules.specs.Worlds.{Scene, Shelf, World}
+use Rattle.command_rules.specs.Worlds.{Scene, World}
 use Rattle.command_rules.specs.Writing.{Value, IsFileOf, size_of}
 use Rattle.line_pieces.specs.Outputs.{HasFaulted}
 

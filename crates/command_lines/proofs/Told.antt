@@ -1,12 +1,13 @@
 -- The pieces of lines are what the lines are.
 use Rattle.std.proofs.Common.{◌≡◌, ℕ, List, ◌++◌, codes, decimal, append_assoc, sym, ◌∙◌, subst, ap, flat_map}
+use Rattle.mesa_base.specs.Outside.{Stream}
 use Rattle.mesa_base.specs.declared.file_fault.Field.{Field}
 use Rattle.code_forms.specs.declared.bad_code.CodeFault.{CodeFault}
 use Rattle.object_rules.specs.declared.object_fault.ObjectFault.TheVariants.{BadField, Code}
 use Rattle.interface_records.specs.declared.wanted.WantedItem.{WantedItem}
 use Rattle.import_binder.specs.declared.fault.BindFault.TheVariants.{NoExporter, Twice, OtherInterface, OtherStamp}
 use Rattle.loader_rules.specs.declared.fault.LoadFault.TheVariants as load
-use Rattle.line_pieces.specs.Outputs.{Stream, Receives}
+use Rattle.line_pieces.specs.Outputs.{Receives}
 use Rattle.line_pieces.specs.Texts.{path_text, stamp_text, dotted, with_dot}
 use Rattle.command_passes.specs.command_rules.specs.Lines.{field_name, code_cause, file_cause, bind_cause, load_cause, item_text, placed_item, of_file}
 

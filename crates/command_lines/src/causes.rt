@@ -1,7 +1,7 @@
 //! Lines that say one cause of a file, and the names of causes.
 
 ghost use Rattle.std.specs.Prelude.{◌≡◌, ◌++◌, Some, decimal};
-ghost use Rattle.line_pieces.specs.Outputs.{stream, Receives};
+ghost use Rattle.line_pieces.specs.Outputs.{Receives};
 ghost use Rattle.command_passes.specs.command_rules.specs.Lines as lines;
 ghost use Rattle.command_passes.specs.command_rules.specs.Lines.{of_cause, of_file};
 
@@ -12,7 +12,7 @@ use mesa_base::{Field, Place, Sink};
 
 /// FILE: Cause.
 pub(crate) fn tell_cause<'a, E: Sink>(file: &'a str, cause: &'a str, err: &mut E)
-    ensures { Receives (of_file file.now cause.now) (stream (E.written err.old) (E.faults err.old)) (stream (E.written err.new) (E.faults err.new)) }
+    ensures { Receives (of_file file.now cause.now) (E.stream err.old) (E.stream err.new) }
 {
     say_all(
         &[
@@ -27,7 +27,7 @@ pub(crate) fn tell_cause<'a, E: Sink>(file: &'a str, cause: &'a str, err: &mut E
 
 /// FILE: Cause NUMBER.
 pub(crate) fn tell_number<'a, E: Sink>(file: &'a str, cause: &'a str, number: u64, err: &mut E)
-    ensures { Receives (of_file file.now (cause.now ++ decimal number)) (stream (E.written err.old) (E.faults err.old)) (stream (E.written err.new) (E.faults err.new)) }
+    ensures { Receives (of_file file.now (cause.now ++ decimal number)) (E.stream err.old) (E.stream err.new) }
 {
     say_all(
         &[
@@ -43,7 +43,7 @@ pub(crate) fn tell_number<'a, E: Sink>(file: &'a str, cause: &'a str, number: u6
 
 /// FILE:LINE:COLUMN: Cause.
 pub(crate) fn tell_place<'a, E: Sink>(file: &'a str, place: Place, cause: &'a str, err: &mut E)
-    ensures { Receives (of_cause file.now (Some place) cause.now) (stream (E.written err.old) (E.faults err.old)) (stream (E.written err.new) (E.faults err.new)) }
+    ensures { Receives (of_cause file.now (Some place) cause.now) (E.stream err.old) (E.stream err.new) }
 {
     say_all(
         &[
@@ -62,7 +62,7 @@ pub(crate) fn tell_place<'a, E: Sink>(file: &'a str, place: Place, cause: &'a st
 
 /// A text, as it is.
 pub(crate) fn tell_text<E: Sink>(text: &str, err: &mut E)
-    ensures { Receives text.now (stream (E.written err.old) (E.faults err.old)) (stream (E.written err.new) (E.faults err.new)) }
+    ensures { Receives text.now (E.stream err.old) (E.stream err.new) }
 {
     say_all(&[Piece::Text(text)], err);
 }

@@ -1,7 +1,7 @@
 //! What is said where a run ends, or where the words have no form.
 
 ghost use Rattle.std.specs.Prelude.{◌≡◌, ◌++◌, codes};
-ghost use Rattle.line_pieces.specs.Outputs.{stream, Receives};
+ghost use Rattle.line_pieces.specs.Outputs.{Receives};
 ghost use Rattle.line_pieces.specs.Texts.{dotted};
 ghost use Rattle.command_passes.specs.command_rules.specs.Case.{status_of, Usage};
 ghost use Rattle.command_passes.specs.command_rules.specs.Complete.{Tells};
@@ -34,7 +34,7 @@ pub enum Ending<'a> {
 
 /// uncaught PATH.SIGNAL.
 fn tell_own<'a, E: Sink>(path: &'a [Name], name: &'a [u8], err: &mut E)
-    ensures { Receives (codes "uncaught " ++ (dotted path.now name.now ++ codes "\n")) (stream (E.written err.old) (E.faults err.old)) (stream (E.written err.new) (E.faults err.new)) }
+    ensures { Receives (codes "uncaught " ++ (dotted path.now name.now ++ codes "\n")) (E.stream err.old) (E.stream err.new) }
 {
     let pieces = [
         Piece::Text("uncaught "),
@@ -47,7 +47,7 @@ fn tell_own<'a, E: Sink>(path: &'a [Name], name: &'a [u8], err: &mut E)
 
 /// uncaught SIGNAL.
 fn tell_uncaught<E: Sink>(signal: UncaughtSignal<'_>, err: &mut E)
-    ensures { Receives (codes "uncaught " ++ (called signal.entry ++ codes "\n")) (stream (E.written err.old) (E.faults err.old)) (stream (E.written err.new) (E.faults err.new)) }
+    ensures { Receives (codes "uncaught " ++ (called signal.entry ++ codes "\n")) (E.stream err.old) (E.stream err.new) }
 {
     match signal {
         UncaughtSignal::Own(path, name) => tell_own(path, name, err),
@@ -64,7 +64,7 @@ fn tell_uncaught<E: Sink>(signal: UncaughtSignal<'_>, err: &mut E)
 
 /// Writes the line, if there is one. A fault of `err` cuts it short and changes nothing else.
 pub fn tell_ending<E: Sink>(ending: Ending<'_>, err: &mut E)
-    ensures { Receives (line_of (ending_case ending.entry)) (stream (E.written err.old) (E.faults err.old)) (stream (E.written err.new) (E.faults err.new)) }
+    ensures { Receives (line_of (ending_case ending.entry)) (E.stream err.old) (E.stream err.new) }
 {
     match ending {
         Ending::Done => {}
@@ -91,7 +91,7 @@ pub fn ending_status(ending: Ending<'_>) -> Status
 
 /// Writes the line of an ending, and gives its status.
 pub fn told_ending<E: Sink>(ending: Ending<'_>, err: &mut E) -> Status
-    ensures { Tells (ending_case ending.entry) (stream (E.written err.old) (E.faults err.old)) (stream (E.written err.new) (E.faults err.new)) result }
+    ensures { Tells (ending_case ending.entry) (E.stream err.old) (E.stream err.new) result }
 {
     tell_ending(ending, err);
     ending_status(ending)
@@ -99,7 +99,7 @@ pub fn told_ending<E: Sink>(ending: Ending<'_>, err: &mut E) -> Status
 
 /// Writes the line that says which command lines there are, and gives its status.
 pub fn told_usage<E: Sink>(err: &mut E) -> Status
-    ensures { Tells Usage (stream (E.written err.old) (E.faults err.old)) (stream (E.written err.new) (E.faults err.new)) result }
+    ensures { Tells Usage (E.stream err.old) (E.stream err.new) result }
 {
     tell_text(
         "usage: mesa compile, bind, list, run, go or exercise\n",

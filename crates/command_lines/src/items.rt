@@ -2,7 +2,7 @@
 
 ghost use Rattle.std.specs.Prelude.{◌≡◌, ◌++◌, codes};
 ghost use Rattle.import_binder.specs.declared.fault.BindFault.TheVariants.{NoExporter, Twice, OtherInterface, OtherStamp};
-ghost use Rattle.line_pieces.specs.Outputs.{stream, Receives};
+ghost use Rattle.line_pieces.specs.Outputs.{Receives};
 ghost use Rattle.line_pieces.specs.Texts.{stamp_text};
 ghost use Rattle.command_passes.specs.command_rules.specs.Lines.{bind_cause, item_text, of_file};
 
@@ -14,7 +14,7 @@ use mesa_base::{Path, Sink};
 
 /// FILE: NoExporter PATH FACE.ITEM.
 fn tell_no_exporter<'a, E: Sink>(file: &'a str, item: &'a WantedItem, err: &mut E)
-    ensures { Receives (of_file file.now (bind_cause (NoExporter item.now))) (stream (E.written err.old) (E.faults err.old)) (stream (E.written err.new) (E.faults err.new)) }
+    ensures { Receives (of_file file.now (bind_cause (NoExporter item.now))) (E.stream err.old) (E.stream err.new) }
 {
     let at = item.at.as_slice();
     let face = item.face.bytes();
@@ -40,7 +40,7 @@ fn tell_twice<'a, E: Sink>(
     other: &'a Path,
     err: &mut E,
 )
-    ensures { Receives (of_file file.now (bind_cause (Twice item.now one.now other.now))) (stream (E.written err.old) (E.faults err.old)) (stream (E.written err.new) (E.faults err.new)) }
+    ensures { Receives (of_file file.now (bind_cause (Twice item.now one.now other.now))) (E.stream err.old) (E.stream err.new) }
 {
     let at = item.at.as_slice();
     let face = item.face.bytes();
@@ -71,7 +71,7 @@ fn tell_other_interface<'a, E: Sink>(
     one: &'a Path,
     err: &mut E,
 )
-    ensures { Receives (of_file file.now (bind_cause (OtherInterface item.now one.now))) (stream (E.written err.old) (E.faults err.old)) (stream (E.written err.new) (E.faults err.new)) }
+    ensures { Receives (of_file file.now (bind_cause (OtherInterface item.now one.now))) (E.stream err.old) (E.stream err.new) }
 {
     let at = item.at.as_slice();
     let face = item.face.bytes();
@@ -100,7 +100,7 @@ fn tell_other_stamp<'a, E: Sink>(
     found: u64,
     err: &mut E,
 )
-    ensures { Receives (of_file file.now (bind_cause (OtherStamp item.now wanted found))) (stream (E.written err.old) (E.faults err.old)) (stream (E.written err.new) (E.faults err.new)) }
+    ensures { Receives (of_file file.now (bind_cause (OtherStamp item.now wanted found))) (E.stream err.old) (E.stream err.new) }
 {
     let at = item.at.as_slice();
     let face = item.face.bytes();
@@ -124,7 +124,7 @@ fn tell_other_stamp<'a, E: Sink>(
 
 /// The line of a configuration's first bad item.
 pub(crate) fn tell_item<E: Sink>(file: &str, fault: &BindFault, err: &mut E)
-    ensures { Receives (of_file file.now (bind_cause fault.now)) (stream (E.written err.old) (E.faults err.old)) (stream (E.written err.new) (E.faults err.new)) }
+    ensures { Receives (of_file file.now (bind_cause fault.now)) (E.stream err.old) (E.stream err.new) }
 {
     match fault {
         BindFault::NoExporter(item) => tell_no_exporter(file, item, err),
@@ -139,7 +139,7 @@ pub(crate) fn tell_item<E: Sink>(file: &str, fault: &BindFault, err: &mut E)
 
 /// FILE: Unresolved FACE.ITEM STAMP.
 pub(crate) fn tell_unresolved<'a, E: Sink>(file: &'a str, item: &'a WantedItem, err: &mut E)
-    ensures { Receives (of_file file.now (codes "Unresolved " ++ (item_text item.now ++ (codes " " ++ stamp_text item.now.stamp)))) (stream (E.written err.old) (E.faults err.old)) (stream (E.written err.new) (E.faults err.new)) }
+    ensures { Receives (of_file file.now (codes "Unresolved " ++ (item_text item.now ++ (codes " " ++ stamp_text item.now.stamp)))) (E.stream err.old) (E.stream err.new) }
 {
     let face = item.face.bytes();
     let name = item.item.bytes();

@@ -2,7 +2,7 @@
 
 ghost use Rattle.std.specs.Prelude.{◌≡◌, ◌++◌, codes};
 ghost use Rattle.loader_rules.specs.declared.fault.LoadFault.TheVariants.{Twice, OtherStamp};
-ghost use Rattle.line_pieces.specs.Outputs.{stream, Receives};
+ghost use Rattle.line_pieces.specs.Outputs.{Receives};
 ghost use Rattle.command_passes.specs.command_rules.specs.Lines.{load_cause, item_text, of_file};
 
 use crate::causes::tell_cause;
@@ -13,7 +13,7 @@ use mesa_base::{Name, Path, Sink};
 
 /// FILE: Cause FACE.ITEM.
 fn tell_wanted<'a, E: Sink>(file: &'a str, cause: &'a str, item: &'a WantedItem, err: &mut E)
-    ensures { Receives (of_file file.now (cause.now ++ item_text item.now)) (stream (E.written err.old) (E.faults err.old)) (stream (E.written err.new) (E.faults err.new)) }
+    ensures { Receives (of_file file.now (cause.now ++ item_text item.now)) (E.stream err.old) (E.stream err.new) }
 {
     let face = item.face.bytes();
     let name = item.item.bytes();
@@ -37,7 +37,7 @@ fn tell_offered_twice<'a, E: Sink>(
     other: &'a Path,
     err: &mut E,
 )
-    ensures { Receives (of_file file.now (load_cause (Twice 0 item.now one.now other.now))) (stream (E.written err.old) (E.faults err.old)) (stream (E.written err.new) (E.faults err.new)) }
+    ensures { Receives (of_file file.now (load_cause (Twice 0 item.now one.now other.now))) (E.stream err.old) (E.stream err.new) }
 {
     let face = item.face.bytes();
     let name = item.item.bytes();
@@ -66,7 +66,7 @@ fn tell_offered_stamp<'a, E: Sink>(
     found: u64,
     err: &mut E,
 )
-    ensures { Receives (of_file file.now (load_cause (OtherStamp 0 item.now wanted found))) (stream (E.written err.old) (E.faults err.old)) (stream (E.written err.new) (E.faults err.new)) }
+    ensures { Receives (of_file file.now (load_cause (OtherStamp 0 item.now wanted found))) (E.stream err.old) (E.stream err.new) }
 {
     let face = item.face.bytes();
     let name = item.item.bytes();
@@ -87,7 +87,7 @@ fn tell_offered_stamp<'a, E: Sink>(
 
 /// FILE: OddRecord NAME.
 fn tell_odd<'a, E: Sink>(file: &'a str, odd: &'a Name, err: &mut E)
-    ensures { Receives (of_file file.now (codes "OddRecord " ++ odd.now)) (stream (E.written err.old) (E.faults err.old)) (stream (E.written err.new) (E.faults err.new)) }
+    ensures { Receives (of_file file.now (codes "OddRecord " ++ odd.now)) (E.stream err.old) (E.stream err.new) }
 {
     let name = odd.bytes();
     let pieces = [
@@ -101,7 +101,7 @@ fn tell_odd<'a, E: Sink>(file: &'a str, odd: &'a Name, err: &mut E)
 
 /// The line of the first image that is not loaded, which is in this file.
 pub(crate) fn tell_load<E: Sink>(file: &str, fault: &LoadFault, err: &mut E)
-    ensures { Receives (of_file file.now (load_cause fault.now)) (stream (E.written err.old) (E.faults err.old)) (stream (E.written err.new) (E.faults err.new)) }
+    ensures { Receives (of_file file.now (load_cause fault.now)) (E.stream err.old) (E.stream err.new) }
 {
     match fault {
         LoadFault::NoExporter(_, item) => tell_wanted(file, "NoExporter ", item, err),

@@ -3,7 +3,7 @@
 ghost use Rattle.std.specs.Prelude.{◌≡◌, ◌++◌, codes, flat_map};
 ghost use Rattle.object_rules.specs.declared.object_fault.ObjectFault.TheVariants.{BadField, Code};
 ghost use Rattle.command_passes.specs.checked_texts.specs.TextFaults.{fault_name, fault_place};
-ghost use Rattle.line_pieces.specs.Outputs.{stream, Receives};
+ghost use Rattle.line_pieces.specs.Outputs.{Receives};
 ghost use Rattle.line_pieces.specs.Texts.{with_blank};
 ghost use Rattle.command_passes.specs.command_rules.specs.Lines.{file_cause, of_cause, of_file, refusal};
 
@@ -19,7 +19,7 @@ use object_rules::ObjectFault;
 
 /// The line of a text's fault: at its place, where it has one.
 fn tell_fault<E: Sink>(file: &str, fault: TextFault, err: &mut E)
-    ensures { Receives (of_cause file.now (fault_place fault) (fault_name fault)) (stream (E.written err.old) (E.faults err.old)) (stream (E.written err.new) (E.faults err.new)) }
+    ensures { Receives (of_cause file.now (fault_place fault) (fault_name fault)) (E.stream err.old) (E.stream err.new) }
 {
     match fault.place() {
         Some(place) => tell_place(file, place, fault.name(), err),
@@ -29,7 +29,7 @@ fn tell_fault<E: Sink>(file: &str, fault: TextFault, err: &mut E)
 
 /// FILE: BadField NUMBER FIELD.
 fn tell_field<E: Sink>(file: &str, at: u64, field: Field, err: &mut E)
-    ensures { Receives (of_file file.now (file_cause (BadField at field))) (stream (E.written err.old) (E.faults err.old)) (stream (E.written err.new) (E.faults err.new)) }
+    ensures { Receives (of_file file.now (file_cause (BadField at field))) (E.stream err.old) (E.stream err.new) }
 {
     let name = field_name(field);
     let pieces = [
@@ -51,7 +51,7 @@ fn tell_code<'a, E: Sink>(
     fault: CodeFault,
     err: &mut E,
 )
-    ensures { Receives (of_file file.now (file_cause (Code in_module procedure fault))) (stream (E.written err.old) (E.faults err.old)) (stream (E.written err.new) (E.faults err.new)) }
+    ensures { Receives (of_file file.now (file_cause (Code in_module procedure fault))) (E.stream err.old) (E.stream err.new) }
 {
     let cause = code_cause(fault);
     let pieces = [
@@ -70,7 +70,7 @@ fn tell_code<'a, E: Sink>(
 
 /// The line of bytes that are no file of their kind, or whose code is not valid.
 fn tell_file<E: Sink>(file: &str, fault: ObjectFault, err: &mut E)
-    ensures { Receives (of_file file.now (file_cause fault)) (stream (E.written err.old) (E.faults err.old)) (stream (E.written err.new) (E.faults err.new)) }
+    ensures { Receives (of_file file.now (file_cause fault)) (E.stream err.old) (E.stream err.new) }
 {
     match fault {
         ObjectFault::BadMagic => tell_cause(file, "BadMagic", err),
@@ -87,7 +87,7 @@ fn tell_file<E: Sink>(file: &str, fault: ObjectFault, err: &mut E)
 
 /// FILE: Cycle NAME ..
 fn tell_cycle<'a, E: Sink>(file: &'a str, bases: &'a [Bytes], err: &mut E)
-    ensures { Receives (of_file file.now (codes "Cycle" ++ flat_map with_blank bases.now)) (stream (E.written err.old) (E.faults err.old)) (stream (E.written err.new) (E.faults err.new)) }
+    ensures { Receives (of_file file.now (codes "Cycle" ++ flat_map with_blank bases.now)) (E.stream err.old) (E.stream err.new) }
 {
     let pieces = [
         Piece::Text(file),
@@ -100,7 +100,7 @@ fn tell_cycle<'a, E: Sink>(file: &'a str, bases: &'a [Bytes], err: &mut E)
 
 /// The line of a file that is refused.
 pub(crate) fn tell_refusal<E: Sink>(file: &str, why: &Trouble, err: &mut E)
-    ensures { Receives (refusal file.now why.now) (stream (E.written err.old) (E.faults err.old)) (stream (E.written err.new) (E.faults err.new)) }
+    ensures { Receives (refusal file.now why.now) (E.stream err.old) (E.stream err.new) }
 {
     match why {
         Trouble::Text(fault) => tell_fault(file, *fault, err),

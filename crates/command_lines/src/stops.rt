@@ -1,7 +1,7 @@
 //! What is said where a call ends before anything is run.
 
 ghost use Rattle.std.specs.Prelude.{◌≡◌};
-ghost use Rattle.line_pieces.specs.Outputs.{stream, Receives};
+ghost use Rattle.line_pieces.specs.Outputs.{Receives};
 ghost use Rattle.command_passes.specs.Stops.{stop_case};
 ghost use Rattle.command_passes.specs.command_rules.specs.Case.{status_of};
 ghost use Rattle.command_passes.specs.command_rules.specs.Complete.{Tells};
@@ -14,7 +14,7 @@ use mesa_base::{Sink, Status};
 
 /// Writes the line. A fault of `err` cuts it short and changes nothing else.
 pub fn tell_stop<E: Sink>(stop: &Stop, err: &mut E)
-    ensures { Receives (line_of (stop_case stop.now)) (stream (E.written err.old) (E.faults err.old)) (stream (E.written err.new) (E.faults err.new)) }
+    ensures { Receives (line_of (stop_case stop.now)) (E.stream err.old) (E.stream err.new) }
 {
     match stop {
         Stop::Refused(file, why) => tell_refusal(file.as_str(), why, err),
@@ -37,7 +37,7 @@ pub fn stop_status(stop: &Stop) -> Status
 
 /// Writes the line of a stop, and gives its status.
 pub fn told_stop<E: Sink>(stop: &Stop, err: &mut E) -> Status
-    ensures { Tells (stop_case stop.now) (stream (E.written err.old) (E.faults err.old)) (stream (E.written err.new) (E.faults err.new)) result }
+    ensures { Tells (stop_case stop.now) (E.stream err.old) (E.stream err.new) result }
 {
     tell_stop(stop, err);
     stop_status(stop)

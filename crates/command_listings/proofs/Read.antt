@@ -1,11 +1,11 @@
 -- What comes of a file that is listed or upgraded, from what was read of it.
 use Rattle.std.proofs.Common.{◌≡◌, ℕ, List, Result, Ok, Err}
+use Rattle.mesa_base.specs.Outside.{Shelf}
 use Rattle.mesa_base.specs.declared.outside_errors.FolderError.{FolderError}
 use Rattle.command_passes.specs.command_rules.specs.Case.{Absent}
 use Rattle.command_passes.specs.command_rules.specs.Forms.{FileKind}
 use Rattle.command_passes.specs.command_rules.specs.Listing.{Holds, Lists, listing_in, value_in}
 use Rattle.command_passes.specs.command_rules.specs.Printing.{text_alone}
-use Rattle.command_passes.specs.command_rules.specs.Worlds.{Shelf}
 use Rattle.command_passes.specs.command_rules.specs.Writing.{Value}
 use Rattle.command_passes.specs.command_rules.proofs.Passing.{HasRead}
 use Rattle.command_passes.specs.Shelves.{Decides, Passes}

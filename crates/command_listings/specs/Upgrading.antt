@@ -1,11 +1,11 @@
 -- What the calls tell of bytes in version 2.
 use Rattle.std.specs.Prelude.{◌≢◌, ℕ, List, Result, Ok, Err}
+use Rattle.mesa_base.specs.Outside.{Shelf}
 use Rattle.command_passes.specs.command_rules.specs.Case.{Memory}
 use Rattle.command_passes.specs.command_rules.specs.Forms.{FileKind}
 use Rattle.command_passes.specs.command_rules.specs.Listing.{Holds, value_in}
 use Rattle.command_passes.specs.command_rules.specs.Passes.{Has, Stops}
 use Rattle.command_passes.specs.command_rules.specs.Passing.{Fails, Gives}
-use Rattle.command_passes.specs.command_rules.specs.Worlds.{Shelf}
 use Rattle.command_passes.specs.command_rules.specs.Writing.{Value, IsFileOf}
 use Rattle.command_passes.specs.Stops.{stop_case}
 use Rattle.command_passes.specs.declared.stop.Stop.{Stop}

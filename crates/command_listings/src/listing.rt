@@ -3,7 +3,6 @@
 ghost use Rattle.command_passes.specs.command_rules.specs.Listing.{Lists, listing_in};
 ghost use Rattle.command_passes.specs.command_rules.specs.Printing.{text_alone};
 ghost use Rattle.command_passes.specs.command_rules.specs.Reading.{Onward};
-ghost use Rattle.command_passes.specs.command_rules.specs.Worlds.{shelf};
 ghost use Rattle.command_passes.specs.Kinds.{kind_in};
 ghost use Rattle.command_passes.specs.Shelves.{Decides, Passes};
 
@@ -33,10 +32,10 @@ pub fn listing_of_file<F: Folder>(
     kind: FileKind,
 ) -> Result<Bytes, Stop>
     ensures passes { Passes text_alone (listing_in (kind_in kind) file)
-        (shelf (F.files folder.old) (F.calls folder.old) (F.faults folder.old) (F.misses folder.old))
-        (shelf (F.files folder.new) (F.calls folder.new) (F.faults folder.new) (F.misses folder.new)) result }
-    ensures onward { Onward (shelf (F.files folder.old) (F.calls folder.old) (F.faults folder.old) (F.misses folder.old))
-        (shelf (F.files folder.new) (F.calls folder.new) (F.faults folder.new) (F.misses folder.new)) }
+        (F.shelf folder.old)
+        (F.shelf folder.new) result }
+    ensures onward { Onward (F.shelf folder.old)
+        (F.shelf folder.new) }
 {
     match folder.read(alloc, file.as_str(), FILE_BYTES) {
         Ok(bytes) => listed(alloc, file, bytes.as_slice(), kind),

@@ -2,7 +2,6 @@
 
 ghost use Rattle.std.specs.Prelude.{◌≡◌, ◌<◌, length};
 ghost use Rattle.command_passes.specs.command_rules.specs.Reading.{Onward};
-ghost use Rattle.command_passes.specs.command_rules.specs.Worlds.{shelf};
 ghost use Rattle.command_passes.specs.Kinds.{kind_in};
 ghost use Rattle.upgraded_files.specs.Upgraded.{upgraded};
 ghost use Rattle.command_listings.specs.Upgrading.{IsUpgradedOf, UpgradePasses};
@@ -44,10 +43,10 @@ pub fn upgraded_file<F: Folder>(
     kind: FileKind,
 ) -> Result<Bytes, Stop>
     ensures passes { UpgradePasses (kind_in kind) file
-        (shelf (F.files folder.old) (F.calls folder.old) (F.faults folder.old) (F.misses folder.old))
-        (shelf (F.files folder.new) (F.calls folder.new) (F.faults folder.new) (F.misses folder.new)) result }
-    ensures onward { Onward (shelf (F.files folder.old) (F.calls folder.old) (F.faults folder.old) (F.misses folder.old))
-        (shelf (F.files folder.new) (F.calls folder.new) (F.faults folder.new) (F.misses folder.new)) }
+        (F.shelf folder.old)
+        (F.shelf folder.new) result }
+    ensures onward { Onward (F.shelf folder.old)
+        (F.shelf folder.new) }
 {
     match folder.read(alloc, file.as_str(), FILE_BYTES) {
         Ok(bytes) => rewritten(alloc, file, bytes, kind),

@@ -1,5 +1,6 @@
 -- From the files of images to what comes of them.
 use Rattle.std.proofs.Common.{◌≡◌, ℕ, List, [], ◌∷◌, length, get_or, Result, Ok, Err, refl, ap, subst, arith}
+use Rattle.mesa_base.specs.Outside.{Shelf}
 use Rattle.object_files.specs.declared.image.Image.{Image}
 use Rattle.object_rules.specs.ImageForms.{ImagePart, parts_of_image}
 use Rattle.command_passes.specs.command_rules.specs.Case.{Case, Refused, Memory}
@@ -11,7 +12,7 @@ use Rattle.command_passes.specs.command_rules.specs.Passes.{Has, Stops, decided}
 use Rattle.command_passes.specs.command_rules.specs.Passing as passing
 use Rattle.command_passes.specs.command_rules.specs.Passing.{Fails, Gives}
 use Rattle.command_passes.specs.command_rules.specs.Reading.{Onward}
-use Rattle.command_passes.specs.command_rules.specs.Worlds.{Shelf, Scene}
+use Rattle.command_passes.specs.command_rules.specs.Worlds.{Scene}
 use Rattle.command_passes.specs.command_rules.specs.declared.trouble.Trouble.{Trouble}
 use Rattle.command_passes.specs.command_rules.proofs.Passing.{fails_decided, fails_first, fails_second, gives_both, gives_decided}
 use Rattle.command_passes.specs.Stops.{stop_case}

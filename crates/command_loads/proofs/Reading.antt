@@ -4,6 +4,7 @@ use Rattle.std.specs.Str.{IsAscii}
 use Rattle.std.proofs.lemmas.List.{length-map, map-append}
 use Rattle.std.proofs.lemmas.List.Elements.{All-push, All-weaker}
 use Rattle.std.proofs.lemmas.Option.{slice_get_read}
+use Rattle.mesa_base.specs.Outside.{Shelf}
 use Rattle.config_rules.specs.Components.{is_file_base}
 use Rattle.object_files.specs.declared.image.Image.{Image}
 use Rattle.object_rules.specs.ImageForms.{ImagePart, parts_of_image}
@@ -13,7 +14,6 @@ use Rattle.command_passes.specs.command_rules.specs.Loading.{images_in}
 use Rattle.command_passes.specs.command_rules.specs.Objects.{image_in}
 use Rattle.command_passes.specs.command_rules.specs.Passes.{Pass, each}
 use Rattle.command_passes.specs.command_rules.specs.Passing.{Fails, Gives}
-use Rattle.command_passes.specs.command_rules.specs.Worlds.{Shelf}
 use Rattle.command_passes.specs.Filed.{IsFiledImage}
 use Rattle.command_passes.specs.Shelves.{Passes}
 use Rattle.command_passes.specs.declared.stop.Stop.{Stop}

@@ -1,5 +1,6 @@
 -- From the files of images to the machine that is ready to run, or what ends the call before.
 use Rattle.std.specs.Prelude.{ℕ, List, Result, Ok, Err}
+use Rattle.mesa_base.specs.Outside.{Shelf}
 use Rattle.interface_records.specs.declared.wanted.WantedItem.{WantedItem}
 use Rattle.object_files.specs.declared.image.Image.{Image}
 use Rattle.object_rules.specs.ImageForms.{ImagePart}
@@ -9,7 +10,7 @@ use Rattle.command_passes.specs.command_rules.specs.Forms.{image_file}
 use Rattle.command_passes.specs.command_rules.specs.Loading.{HostHas, IsFirstToLack, IsRunOf, Joins, host_wants, runnable_in}
 use Rattle.command_passes.specs.command_rules.specs.Passes.{Has, Stops}
 use Rattle.command_passes.specs.command_rules.specs.Passing.{Gives}
-use Rattle.command_passes.specs.command_rules.specs.Worlds.{Shelf, Scene}
+use Rattle.command_passes.specs.command_rules.specs.Worlds.{Scene}
 use Rattle.command_passes.specs.command_rules.specs.declared.trouble.Trouble.{Trouble}
 use Rattle.command_passes.specs.command_rules.specs.declared.trouble.Trouble.TheVariants.{Unresolved}
 use Rattle.command_passes.specs.Stops.{stop_case}

@@ -7,7 +7,6 @@ ghost use Rattle.command_passes.specs.command_rules.specs.Forms.{image_file};
 ghost use Rattle.command_passes.specs.command_rules.specs.Loading.{images_in};
 ghost use Rattle.command_passes.specs.command_rules.specs.Objects.{image_in};
 ghost use Rattle.command_passes.specs.command_rules.specs.Reading.{Onward};
-ghost use Rattle.command_passes.specs.command_rules.specs.Worlds.{shelf};
 ghost use Rattle.command_passes.specs.Filed.{IsFiledImage};
 ghost use Rattle.command_passes.specs.Shelves.{Passes};
 
@@ -28,10 +27,10 @@ pub(crate) fn image_of<F: Folder>(alloc: Global, folder: &mut F, base: &[u8]) ->
     requires { IsAscii base.now }
     ensures filed { IfOk result IsFiledImage }
     ensures passes { Passes parts_of_image (image_in (image_file base.now))
-        (shelf (F.files folder.old) (F.calls folder.old) (F.faults folder.old) (F.misses folder.old))
-        (shelf (F.files folder.new) (F.calls folder.new) (F.faults folder.new) (F.misses folder.new)) result }
-    ensures onward { Onward (shelf (F.files folder.old) (F.calls folder.old) (F.faults folder.old) (F.misses folder.old))
-        (shelf (F.files folder.new) (F.calls folder.new) (F.faults folder.new) (F.misses folder.new)) }
+        (F.shelf folder.old)
+        (F.shelf folder.new) result }
+    ensures onward { Onward (F.shelf folder.old)
+        (F.shelf folder.new) }
 {
     let file = file_named(alloc, base, ".mim")?;
     image_of_file(alloc, folder, file)
@@ -54,10 +53,10 @@ pub(crate) fn images_of<F: Folder>(
     requires { All IsAscii bases.now }
     ensures filed { IfOk result (λ images. All IsFiledImage images.items) }
     ensures passes { Passes (λ images. map parts_of_image images.items) (images_in bases.now)
-        (shelf (F.files folder.old) (F.calls folder.old) (F.faults folder.old) (F.misses folder.old))
-        (shelf (F.files folder.new) (F.calls folder.new) (F.faults folder.new) (F.misses folder.new)) result }
-    ensures onward { Onward (shelf (F.files folder.old) (F.calls folder.old) (F.faults folder.old) (F.misses folder.old))
-        (shelf (F.files folder.new) (F.calls folder.new) (F.faults folder.new) (F.misses folder.new)) }
+        (F.shelf folder.old)
+        (F.shelf folder.new) result }
+    ensures onward { Onward (F.shelf folder.old)
+        (F.shelf folder.new) }
 {
     let mut images = Vec::new(alloc);
     for base in bases {

@@ -5,7 +5,6 @@ ghost use Rattle.std.specs.Str.{IsAscii};
 ghost use Rattle.config_rules.specs.Components.{is_file_base};
 ghost use Rattle.loader_rules.specs.declared.limits.TheConstants.{MOST_IMAGES};
 ghost use Rattle.object_rules.specs.ImageForms.{parts_of_image};
-ghost use Rattle.command_passes.specs.command_rules.specs.Worlds.{shelf};
 ghost use Rattle.command_passes.specs.Filed.{IsFiledImage};
 ghost use Rattle.command_loads.specs.Loaded.{LoadsTo, ReadiesTo};
 
@@ -36,9 +35,9 @@ fn readied(alloc: Global, base: &[u8], image: Image) -> Result<Machine, Stop>
 fn alone<F: Folder>(alloc: Global, folder: &mut F, base: &[u8]) -> Result<Machine, Stop>
     requires { IsAscii base.now }
     ensures loads { LoadsTo (base.now ∷ [])
-        (shelf (F.files folder.old) (F.calls folder.old) (F.faults folder.old) (F.misses folder.old))
-        (shelf (F.files folder.new) (F.calls folder.new) (F.faults folder.new) (F.misses folder.new)) result }
-    ensures files { F.files folder.new ≡ F.files folder.old }
+        (F.shelf folder.old)
+        (F.shelf folder.new) result }
+    ensures files { (F.shelf folder.new).files ≡ (F.shelf folder.old).files }
 {
     match image_of(alloc, folder, base) {
         Ok(image) => readied(alloc, base, image),
@@ -52,9 +51,9 @@ fn several<F: Folder>(alloc: Global, folder: &mut F, bases: &[Bytes]) -> Result<
     requires several { 2 ≤ length bases.now }
     requires few { length bases.now ≤ MOST_IMAGES }
     ensures loads { LoadsTo bases.now
-        (shelf (F.files folder.old) (F.calls folder.old) (F.faults folder.old) (F.misses folder.old))
-        (shelf (F.files folder.new) (F.calls folder.new) (F.faults folder.new) (F.misses folder.new)) result }
-    ensures files { F.files folder.new ≡ F.files folder.old }
+        (F.shelf folder.old)
+        (F.shelf folder.new) result }
+    ensures files { (F.shelf folder.new).files ≡ (F.shelf folder.old).files }
 {
     match images_of(alloc, folder, bases) {
         Ok(images) => together(alloc, bases, images),
@@ -68,9 +67,9 @@ pub fn loaded<F: Folder>(alloc: Global, folder: &mut F, bases: &[Bytes]) -> Resu
     requires few { length bases.now ≤ MOST_IMAGES }
     requires named { All (λ base. is_file_base base ≡ true) bases.now }
     ensures loads { LoadsTo bases.now
-        (shelf (F.files folder.old) (F.calls folder.old) (F.faults folder.old) (F.misses folder.old))
-        (shelf (F.files folder.new) (F.calls folder.new) (F.faults folder.new) (F.misses folder.new)) result }
-    ensures files { F.files folder.new ≡ F.files folder.old }
+        (F.shelf folder.old)
+        (F.shelf folder.new) result }
+    ensures files { (F.shelf folder.new).files ≡ (F.shelf folder.old).files }
 {
     if bases.len() == 1 {
         alone(alloc, folder, bases[0].as_slice())

@@ -1,11 +1,10 @@
 -- What is read of a file, and what is done with it.
 use Rattle.std.proofs.Common.{◌≡◌, ◌≢◌, ℕ, ◌⊎◌, List, [], ◌∷◌, ◌++◌, refl, sym, subst, inl, inr}
-use Rattle.mesa_base.specs.Outside.{Called, Rose}
+use Rattle.mesa_base.specs.Outside.{Shelf, Called, Rose}
 use Rattle.command_rules.specs.Case.{Case, Done, Uncaught, Spent, FrameLimit, Refused, Absent, ReadFault, WriteFault, FolderFault, Memory, Usage}
 use Rattle.command_rules.specs.Passing.{IsMissed, Fails, refused, failed, memory, Gives}
 use Rattle.command_rules.specs.Passes.{Outcome, Has, Stops, Trail, Pass, decided, from_file, Follows, stopped, went, FollowAsks, first, second, and_then}
 use Rattle.command_rules.specs.Reading.{CalledAll, Onward, Asked}
-use Rattle.command_rules.specs.Worlds.{Shelf}
 use Rattle.command_rules.proofs.Passing.{HasRead, Moves, onward_both, missed_from, gives_both, gives_file, fails_decided, fails_first, fails_second, fails_file}
 
 -- where it is no want of memory and no file is absent, what is told of a case is so

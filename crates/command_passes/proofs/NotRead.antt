@@ -1,12 +1,11 @@
 -- A read that gave nothing ends its pass.
 use Rattle.std.proofs.Common.{◌≡◌, ℕ, List, None, IfSome, refl}
-use Rattle.mesa_base.specs.Outside.{Called, Rose}
+use Rattle.mesa_base.specs.Outside.{Shelf, Called, Rose}
 use Rattle.mesa_base.specs.declared.outside_errors.FolderError.{FolderError}
 use Rattle.mesa_base.specs.declared.outside_errors.FolderError.TheVariants as folder
 use Rattle.command_rules.specs.Case.{Case, Absent}
 use Rattle.command_rules.specs.Passing.{Fails, memory}
 use Rattle.command_rules.specs.Passes.{Outcome, Pass, from_file, and_then}
-use Rattle.command_rules.specs.Worlds.{Shelf}
 use Rattle.command_rules.proofs.Passing.{fails_first, file_missing, file_failed}
 use Rattle.command_passes.specs.Stops.{unread_case}
 

@@ -1,11 +1,11 @@
 -- The image in a file.
 use Rattle.std.proofs.Common.{◌≡◌, ℕ, List, Result, Err}
+use Rattle.mesa_base.specs.Outside.{Shelf}
 use Rattle.mesa_base.specs.declared.outside_errors.FolderError.{FolderError}
 use Rattle.object_files.specs.declared.image.Image.{Image}
 use Rattle.object_rules.specs.ImageForms.{parts_of_image}
 use Rattle.command_rules.specs.Case.{Absent}
 use Rattle.command_rules.specs.Objects.{HoldsImage, image_in}
-use Rattle.command_rules.specs.Worlds.{Shelf}
 use Rattle.command_rules.proofs.Passing.{HasRead}
 use Rattle.command_passes.specs.Shelves.{Decides, Passes}
 use Rattle.command_passes.specs.Stops.{stop_case, unread_case}

@@ -1,6 +1,7 @@
 -- The interface that an item of a DIRECTORY asks for.
 use Rattle.std.proofs.Common.{◌≡◌, ℕ, List, Option, Some, None, Result, Err, Ok, slice_get, sym, ◌∙◌, subst}
 use Rattle.std.proofs.lemmas.Option.{same_Some}
+use Rattle.mesa_base.specs.Outside.{Shelf}
 use Rattle.mesa_base.specs.declared.outside_errors.FolderError.{FolderError}
 use Rattle.interface_records.specs.Faces.{iodefs}
 use Rattle.interface_records.specs.declared.interface.Interface.{Interface}
@@ -8,7 +9,6 @@ use Rattle.command_rules.specs.Case.{Absent}
 use Rattle.command_rules.specs.Forms.{interface_file}
 use Rattle.command_rules.specs.Modules.{Decodes, interface_for}
 use Rattle.command_rules.specs.Passes.{from_file}
-use Rattle.command_rules.specs.Worlds.{Shelf}
 use Rattle.command_rules.proofs.Passing.{HasRead}
 use Rattle.command_passes.specs.Shelves.{Decides, Passes}
 use Rattle.command_passes.specs.Stops.{stop_case, unread_case}

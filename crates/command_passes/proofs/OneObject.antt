@@ -1,11 +1,11 @@
 -- The object in a file.
 use Rattle.std.proofs.Common.{◌≡◌, ℕ, List, Result, Err}
+use Rattle.mesa_base.specs.Outside.{Shelf}
 use Rattle.mesa_base.specs.declared.outside_errors.FolderError.{FolderError}
 use Rattle.object_files.specs.declared.object.Object.{Object}
 use Rattle.object_rules.specs.Parts.{parts_of}
 use Rattle.command_rules.specs.Case.{Absent}
 use Rattle.command_rules.specs.Objects.{HoldsObject, object_in}
-use Rattle.command_rules.specs.Worlds.{Shelf}
 use Rattle.command_rules.proofs.Passing.{HasRead}
 use Rattle.command_passes.specs.Shelves.{Decides, Passes}
 use Rattle.command_passes.specs.Stops.{stop_case, unread_case}

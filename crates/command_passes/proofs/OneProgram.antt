@@ -1,5 +1,6 @@
 -- The module of a program.
 use Rattle.std.proofs.Common.{◌≡◌, ◌≢◌, ℕ, List, Result, Err}
+use Rattle.mesa_base.specs.Outside.{Shelf}
 use Rattle.mesa_base.specs.declared.outside_errors.FolderError.{FolderError}
 use Rattle.mesa_types.specs.Plain.{plain}
 use Rattle.mesa_types.specs.declared.typed_tree.TypedModule.{TypedModule}
@@ -14,7 +15,6 @@ use Rattle.command_rules.specs.Modules.{Begins, begun, refused, Checks, interfac
 use Rattle.command_rules.specs.Passes.{decided, and_then}
 use Rattle.command_rules.specs.Passing.{Fails, Gives}
 use Rattle.command_rules.specs.Reading.{Onward}
-use Rattle.command_rules.specs.Worlds.{Shelf}
 use Rattle.command_rules.proofs.Passing.{HasRead, fails_first}
 use Rattle.command_passes.specs.Shelves.{Decides, Passes}
 use Rattle.command_passes.specs.Stops.{stop_case, text_case, unread_case}

@@ -1,13 +1,12 @@
 -- What the calls of the passes tell, from what is told of their parts.
 use Rattle.std.proofs.Common.{◌≡◌, ◌≢◌, ℕ, List, None, IfSome, Result, Ok, Err, refl, sym, subst}
-use Rattle.mesa_base.specs.Outside.{Called, Rose}
+use Rattle.mesa_base.specs.Outside.{Shelf, Called, Rose}
 use Rattle.mesa_base.specs.declared.outside_errors.FolderError.{FolderError}
 use Rattle.mesa_base.specs.declared.outside_errors.FolderError.TheVariants as folder
 use Rattle.command_rules.specs.Case.{Case, Absent, Memory}
 use Rattle.command_rules.specs.Passes.{Outcome, Has, Stops, Pass, decided, given, from_file, and_then}
 use Rattle.command_rules.specs.Passing.{Fails, memory, Gives}
 use Rattle.command_rules.specs.Reading.{Onward}
-use Rattle.command_rules.specs.Worlds.{Shelf}
 use Rattle.command_rules.proofs.Passing.{HasRead, Moves, gives_both, gives_decided, gives_file, fails_first, fails_second}
 use Rattle.command_passes.specs.Shelves.{Decides, Passes}
 use Rattle.command_passes.specs.Stops.{stop_case, unread_case}

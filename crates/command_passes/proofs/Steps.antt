@@ -3,12 +3,11 @@ use Rattle.std.proofs.Common.{◌≡◌, ℕ, suc, List, [], ◌∷◌, ◌++◌
 use Rattle.std.proofs.lemmas.List.{append-nil, take-append-drop, take_all}
 use Rattle.std.proofs.lemmas.Option.{slice_get_within, get_or_from_slice_get}
 use Rattle.std.proofs.Math.Seq.{take-suc, drop-cons}
-use Rattle.mesa_base.specs.Outside.{Files}
+use Rattle.mesa_base.specs.Outside.{Shelf, Files}
 use Rattle.command_rules.specs.Case.{Case}
 use Rattle.command_rules.specs.Passing.{Fails, refused, failed, memory, Gives}
 use Rattle.command_rules.specs.Passes.{Outcome, Has, Stops, Trail, Pass, given, Follows, stopped, went, FollowAsks, first, second, and_then, each}
 use Rattle.command_rules.specs.Reading.{CalledAll}
-use Rattle.command_rules.specs.Worlds.{Shelf}
 use Rattle.command_rules.proofs.Passing.{called_both, onward_both, rose_from, missed_from, gives_decided, fails_first}
 
 -- what comes of a list behind these values of the one before it

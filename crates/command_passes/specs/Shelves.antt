@@ -1,9 +1,9 @@
 -- What the calls of the passes tell: what a pass gives or why it fails, and that no file is changed.
 use Rattle.std.specs.Prelude.{◌≢◌, Result, Ok, Err}
+use Rattle.mesa_base.specs.Outside.{Shelf}
 use Rattle.command_rules.specs.Case.{Case, Memory}
 use Rattle.command_rules.specs.Passing.{Fails, Gives}
 use Rattle.command_rules.specs.Passes.{Outcome, Has, Stops, Pass}
-use Rattle.command_rules.specs.Worlds.{Shelf}
 use Rattle.command_passes.specs.Stops.{stop_case}
 use Rattle.command_passes.specs.declared.stop.Stop.{Stop}
 

@@ -8,7 +8,6 @@ ghost use Rattle.command_rules.specs.Modules as rules;
 ghost use Rattle.command_rules.specs.Modules.{Decodes};
 ghost use Rattle.command_rules.specs.Passes.{each};
 ghost use Rattle.command_rules.specs.Reading.{Onward};
-ghost use Rattle.command_rules.specs.Worlds.{shelf};
 ghost use Rattle.command_passes.specs.Asking.{AsksPlainly, IsPlain};
 ghost use Rattle.command_passes.specs.Shelves.{Decides, Passes};
 
@@ -42,10 +41,10 @@ pub fn interface_of_file<F: Folder>(
 ) -> Result<Interface, Stop>
     requires { IsAscii base.now }
     ensures passes { Passes (λ i. i) (rules.interface_for (Some base.now))
-        (shelf (F.files folder.old) (F.calls folder.old) (F.faults folder.old) (F.misses folder.old))
-        (shelf (F.files folder.new) (F.calls folder.new) (F.faults folder.new) (F.misses folder.new)) result }
-    ensures onward { Onward (shelf (F.files folder.old) (F.calls folder.old) (F.faults folder.old) (F.misses folder.old))
-        (shelf (F.files folder.new) (F.calls folder.new) (F.faults folder.new) (F.misses folder.new)) }
+        (F.shelf folder.old)
+        (F.shelf folder.new) result }
+    ensures onward { Onward (F.shelf folder.old)
+        (F.shelf folder.new) }
 {
     let file = file_named(alloc, base, ".mif")?;
     match folder.read(alloc, file.as_str(), FILE_BYTES) {
@@ -64,10 +63,10 @@ fn interface_for<F: Folder>(
     requires number { number < length (asks (syntax tree.now)) }
     requires plain { AsksPlainly (syntax tree.now) }
     ensures passes { (asked : Option (Items ℕ)) → slice_get (asks (syntax tree.now)) number ≡ Some asked → Passes (λ i. i) (rules.interface_for asked)
-        (shelf (F.files folder.old) (F.calls folder.old) (F.faults folder.old) (F.misses folder.old))
-        (shelf (F.files folder.new) (F.calls folder.new) (F.faults folder.new) (F.misses folder.new)) result }
-    ensures onward { Onward (shelf (F.files folder.old) (F.calls folder.old) (F.faults folder.old) (F.misses folder.old))
-        (shelf (F.files folder.new) (F.calls folder.new) (F.faults folder.new) (F.misses folder.new)) }
+        (F.shelf folder.old)
+        (F.shelf folder.new) result }
+    ensures onward { Onward (F.shelf folder.old)
+        (F.shelf folder.new) }
 {
     match asked_file(tree, number) {
         Some(base) => interface_of_file(alloc, folder, base),
@@ -83,10 +82,10 @@ pub fn interfaces_of<F: Folder>(
 ) -> Result<Vec<Interface>, Stop>
     requires { AsksPlainly (syntax tree.now) }
     ensures passes { Passes (λ all. all.items) (each rules.interface_for (asks (syntax tree.now)))
-        (shelf (F.files folder.old) (F.calls folder.old) (F.faults folder.old) (F.misses folder.old))
-        (shelf (F.files folder.new) (F.calls folder.new) (F.faults folder.new) (F.misses folder.new)) result }
-    ensures onward { Onward (shelf (F.files folder.old) (F.calls folder.old) (F.faults folder.old) (F.misses folder.old))
-        (shelf (F.files folder.new) (F.calls folder.new) (F.faults folder.new) (F.misses folder.new)) }
+        (F.shelf folder.old)
+        (F.shelf folder.new) result }
+    ensures onward { Onward (F.shelf folder.old)
+        (F.shelf folder.new) }
 {
     let mut all = Vec::new(alloc);
     'items: for number in 0..asked_count(tree) {

@@ -8,7 +8,6 @@ ghost use Rattle.command_rules.specs.checked_texts.specs.Texts as text;
 ghost use Rattle.command_rules.specs.Modules as rules;
 ghost use Rattle.command_rules.specs.Passes.{and_then, decided};
 ghost use Rattle.command_rules.specs.Reading.{Onward};
-ghost use Rattle.command_rules.specs.Worlds.{shelf};
 ghost use Rattle.command_passes.specs.Asking.{AsksPlainly};
 ghost use Rattle.command_passes.specs.Shelves.{Passes};
 ghost use Rattle.command_passes.specs.Stops.{stop_case, text_case};
@@ -45,10 +44,10 @@ fn module_of_tree<F: Folder>(
     requires { AsksPlainly (syntax tree.now) }
     ensures passes { (bytes : Items ℕ) → text.Begins bytes purpose.Program tree.now
         → Passes plain (rules.program_of file (bytes, tree.now))
-        (shelf (F.files folder.old) (F.calls folder.old) (F.faults folder.old) (F.misses folder.old))
-        (shelf (F.files folder.new) (F.calls folder.new) (F.faults folder.new) (F.misses folder.new)) result }
-    ensures onward { Onward (shelf (F.files folder.old) (F.calls folder.old) (F.faults folder.old) (F.misses folder.old))
-        (shelf (F.files folder.new) (F.calls folder.new) (F.faults folder.new) (F.misses folder.new)) }
+        (F.shelf folder.old)
+        (F.shelf folder.new) result }
+    ensures onward { Onward (F.shelf folder.old)
+        (F.shelf folder.new) }
 {
     let interfaces = interfaces_of(alloc, folder, tree)?;
     match checked_program(alloc, tree, interfaces.as_slice()) {
@@ -65,10 +64,10 @@ fn module_of_text<F: Folder>(
     text: &[u8],
 ) -> Result<Boxed<TypedModule>, Stop>
     ensures passes { Passes plain (and_then (decided (rules.Begins file purpose.Program text.now)) (rules.program_of file))
-        (shelf (F.files folder.old) (F.calls folder.old) (F.faults folder.old) (F.misses folder.old))
-        (shelf (F.files folder.new) (F.calls folder.new) (F.faults folder.new) (F.misses folder.new)) result }
-    ensures onward { Onward (shelf (F.files folder.old) (F.calls folder.old) (F.faults folder.old) (F.misses folder.old))
-        (shelf (F.files folder.new) (F.calls folder.new) (F.faults folder.new) (F.misses folder.new)) }
+        (F.shelf folder.old)
+        (F.shelf folder.new) result }
+    ensures onward { Onward (F.shelf folder.old)
+        (F.shelf folder.new) }
 {
     match begun(alloc, text, Purpose::Program) {
         Ok(tree) => {
@@ -88,10 +87,10 @@ pub fn module_of_file<F: Folder>(
     file: FileName,
 ) -> Result<Boxed<TypedModule>, Stop>
     ensures passes { Passes plain (rules.module_in file)
-        (shelf (F.files folder.old) (F.calls folder.old) (F.faults folder.old) (F.misses folder.old))
-        (shelf (F.files folder.new) (F.calls folder.new) (F.faults folder.new) (F.misses folder.new)) result }
-    ensures onward { Onward (shelf (F.files folder.old) (F.calls folder.old) (F.faults folder.old) (F.misses folder.old))
-        (shelf (F.files folder.new) (F.calls folder.new) (F.faults folder.new) (F.misses folder.new)) }
+        (F.shelf folder.old)
+        (F.shelf folder.new) result }
+    ensures onward { Onward (F.shelf folder.old)
+        (F.shelf folder.new) }
 {
     match folder.read(alloc, file.as_str(), TEXT_BYTES) {
         Ok(text) => module_of_text(alloc, folder, file, text.as_slice()),

@@ -5,7 +5,6 @@ ghost use Rattle.object_rules.specs.ImageForms.{parts_of_image};
 ghost use Rattle.object_rules.specs.Parts.{parts_of};
 ghost use Rattle.command_rules.specs.Objects.{HoldsObject, HoldsImage, object_in, image_in};
 ghost use Rattle.command_rules.specs.Reading.{Onward};
-ghost use Rattle.command_rules.specs.Worlds.{shelf};
 ghost use Rattle.command_passes.specs.Filed.{IsFiled, IsFiledImage};
 ghost use Rattle.command_passes.specs.Shelves.{Decides, Passes};
 
@@ -38,10 +37,10 @@ pub fn object_of_file<F: Folder>(
 ) -> Result<Object, Stop>
     ensures filed { IfOk result IsFiled }
     ensures passes { Passes parts_of (object_in file)
-        (shelf (F.files folder.old) (F.calls folder.old) (F.faults folder.old) (F.misses folder.old))
-        (shelf (F.files folder.new) (F.calls folder.new) (F.faults folder.new) (F.misses folder.new)) result }
-    ensures onward { Onward (shelf (F.files folder.old) (F.calls folder.old) (F.faults folder.old) (F.misses folder.old))
-        (shelf (F.files folder.new) (F.calls folder.new) (F.faults folder.new) (F.misses folder.new)) }
+        (F.shelf folder.old)
+        (F.shelf folder.new) result }
+    ensures onward { Onward (F.shelf folder.old)
+        (F.shelf folder.new) }
 {
     match folder.read(alloc, file.as_str(), FILE_BYTES) {
         Ok(bytes) => object_held(alloc, file, bytes.as_slice()),
@@ -68,10 +67,10 @@ pub fn image_of_file<F: Folder>(
 ) -> Result<Image, Stop>
     ensures filed { IfOk result IsFiledImage }
     ensures passes { Passes parts_of_image (image_in file)
-        (shelf (F.files folder.old) (F.calls folder.old) (F.faults folder.old) (F.misses folder.old))
-        (shelf (F.files folder.new) (F.calls folder.new) (F.faults folder.new) (F.misses folder.new)) result }
-    ensures onward { Onward (shelf (F.files folder.old) (F.calls folder.old) (F.faults folder.old) (F.misses folder.old))
-        (shelf (F.files folder.new) (F.calls folder.new) (F.faults folder.new) (F.misses folder.new)) }
+        (F.shelf folder.old)
+        (F.shelf folder.new) result }
+    ensures onward { Onward (F.shelf folder.old)
+        (F.shelf folder.new) }
 {
     match folder.read(alloc, file.as_str(), FILE_BYTES) {
         Ok(bytes) => image_held(alloc, file, bytes.as_slice()),

@@ -1,5 +1,6 @@
 -- What comes of what was gathered.
 use Rattle.std.proofs.Common.{◌≡◌, ◌<◌, ℕ, List, ◌∷◌, length, Option, Result, sym, ap, subst, ◌∙◌, arith}
+use Rattle.mesa_base.specs.Outside.{Shelf}
 use Rattle.include_rules.specs.Naming.{naming}
 use Rattle.include_rules.specs.Order.{IsCycle}
 use Rattle.include_rules.specs.Plans.{HasNoPlan, IsPlan, circling}
@@ -13,7 +14,6 @@ use Rattle.command_passes.specs.command_rules.specs.Passing.{Fails}
 use Rattle.command_passes.specs.command_rules.specs.Planning.{Concludes, files_there, gathered_in, missing_files, plan_in, plan_text}
 use Rattle.command_passes.specs.command_rules.specs.Planning as rules
 use Rattle.command_passes.specs.command_rules.specs.Printing.{Report}
-use Rattle.command_passes.specs.command_rules.specs.Worlds.{Shelf}
 use Rattle.command_passes.specs.command_rules.proofs.Passing.{fails_first}
 use Rattle.command_passes.specs.Shelves.{Passes}
 use Rattle.command_passes.specs.Stops.{stop_case}

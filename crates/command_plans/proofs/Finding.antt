@@ -3,7 +3,7 @@ use Rattle.std.proofs.Common.{◌≡◌, ℕ, zero, suc, ◌+◌, ◌<◌, List,
 use Rattle.std.proofs.lemmas.List.{map-append, take_more}
 use Rattle.std.proofs.lemmas.List.Elements.{All-nil, filter_map-append}
 use Rattle.std.proofs.lemmas.Option.{same_Some, slice_get_read}
-use Rattle.mesa_base.specs.Outside.{Rose}
+use Rattle.mesa_base.specs.Outside.{Shelf, Rose}
 use Rattle.include_rules.specs.Stale.{Faced, faced}
 use Rattle.include_rules.specs.declared.entries.TextEntry.{TextEntry}
 use Rattle.command_passes.specs.command_rules.specs.Case.{Case}
@@ -12,7 +12,6 @@ use Rattle.command_passes.specs.command_rules.specs.Passing.{Fails, Gives}
 use Rattle.command_passes.specs.command_rules.specs.Planning.{faces_in, file_made, files_there, missing_files, numbered}
 use Rattle.command_passes.specs.command_rules.specs.Printing.{AreMissed}
 use Rattle.command_passes.specs.command_rules.specs.Reading.{Onward}
-use Rattle.command_passes.specs.command_rules.specs.Worlds.{Shelf}
 use Rattle.command_passes.proofs.Steps.{fails_turn, gives_turn, no_turns, one_for_each}
 use Rattle.command_plans.specs.Finding.{AddsFile, AreFound, FindsFile, IsEmpty, one_missing, one_there}
 use Rattle.command_plans.specs.Made.{TellsMissing, faced_of}

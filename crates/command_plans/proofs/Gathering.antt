@@ -1,5 +1,6 @@
 -- What is gathered for a plan.
 use Rattle.std.proofs.Common.{◌≡◌, ◌≤◌, ℕ, List, length, All, Option, Result, Ok, Err, refl, sym, subst, arith}
+use Rattle.mesa_base.specs.Outside.{Shelf}
 use Rattle.include_rules.specs.Plans.{most_texts}
 use Rattle.include_rules.specs.Stale.{Faced}
 use Rattle.include_rules.specs.declared.entries.TextEntry.{TextEntry}
@@ -7,7 +8,6 @@ use Rattle.command_passes.specs.command_rules.specs.Case.{Case}
 use Rattle.command_passes.specs.command_rules.specs.Passes.{each, given, and_then}
 use Rattle.command_passes.specs.command_rules.specs.Passing.{Fails, Gives}
 use Rattle.command_passes.specs.command_rules.specs.Planning.{faces_in, gathered_in, numbered, text_in}
-use Rattle.command_passes.specs.command_rules.specs.Worlds.{Shelf}
 use Rattle.command_passes.specs.command_rules.proofs.Passing.{fails_first, fails_second, gives_both}
 use Rattle.command_passes.specs.Stops.{stop_case}
 use Rattle.command_passes.specs.declared.stop.Stop.{Stop}

@@ -1,6 +1,6 @@
 -- The file that was made of a text before.
 use Rattle.std.proofs.Common.{◌≡◌, ℕ, List, Option, Some, None, Result, Ok, Err, IfOk, sym, subst}
-use Rattle.mesa_base.specs.Outside.{Rose}
+use Rattle.mesa_base.specs.Outside.{Shelf, Rose}
 use Rattle.interface_records.specs.declared.interface.Interface.{Interface}
 use Rattle.object_files.specs.declared.object.Object.{Object}
 use Rattle.object_rules.specs.Parts.{ModulePart, parts_of}
@@ -18,7 +18,6 @@ use Rattle.command_passes.specs.command_rules.specs.Passing.{Fails, Gives}
 use Rattle.command_passes.specs.command_rules.specs.Planning.{Faces, faces_in, kind_made}
 use Rattle.command_passes.specs.command_rules.specs.Planning as rules
 use Rattle.command_passes.specs.command_rules.specs.Reading.{Onward}
-use Rattle.command_passes.specs.command_rules.specs.Worlds.{Shelf}
 use Rattle.command_passes.specs.Shelves.{Passes}
 use Rattle.command_passes.specs.Stops.{stop_case}
 use Rattle.command_passes.specs.declared.stop.Stop.{Stop}

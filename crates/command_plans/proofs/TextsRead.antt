@@ -3,6 +3,7 @@ use Rattle.std.proofs.Common.{◌≡◌, ℕ, ◌+◌, ◌<◌, ◌≤◌, List,
 use Rattle.std.specs.Str.{IsAscii}
 use Rattle.std.proofs.lemmas.List.Elements.{All-push}
 use Rattle.std.proofs.lemmas.Option.{slice_get_read}
+use Rattle.mesa_base.specs.Outside.{Shelf}
 use Rattle.mesa_base.specs.declared.outside_errors.FolderError.{FolderError}
 use Rattle.syntax_trees.specs.declared.syntax.Module.{Module}
 use Rattle.include_rules.specs.declared.entries.TextEntry.{TextEntry}
@@ -11,7 +12,6 @@ use Rattle.command_passes.specs.command_rules.specs.Forms.{module_file}
 use Rattle.command_passes.specs.command_rules.specs.Passes.{from_file, given, each}
 use Rattle.command_passes.specs.command_rules.specs.Passing.{Fails, Gives}
 use Rattle.command_passes.specs.command_rules.specs.Planning.{Parses, parsed, refused, text_in}
-use Rattle.command_passes.specs.command_rules.specs.Worlds.{Shelf}
 use Rattle.command_passes.specs.command_rules.proofs.Passing.{HasRead, Moves, fails_first, gives_both}
 use Rattle.command_passes.specs.Shelves.{Decides, Passes}
 use Rattle.command_passes.specs.Stops.{stop_case, unread_case}

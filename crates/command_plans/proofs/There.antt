@@ -1,11 +1,10 @@
 -- A file that may be absent, from what is told of the same file where it may not.
 use Rattle.std.proofs.Common.{◌≡◌, ◌≢◌, ℕ, List, Option, Some, None, refl, ap, subst}
-use Rattle.mesa_base.specs.Outside.{Files, Rose}
+use Rattle.mesa_base.specs.Outside.{Shelf, Files, Rose}
 use Rattle.command_passes.specs.command_rules.specs.Case.{Case, Absent}
 use Rattle.command_passes.specs.command_rules.specs.Passes.{Outcome, Has, Stops, Trail, FromFile, Pass, held, missing, from_file, IfThere, asked, if_there}
 use Rattle.command_passes.specs.command_rules.specs.Passing.{IsMissed, Fails, refused, failed, memory, Gives}
 use Rattle.command_passes.specs.command_rules.specs.Reading.{Onward}
-use Rattle.command_passes.specs.command_rules.specs.Worlds.{Shelf}
 use Rattle.command_passes.proofs.Files.{NeverAbsent}
 
 -- what the bytes of a file come to where it must be there they come to where it may be absent, by a view of the value

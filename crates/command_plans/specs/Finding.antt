@@ -1,12 +1,12 @@
 -- What the calls tell of the files that were made of texts before.
 use Rattle.std.specs.Prelude.{◌≡◌, ℕ, List, [], ◌∷◌, ◌++◌, map, Option, None, Some, Result, Ok, Err}
+use Rattle.mesa_base.specs.Outside.{Shelf}
 use Rattle.include_rules.specs.Stale.{Faced, faced}
 use Rattle.include_rules.specs.declared.entries.TextEntry.{TextEntry}
 use Rattle.command_passes.specs.command_rules.specs.Passes.{each}
 use Rattle.command_passes.specs.command_rules.specs.Passing.{Fails, Gives}
 use Rattle.command_passes.specs.command_rules.specs.Planning.{faces_in, file_made, files_there, missing_files, numbered}
 use Rattle.command_passes.specs.command_rules.specs.Printing.{AreMissed}
-use Rattle.command_passes.specs.command_rules.specs.Worlds.{Shelf}
 use Rattle.command_passes.specs.Stops.{stop_case}
 use Rattle.command_passes.specs.declared.stop.Stop.{Stop}
 use Rattle.command_plans.specs.declared.found.FoundFiles.{FoundFiles}

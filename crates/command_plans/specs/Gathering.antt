@@ -1,12 +1,12 @@
 -- What is gathered for a plan: the texts, and what was made of them before.
 use Rattle.std.specs.Prelude.{◌≤◌, ℕ, List, length, All, Option, Result, Ok, Err}
+use Rattle.mesa_base.specs.Outside.{Shelf}
 use Rattle.include_rules.specs.Plans.{most_texts}
 use Rattle.include_rules.specs.Stale.{Faced}
 use Rattle.command_passes.specs.command_rules.specs.Passing.{Fails, Gives}
 use Rattle.command_passes.specs.command_rules.specs.Planning.{gathered_in}
 use Rattle.command_passes.specs.command_rules.specs.Planning as rules
 use Rattle.command_passes.specs.command_rules.specs.Printing.{AreMissed}
-use Rattle.command_passes.specs.command_rules.specs.Worlds.{Shelf}
 use Rattle.command_passes.specs.Stops.{stop_case}
 use Rattle.command_passes.specs.declared.stop.Stop.{Stop}
 use Rattle.command_plans.specs.declared.gathered.Gathered.{Gathered}

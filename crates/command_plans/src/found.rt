@@ -3,7 +3,6 @@
 ghost use Rattle.std.specs.Prelude.{◌≤◌, All, length, OnOk};
 ghost use Rattle.include_rules.specs.Plans.{most_texts};
 ghost use Rattle.command_passes.specs.command_rules.specs.Reading.{Onward};
-ghost use Rattle.command_passes.specs.command_rules.specs.Worlds.{shelf};
 ghost use Rattle.command_plans.specs.Finding.{AddsFile, FillsWith, FindsAll, FindsOne, IsEmpty};
 ghost use Rattle.command_plans.specs.Made.{IsPlainText};
 
@@ -51,10 +50,10 @@ fn find_one<F: Folder>(
 ) -> Result<(), Stop>
     requires { IsPlainText text.now }
     ensures finds { FindsOne number text.now
-        (shelf (F.files folder.old) (F.calls folder.old) (F.faults folder.old) (F.misses folder.old))
-        (shelf (F.files folder.new) (F.calls folder.new) (F.faults folder.new) (F.misses folder.new)) found.old found.new result }
-    ensures onward { Onward (shelf (F.files folder.old) (F.calls folder.old) (F.faults folder.old) (F.misses folder.old))
-        (shelf (F.files folder.new) (F.calls folder.new) (F.faults folder.new) (F.misses folder.new)) }
+        (F.shelf folder.old)
+        (F.shelf folder.new) found.old found.new result }
+    ensures onward { Onward (F.shelf folder.old)
+        (F.shelf folder.new) }
 {
     match file_made(alloc, folder, number, text) {
         Ok(made) => Ok(put_made(alloc, found, made)?),
@@ -73,10 +72,10 @@ fn find_all<F: Folder>(
     requires plain { All IsPlainText texts.now }
     requires empty { IsEmpty found.old }
     ensures finds { FillsWith texts.now
-        (shelf (F.files folder.old) (F.calls folder.old) (F.faults folder.old) (F.misses folder.old))
-        (shelf (F.files folder.new) (F.calls folder.new) (F.faults folder.new) (F.misses folder.new)) found.new result }
-    ensures onward { Onward (shelf (F.files folder.old) (F.calls folder.old) (F.faults folder.old) (F.misses folder.old))
-        (shelf (F.files folder.new) (F.calls folder.new) (F.faults folder.new) (F.misses folder.new)) }
+        (F.shelf folder.old)
+        (F.shelf folder.new) found.new result }
+    ensures onward { Onward (F.shelf folder.old)
+        (F.shelf folder.new) }
 {
     for (number, text) in texts.iter().enumerate() {
         find_one(alloc, folder, number as u32, text, found)?;
@@ -93,10 +92,10 @@ pub(crate) fn found_of<F: Folder>(
     requires few { length texts.now ≤ most_texts }
     requires plain { All IsPlainText texts.now }
     ensures finds { FindsAll texts.now
-        (shelf (F.files folder.old) (F.calls folder.old) (F.faults folder.old) (F.misses folder.old))
-        (shelf (F.files folder.new) (F.calls folder.new) (F.faults folder.new) (F.misses folder.new)) result }
-    ensures onward { Onward (shelf (F.files folder.old) (F.calls folder.old) (F.faults folder.old) (F.misses folder.old))
-        (shelf (F.files folder.new) (F.calls folder.new) (F.faults folder.new) (F.misses folder.new)) }
+        (F.shelf folder.old)
+        (F.shelf folder.new) result }
+    ensures onward { Onward (F.shelf folder.old)
+        (F.shelf folder.new) }
 {
     let mut found = FoundFiles {
         files: List::new(alloc),

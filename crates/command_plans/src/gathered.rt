@@ -4,7 +4,6 @@ ghost use Rattle.std.specs.Prelude.{◌≤◌, All, length};
 ghost use Rattle.std.specs.Str.{IsAscii};
 ghost use Rattle.include_rules.specs.Plans.{most_texts};
 ghost use Rattle.command_passes.specs.command_rules.specs.Reading.{Onward};
-ghost use Rattle.command_passes.specs.command_rules.specs.Worlds.{shelf};
 ghost use Rattle.command_plans.specs.Gathering.{Gathers};
 
 use crate::found::{FoundFiles, found_of};
@@ -31,10 +30,10 @@ pub(crate) fn gather<F: Folder>(
     requires few { length bases.now ≤ most_texts }
     requires plain { All IsAscii bases.now }
     ensures gathers { Gathers bases.now
-        (shelf (F.files folder.old) (F.calls folder.old) (F.faults folder.old) (F.misses folder.old))
-        (shelf (F.files folder.new) (F.calls folder.new) (F.faults folder.new) (F.misses folder.new)) result }
-    ensures onward { Onward (shelf (F.files folder.old) (F.calls folder.old) (F.faults folder.old) (F.misses folder.old))
-        (shelf (F.files folder.new) (F.calls folder.new) (F.faults folder.new) (F.misses folder.new)) }
+        (F.shelf folder.old)
+        (F.shelf folder.new) result }
+    ensures onward { Onward (F.shelf folder.old)
+        (F.shelf folder.new) }
 {
     let texts = texts_of(alloc, folder, bases)?;
     let found = found_of(alloc, folder, texts.as_slice());

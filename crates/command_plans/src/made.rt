@@ -7,7 +7,6 @@ ghost use Rattle.command_passes.specs.command_rules.specs.Passes.{if_there};
 ghost use Rattle.command_passes.specs.command_rules.specs.Planning as rules;
 ghost use Rattle.command_passes.specs.command_rules.specs.Planning.{Faces, faces_in};
 ghost use Rattle.command_passes.specs.command_rules.specs.Reading.{Onward};
-ghost use Rattle.command_passes.specs.command_rules.specs.Worlds.{shelf};
 ghost use Rattle.command_passes.specs.Shelves.{Passes};
 ghost use Rattle.command_plans.specs.Made.{IsPlainText, TellsAbsent, TellsMissing, faced_of};
 
@@ -39,11 +38,11 @@ fn unless_absent(why: Stop) -> Result<MadeFile, Stop>
 fn interface_made<F: Folder>(alloc: Global, folder: &mut F, base: &[u8]) -> Result<MadeFile, Stop>
     requires { IsAscii base.now }
     ensures passes { (number : ℕ) → Passes faced_of (if_there (interface_file base.now) (Faces number (interface_file base.now) InterfaceFile))
-        (shelf (F.files folder.old) (F.calls folder.old) (F.faults folder.old) (F.misses folder.old))
-        (shelf (F.files folder.new) (F.calls folder.new) (F.faults folder.new) (F.misses folder.new)) result }
-    ensures missing { IfOk result (TellsMissing (interface_file base.now) (F.misses folder.old) (F.misses folder.new)) }
-    ensures onward { Onward (shelf (F.files folder.old) (F.calls folder.old) (F.faults folder.old) (F.misses folder.old))
-        (shelf (F.files folder.new) (F.calls folder.new) (F.faults folder.new) (F.misses folder.new)) }
+        (F.shelf folder.old)
+        (F.shelf folder.new) result }
+    ensures missing { IfOk result (TellsMissing (interface_file base.now) (F.shelf folder.old).misses (F.shelf folder.new).misses) }
+    ensures onward { Onward (F.shelf folder.old)
+        (F.shelf folder.new) }
 {
     match interface_of_file(alloc, folder, base) {
         Ok(interface) => Ok(MadeFile::There(FileEntry::Interface(interface))),
@@ -59,11 +58,11 @@ fn object_made<F: Folder>(
     number: u32,
 ) -> Result<MadeFile, Stop>
     ensures passes { Passes faced_of (if_there file (Faces number file ObjectFile))
-        (shelf (F.files folder.old) (F.calls folder.old) (F.faults folder.old) (F.misses folder.old))
-        (shelf (F.files folder.new) (F.calls folder.new) (F.faults folder.new) (F.misses folder.new)) result }
-    ensures missing { IfOk result (TellsMissing file (F.misses folder.old) (F.misses folder.new)) }
-    ensures onward { Onward (shelf (F.files folder.old) (F.calls folder.old) (F.faults folder.old) (F.misses folder.old))
-        (shelf (F.files folder.new) (F.calls folder.new) (F.faults folder.new) (F.misses folder.new)) }
+        (F.shelf folder.old)
+        (F.shelf folder.new) result }
+    ensures missing { IfOk result (TellsMissing file (F.shelf folder.old).misses (F.shelf folder.new).misses) }
+    ensures onward { Onward (F.shelf folder.old)
+        (F.shelf folder.new) }
 {
     match object_of_file(alloc, folder, file) {
         Ok(object) => Ok(MadeFile::There(FileEntry::Object(number, object))),
@@ -80,11 +79,11 @@ pub(crate) fn file_made<F: Folder>(
 ) -> Result<MadeFile, Stop>
     requires { IsPlainText text.now }
     ensures passes { Passes faced_of (faces_in (number, text.now))
-        (shelf (F.files folder.old) (F.calls folder.old) (F.faults folder.old) (F.misses folder.old))
-        (shelf (F.files folder.new) (F.calls folder.new) (F.faults folder.new) (F.misses folder.new)) result }
-    ensures missing { IfOk result (TellsMissing (rules.file_made text.now) (F.misses folder.old) (F.misses folder.new)) }
-    ensures onward { Onward (shelf (F.files folder.old) (F.calls folder.old) (F.faults folder.old) (F.misses folder.old))
-        (shelf (F.files folder.new) (F.calls folder.new) (F.faults folder.new) (F.misses folder.new)) }
+        (F.shelf folder.old)
+        (F.shelf folder.new) result }
+    ensures missing { IfOk result (TellsMissing (rules.file_made text.now) (F.shelf folder.old).misses (F.shelf folder.new).misses) }
+    ensures onward { Onward (F.shelf folder.old)
+        (F.shelf folder.new) }
 {
     let base = text.base.as_slice();
     match &text.module.kind {

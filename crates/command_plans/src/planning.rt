@@ -6,7 +6,6 @@ ghost use Rattle.include_rules.specs.Plans.{most_texts};
 ghost use Rattle.command_passes.specs.command_rules.specs.Planning.{plan_in};
 ghost use Rattle.command_passes.specs.command_rules.specs.Printing.{AreMissed};
 ghost use Rattle.command_passes.specs.command_rules.specs.Reading.{Onward};
-ghost use Rattle.command_passes.specs.command_rules.specs.Worlds.{shelf};
 ghost use Rattle.command_passes.specs.Shelves.{Passes};
 ghost use Rattle.command_plans.specs.Gathering.{CanBePlanned};
 ghost use Rattle.command_plans.specs.Reports.{Reports, report_of};
@@ -57,13 +56,13 @@ pub fn plan_of_files<F: Folder>(
     requires few { length bases.now ≤ most_texts }
     requires plain { All IsAscii bases.now }
     ensures passes { Passes report_of (plan_in bases.now)
-        (shelf (F.files folder.old) (F.calls folder.old) (F.faults folder.old) (F.misses folder.old))
-        (shelf (F.files folder.new) (F.calls folder.new) (F.faults folder.new) (F.misses folder.new)) result }
+        (F.shelf folder.old)
+        (F.shelf folder.new) result }
     ensures missed { IfOk result (λ r. AreMissed r.missing
-        (shelf (F.files folder.old) (F.calls folder.old) (F.faults folder.old) (F.misses folder.old))
-        (shelf (F.files folder.new) (F.calls folder.new) (F.faults folder.new) (F.misses folder.new))) }
-    ensures onward { Onward (shelf (F.files folder.old) (F.calls folder.old) (F.faults folder.old) (F.misses folder.old))
-        (shelf (F.files folder.new) (F.calls folder.new) (F.faults folder.new) (F.misses folder.new)) }
+        (F.shelf folder.old)
+        (F.shelf folder.new)) }
+    ensures onward { Onward (F.shelf folder.old)
+        (F.shelf folder.new) }
 {
     match gather(alloc, folder, bases) {
         Ok(gathered) => reported(alloc, gathered),

@@ -7,7 +7,6 @@ ghost use Rattle.command_passes.specs.command_rules.specs.Case.{Absent};
 ghost use Rattle.command_passes.specs.command_rules.specs.Passes.{each, from_file};
 ghost use Rattle.command_passes.specs.command_rules.specs.Planning.{Parses, text_in};
 ghost use Rattle.command_passes.specs.command_rules.specs.Reading.{Onward};
-ghost use Rattle.command_passes.specs.command_rules.specs.Worlds.{shelf};
 ghost use Rattle.command_passes.specs.Shelves.{Decides, Passes};
 ghost use Rattle.command_plans.specs.Made.{IsPlainText};
 
@@ -33,10 +32,10 @@ fn parsed(alloc: Global, file: FileName, text: &[u8]) -> Result<Module, Stop>
 /// The tree of the text in this file; or what ends the call: the file is not there, the folder failed, or its text has no tree.
 fn tree_of_file<F: Folder>(alloc: Global, folder: &mut F, file: FileName) -> Result<Module, Stop>
     ensures passes { Passes (λ tree. tree) (from_file file (Absent file) (Parses file))
-        (shelf (F.files folder.old) (F.calls folder.old) (F.faults folder.old) (F.misses folder.old))
-        (shelf (F.files folder.new) (F.calls folder.new) (F.faults folder.new) (F.misses folder.new)) result }
-    ensures onward { Onward (shelf (F.files folder.old) (F.calls folder.old) (F.faults folder.old) (F.misses folder.old))
-        (shelf (F.files folder.new) (F.calls folder.new) (F.faults folder.new) (F.misses folder.new)) }
+        (F.shelf folder.old)
+        (F.shelf folder.new) result }
+    ensures onward { Onward (F.shelf folder.old)
+        (F.shelf folder.new) }
 {
     match folder.read(alloc, file.as_str(), TEXT_BYTES) {
         Ok(text) => parsed(alloc, file, text.as_slice()),
@@ -49,10 +48,10 @@ fn text_entry<F: Folder>(alloc: Global, folder: &mut F, base: &Bytes) -> Result<
     requires { IsAscii base.now }
     ensures base { IfOk result (λ (t : Entry). t.base ≡ base.now) }
     ensures passes { Passes (λ t. t) (text_in base.now)
-        (shelf (F.files folder.old) (F.calls folder.old) (F.faults folder.old) (F.misses folder.old))
-        (shelf (F.files folder.new) (F.calls folder.new) (F.faults folder.new) (F.misses folder.new)) result }
-    ensures onward { Onward (shelf (F.files folder.old) (F.calls folder.old) (F.faults folder.old) (F.misses folder.old))
-        (shelf (F.files folder.new) (F.calls folder.new) (F.faults folder.new) (F.misses folder.new)) }
+        (F.shelf folder.old)
+        (F.shelf folder.new) result }
+    ensures onward { Onward (F.shelf folder.old)
+        (F.shelf folder.new) }
 {
     let file = file_named(alloc, base.as_slice(), ".mesa")?;
     let base = List::from_slice(alloc, base.as_slice())?;
@@ -71,10 +70,10 @@ pub(crate) fn texts_of<F: Folder>(
     requires { All IsAscii bases.now }
     ensures plain { IfOk result (All IsPlainText) }
     ensures passes { Passes (λ texts. texts) (each text_in bases.now)
-        (shelf (F.files folder.old) (F.calls folder.old) (F.faults folder.old) (F.misses folder.old))
-        (shelf (F.files folder.new) (F.calls folder.new) (F.faults folder.new) (F.misses folder.new)) result }
-    ensures onward { Onward (shelf (F.files folder.old) (F.calls folder.old) (F.faults folder.old) (F.misses folder.old))
-        (shelf (F.files folder.new) (F.calls folder.new) (F.faults folder.new) (F.misses folder.new)) }
+        (F.shelf folder.old)
+        (F.shelf folder.new) result }
+    ensures onward { Onward (F.shelf folder.old)
+        (F.shelf folder.new) }
 {
     let mut texts = List::new(alloc);
     for base in bases {

@@ -1,6 +1,6 @@
 -- What a form never answers.
 use Rattle.std.proofs.Common.{◌≡◌, ◌≢◌, ℕ, List, Result, sym, ◌∙◌, ap, subst, inl, inr, arith}
-use Rattle.mesa_base.specs.Outside.{Rose}
+use Rattle.mesa_base.specs.Outside.{Shelf, Rose}
 use Rattle.mesa_base.specs.declared.status.Status.TheVariants as status
 use Rattle.machine_rules.specs.declared.end.End as machine
 use Rattle.machine_rules.specs.declared.end.End.TheVariants as end
@@ -23,7 +23,7 @@ use Rattle.command_rules.specs.Planning.{plan_in}
 use Rattle.command_rules.specs.Printing.{Report, Prints}
 use Rattle.command_rules.specs.Shown.{Names, case_of_end, case_of_run, program_names}
 use Rattle.command_rules.specs.Surveying.{survey_in}
-use Rattle.command_rules.specs.Worlds.{Shelf, Scene}
+use Rattle.command_rules.specs.Worlds.{Scene}
 use Rattle.command_rules.specs.Writing.{Target, NotStored}
 use Rattle.command_rules.proofs.Order.{fails_before, not_stored_before, not_stored_run}
 use Rattle.command_rules.proofs.Stopping.{IsOfFiles, PassStopsSo, listing_so, plan_so, source_so, survey_so, value_so}

@@ -1,5 +1,6 @@
 -- What comes before what: sizes before items that are none of the host's, both before any file is written, and that before the run.
 use Rattle.std.proofs.Common.{◌≡◌, ℕ, List, Result, Ok, Err, ◌∙◌, ap, subst}
+use Rattle.mesa_base.specs.Outside.{Shelf}
 use Rattle.mesa_base.specs.declared.status.Status.{Status}
 use Rattle.mesa_base.specs.declared.status.Status.TheVariants as status
 use Rattle.interface_records.specs.declared.wanted.WantedItem.{WantedItem}
@@ -24,7 +25,7 @@ use Rattle.command_rules.specs.Planning.{plan_in}
 use Rattle.command_rules.specs.Printing.{Report, Prints}
 use Rattle.command_rules.specs.Shown.{Names, case_of_end, case_of_run, image_names, program_names}
 use Rattle.command_rules.specs.Surveying.{survey_in}
-use Rattle.command_rules.specs.Worlds.{Shelf, Scene}
+use Rattle.command_rules.specs.Worlds.{Scene}
 use Rattle.command_rules.specs.Writing.{Target, NotStored, Written}
 use Rattle.command_rules.proofs.Stopping.{IsOfFiles, PassStopsSo, source_so}
 

@@ -1,11 +1,10 @@
 -- How what a pass gives, or why it fails, is made of what its parts do.
 use Rattle.std.proofs.Common.{◌≡◌, ℕ, ◌≤◌, ◌+◌, List, [], ◌∷◌, ◌++◌, take, Option, Some, None, IfSome, refl, sym, ◌∙◌, subst, inl, inr, arith, append_assoc}
-use Rattle.mesa_base.specs.Outside.{Called, Files, Reads, Rose}
+use Rattle.mesa_base.specs.Outside.{Shelf, Called, Files, Reads, Rose}
 use Rattle.command_rules.specs.Case.{Case, Done, Uncaught, Spent, FrameLimit, Refused, Absent, ReadFault, WriteFault, FolderFault, Memory, Usage}
 use Rattle.command_rules.specs.Passing.{IsMissed, Fails, refused, failed, memory, Gives}
 use Rattle.command_rules.specs.Passes.{Outcome, Has, Stops, Trail, Pass, decided, given, FromFile, held, missing, from_file, stopped, went, first, second, and_then}
 use Rattle.command_rules.specs.Reading.{CalledAll, Onward}
-use Rattle.command_rules.specs.Worlds.{Shelf}
 
 -- ---- counts
 

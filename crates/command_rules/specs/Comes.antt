@@ -1,6 +1,6 @@
 -- When each answer of a call comes, and what it leaves in the folder, in the input and in `out` (rule of this project).
 use Rattle.std.specs.Prelude.{◌≡◌, ℕ, List, [], ◌∷◌, ◌++◌, length, All, Option, Ok}
-use Rattle.mesa_base.specs.Outside.{Files}
+use Rattle.mesa_base.specs.Outside.{Shelf, Files}
 use Rattle.mesa_types.specs.Typed.{Module}
 use Rattle.interface_records.specs.declared.interface.Interface.{Interface}
 use Rattle.interface_records.specs.Hosts.{IsHostItem}
@@ -29,7 +29,7 @@ use Rattle.command_rules.specs.Printing.{Prints}
 use Rattle.command_rules.specs.Reading.{Asked, Onward}
 use Rattle.command_rules.specs.Shown.{image_names}
 use Rattle.command_rules.specs.Surveying.{survey_in}
-use Rattle.command_rules.specs.Worlds.{Shelf, Scene}
+use Rattle.command_rules.specs.Worlds.{Scene}
 use Rattle.command_rules.specs.Writing.{Target, Value, holding, OfInterface, OfObject, OfImage, IsSmall, IsFirstTooLarge, Stored, NotStored, Written}
 
 -- ---- compile and bind: one file is written

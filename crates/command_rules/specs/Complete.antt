@@ -1,6 +1,6 @@
 -- Which answer a call must give, want of memory aside (rule of this project).
 use Rattle.std.specs.Prelude.{◌≡◌, ◌≢◌, ◌↔◌, ℕ, ◌⊎◌, List, [], ◌∷◌, ◌++◌, All, Some, false}
-use Rattle.mesa_base.specs.Outside.{Files, Rose}
+use Rattle.mesa_base.specs.Outside.{Shelf, Stream, Files, Rose}
 use Rattle.mesa_base.specs.declared.status.Status.{Status}
 use Rattle.mesa_base.specs.declared.status.Status.TheVariants as status
 use Rattle.source_meaning.specs.Means.{Means}
@@ -18,7 +18,7 @@ use Rattle.object_files.specs.declared.image.Image.{Image}
 use Rattle.object_files.specs.declared.object.Object.{Object}
 use Rattle.object_rules.specs.ImageForms.{ImagePart}
 use Rattle.linked_programs.specs.Objects.{IsObjectOf}
-use Rattle.line_pieces.specs.Outputs.{Stream, HasFaulted, PrintsAll, Receives}
+use Rattle.line_pieces.specs.Outputs.{HasFaulted, PrintsAll, Receives}
 use Rattle.command_rules.specs.Binding.{Bound, IsImageOf, bound_in}
 use Rattle.command_rules.specs.Case.{Case, Done, Memory, Refused, Unresolved, TooLarge, status_of}
 use Rattle.command_rules.specs.Comes.{Comes, Made, MadeWithin, summary_of, targets_of}
@@ -35,7 +35,7 @@ use Rattle.command_rules.specs.Planning.{plan_in}
 use Rattle.command_rules.specs.Printing.{Report}
 use Rattle.command_rules.specs.Shown.{IsShownAs, case_of_end, image_names}
 use Rattle.command_rules.specs.Surveying.{survey_in}
-use Rattle.command_rules.specs.Worlds.{Shelf, Scene, World}
+use Rattle.command_rules.specs.Worlds.{Scene, World}
 use Rattle.command_rules.specs.Writing.{Target, Value, holding, OfInterface, OfObject, OfImage, IsSmall, IsFirstTooLarge, StoresAll}
 
 -- no call on the folder failed, nor one on the input or `out`

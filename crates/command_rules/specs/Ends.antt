@@ -16,30 +16,30 @@ use Rattle.command_rules.specs.Worlds.{Scene}
 
 -- the program means this end for the input; `out` received the whole output, and at most one byte more was taken than the program took
 abbrev pub RanAs : Program → ℕ → Outcome → Scene → Scene → Type 0
-RanAs P turns outcome old new = Ran P turns outcome old.input.left new.input.left old.out.holds new.out.holds
+RanAs P turns outcome old new = Ran P turns outcome old.input new.input old.out new.out
 
 -- what the program means for the bytes that were taken and a fault behind them; `out` received the whole output up to there
 abbrev pub BrokenOffAs : Program → ℕ → Scene → Scene → Type 0
-BrokenOffAs P turns old new = BrokenOff P turns old.input.left new.input.left old.out.holds new.out.holds
+BrokenOffAs P turns old new = BrokenOff P turns old.input new.input old.out new.out
 
 -- `out` received a prefix of the output that the program means for the input
 abbrev pub CutOffAs : Program → ℕ → Scene → Scene → Type 0
-CutOffAs P turns old new = CutOff P turns old.input.left new.input.left old.out.holds new.out.holds
+CutOffAs P turns old new = CutOff P turns old.input new.input old.out new.out
 
 -- the steps rose by the instructions that the machine begins in the run of the image
 abbrev pub Counts : Image → ℕ → Outcome → Scene → Scene → Type 0
 Counts image turns outcome old new = (count : ℕ) × (new.steps ≡ old.steps + count)
-    × Completes image turns outcome count old.input.left new.input.left old.out.holds new.out.holds
+    × Completes image turns outcome count old.input new.input old.out new.out
 
 -- by those up to where the input failed
 abbrev pub CountsBreak : Image → ℕ → Scene → Scene → Type 0
 CountsBreak image turns old new = (count : ℕ) × (new.steps ≡ old.steps + count)
-    × BreaksAtInput image turns count old.input.left new.input.left old.out.holds new.out.holds
+    × BreaksAtInput image turns count old.input new.input old.out new.out
 
 -- by those up to the call in which the output failed
 abbrev pub CountsCut : Image → ℕ → Scene → Scene → Type 0
 CountsCut image turns old new = (count : ℕ) × (new.steps ≡ old.steps + count)
-    × BreaksAtOutput image turns count old.input.left new.input.left old.out.holds new.out.holds
+    × BreaksAtOutput image turns count old.input new.input old.out new.out
 
 -- the input tells what is left of it, or nothing; what it tells are bytes
 abbrev pub TellsBytes : Scene → Type 0

@@ -1,8 +1,9 @@
 -- What an exercise runs on, and the summary of its run (rule of this project).
 use Rattle.std.specs.Prelude.{ℕ, List, [], ◌++◌, Some, codes, decimal}
+use Rattle.mesa_base.specs.Outside.{Shelf, Feed}
 use Rattle.exercise_texts.specs.Files.{exercise_files}
 use Rattle.command_rules.specs.Case.{Case, Done, Uncaught, Spent, FrameLimit, Refused, Absent, ReadFault, WriteFault, FolderFault, Memory, Usage}
-use Rattle.command_rules.specs.Worlds.{Shelf, Scene, feed, scene, shelf}
+use Rattle.command_rules.specs.Worlds.{Scene, scene}
 
 -- the base of its configuration
 abbrev pub chain : List ℕ
@@ -10,11 +11,15 @@ chain = codes "Chain"
 
 -- a folder of its own, which has its texts, and of which nothing was asked
 abbrev pub exercise_shelf : (links : ℕ) → Shelf
-exercise_shelf links = shelf (Some (exercise_files links)) (λ name. 0) (λ name. 0) (λ name. 0)
+exercise_shelf links = record { files = Some (exercise_files links); calls = λ name. 0; faults = λ name. 0; misses = λ name. 0 }
 
--- an empty input of its own, and what else the call is made on
+-- an empty input of its own, of which nothing was asked
+abbrev pub no_input : Feed
+no_input = record { left = Some []; calls = 0; faults = 0 }
+
+-- with it, what else the call is made on
 abbrev pub within : Scene → Scene
-within old = scene (feed (Some []) 0) old.out old.steps
+within old = scene no_input old.out old.steps
 
 -- ---- the summary
 

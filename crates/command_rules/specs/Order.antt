@@ -1,13 +1,14 @@
 -- What comes before what: the sizes of files before items that are none of the host's, both before any file is written, and that before the
 -- run. And what a form leaves as it was, and never answers (rule of this project).
 use Rattle.std.specs.Prelude.{◌≡◌, ◌≢◌, ℕ, List, All}
+use Rattle.mesa_base.specs.Outside.{Shelf}
 use Rattle.mesa_base.specs.declared.status.Status.TheVariants as status
 use Rattle.interface_records.specs.declared.wanted.WantedItem.{WantedItem}
 use Rattle.command_rules.specs.Case.{Case, Refused, TooLarge, Unresolved, status_of, IsBeforeWrite, IsBeforeRun}
 use Rattle.command_rules.specs.Comes.{Comes, Goes, Made, Shows, Plans, ShowsEscapes, Upgrades, Exercises, targets_of}
 use Rattle.command_rules.specs.Forms.{FileKind, Form, HasForm, Source, WritesAlone, KeepsFiles, KeepsInput, KeepsSteps, KeepsFolder}
 use Rattle.command_rules.specs.Passes.{Trail}
-use Rattle.command_rules.specs.Worlds.{Shelf, Scene}
+use Rattle.command_rules.specs.Worlds.{Scene}
 use Rattle.command_rules.specs.Writing.{IsSmall, StoresAll}
 
 -- what is configured, where no file of it would be too large

@@ -1,10 +1,9 @@
 -- What a pass gives, or why it gives nothing, over a folder as it was and as it is (rule of this project).
 use Rattle.std.specs.Prelude.{ℕ, List, [], ◌∷◌, ◌++◌}
-use Rattle.mesa_base.specs.Outside.{Rose}
+use Rattle.mesa_base.specs.Outside.{Shelf, Rose}
 use Rattle.command_rules.specs.Case.{Case, Absent, FolderFault, Memory}
 use Rattle.command_rules.specs.Passes.{Pass, Has, Stops, Trail}
 use Rattle.command_rules.specs.Reading.{Asked, CalledAll}
-use Rattle.command_rules.specs.Worlds.{Shelf}
 
 -- where a file was not there, a count says so
 abbrev pub IsMissed : Shelf → Shelf → Case → Type 0

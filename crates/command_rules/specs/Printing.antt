@@ -1,12 +1,12 @@
 -- What comes of a form that reads files and prints what they come to (rule of this project).
 use Rattle.std.specs.Prelude.{◌≡◌, ℕ, List, [], All}
-use Rattle.mesa_base.specs.Outside.{Rose}
+use Rattle.mesa_base.specs.Outside.{Shelf, Rose}
 use Rattle.line_pieces.specs.Outputs.{HasFaulted, PrintsAll, PrintsPrefix}
 use Rattle.command_rules.specs.Case.{Case, Done, WriteFault, Memory}
 use Rattle.command_rules.specs.Passes.{Pass}
 use Rattle.command_rules.specs.Passing.{Fails, Gives}
 use Rattle.command_rules.specs.Reading.{Onward}
-use Rattle.command_rules.specs.Worlds.{Shelf, Scene}
+use Rattle.command_rules.specs.Worlds.{Scene}
 
 -- what is printed, and the files that it says are missing
 pub record Report : Type 0 where

@@ -1,9 +1,8 @@
 -- What a call that reads leaves in a folder: no file is changed, counts do not fall, and the files are asked for once each, in the order of the pass
 -- (rule of this project).
 use Rattle.std.specs.Prelude.{◌≡◌, ℕ, ◌≤◌, List, [], ◌∷◌}
-use Rattle.mesa_base.specs.Outside.{Called}
+use Rattle.mesa_base.specs.Outside.{Shelf, Called}
 use Rattle.command_rules.specs.Passes.{Trail}
-use Rattle.command_rules.specs.Worlds.{Shelf}
 
 -- one call for each of these names, in order
 unfoldable pub CalledAll : Trail → (old new : List ℕ → ℕ) → Type 0

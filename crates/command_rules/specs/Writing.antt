@@ -1,7 +1,7 @@
 -- Files that are written one after the other: what each is to hold, whether one is too large, and what is so of the folder where all are
 -- written, or one is not (rule of this project).
 use Rattle.std.specs.Prelude.{◌≡◌, ℕ, ◌<◌, ◌≤◌, List, [], ◌∷◌, ◌++◌, length, map, take, All, Option, Some, IfSome, slice_get}
-use Rattle.mesa_base.specs.Outside.{Files, Rose, Writes, ChangesOnly}
+use Rattle.mesa_base.specs.Outside.{Shelf, Files, Rose, Writes, ChangesOnly}
 use Rattle.mesa_base.specs.declared.limits.TheConstants.{FILE_BYTES}
 use Rattle.interface_records.specs.declared.interface.Interface.{Interface}
 use Rattle.object_files.specs.declared.image.Image.{Image}
@@ -14,7 +14,6 @@ use Rattle.object_writers.specs.ObjectBytes.{object_file as object_bytes, image_
 use Rattle.command_rules.specs.Case.{Case, Done, Refused, FolderFault, Memory, TooLarge}
 use Rattle.command_rules.specs.Passes.{Trail}
 use Rattle.command_rules.specs.Reading.{Asked, CalledAll}
-use Rattle.command_rules.specs.Worlds.{Shelf}
 
 -- what a file is to hold
 pub data Value : Type 0 where

@@ -1,7 +1,7 @@
 -- TooLarge comes only where a file is too large and the size sum is above.
 use Rattle.std.proofs.Common.{◌≡◌, ℕ, ◌<◌, List, [], ◌∷◌, All, Some, refl, sym, ◌∙◌, subst, nat_lt, Bool, true, false, ltb-true, ltb-false}
 use Rattle.std.specs.Prelude.{Result, Ok, Err}
-use Rattle.mesa_base.specs.Outside.{Files}
+use Rattle.mesa_base.specs.Outside.{Shelf, Files}
 use Rattle.command_rules.specs.frame_machine.specs.declared.outcome.Outcome.{Outcome}
 use Rattle.command_rules.specs.frame_machine.specs.declared.outcome.RunFault.{RunFault}
 use Rattle.command_rules.specs.frame_machine.specs.declared.outcome.RunFault.TheVariants as fault
@@ -25,7 +25,7 @@ use Rattle.command_rules.specs.Planning.{plan_in}
 use Rattle.command_rules.specs.Printing.{Report, Prints}
 use Rattle.command_rules.specs.Shown.{Names, case_of_end, case_of_run, image_names, program_names}
 use Rattle.command_rules.specs.Surveying.{survey_in}
-use Rattle.command_rules.specs.Worlds.{Shelf, Scene}
+use Rattle.command_rules.specs.Worlds.{Scene}
 use Rattle.command_rules.specs.Ends.{RunsTo}
 use Rattle.command_rules.specs.Writing.{Target, holding, OfInterface, OfObject, OfImage, IsSmall, IsFirstTooLarge, NotStored, Written}
 use Rattle.command_rules.specs.Order.{NeverAnswered}

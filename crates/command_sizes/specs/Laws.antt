@@ -1,6 +1,6 @@
 -- Where the size sum of a call is small no file of it is too large, and the call is complete (rule of this project).
 use Rattle.std.specs.Prelude.{◌≡◌, ℕ, ◌+◌, ◌<◌, ◌≤◌, ◌⊎◌, List, [], ◌∷◌, All, Some}
-use Rattle.mesa_base.specs.Outside.{Files}
+use Rattle.mesa_base.specs.Outside.{Shelf, Files}
 use Rattle.mesa_base.specs.declared.status.Status.{Status}
 use Rattle.mesa_base.specs.declared.status.Status.TheVariants as status
 use Rattle.mesa_types.specs.Typed.{Module}
@@ -17,7 +17,7 @@ use Rattle.command_rules.specs.Exercise.{chain}
 use Rattle.command_rules.specs.Forms.{Source, OfConfig, Form, Compile, Define, Bind, Run, Go, Show, Upgrade, Exercise, Plan, Survey, HasForm, module_file, object_file}
 use Rattle.command_rules.specs.Modules.{module_in}
 use Rattle.command_rules.specs.Passes.{Has, Trail}
-use Rattle.command_rules.specs.Worlds.{Shelf, Scene, World}
+use Rattle.command_rules.specs.Worlds.{Scene, World}
 use Rattle.command_rules.specs.Writing.{Target, holding, OfObject, IsSmall, IsFirstTooLarge, StoresAll, size_of}
 use Rattle.command_sizes.specs.Sum.{HasGoSum, HasSize, HasSum, IsSizeSum, most}
 use Rattle.exercise_texts.specs.Files.{exercise_files}

@@ -3,6 +3,7 @@ use Rattle.std.proofs.Common.{◌≡◌, ◌≢◌, ℕ, List, None, Ok, Err, re
 use Rattle.std.specs.Prelude.{Result, IfOk}
 use Rattle.std.specs.Result.{IsErrAnd}
 use Rattle.std.proofs.lemmas.Result.{err_from_is_err_and}
+use Rattle.mesa_base.specs.Outside.{Shelf}
 use Rattle.mesa_types.specs.Typed.{Module}
 use Rattle.config_rules.specs.Resolves.{wants, first_bad}
 use Rattle.config_rules.specs.Through.{Answer}
@@ -18,7 +19,6 @@ use Rattle.command_passes.specs.command_rules.specs.Configurations.{Configured, 
 use Rattle.command_passes.specs.command_rules.specs.Configurations as rules
 use Rattle.command_passes.specs.command_rules.specs.Passes.{Has, Stops, Pass, decided, given, and_then}
 use Rattle.command_passes.specs.command_rules.specs.Passing.{Fails, memory, Gives}
-use Rattle.command_passes.specs.command_rules.specs.Worlds.{Shelf}
 use Rattle.command_passes.specs.command_rules.proofs.Passing.{gives_decided, gives_both, fails_decided, fails_first, fails_second}
 use Rattle.command_passes.specs.Shelves.{Passes}
 use Rattle.command_passes.specs.Stops.{stop_case}

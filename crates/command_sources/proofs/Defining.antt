@@ -1,5 +1,6 @@
 -- The interface of definitions under a stamp, and its file.
 use Rattle.std.proofs.Common.{◌≡◌, ◌≢◌, ℕ, List, Result, Err}
+use Rattle.mesa_base.specs.Outside.{Shelf}
 use Rattle.mesa_base.specs.declared.outside_errors.FolderError.{FolderError}
 use Rattle.syntax_trees.specs.declared.syntax.Module as syntax
 use Rattle.interface_records.specs.declared.interface.Interface as records
@@ -12,7 +13,6 @@ use Rattle.command_passes.specs.command_rules.specs.Modules.{Begins, begun, refu
 use Rattle.command_passes.specs.command_rules.specs.Passes.{decided, and_then}
 use Rattle.command_passes.specs.command_rules.specs.Passing.{Fails, Gives}
 use Rattle.command_passes.specs.command_rules.specs.Reading.{Onward}
-use Rattle.command_passes.specs.command_rules.specs.Worlds.{Shelf}
 use Rattle.command_passes.specs.command_rules.proofs.Passing.{HasRead, fails_first}
 use Rattle.command_passes.specs.Shelves.{Decides, Passes}
 use Rattle.command_passes.specs.Stops.{stop_case, text_case, unread_case}

@@ -2,11 +2,11 @@
 use Rattle.std.proofs.Common.{◌≡◌, ℕ, ◌+◌, ◌<◌, ◌≤◌, List, [], ◌∷◌, ◌++◌, length, map, take, get_or, Some, slice_get, refl, sym, ap, subst, ◌∙◌, add-one}
 use Rattle.std.proofs.lemmas.List.{map-append}
 use Rattle.std.proofs.lemmas.Option.{slice_get_read}
+use Rattle.mesa_base.specs.Outside.{Shelf}
 use Rattle.config_rules.specs.declared.tree.Component.{Component}
 use Rattle.command_passes.specs.command_rules.specs.Case.{Case}
 use Rattle.command_passes.specs.command_rules.specs.Passes.{Pass, each}
 use Rattle.command_passes.specs.command_rules.specs.Passing.{Fails, Gives}
-use Rattle.command_passes.specs.command_rules.specs.Worlds.{Shelf}
 use Rattle.command_passes.proofs.Steps.{fails_turn, gives_turn, all_turns}
 
 -- what a pass gives of a component, by a view of what the code has

@@ -3,6 +3,7 @@ use Rattle.std.proofs.Common.{◌≡◌, ◌≢◌, ℕ, List, [], ◌∷◌, �
 use Rattle.std.specs.Prelude.{Result, IfOk}
 use Rattle.std.proofs.lemmas.List.{length-map}
 use Rattle.std.proofs.lemmas.List.Elements.{All-push}
+use Rattle.mesa_base.specs.Outside.{Shelf}
 use Rattle.mesa_types.specs.declared.faces.Shape.{Shape}
 use Rattle.object_files.specs.declared.object.Object.{Object}
 use Rattle.object_rules.specs.Parts.{parts_of}
@@ -24,7 +25,6 @@ use Rattle.command_passes.specs.command_rules.specs.Forms.{config_file}
 use Rattle.command_passes.specs.command_rules.specs.Objects.{shape_in}
 use Rattle.command_passes.specs.command_rules.specs.Passes.{each}
 use Rattle.command_passes.specs.command_rules.specs.Passing.{Fails, Gives}
-use Rattle.command_passes.specs.command_rules.specs.Worlds.{Shelf}
 use Rattle.command_passes.specs.command_rules.proofs.Passing.{fails_first}
 use Rattle.command_passes.specs.Filed as passes
 use Rattle.command_passes.specs.Shelves.{Passes}

@@ -3,6 +3,7 @@ use Rattle.std.proofs.Common.{◌≡◌, ◌≢◌, ℕ, ◌≤◌, ⊎_elim, Li
 use Rattle.std.specs.Prelude.{Result, IfOk}
 use Rattle.std.proofs.lemmas.List.{length-take, take_min}
 use Rattle.std.proofs.Math.Seq.{take-length}
+use Rattle.mesa_base.specs.Outside.{Shelf}
 use Rattle.mesa_base.specs.declared.place.Place.{Place}
 use Rattle.mesa_base.specs.declared.outside_errors.FolderError.{FolderError}
 use Rattle.mesa_lexer.specs.Tokens.{HasTokens, HasLexFault}
@@ -33,7 +34,6 @@ use Rattle.command_passes.specs.command_rules.specs.Configurations.{Configures, 
 use Rattle.command_passes.specs.command_rules.specs.Configurations as rules
 use Rattle.command_passes.specs.command_rules.specs.Forms.{config_file}
 use Rattle.command_passes.specs.command_rules.specs.Passes.{Has, Stops}
-use Rattle.command_passes.specs.command_rules.specs.Worlds.{Shelf}
 use Rattle.command_passes.specs.command_rules.proofs.Passing.{HasRead, Moves}
 use Rattle.command_passes.specs.Shelves.{Decides, Passes}
 use Rattle.command_passes.specs.Stops.{stop_case, text_case, unread_case}

@@ -4,6 +4,7 @@ use Rattle.std.specs.Prelude.{Result, IfOk}
 use Rattle.std.specs.Str.{IsAscii}
 use Rattle.std.proofs.lemmas.List.{length-map}
 use Rattle.std.proofs.lemmas.List.Elements.{All-nil, All-cons, All-map}
+use Rattle.mesa_base.specs.Outside.{Shelf}
 use Rattle.mesa_types.specs.Plain.{plain}
 use Rattle.mesa_types.specs.Typed.{Module}
 use Rattle.mesa_types.specs.declared.typed_tree.TypedModule.{TypedModule}
@@ -32,7 +33,6 @@ use Rattle.command_passes.specs.command_rules.specs.Forms.{OfModule, OfConfig, m
 use Rattle.command_passes.specs.command_rules.specs.Modules.{module_in, interface_in}
 use Rattle.command_passes.specs.command_rules.specs.Passes.{each}
 use Rattle.command_passes.specs.command_rules.specs.Passing.{Fails, Gives}
-use Rattle.command_passes.specs.command_rules.specs.Worlds.{Shelf}
 use Rattle.command_passes.specs.command_rules.proofs.Passing.{fails_first}
 use Rattle.command_passes.specs.Shelves.{Passes}
 use Rattle.command_passes.specs.Stops.{stop_case}

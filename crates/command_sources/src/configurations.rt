@@ -6,7 +6,6 @@ ghost use Rattle.cmesa_grammar.specs.Plain.{plain as plain_config};
 ghost use Rattle.command_passes.specs.command_rules.specs.Configurations as rules;
 ghost use Rattle.command_passes.specs.command_rules.specs.Forms.{config_file};
 ghost use Rattle.command_passes.specs.command_rules.specs.Reading.{Onward};
-ghost use Rattle.command_passes.specs.command_rules.specs.Worlds.{shelf};
 ghost use Rattle.command_passes.specs.Shelves.{Decides, Passes};
 ghost use Rattle.command_sources.specs.Parsed.{HasNoConfig, IsConfigOf, IsPlanned, Plans};
 
@@ -80,10 +79,10 @@ pub fn config_of_file<F: Folder>(
     requires { IsAscii base.now }
     ensures plans { IfOk result IsPlanned }
     ensures passes { Passes (λ p. plain_config p.config) (rules.config_in (config_file base.now))
-        (shelf (F.files folder.old) (F.calls folder.old) (F.faults folder.old) (F.misses folder.old))
-        (shelf (F.files folder.new) (F.calls folder.new) (F.faults folder.new) (F.misses folder.new)) result }
-    ensures onward { Onward (shelf (F.files folder.old) (F.calls folder.old) (F.faults folder.old) (F.misses folder.old))
-        (shelf (F.files folder.new) (F.calls folder.new) (F.faults folder.new) (F.misses folder.new)) }
+        (F.shelf folder.old)
+        (F.shelf folder.new) result }
+    ensures onward { Onward (F.shelf folder.old)
+        (F.shelf folder.new) }
 {
     let file = file_named(alloc, base, ".config")?;
     match folder.read(alloc, file.as_str(), TEXT_BYTES) {

@@ -9,7 +9,6 @@ ghost use Rattle.command_passes.specs.checked_texts.specs.Texts as text;
 ghost use Rattle.command_passes.specs.command_rules.specs.Modules as rules;
 ghost use Rattle.command_passes.specs.command_rules.specs.Passes.{and_then, decided};
 ghost use Rattle.command_passes.specs.command_rules.specs.Reading.{Onward};
-ghost use Rattle.command_passes.specs.command_rules.specs.Worlds.{shelf};
 ghost use Rattle.command_passes.specs.Asking.{AsksPlainly};
 ghost use Rattle.command_passes.specs.Shelves.{Passes};
 
@@ -33,10 +32,10 @@ fn interface_of_tree<F: Folder>(
     requires { AsksPlainly (syntax tree.now) }
     ensures passes { (bytes : Items ℕ) → text.Begins bytes (purpose.Interface stamp) tree.now
         → Passes (λ i. i) (rules.definitions_of file stamp (bytes, tree.now))
-        (shelf (F.files folder.old) (F.calls folder.old) (F.faults folder.old) (F.misses folder.old))
-        (shelf (F.files folder.new) (F.calls folder.new) (F.faults folder.new) (F.misses folder.new)) result }
-    ensures onward { Onward (shelf (F.files folder.old) (F.calls folder.old) (F.faults folder.old) (F.misses folder.old))
-        (shelf (F.files folder.new) (F.calls folder.new) (F.faults folder.new) (F.misses folder.new)) }
+        (F.shelf folder.old)
+        (F.shelf folder.new) result }
+    ensures onward { Onward (F.shelf folder.old)
+        (F.shelf folder.new) }
 {
     let interfaces = interfaces_of(alloc, folder, tree)?;
     match checked_interface(alloc, tree, stamp, interfaces.as_slice()) {
@@ -53,10 +52,10 @@ fn interface_of_text<F: Folder>(
     text: &[u8],
 ) -> Result<Interface, Stop>
     ensures passes { Passes (λ i. i) (and_then (decided (rules.Begins file (purpose.Interface stamp) text.now)) (rules.definitions_of file stamp))
-        (shelf (F.files folder.old) (F.calls folder.old) (F.faults folder.old) (F.misses folder.old))
-        (shelf (F.files folder.new) (F.calls folder.new) (F.faults folder.new) (F.misses folder.new)) result }
-    ensures onward { Onward (shelf (F.files folder.old) (F.calls folder.old) (F.faults folder.old) (F.misses folder.old))
-        (shelf (F.files folder.new) (F.calls folder.new) (F.faults folder.new) (F.misses folder.new)) }
+        (F.shelf folder.old)
+        (F.shelf folder.new) result }
+    ensures onward { Onward (F.shelf folder.old)
+        (F.shelf folder.new) }
 {
     match begun(alloc, text, Purpose::Interface(stamp)) {
         Ok(tree) => {
@@ -78,10 +77,10 @@ pub fn interface_defined_in<F: Folder>(
     requires { InSixBytes stamp }
     ensures fits { IfOk result (form.interface 2).fits }
     ensures passes { Passes (λ i. i) (rules.interface_in file stamp)
-        (shelf (F.files folder.old) (F.calls folder.old) (F.faults folder.old) (F.misses folder.old))
-        (shelf (F.files folder.new) (F.calls folder.new) (F.faults folder.new) (F.misses folder.new)) result }
-    ensures onward { Onward (shelf (F.files folder.old) (F.calls folder.old) (F.faults folder.old) (F.misses folder.old))
-        (shelf (F.files folder.new) (F.calls folder.new) (F.faults folder.new) (F.misses folder.new)) }
+        (F.shelf folder.old)
+        (F.shelf folder.new) result }
+    ensures onward { Onward (F.shelf folder.old)
+        (F.shelf folder.new) }
 {
     definitions_can_be_written();
     match folder.read(alloc, file.as_str(), TEXT_BYTES) {

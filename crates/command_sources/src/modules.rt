@@ -6,7 +6,6 @@ ghost use Rattle.mesa_types.specs.Plain.{plain};
 ghost use Rattle.command_passes.specs.command_rules.specs.Configurations as rules;
 ghost use Rattle.command_passes.specs.command_rules.specs.Passes.{each};
 ghost use Rattle.command_passes.specs.command_rules.specs.Reading.{Onward};
-ghost use Rattle.command_passes.specs.command_rules.specs.Worlds.{shelf};
 ghost use Rattle.command_passes.specs.Shelves.{Passes};
 
 use command_passes::{Stop, file_named, module_of_file};
@@ -24,10 +23,10 @@ fn module_of_component<F: Folder>(
 ) -> Result<TypedModule, Stop>
     requires { IsAscii component.now.file }
     ensures passes { Passes plain (rules.component_in component.now)
-        (shelf (F.files folder.old) (F.calls folder.old) (F.faults folder.old) (F.misses folder.old))
-        (shelf (F.files folder.new) (F.calls folder.new) (F.faults folder.new) (F.misses folder.new)) result }
-    ensures onward { Onward (shelf (F.files folder.old) (F.calls folder.old) (F.faults folder.old) (F.misses folder.old))
-        (shelf (F.files folder.new) (F.calls folder.new) (F.faults folder.new) (F.misses folder.new)) }
+        (F.shelf folder.old)
+        (F.shelf folder.new) result }
+    ensures onward { Onward (F.shelf folder.old)
+        (F.shelf folder.new) }
 {
     let file = file_named(alloc, component.file.as_slice(), ".mesa")?;
     match module_of_file(alloc, folder, file) {
@@ -44,10 +43,10 @@ pub fn modules_of<F: Folder>(
 ) -> Result<TypedModules, Stop>
     requires { All (λ c. IsAscii c.file) components.now }
     ensures passes { Passes (map plain) (each rules.component_in components.now)
-        (shelf (F.files folder.old) (F.calls folder.old) (F.faults folder.old) (F.misses folder.old))
-        (shelf (F.files folder.new) (F.calls folder.new) (F.faults folder.new) (F.misses folder.new)) result }
-    ensures onward { Onward (shelf (F.files folder.old) (F.calls folder.old) (F.faults folder.old) (F.misses folder.old))
-        (shelf (F.files folder.new) (F.calls folder.new) (F.faults folder.new) (F.misses folder.new)) }
+        (F.shelf folder.old)
+        (F.shelf folder.new) result }
+    ensures onward { Onward (F.shelf folder.old)
+        (F.shelf folder.new) }
 {
     let mut modules = List::new(alloc);
     for component in components {

@@ -2,6 +2,7 @@
 
 ghost use Rattle.std.specs.Prelude.{◌≡◌, [], ◌∷◌, ◌++◌, length, map, All, IfOk, OnOk};
 ghost use Rattle.std.specs.Str.{IsAscii};
+ghost use Rattle.mesa_base.specs.Outside.{Shelf};
 ghost use Rattle.cmesa_grammar.specs.Plain.{plain as plain_config};
 ghost use Rattle.object_rules.specs.Parts.{parts_of};
 ghost use Rattle.config_rules.specs.Components.{components};
@@ -15,7 +16,6 @@ ghost use Rattle.command_passes.specs.command_rules.specs.Forms.{config_file};
 ghost use Rattle.command_passes.specs.command_rules.specs.Objects.{shape_in};
 ghost use Rattle.command_passes.specs.command_rules.specs.Passes.{each};
 ghost use Rattle.command_passes.specs.command_rules.specs.Reading.{Onward};
-ghost use Rattle.command_passes.specs.command_rules.specs.Worlds.{Shelf, shelf};
 ghost use Rattle.command_passes.specs.Shelves.{Passes};
 ghost use Rattle.command_sources.specs.Objects.{Binds, CanBeLinked, binding, bound, parts_in};
 ghost use Rattle.command_sources.specs.Parsed.{IsPlanned};
@@ -56,10 +56,10 @@ fn object_of_component<F: Folder>(
     requires { IsAscii component.now.file }
     ensures filed { IfOk result IsFiled }
     ensures passes { Passes parts_of (object_of component.now)
-        (shelf (F.files folder.old) (F.calls folder.old) (F.faults folder.old) (F.misses folder.old))
-        (shelf (F.files folder.new) (F.calls folder.new) (F.faults folder.new) (F.misses folder.new)) result }
-    ensures onward { Onward (shelf (F.files folder.old) (F.calls folder.old) (F.faults folder.old) (F.misses folder.old))
-        (shelf (F.files folder.new) (F.calls folder.new) (F.faults folder.new) (F.misses folder.new)) }
+        (F.shelf folder.old)
+        (F.shelf folder.new) result }
+    ensures onward { Onward (F.shelf folder.old)
+        (F.shelf folder.new) }
 {
     let file = file_named(alloc, component.file.as_slice(), ".mob")?;
     object_of_file(alloc, folder, file)
@@ -83,10 +83,10 @@ fn put_objects<F: Folder>(
     requires empty { objects.old.items ≡ [] }
     ensures filed { OnOk result (All IsFiled objects.new.items) }
     ensures passes { Passes (λ _. parts_in objects.new.items) (each object_of components.now)
-        (shelf (F.files folder.old) (F.calls folder.old) (F.faults folder.old) (F.misses folder.old))
-        (shelf (F.files folder.new) (F.calls folder.new) (F.faults folder.new) (F.misses folder.new)) result }
-    ensures onward { Onward (shelf (F.files folder.old) (F.calls folder.old) (F.faults folder.old) (F.misses folder.old))
-        (shelf (F.files folder.new) (F.calls folder.new) (F.faults folder.new) (F.misses folder.new)) }
+        (F.shelf folder.old)
+        (F.shelf folder.new) result }
+    ensures onward { Onward (F.shelf folder.old)
+        (F.shelf folder.new) }
 {
     for component in components {
         let object = match object_of_component(alloc, folder, component) {
@@ -107,10 +107,10 @@ fn objects_of<F: Folder>(
     requires { All (λ c. IsAscii c.file) components.now }
     ensures filed { IfOk result (λ objects. All IsFiled objects.items) }
     ensures passes { Passes (λ objects. parts_in objects.items) (each object_of components.now)
-        (shelf (F.files folder.old) (F.calls folder.old) (F.faults folder.old) (F.misses folder.old))
-        (shelf (F.files folder.new) (F.calls folder.new) (F.faults folder.new) (F.misses folder.new)) result }
-    ensures onward { Onward (shelf (F.files folder.old) (F.calls folder.old) (F.faults folder.old) (F.misses folder.old))
-        (shelf (F.files folder.new) (F.calls folder.new) (F.faults folder.new) (F.misses folder.new)) }
+        (F.shelf folder.old)
+        (F.shelf folder.new) result }
+    ensures onward { Onward (F.shelf folder.old)
+        (F.shelf folder.new) }
 {
     let mut objects = Vec::new(alloc);
     match put_objects(alloc, folder, components, &mut objects) {
@@ -184,10 +184,10 @@ fn bound_of_plan<F: Folder>(
     requires plan { IsPlanned plan.now }
     ensures bound { IfOk result CanBeLinked }
     ensures passes { Passes bound (binding_of (config_file base.now) (plain_config plan.now.config))
-        (shelf (F.files folder.old) (F.calls folder.old) (F.faults folder.old) (F.misses folder.old))
-        (shelf (F.files folder.new) (F.calls folder.new) (F.faults folder.new) (F.misses folder.new)) result }
-    ensures onward { Onward (shelf (F.files folder.old) (F.calls folder.old) (F.faults folder.old) (F.misses folder.old))
-        (shelf (F.files folder.new) (F.calls folder.new) (F.faults folder.new) (F.misses folder.new)) }
+        (F.shelf folder.old)
+        (F.shelf folder.new) result }
+    ensures onward { Onward (F.shelf folder.old)
+        (F.shelf folder.new) }
 {
     let file = file_named(alloc, base, ".config")?;
     match objects_of(alloc, folder, plan.components.as_slice()) {
@@ -206,10 +206,10 @@ pub fn bound_of_config<F: Folder>(
     requires { IsAscii base.now }
     ensures bound { IfOk result CanBeLinked }
     ensures passes { Passes bound (bound_in base.now)
-        (shelf (F.files folder.old) (F.calls folder.old) (F.faults folder.old) (F.misses folder.old))
-        (shelf (F.files folder.new) (F.calls folder.new) (F.faults folder.new) (F.misses folder.new)) result }
-    ensures onward { Onward (shelf (F.files folder.old) (F.calls folder.old) (F.faults folder.old) (F.misses folder.old))
-        (shelf (F.files folder.new) (F.calls folder.new) (F.faults folder.new) (F.misses folder.new)) }
+        (F.shelf folder.old)
+        (F.shelf folder.new) result }
+    ensures onward { Onward (F.shelf folder.old)
+        (F.shelf folder.new) }
 {
     match config_of_file(alloc, folder, base) {
         Ok(plan) => {

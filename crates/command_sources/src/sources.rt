@@ -2,6 +2,7 @@
 
 ghost use Rattle.std.specs.Prelude.{◌≡◌, [], ◌∷◌, length, map, All, IfOk};
 ghost use Rattle.std.specs.Str.{IsAscii};
+ghost use Rattle.mesa_base.specs.Outside.{Shelf};
 ghost use Rattle.cmesa_grammar.specs.Plain.{plain as plain_config};
 ghost use Rattle.mesa_types.specs.Plain.{plain};
 ghost use Rattle.config_rules.specs.Components.{components};
@@ -14,7 +15,6 @@ ghost use Rattle.linked_objects.specs.bound_images.specs.Programs.{shape_of};
 ghost use Rattle.command_passes.specs.command_rules.specs.Configurations as rules;
 ghost use Rattle.command_passes.specs.command_rules.specs.Forms as form;
 ghost use Rattle.command_passes.specs.command_rules.specs.Reading.{Onward};
-ghost use Rattle.command_passes.specs.command_rules.specs.Worlds.{Shelf, shelf};
 ghost use Rattle.command_passes.specs.Shelves.{Passes};
 ghost use Rattle.command_sources.specs.Bound.{Binds, IsBound, binding, configured};
 ghost use Rattle.command_sources.specs.Laws.{CanBeKeptAll};
@@ -148,10 +148,10 @@ pub fn source_of_module<F: Folder>(
     requires { IsAscii base.now }
     ensures bound { IfOk result IsBound }
     ensures passes { Passes configured (rules.source_in form.OfModule base.now)
-        (shelf (F.files folder.old) (F.calls folder.old) (F.faults folder.old) (F.misses folder.old))
-        (shelf (F.files folder.new) (F.calls folder.new) (F.faults folder.new) (F.misses folder.new)) result }
-    ensures onward { Onward (shelf (F.files folder.old) (F.calls folder.old) (F.faults folder.old) (F.misses folder.old))
-        (shelf (F.files folder.new) (F.calls folder.new) (F.faults folder.new) (F.misses folder.new)) }
+        (F.shelf folder.old)
+        (F.shelf folder.new) result }
+    ensures onward { Onward (F.shelf folder.old)
+        (F.shelf folder.new) }
 {
     let text = file_named(alloc, base, ".mesa")?;
     let file = file_named(alloc, base, ".mesa")?;
@@ -174,10 +174,10 @@ fn source_of_plan<F: Folder>(
     requires plan { IsPlanned plan.now }
     ensures bound { IfOk result IsBound }
     ensures passes { Passes configured (rules.configuration_of (form.config_file base.now) (plain_config plan.now.config))
-        (shelf (F.files folder.old) (F.calls folder.old) (F.faults folder.old) (F.misses folder.old))
-        (shelf (F.files folder.new) (F.calls folder.new) (F.faults folder.new) (F.misses folder.new)) result }
-    ensures onward { Onward (shelf (F.files folder.old) (F.calls folder.old) (F.faults folder.old) (F.misses folder.old))
-        (shelf (F.files folder.new) (F.calls folder.new) (F.faults folder.new) (F.misses folder.new)) }
+        (F.shelf folder.old)
+        (F.shelf folder.new) result }
+    ensures onward { Onward (F.shelf folder.old)
+        (F.shelf folder.new) }
 {
     let file = file_named(alloc, base, ".config")?;
     let bases = bases_of(alloc, plan.components.as_slice())?;
@@ -198,10 +198,10 @@ pub fn source_of_config<F: Folder>(
     requires { IsAscii base.now }
     ensures bound { IfOk result IsBound }
     ensures passes { Passes configured (rules.source_in form.OfConfig base.now)
-        (shelf (F.files folder.old) (F.calls folder.old) (F.faults folder.old) (F.misses folder.old))
-        (shelf (F.files folder.new) (F.calls folder.new) (F.faults folder.new) (F.misses folder.new)) result }
-    ensures onward { Onward (shelf (F.files folder.old) (F.calls folder.old) (F.faults folder.old) (F.misses folder.old))
-        (shelf (F.files folder.new) (F.calls folder.new) (F.faults folder.new) (F.misses folder.new)) }
+        (F.shelf folder.old)
+        (F.shelf folder.new) result }
+    ensures onward { Onward (F.shelf folder.old)
+        (F.shelf folder.new) }
 {
     match config_of_file(alloc, folder, base) {
         Ok(plan) => {

@@ -1,12 +1,12 @@
 -- What comes of a file that is surveyed, from what was read of it.
 use Rattle.std.proofs.Common.{◌≡◌, ℕ, List, Result, Err, subst}
+use Rattle.mesa_base.specs.Outside.{Shelf}
 use Rattle.mesa_base.specs.declared.outside_errors.FolderError.{FolderError}
 use Rattle.command_passes.specs.command_rules.specs.Case.{Absent}
 use Rattle.command_passes.specs.command_rules.specs.Forms.{image_file}
 use Rattle.command_passes.specs.command_rules.specs.Passes.{from_file}
 use Rattle.command_passes.specs.command_rules.specs.Printing.{text_alone}
 use Rattle.command_passes.specs.command_rules.specs.Surveying.{Surveys, survey_in}
-use Rattle.command_passes.specs.command_rules.specs.Worlds.{Shelf}
 use Rattle.command_passes.specs.command_rules.proofs.Passing.{HasRead}
 use Rattle.command_passes.specs.Shelves.{Decides, Passes}
 use Rattle.command_passes.specs.Stops.{stop_case, unread_case}

@@ -6,7 +6,6 @@ ghost use Rattle.signal_survey.specs.machine_ready.specs.Order.{ImageInOrder};
 ghost use Rattle.command_passes.specs.command_rules.specs.Printing.{text_alone};
 ghost use Rattle.command_passes.specs.command_rules.specs.Reading.{Onward};
 ghost use Rattle.command_passes.specs.command_rules.specs.Surveying.{Surveys, survey_in};
-ghost use Rattle.command_passes.specs.command_rules.specs.Worlds.{shelf};
 ghost use Rattle.command_passes.specs.Shelves.{Decides, Passes};
 ghost use Rattle.command_surveys.specs.Texts.{IsTextOf};
 
@@ -70,10 +69,10 @@ fn surveyed(alloc: Global, file: FileName, bytes: &[u8]) -> Result<Bytes, Stop>
 pub fn survey_of_file<F: Folder>(alloc: Global, folder: &mut F, base: &[u8]) -> Result<Bytes, Stop>
     requires { IsAscii base.now }
     ensures passes { Passes text_alone (survey_in base.now)
-        (shelf (F.files folder.old) (F.calls folder.old) (F.faults folder.old) (F.misses folder.old))
-        (shelf (F.files folder.new) (F.calls folder.new) (F.faults folder.new) (F.misses folder.new)) result }
-    ensures onward { Onward (shelf (F.files folder.old) (F.calls folder.old) (F.faults folder.old) (F.misses folder.old))
-        (shelf (F.files folder.new) (F.calls folder.new) (F.faults folder.new) (F.misses folder.new)) }
+        (F.shelf folder.old)
+        (F.shelf folder.new) result }
+    ensures onward { Onward (F.shelf folder.old)
+        (F.shelf folder.new) }
 {
     let file = file_named(alloc, base, ".mim")?;
     match folder.read(alloc, file.as_str(), FILE_BYTES) {

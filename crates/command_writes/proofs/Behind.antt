@@ -1,11 +1,10 @@
 -- Files that are written behind others.
 use Rattle.std.proofs.Common.{◌≡◌, ℕ, ◌≤◌, List, [], ◌∷◌, ◌++◌, Option, Result, Ok, Err, sym, ◌∙◌, ap, subst, append_assoc}
 use Rattle.std.proofs.lemmas.List.{append-nil, map-append}
-use Rattle.mesa_base.specs.Outside.{Files}
+use Rattle.mesa_base.specs.Outside.{Shelf, Files}
 use Rattle.command_passes.specs.command_rules.specs.Case.{Case}
 use Rattle.command_passes.specs.command_rules.specs.Passes.{Trail}
 use Rattle.command_passes.specs.command_rules.specs.Reading.{Asked, CalledAll}
-use Rattle.command_passes.specs.command_rules.specs.Worlds.{Shelf}
 use Rattle.command_passes.specs.command_rules.specs.Writing.{Target, files_of, StoresAll, StoresUpTo, Stored, NotStored, failed, memory}
 use Rattle.command_passes.specs.command_rules.proofs.Passing.{called_both, called_none, onward_same, rose_from}
 use Rattle.command_passes.specs.Stops.{stop_case}

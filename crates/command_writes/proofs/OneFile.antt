@@ -1,10 +1,9 @@
 -- One file that is written, or is not.
 use Rattle.std.proofs.Common.{◌≡◌, ℕ, List, [], ◌∷◌, Option, Some, None, IfSome, refl, sym, subst}
-use Rattle.mesa_base.specs.Outside.{Called, Files, Rose, Writes}
+use Rattle.mesa_base.specs.Outside.{Shelf, Called, Files, Rose, Writes}
 use Rattle.mesa_base.specs.declared.outside_errors.FolderError.{FolderError}
 use Rattle.mesa_base.specs.declared.outside_errors.FolderError.TheVariants as folder
 use Rattle.command_passes.specs.command_rules.specs.Case.{Case}
-use Rattle.command_passes.specs.command_rules.specs.Worlds.{Shelf}
 use Rattle.command_passes.specs.command_rules.specs.Writing.{Value, IsFileOf, holding, Spoils, StoresAll, StoresUpTo, Stored, NotStored, failed, memory}
 use Rattle.command_passes.specs.command_rules.proofs.Passing.{called_one}
 use Rattle.command_passes.specs.Stops.{stop_case, unread_case}

@@ -2,12 +2,12 @@
 use Rattle.std.proofs.Common.{◌≡◌, ℕ, zero, suc, ◌≤◌, List, [], ◌∷◌, ◌++◌, length, take, drop, Some, slice_get, refl, sym, ◌∙◌, ap, subst, arith, append_assoc}
 use Rattle.std.proofs.lemmas.List.{take_all}
 use Rattle.std.specs.List.{AllZip}
+use Rattle.mesa_base.specs.Outside.{Shelf}
 use Rattle.object_files.specs.declared.object.Object.{Object}
 use Rattle.object_rules.specs.ObjectFiles.{IsObjectFile}
 use Rattle.command_passes.specs.command_rules.specs.Case.{Case}
 use Rattle.command_passes.specs.command_rules.specs.Comes.{each_holding}
 use Rattle.command_passes.specs.command_rules.specs.Forms.{object_file}
-use Rattle.command_passes.specs.command_rules.specs.Worlds.{Shelf}
 use Rattle.command_passes.specs.command_rules.specs.Writing.{Value, OfObject, IsFileOf, holding, StoresAll, Stored, NotStored}
 use Rattle.command_passes.specs.command_rules.proofs.Passing.{called_none}
 use Rattle.command_passes.proofs.Steps.{turn_splits, turn_taken}

@@ -1,7 +1,7 @@
 -- What a call that writes files tells: each holds what it is to hold, or why not.
 use Rattle.std.specs.Prelude.{List, Result, Ok, Err}
+use Rattle.mesa_base.specs.Outside.{Shelf}
 use Rattle.command_passes.specs.command_rules.specs.Passes.{Trail}
-use Rattle.command_passes.specs.command_rules.specs.Worlds.{Shelf}
 use Rattle.command_passes.specs.command_rules.specs.Writing.{Target, Stored, NotStored}
 use Rattle.command_passes.specs.Stops.{stop_case}
 use Rattle.command_passes.specs.declared.stop.Stop.{Stop}

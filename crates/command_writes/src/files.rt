@@ -2,9 +2,9 @@
 
 ghost use Rattle.std.specs.Prelude.{◌++◌, ◌∷◌, [], ◌≤◌, ℕ, List};
 ghost use Rattle.std.specs.Str.{IsAscii};
+ghost use Rattle.mesa_base.specs.Outside.{Shelf};
 ghost use Rattle.command_passes.specs.command_rules.specs.Passes.{Trail};
 ghost use Rattle.command_passes.specs.command_rules.specs.Reading.{Asked};
-ghost use Rattle.command_passes.specs.command_rules.specs.Worlds.{Shelf, shelf};
 ghost use Rattle.command_passes.specs.command_rules.specs.Writing.{Value, IsFileOf, holding};
 ghost use Rattle.command_writes.specs.Storing.{StoreEnds};
 
@@ -21,10 +21,10 @@ pub fn file_written<F: Folder>(
     bytes: &[u8],
 ) -> Result<(), Stop>
     ensures stored { (value : Value) (trail : Trail) (before : Shelf) → IsFileOf value bytes.now
-        → Asked trail before (shelf (F.files folder.old) (F.calls folder.old) (F.faults folder.old) (F.misses folder.old))
+        → Asked trail before (F.shelf folder.old)
         → StoreEnds (holding file value ∷ []) trail before
-        (shelf (F.files folder.new) (F.calls folder.new) (F.faults folder.new) (F.misses folder.new)) result }
-    ensures faults_stay { (name : List ℕ) → F.faults folder.old name ≤ F.faults folder.new name }
+        (F.shelf folder.new) result }
+    ensures faults_stay { (name : List ℕ) → (F.shelf folder.old).faults name ≤ (F.shelf folder.new).faults name }
 {
     match folder.write(alloc, file.as_str(), bytes) {
         Ok(()) => Ok(()),
@@ -42,9 +42,9 @@ pub(crate) fn named_written<F: Folder>(
 ) -> Result<(), Stop>
     requires { IsAscii base.now }
     ensures stored { (value : Value) → IsFileOf value bytes.now → StoreEnds (holding (base.now ++ ending.now) value ∷ []) []
-        (shelf (F.files folder.old) (F.calls folder.old) (F.faults folder.old) (F.misses folder.old))
-        (shelf (F.files folder.new) (F.calls folder.new) (F.faults folder.new) (F.misses folder.new)) result }
-    ensures faults_stay { (name : List ℕ) → F.faults folder.old name ≤ F.faults folder.new name }
+        (F.shelf folder.old)
+        (F.shelf folder.new) result }
+    ensures faults_stay { (name : List ℕ) → (F.shelf folder.old).faults name ≤ (F.shelf folder.new).faults name }
 {
     let file = file_named(alloc, base, ending)?;
     file_written(alloc, folder, file, bytes)

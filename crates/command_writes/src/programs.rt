@@ -3,6 +3,7 @@
 ghost use Rattle.std.specs.Prelude.{◌≡◌, ◌++◌, ◌∷◌, [], ◌≤◌, ℕ, All, List as Items, length};
 ghost use Rattle.std.specs.List.{AllZip};
 ghost use Rattle.std.specs.Str.{IsAscii};
+ghost use Rattle.mesa_base.specs.Outside.{Shelf};
 ghost use Rattle.object_files.specs.declared.image.Image.{Image};
 ghost use Rattle.object_files.specs.declared.object.Object.{Object};
 ghost use Rattle.object_rules.specs.ImageFiles.{IsImageFile};
@@ -11,7 +12,6 @@ ghost use Rattle.command_passes.specs.command_rules.specs.Comes.{each_holding};
 ghost use Rattle.command_passes.specs.command_rules.specs.Forms.{image_file};
 ghost use Rattle.command_passes.specs.command_rules.specs.Passes.{Trail};
 ghost use Rattle.command_passes.specs.command_rules.specs.Reading.{Asked};
-ghost use Rattle.command_passes.specs.command_rules.specs.Worlds.{Shelf, shelf};
 ghost use Rattle.command_passes.specs.command_rules.specs.Writing.{OfImage, holding};
 ghost use Rattle.command_writes.specs.Storing.{StoreEnds};
 
@@ -30,9 +30,9 @@ fn objects_written<F: Folder>(
     requires plain { All IsAscii bases.now }
     requires as_many { length bases.now ≡ length objects.now }
     ensures stored { (os : Items Object) → AllZip (IsObjectFile 2) os objects.now → StoreEnds (each_holding bases.now os) []
-        (shelf (F.files folder.old) (F.calls folder.old) (F.faults folder.old) (F.misses folder.old))
-        (shelf (F.files folder.new) (F.calls folder.new) (F.faults folder.new) (F.misses folder.new)) result }
-    ensures faults_stay { (name : Items ℕ) → F.faults folder.old name ≤ F.faults folder.new name }
+        (F.shelf folder.old)
+        (F.shelf folder.new) result }
+    ensures faults_stay { (name : Items ℕ) → (F.shelf folder.old).faults name ≤ (F.shelf folder.new).faults name }
 {
     'objects: for (base, bytes) in bases.as_slice().iter().zip(objects.as_slice()) {
         match named_written(alloc, folder, base.as_slice(), ".mob", bytes.as_slice()) {
@@ -58,9 +58,9 @@ pub fn program_written<F: Folder>(
     requires base { IsAscii base.now }
     requires as_many { length bases.now ≡ length objects.now }
     ensures { (os : Items Object) (i : Image) (trail : Trail) (before : Shelf) → AllZip (IsObjectFile 2) os objects.now → IsImageFile 2 i image.now
-        → Asked trail before (shelf (F.files folder.old) (F.calls folder.old) (F.faults folder.old) (F.misses folder.old))
+        → Asked trail before (F.shelf folder.old)
         → StoreEnds (each_holding bases.now os ++ holding (image_file base.now) (OfImage i) ∷ []) trail before
-        (shelf (F.files folder.new) (F.calls folder.new) (F.faults folder.new) (F.misses folder.new)) result }
+        (F.shelf folder.new) result }
 {
     objects_written(alloc, folder, bases, objects)?;
     named_written(alloc, folder, base, ".mim", image)

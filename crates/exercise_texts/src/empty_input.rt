@@ -32,11 +32,7 @@ impl EmptyInput {
 impl Source for EmptyInput {
     ghost use Rattle.std.specs.Prelude.{Some, []};
 
-    ghost left = { λ _. Some [] };
-
-    ghost calls = { λ input. input.calls };
-
-    ghost faults = { λ _. 0 };
+    ghost feed = { λ input. record { left = Some []; calls = input.calls; faults = 0 } };
 
     /// It takes no memory.
     fn next(&mut self) -> Result<Option<u8>, Failed>

@@ -39,13 +39,12 @@ impl ExerciseFolder {
 impl Folder for ExerciseFolder {
     ghost use Rattle.std.specs.Prelude.{Some};
 
-    ghost files = { λ folder. Some (bytes_of folder.files) };
-
-    ghost calls = { λ folder name. folder.calls };
-
-    ghost faults = { λ folder name. 0 };
-
-    ghost misses = { λ folder name. folder.misses };
+    ghost shelf = { λ folder. record {
+      files = Some (bytes_of folder.files);
+      calls = λ _. folder.calls;
+      faults = λ _. 0;
+      misses = λ _. folder.misses;
+    } };
 
     fn read(&mut self, alloc: Global, name: &str, limit: usize) -> Result<Bytes, FolderError>
         requires { limit ≤ FILE_BYTES }

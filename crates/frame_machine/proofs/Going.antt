@@ -3,6 +3,7 @@ use Rattle.std.proofs.Common.{◌≡◌, ℕ, suc, ◌+◌, ◌<◌, ◌≤◌, 
 use Rattle.std.specs.Prelude.{IfSome, slice_get, if◌then◌else◌}
 use Rattle.std.proofs.lemmas.List.Elements.{All-nil}
 use Rattle.std.proofs.lemmas.Option.{none-some}
+use Rattle.mesa_base.specs.Outside.{Feed, Stream}
 use Rattle.object_files.specs.declared.image.Image.{Image}
 use Rattle.machine_rules.specs.State.{Store, Runs, Broken, Stepped, Goes}
 use Rattle.machine_rules.specs.Words.{zeros}
@@ -42,16 +43,16 @@ first_took None = tt
 first_took (Some all) = record { rest = all; split = refl; left_so = refl; at_end = λ e. absurd (none-some AtEnd e) }
 
 -- all globals are zero, and nothing is started
-pub first : (image : Image) (bound : ℕ) (p : Prepared) → ShowsGlobals p (λ j. zeros (globals_in (code_of image j))) → ShowsStarted p.started.items (λ j. false) → (told held : Option (List ℕ))
-    → SoFar image bound p image.control bound 0 None told told held held (At image p Empty)
+pub beginning : (image : Image) (bound : ℕ) (p : Prepared) → ShowsGlobals p (λ j. zeros (globals_in (code_of image j))) → ShowsStarted p.started.items (λ j. false) → (first : Feed) (held : Stream)
+    → SoFar image bound p image.control bound 0 None first first held held (At image p Empty)
 unfolding LeadsTo fresh begins
-first image bound p zero none told held = record {
+beginning image bound p zero none first held = record {
   got = [];
   output = [];
   bytes = All-nil (λ b. b < 256);
   byte = λ b e. absurd (none-some (Byte b) e);
-  took = first_took told;
-  wrote = received_nothing held;
+  took = first_took first.left;
+  wrote = received_nothing held.holds;
   comes = λ rest faulty known. record {
     store = fresh image rest faulty bound;
     beside = record { its_control = refl; its_globals = zero; its_started = none; its_turns = refl; its_count = refl; its_output = refl; its_input = refl; its_fault = refl };
@@ -61,12 +62,12 @@ first image bound p zero none told held = record {
 
 -- From place to place.
 
-module _ (image : Image) (can : CanRun image) (bound : ℕ) (told left held holds : Option (List ℕ)) (ahead : Option Coming) where
+module _ (image : Image) (can : CanRun image) (bound : ℕ) (first feed : Feed) (held stream : Stream) (ahead : Option Coming) where
   -- while the program takes and writes nothing
   pub onward : (p p' : Prepared) (control control' : List ℕ) (turns turns' begun begun' : ℕ) (P Q : Stepped → Store → Type 0)
       → ((s : Stepped) (m : Store) (output input : List ℕ) (faulty : Bool) → IsUnstuck image s → Beside p control turns begun output input faulty m → P s m
       → ComesTo s p' control' turns' begun' output input faulty Q)
-      → SoFar image bound p control turns begun ahead told left held holds P → SoFar image bound p' control' turns' begun' ahead told left held holds Q
+      → SoFar image bound p control turns begun ahead first feed held stream P → SoFar image bound p' control' turns' begun' ahead first feed held stream Q
   onward p p' control control' turns turns' begun begun' P Q f so = record {
     got = so.got;
     output = so.output;
@@ -87,10 +88,10 @@ module _ (image : Image) (can : CanRun image) (bound : ℕ) (told left held hold
     pub comes : ComesTo (begins image input false bound) p control turns begun output rest false P
     pub unstuck_so : IsUnstuck image (begins image input false bound)
 
-  pub witness : (p : Prepared) (control : List ℕ) (turns begun : ℕ) (P : Stepped → Store → Type 0) → SoFar image bound p control turns begun ahead told left held holds P
+  pub witness : (p : Prepared) (control : List ℕ) (turns begun : ℕ) (P : Stepped → Store → Type 0) → SoFar image bound p control turns begun ahead first feed held stream P
       → Witness p control turns begun P
   witness p control turns begun P so =
-      let r = untold left ahead so.got so.bytes so.byte in
+      let r = untold feed.left ahead so.got so.bytes so.byte in
       record {
         input = so.got ++ r.rest;
         rest = r.rest;
@@ -109,7 +110,7 @@ module _ (image : Image) (can : CanRun image) (bound : ℕ) (told left held hold
 
   -- an instance that was started is passed over
   pub passed : (p : Prepared) (j : ℕ) (control : List ℕ) (turns begun : ℕ) → slice_get p.started.items j ≡ Some true
-      → SoFar image bound p (j ∷ control) turns begun ahead told left held holds (At image p Empty) → SoFar image bound p control turns begun ahead told left held holds (At image p Empty)
+      → SoFar image bound p (j ∷ control) turns begun ahead first feed held stream (At image p Empty) → SoFar image bound p control turns begun ahead first feed held stream (At image p Empty)
   unfolding LeadsTo
   passed p j control turns begun mark = onward p p (j ∷ control) control turns turns begun begun (At image p Empty) (At image p Empty) (λ s m output input faulty free b reaches. record {
     store = record m { control = control };
@@ -128,8 +129,8 @@ module _ (image : Image) (can : CanRun image) (bound : ℕ) (told left held hold
 
   -- another one is started
   pub starting : (p : Prepared) (j : ℕ) (control : List ℕ) (turns begun : ℕ) → slice_get p.started.items j ≡ Some false
-      → SoFar image bound p (j ∷ control) turns begun ahead told left held holds (At image p Empty)
-      → SoFar image bound p control turns begun ahead told left held holds (λ s m. Reaches image s (start image j [] m))
+      → SoFar image bound p (j ∷ control) turns begun ahead first feed held stream (At image p Empty)
+      → SoFar image bound p control turns begun ahead first feed held stream (λ s m. Reaches image s (start image j [] m))
   unfolding LeadsTo
   starting p j control turns begun mark = onward p p (j ∷ control) control turns turns begun begun (At image p Empty) (λ s m. Reaches image s (start image j [] m)) (λ s m output input faulty free b reaches. record {
     store = record m { control = control };
@@ -148,19 +149,19 @@ module _ (image : Image) (can : CanRun image) (bound : ℕ) (told left held hold
 
   -- The run of the topmost activation.
 
-  pub paused : (p p' : Prepared) (control : List ℕ) (turns begun count : ℕ) (r : Registers) (pause : Pause) (holds' : Option (List ℕ)) → p'.started.items ≡ p.started.items
-      → Wrote holds holds' (GoesAt image p r turns) (Paused image p' pause count)
+  pub paused : (p p' : Prepared) (control : List ℕ) (turns begun count : ℕ) (r : Registers) (pause : Pause) (stream' : Stream) → p'.started.items ≡ p.started.items
+      → Wrote stream stream' (GoesAt image p r turns) (Paused image p' pause count)
       → (before : ℕ) → count ≡ before + 1
-      → SoFar image bound p control turns begun ahead told left held holds (At image p (GoesOn r))
-      → SoFar image bound p' control pause.turns (begun + before) ahead told left held holds' (PausesAt image p'.stack.layout p'.stack.region.items p'.stack.rows.items pause.registers pause.why)
+      → SoFar image bound p control turns begun ahead first feed held stream (At image p (GoesOn r))
+      → SoFar image bound p' control pause.turns (begun + before) ahead first feed held stream' (PausesAt image p'.stack.layout p'.stack.region.items p'.stack.rows.items pause.registers pause.why)
   unfolding LeadsTo
-  paused p p' control turns begun count r pause holds' marks w before counted so = record {
+  paused p p' control turns begun count r pause stream' marks w before counted so = record {
     got = so.got;
     output = so.output ++ w.output;
     bytes = so.bytes;
     byte = so.byte;
     took = so.took;
-    wrote = received_more held holds holds' so.output w.output so.wrote w.given;
+    wrote = received_more held.holds stream.holds stream'.holds so.output w.output so.wrote w.given;
     comes = λ rest faulty known.
         let c = so.comes rest faulty known in let b = c.beside in
         let q = w.leads (begins image (so.got ++ rest) faulty bound) c.store (record { its_turns = b.its_turns; its_globals = b.its_globals; shown = c.leads }) in
@@ -185,7 +186,7 @@ module _ (image : Image) (can : CanRun image) (bound : ℕ) (told left held hold
   -- the machine goes on behind a call that writes
   pub wrote_on : (p : Prepared) (control : List ℕ) (turns begun : ℕ) (r r' : Registers) (writing : Writing) (piece : List ℕ) → IsPrepared image p.stack.layout
       → IsAmple p.stack.layout p.stack.region.items p.stack.rows.items r.top → WritesOn image p.stack.region.items r writing piece r'
-      → (so : SoFar image bound p control turns begun ahead told left held holds (AtHost image p r (Write writing)))
+      → (so : SoFar image bound p control turns begun ahead first feed held stream (AtHost image p r (Write writing)))
       → (rest : List ℕ) (faulty : Bool) → Known ahead rest faulty
       → ComesTo (begins image (so.got ++ rest) faulty bound) p control turns begun (so.output ++ piece) rest faulty (At image p (GoesOn r'))
   unfolding LeadsTo LinkLeads
@@ -206,28 +207,28 @@ module _ (image : Image) (can : CanRun image) (bound : ℕ) (told left held hold
         leads = leads p.stack.layout p.stack.rows.items prepared ample c.leads.0 (begins image (so.got ++ rest) faulty bound) c.store c.leads.1;
       }
 
-  pub written : (p : Prepared) (control : List ℕ) (turns begun : ℕ) (r r' : Registers) (writing : Writing) (piece : List ℕ) (holds' : Option (List ℕ)) → IsPrepared image p.stack.layout
-      → IsAmple p.stack.layout p.stack.region.items p.stack.rows.items r.top → WritesOn image p.stack.region.items r writing piece r' → IfSome holds (λ bytes. holds' ≡ Some (bytes ++ piece))
-      → SoFar image bound p control turns begun ahead told left held holds (AtHost image p r (Write writing))
-      → SoFar image bound p control turns begun ahead told left held holds' (At image p (GoesOn r'))
-  written p control turns begun r r' writing piece holds' prepared ample leads put so = record {
+  pub written : (p : Prepared) (control : List ℕ) (turns begun : ℕ) (r r' : Registers) (writing : Writing) (piece : List ℕ) (stream' : Stream) → IsPrepared image p.stack.layout
+      → IsAmple p.stack.layout p.stack.region.items p.stack.rows.items r.top → WritesOn image p.stack.region.items r writing piece r' → IfSome stream.holds (λ bytes. stream'.holds ≡ Some (bytes ++ piece))
+      → SoFar image bound p control turns begun ahead first feed held stream (AtHost image p r (Write writing))
+      → SoFar image bound p control turns begun ahead first feed held stream' (At image p (GoesOn r'))
+  written p control turns begun r r' writing piece stream' prepared ample leads put so = record {
     got = so.got;
     output = so.output ++ piece;
     bytes = so.bytes;
     byte = so.byte;
     took = so.took;
-    wrote = received_more held holds holds' so.output piece so.wrote put;
+    wrote = received_more held.holds stream.holds stream'.holds so.output piece so.wrote put;
     comes = wrote_on p control turns begun r r' writing piece prepared ample leads so;
   }
 
 -- Input.
 
 -- the source failed
-pub broken : (image : Image) (bound : ℕ) (p : Prepared) (control : List ℕ) (turns begun : ℕ) (told left held holds : Option (List ℕ)) (r : Registers) (reading : Reading)
-    → Breaks p.stack.region.items r reading → SoFar image bound p control turns begun None told left held holds (AtHost image p r (Read reading))
-    → BreaksAtInput image bound begun told left held holds
+pub broken : (image : Image) (bound : ℕ) (p : Prepared) (control : List ℕ) (turns begun : ℕ) (first feed feed' : Feed) (held stream : Stream) (r : Registers) (reading : Reading)
+    → feed'.left ≡ feed.left → Breaks p.stack.region.items r reading → SoFar image bound p control turns begun None first feed held stream (AtHost image p r (Read reading))
+    → BreaksAtInput image bound begun first feed' held stream
 unfolding LinkLeads
-broken image bound p control turns begun told left held holds r reading breaks so =
+broken image bound p control turns begun first feed feed' held stream r reading kept breaks so =
     let c = so.comes [] true tt in let b = c.beside in
     let ends : Ends image (begins image (so.got ++ []) true bound) Broken c.store = breaks image p.stack.layout p.stack.rows.items c.leads.0 (begins image (so.got ++ []) true bound) c.store c.leads.1 b.its_input b.its_fault in
     record {
@@ -243,21 +244,21 @@ broken image bound p control turns begun told left held holds r reading breaks s
         its_input = let e = ap (λ (i : List ℕ). length i) b.its_input in omega (arith, e);
         its_count = b.its_count;
       };
-      rest = left_of told so.took;
+      rest = left_of first.left so.took;
       appends = so.wrote;
     }
   where
-    left_of : (t : Option (List ℕ)) → IfSome t (Took t left None so.got) → IfSome t (λ all. (more : List ℕ) × (all ≡ so.got ++ more) × (left ≡ Some more))
+    left_of : (t : Option (List ℕ)) → IfSome t (Took t feed.left None so.got) → IfSome t (λ all. (more : List ℕ) × (all ≡ so.got ++ more) × (feed'.left ≡ Some more))
     left_of None h = tt
-    left_of (Some all) h = (h.rest, h.split, h.left_so)
+    left_of (Some all) h = (h.rest, h.split, kept ∙ h.left_so)
 
 -- How many instructions are begun.
 
-pub less_than_most : (image : Image) → CanRun image → (bound : ℕ) (told left held holds : Option (List ℕ)) (ahead : Option Coming) (p : Prepared) (control : List ℕ) (turns begun : ℕ)
+pub less_than_most : (image : Image) → CanRun image → (bound : ℕ) (first feed : Feed) (held stream : Stream) (ahead : Option Coming) (p : Prepared) (control : List ℕ) (turns begun : ℕ)
     (r : Registers) (why : Why) → IsPrepared image p.stack.layout → length p.stack.rows.items ≡ 8192 → length control ≤ reach image
-    → SoFar image bound p control turns begun ahead told left held holds (PausesAt image p.stack.layout p.stack.region.items p.stack.rows.items r why) → suc begun ≤ most image bound
-less_than_most image can bound told left held holds ahead p control turns begun r why prepared long short so =
-    let t = untold left ahead so.got so.bytes so.byte in
+    → SoFar image bound p control turns begun ahead first feed held stream (PausesAt image p.stack.layout p.stack.region.items p.stack.rows.items r why) → suc begun ≤ most image bound
+less_than_most image can bound first feed held stream ahead p control turns begun r why prepared long short so =
+    let t = untold feed.left ahead so.got so.bytes so.byte in
     let c = so.comes t.rest false t.known in
     let q = c.leads in
     let l = begun_less image can p.stack.layout prepared p.stack.region.items p.stack.rows.items r q.procedure q.top q.rest q.shows long c.store

@@ -2,6 +2,7 @@
 use Rattle.std.proofs.Common.{◌≡◌, ℕ, List, Bool, false, Option, None, refl, sym, ap, subst, ◌∙◌, arith, add-zero}
 use Rattle.std.specs.Prelude.{IfSome, Result, Ok, Err, IfOk, slice_get}
 use Rattle.std.proofs.lemmas.Result.{IfOk-weaker}
+use Rattle.mesa_base.specs.Outside.{Feed, Stream}
 use Rattle.object_files.specs.declared.image.Image.{Image}
 use Rattle.signaller.specs.declared.signal_id.SignalId.TheVariants.{NoInput as NoInputSignal}
 use Rattle.machine_rules.specs.State.{Store, Stepped}
@@ -27,7 +28,7 @@ use Rattle.machine_ready.specs.Ready.{IsReady}
 use Rattle.frame_machine.specs.declared.outcome.RunFault.{RunFault}
 use Rattle.frame_machine.specs.declared.outcome.RunFault.TheVariants.{ReadFault}
 use Rattle.frame_machine.specs.Onward.{CanGoOn, Follows, HasRead, waits}
-use Rattle.frame_machine.specs.SoFar.{At, AtHost, Carries, SoFar, Then}
+use Rattle.frame_machine.specs.SoFar.{At, AtHost, Carries, SoFar}
 use Rattle.frame_machine.proofs.Going.{onward, broken}
 use Rattle.frame_machine.proofs.Pauses.{no_input_raises}
 use Rattle.frame_machine.proofs.Onwards.{Moves, seen, calls_so, still}
@@ -59,9 +60,9 @@ module _ (image : Image) (layout : Layout) (region : List ℕ) (table : List Row
 
 -- A call that reads.
 
-module _ (image : Image) (can : CanRun image) (p p' : Prepared) (turns : ℕ) (ahead ahead' : Option Coming) (left left' holds : Option (List ℕ)) (r : Registers) (reading : Reading)
+module _ (image : Image) (can : CanRun image) (p p' : Prepared) (turns : ℕ) (ahead ahead' : Option Coming) (feed feed' : Feed) (stream : Stream) (r : Registers) (reading : Reading)
     (words words' : List ℕ) (is : words ≡ p.stack.region.items) (is' : p'.stack.region.items ≡ words') where
-  pub can_read : IsReady image p → IsPrepared image p.stack.layout → IsAmple p.stack.layout p.stack.region.items p.stack.rows.items r.top → CanGoOn image p turns ahead left holds (AtHost image p r (Read reading))
+  pub can_read : IsReady image p → IsPrepared image p.stack.layout → IsAmple p.stack.layout p.stack.region.items p.stack.rows.items r.top → CanGoOn image p turns ahead feed stream (AtHost image p r (Read reading))
       → CanCall words r (Read reading)
   can_read ready prepared ample c = subst (λ (x : List ℕ). CanCall x r (Read reading)) (sym is) (record {
     image = image;
@@ -69,49 +70,48 @@ module _ (image : Image) (can : CanRun image) (p p' : Prepared) (turns : ℕ) (a
     table = p.stack.rows.items;
     prepared = prepared;
     ample = ample;
-    calls = calls_so image can p turns ahead left holds r (Read reading) c;
+    calls = calls_so image can p turns ahead feed stream r (Read reading) c;
   })
 
   module _ (prepared : IsPrepared image p.stack.layout) (ample : IsAmple p.stack.layout p.stack.region.items p.stack.rows.items r.top)
       (same_layout : p'.stack.layout ≡ p.stack.layout) (same_rows : p'.stack.rows.items ≡ p.stack.rows.items) (same_globals : p'.globals.items ≡ p.globals.items) (same_marks : p'.started.items ≡ p.started.items)
-      (sequel : ReadSequel) (reads : Reads reading ahead ahead' left left' words words' r sequel) where
-    reads_here : Reads reading ahead ahead' left left' p.stack.region.items p'.stack.region.items r sequel
+      (sequel : ReadSequel) (reads : Reads reading ahead ahead' feed.left feed'.left words words' r sequel) where
+    reads_here : Reads reading ahead ahead' feed.left feed'.left p.stack.region.items p'.stack.region.items r sequel
     reads_here =
-        subst (λ (x : List ℕ). Reads reading ahead ahead' left left' p.stack.region.items x r sequel) (sym is')
-        (subst (λ (x : List ℕ). Reads reading ahead ahead' left left' x words' r sequel) is reads)
+        subst (λ (x : List ℕ). Reads reading ahead ahead' feed.left feed'.left p.stack.region.items x r sequel) (sym is')
+        (subst (λ (x : List ℕ). Reads reading ahead ahead' feed.left feed'.left x words' r sequel) is reads)
 
-    pub read_moves : Moves image p p' turns turns 0 ahead ahead' left left' holds holds (AtHost image p r (Read reading)) (λ s m. ReadLeads image p'.stack.layout p'.stack.region.items p'.stack.rows.items r s m sequel)
-    read_moves bound control begun begun' told held short e so =
+    pub read_moves : Moves image p p' turns turns 0 ahead ahead' feed feed' stream stream (AtHost image p r (Read reading)) (λ s m. ReadLeads image p'.stack.layout p'.stack.region.items p'.stack.rows.items r s m sequel)
+    read_moves bound control begun begun' first held short e so =
         let k = reads_here in
         let known : Option Coming = known_after reading k.coming in
-        let there = read_on image bound told left left' held holds ahead p p' control turns begun r reading k.coming sequel prepared ample same_layout same_rows same_globals same_marks k.looks k.leads so in
-        subst (λ n. SoFar image bound p' control turns n ahead' told left' held holds (λ s m. ReadLeads image p'.stack.layout p'.stack.region.items p'.stack.rows.items r s m sequel)) (sym (e ∙ add-zero begun))
-        (subst (λ a. SoFar image bound p' control turns begun a told left' held holds (λ s m. ReadLeads image p'.stack.layout p'.stack.region.items p'.stack.rows.items r s m sequel)) (sym k.after)
-        (subst (λ (x : List Row). SoFar image bound p' control turns begun known told left' held holds (λ s m. ReadLeads image p'.stack.layout p'.stack.region.items x r s m sequel)) (sym same_rows)
-        (subst (λ (l : Layout). SoFar image bound p' control turns begun known told left' held holds (λ s m. ReadLeads image l p'.stack.region.items p.stack.rows.items r s m sequel)) (sym same_layout) there)))
+        let there = read_on image bound first feed feed' held stream ahead p p' control turns begun r reading k.coming sequel prepared ample same_layout same_rows same_globals same_marks k.looks k.leads so in
+        subst (λ n. SoFar image bound p' control turns n ahead' first feed' held stream (λ s m. ReadLeads image p'.stack.layout p'.stack.region.items p'.stack.rows.items r s m sequel)) (sym (e ∙ add-zero begun))
+        (subst (λ a. SoFar image bound p' control turns begun a first feed' held stream (λ s m. ReadLeads image p'.stack.layout p'.stack.region.items p'.stack.rows.items r s m sequel)) (sym k.after)
+        (subst (λ (x : List Row). SoFar image bound p' control turns begun known first feed' held stream (λ s m. ReadLeads image p'.stack.layout p'.stack.region.items x r s m sequel)) (sym same_rows)
+        (subst (λ (l : Layout). SoFar image bound p' control turns begun known first feed' held stream (λ s m. ReadLeads image l p'.stack.region.items p.stack.rows.items r s m sequel)) (sym same_layout) there)))
 
   -- the source failed
-  pub read_breaks : left' ≡ left → ahead ≡ None → Breaks words r reading
-      → Follows image p p' turns turns 0 ahead ahead' left left' holds holds (AtHost image p r (Read reading)) (Err ReadFault)
+  pub read_breaks : feed'.left ≡ feed.left → ahead ≡ None → Breaks words r reading
+      → Follows image p p' turns turns 0 ahead ahead' feed feed' stream stream (AtHost image p r (Read reading)) (Err ReadFault)
   read_breaks kept unknown breaks =
-      still image p p' turns turns ahead ahead' left left' holds holds (AtHost image p r (Read reading)) (Err ReadFault) (λ bound control begun told held short so.
-      subst (λ l. Then image bound p' control turns begun ahead' told l held holds (Err ReadFault)) (sym kept)
-      (broken image bound p control turns begun told left held holds r reading (subst (λ (x : List ℕ). Breaks x r reading) is breaks)
-      (subst (λ a. SoFar image bound p control turns begun a told left held holds (AtHost image p r (Read reading))) unknown so)))
+      still image p p' turns turns ahead ahead' feed feed' stream stream (AtHost image p r (Read reading)) (Err ReadFault) (λ bound control begun first held short so.
+      broken image bound p control turns begun first feed feed' held stream r reading kept (subst (λ (x : List ℕ). Breaks x r reading) is breaks)
+      (subst (λ a. SoFar image bound p control turns begun a first feed held stream (AtHost image p r (Read reading))) unknown so))
 
-module _ (image : Image) (can : CanRun image) (p p' : Prepared) (turns turns' : ℕ) (ahead : Option Coming) (left holds : Option (List ℕ)) (r : Registers) (sequel : ReadSequel) where
-  pub has_read : CanGoOn image p turns ahead left holds (λ s m. ReadLeads image p.stack.layout p.stack.region.items p.stack.rows.items r s m sequel) → HasRead image p r sequel
+module _ (image : Image) (can : CanRun image) (p p' : Prepared) (turns turns' : ℕ) (ahead : Option Coming) (feed : Feed) (stream : Stream) (r : Registers) (sequel : ReadSequel) where
+  pub has_read : CanGoOn image p turns ahead feed stream (λ s m. ReadLeads image p.stack.layout p.stack.region.items p.stack.rows.items r s m sequel) → HasRead image p r sequel
   has_read c =
-      let w = seen image can p turns ahead left holds (λ s m. ReadLeads image p.stack.layout p.stack.region.items p.stack.rows.items r s m sequel) c in
+      let w = seen image can p turns ahead feed stream (λ s m. ReadLeads image p.stack.layout p.stack.region.items p.stack.rows.items r s m sequel) c in
       record { start = begins image w.input false c.bound; store = w.comes.store; reads = w.comes.leads }
 
   -- what is done then
   pub then_moves : (same_globals : p'.globals.items ≡ p.globals.items) (same_marks : p'.started.items ≡ p.started.items) (result : Sequel)
       → ((s : Stepped) (m : Store) → m.turns ≡ turns → ReadLeads image p.stack.layout p.stack.region.items p.stack.rows.items r s m sequel
       → LeadsTo image p'.stack.layout p'.stack.region.items p'.stack.rows.items s (record m { turns = turns' }) result)
-      → Follows image p p' turns turns' 0 ahead ahead left left holds holds (λ s m. ReadLeads image p.stack.layout p.stack.region.items p.stack.rows.items r s m sequel) (Ok result)
-  then_moves same_globals same_marks result leads bound control begun begun' told held short e =
-      onward image can bound told left held holds ahead p p' control control turns turns' begun begun' (λ s m. ReadLeads image p.stack.layout p.stack.region.items p.stack.rows.items r s m sequel) (At image p' result)
+      → Follows image p p' turns turns' 0 ahead ahead feed feed stream stream (λ s m. ReadLeads image p.stack.layout p.stack.region.items p.stack.rows.items r s m sequel) (Ok result)
+  then_moves same_globals same_marks result leads bound control begun begun' first held short e =
+      onward image can bound first feed held stream ahead p p' control control turns turns' begun begun' (λ s m. ReadLeads image p.stack.layout p.stack.region.items p.stack.rows.items r s m sequel) (At image p' result)
       (λ s m output input faulty free b there. record {
         store = record m { turns = turns' };
         beside = record {

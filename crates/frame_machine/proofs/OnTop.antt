@@ -1,11 +1,11 @@
 -- What the loop of the topmost activation finds, and where it comes to.
-use Rattle.std.proofs.Common.{◌≡◌, ℕ, ◌+◌, ◌-◌, ◌*◌, ◌<◌, List, [], ◌++◌, length, set, get_or, Option, Some, sym, ap, subst, ◌∙◌, arith}
+use Rattle.std.proofs.Common.{◌≡◌, ℕ, ◌+◌, ◌-◌, ◌*◌, ◌<◌, List, [], ◌++◌, length, set, get_or, Some, sym, ap, subst, ◌∙◌, arith}
 use Rattle.std.specs.Prelude.{◌≢◌, IfSome, IsSomeAnd, slice_get}
 use Rattle.std.specs.Vec.{with_items}
 use Rattle.std.specs.declared.alloc.Global.{Global}
 use Rattle.std.specs.declared.vec.Vec.{Vec}
 use Rattle.std.proofs.lemmas.Option.{slice_get_within, get_or_from_slice_get}
-use Rattle.mesa_base.specs.Outside.{AppendsPrefix}
+use Rattle.mesa_base.specs.Outside.{Stream, AppendsPrefix}
 use Rattle.code_forms.specs.declared.module_code.CodeProcedure.{CodeProcedure}
 use Rattle.code_forms.specs.declared.module_code.ModuleCode.{ModuleCode}
 use Rattle.object_files.specs.declared.image.Image.{Image}
@@ -74,14 +74,14 @@ module _ (image : Image) (layout : Layout) (prepared : IsPrepared image layout) 
 
 -- What the loop has come to.
 
-module _ (image : Image) (layout : Layout) (prepared : IsPrepared image layout) (table : List Row) (i : ℕ) (held : Option (List ℕ)) (From : Stepped → Store → Type 0) where
+module _ (image : Image) (layout : Layout) (prepared : IsPrepared image layout) (table : List Row) (i : ℕ) (held : Stream) (From : Stepped → Store → Type 0) where
   pub nothing_run : (region : List ℕ) (r : Registers) (globals : List ℕ) (turns count : ℕ) → count ≡ 0 → ((s : Stepped) (m : Store) → From s m → TopAt image layout region table r i globals turns s m)
       → Wrote held held From (TopLater image layout region table r i globals turns count)
   nothing_run region r globals turns count none from = wrote_nothing held From (TopLater image layout region table r i globals turns count) (λ s m f.
       let t = from s m f in record { store = m; later = later_itself i m count globals turns none t.its_globals t.its_turns; shown = t.shown })
 
-  module _ (here : Somewhere image From) (holds : Option (List ℕ)) where
-    pub goes_on : (region : List ℕ) (r : Registers) (globals : List ℕ) (turns count : ℕ) → Wrote held holds From (TopLater image layout region table r i globals turns count)
+  module _ (here : Somewhere image From) (stream : Stream) where
+    pub goes_on : (region : List ℕ) (r : Registers) (globals : List ℕ) (turns count : ℕ) → Wrote held stream From (TopLater image layout region table r i globals turns count)
         → Somewhere image (TopAt image layout region table r i globals turns)
     goes_on region r globals turns count w =
         let t = w.leads here.start here.store here.at in
@@ -94,15 +94,15 @@ module _ (image : Image) (layout : Layout) (prepared : IsPrepared image layout) 
 
     -- so many instructions more
     pub runs_further : (region region' : List ℕ) (r : Registers) (globals globals' : List ℕ) (turns c d count : ℕ) (pause : Pause) → count ≡ c + d
-        → Wrote held holds From (TopLater image layout region table r i globals turns c)
+        → Wrote held stream From (TopLater image layout region table r i globals turns c)
         → ((s : Stepped) (m : Store) → TopAt image layout region table r i globals turns s m → TopRuns image layout region' table i globals' pause d s m)
-        → Wrote held holds From (TopRuns image layout region' table i globals' pause count)
+        → Wrote held stream From (TopRuns image layout region' table i globals' pause count)
     runs_further region region' r globals globals' turns c d count pause e w f =
-        subst (λ n. Wrote held holds From (TopRuns image layout region' table i globals' pause n)) (sym e)
-        (wrote_then held From holds (TopLater image layout region table r i globals turns c) w (TopRuns image layout region' table i globals' pause (c + d))
+        subst (λ n. Wrote held stream From (TopRuns image layout region' table i globals' pause n)) (sym e)
+        (wrote_then held From stream (TopLater image layout region table r i globals turns c) w (TopRuns image layout region' table i globals' pause (c + d))
         (top_later image layout table i region region' r globals globals' turns c d pause f))
 
-    module _ (region : List ℕ) (globals : List ℕ) (count : ℕ) (pause : Pause) (w : Wrote held holds From (TopRuns image layout region table i globals pause count)) where
+    module _ (region : List ℕ) (globals : List ℕ) (count : ℕ) (pause : Pause) (w : Wrote held stream From (TopRuns image layout region table i globals pause count)) where
       pub pause_stands : StandsIn image layout region table pause.registers
       pause_stands =
           let t = w.leads here.start here.store here.at in
@@ -128,16 +128,16 @@ module _ (image : Image) (layout : Layout) (prepared : IsPrepared image layout) 
             }
 
         -- behind the call
-        pub writes_further : (new : Option (List ℕ)) (piece : List ℕ) (r : Registers) → IfSome holds (λ bytes. new ≡ Some (bytes ++ piece)) → WritesOn image region pause.registers writing piece r
+        pub writes_further : (new : Stream) (piece : List ℕ) (r : Registers) → IfSome stream.holds (λ bytes. new.holds ≡ Some (bytes ++ piece)) → WritesOn image region pause.registers writing piece r
             → Wrote held new From (TopLater image layout region table r i globals (pause.turns - 1) count)
         writes_further new piece r given writes =
-            wrote_more held From holds (TopRuns image layout region table i globals pause count) w new piece given (TopLater image layout region table r i globals (pause.turns - 1) count)
+            wrote_more held From stream (TopRuns image layout region table i globals pause count) w new piece given (TopLater image layout region table r i globals (pause.turns - 1) count)
             (top_written image layout table i prepared region globals count pause writing piece r ample calls writes)
 
-        pub fails_there : (new : Option (List ℕ)) (top : ℕ) → pause.registers.top ≡ top → text_written image region pause.registers writing ≢ [] → IfSome holds (λ bytes. AppendsPrefix bytes (text_written image region pause.registers writing) new)
+        pub fails_there : (new : Stream) (top : ℕ) → pause.registers.top ≡ top → text_written image region pause.registers writing ≢ [] → IfSome stream.holds (λ bytes. AppendsPrefix bytes (text_written image region pause.registers writing) new.holds)
             → FailsAtWrite image layout region table top held new From (λ p. TopRuns image layout region table i globals p count)
         fails_there new top same some partly =
-            record { pause = pause; same_top = same; between = holds; comes = w; writing = writing; calls = calls; some = some; partly = partly }
+            record { pause = pause; same_top = same; between = stream; comes = w; writing = writing; calls = calls; some = some; partly = partly }
 
 -- Of all that a run has.
 
@@ -200,10 +200,10 @@ module _ (image : Image) (p : Prepared) (ready : IsReady image p) (r : Registers
 module _ (image : Image) (p p' : Prepared) (r : Registers) (turns : ℕ) (i : ℕ) (globals' : List ℕ) (count : ℕ) (Top : Stepped → Store → Type 0)
     (top : (s : Stepped) (m : Store) → GoesAt image p r turns s m → Top s m)
     (globals : (m n : Store) → ShowsGlobals p m.globals → n.globals i ≡ globals' → ((j : ℕ) → j ≢ i → n.globals j ≡ m.globals j) → ShowsGlobals p' n.globals)
-    (held : Option (List ℕ)) where
-  pub wrote_paused : (holds : Option (List ℕ)) (pause : Pause) → Wrote held holds Top (on p'.stack (TopRuns image) i globals' pause count)
-      → Wrote held holds (GoesAt image p r turns) (Paused image p' pause count)
-  wrote_paused holds pause w = record {
+    (held : Stream) where
+  pub wrote_paused : (stream : Stream) (pause : Pause) → Wrote held stream Top (on p'.stack (TopRuns image) i globals' pause count)
+      → Wrote held stream (GoesAt image p r turns) (Paused image p' pause count)
+  wrote_paused stream pause w = record {
     output = w.output;
     given = w.given;
     leads = λ s m from.
@@ -211,9 +211,9 @@ module _ (image : Image) (p p' : Prepared) (r : Registers) (turns : ℕ) (i : �
         (λ before n later. globals m n from.its_globals later.own later.others) (w.leads s m (top s m from));
   }
 
-  pub fails_paused : (holds : Option (List ℕ)) (place : ℕ) → on p'.stack (FailsAtWrite image) place held holds Top (λ pause. on p'.stack (TopRuns image) i globals' pause count)
-      → on p'.stack (FailsAtWrite image) place held holds (GoesAt image p r turns) (λ pause. Paused image p' pause count)
-  fails_paused holds place h = record {
+  pub fails_paused : (stream : Stream) (place : ℕ) → on p'.stack (FailsAtWrite image) place held stream Top (λ pause. on p'.stack (TopRuns image) i globals' pause count)
+      → on p'.stack (FailsAtWrite image) place held stream (GoesAt image p r turns) (λ pause. Paused image p' pause count)
+  fails_paused stream place h = record {
     pause = h.pause;
     same_top = h.same_top;
     between = h.between;

@@ -2,6 +2,7 @@
 use Rattle.std.proofs.Common.{◌≡◌, ℕ, ◌<◌, List, [], ◌∷◌, ◌++◌, Bool, Option, Some, None, refl, sym, ap, subst, ◌∙◌, append_assoc}
 use Rattle.std.specs.Prelude.{IfSome, slice_get}
 use Rattle.std.proofs.lemmas.Option.{none-some, same_Some}
+use Rattle.mesa_base.specs.Outside.{Feed, Stream}
 use Rattle.object_files.specs.declared.image.Image.{Image}
 use Rattle.machine_rules.specs.Steps.{begins}
 use Rattle.machine_topmost.specs.declared.registers.Registers.{Registers}
@@ -99,19 +100,19 @@ byte_after AtEnd coming byte b e = byte b (same_Some coming (Byte b) e)
 
 -- The machine reads that, or raises NoInput.
 
-module _ (image : Image) (bound : ℕ) (told left left' held holds : Option (List ℕ)) (ahead : Option Coming) (p p' : Prepared) (control : List ℕ) (turns begun : ℕ)
+module _ (image : Image) (bound : ℕ) (first feed feed' : Feed) (held stream : Stream) (ahead : Option Coming) (p p' : Prepared) (control : List ℕ) (turns begun : ℕ)
     (r : Registers) (reading : Reading) (coming : Coming) (sequel : ReadSequel) (prepared : IsPrepared image p.stack.layout) (ample : IsAmple p.stack.layout p.stack.region.items p.stack.rows.items r.top)
     (same_layout : p'.stack.layout ≡ p.stack.layout) (same_rows : p'.stack.rows.items ≡ p.stack.rows.items) (same_globals : p'.globals.items ≡ p.globals.items) (same_marks : p'.started.items ≡ p.started.items)
-    (looks : Looks ahead coming left left') (leads : ReadsOn p.stack.region.items p'.stack.region.items r reading coming sequel) where
-  pub read_on : SoFar image bound p control turns begun ahead told left held holds (AtHost image p r (Read reading))
-      → SoFar image bound p' control turns begun (known_after reading coming) told left' held holds (λ s m. ReadLeads image p.stack.layout p'.stack.region.items p.stack.rows.items r s m sequel)
+    (looks : Looks ahead coming feed.left feed'.left) (leads : ReadsOn p.stack.region.items p'.stack.region.items r reading coming sequel) where
+  pub read_on : SoFar image bound p control turns begun ahead first feed held stream (AtHost image p r (Read reading))
+      → SoFar image bound p' control turns begun (known_after reading coming) first feed' held stream (λ s m. ReadLeads image p.stack.layout p'.stack.region.items p.stack.rows.items r s m sequel)
   unfolding LinkLeads
   read_on so = record {
     got = got_after reading coming so.got;
     output = so.output;
     bytes = got_bytes reading coming so.got looks.byte so.bytes;
     byte = byte_after reading coming looks.byte;
-    took = took_then told left left' ahead reading coming so.got looks so.took;
+    took = took_then first.left feed.left feed'.left ahead reading coming so.got looks so.took;
     wrote = so.wrote;
     comes = λ rest faulty known.
         let before = comes_before reading coming rest faulty known in

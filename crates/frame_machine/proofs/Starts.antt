@@ -3,6 +3,7 @@ use Rattle.std.proofs.Common.{◌≡◌, ℕ, zero, suc, ◌+◌, ◌-◌, ◌<�
 use Rattle.std.specs.Prelude.{slice_get, slice_set, IfSome, IsSome, Ok, Err}
 use Rattle.std.proofs.lemmas.List.{length-drop}
 use Rattle.std.proofs.lemmas.Option.{get_or_from_slice_get}
+use Rattle.mesa_base.specs.Outside.{Feed, Stream}
 use Rattle.object_files.specs.declared.image.Image.{Image}
 use Rattle.object_files.specs.declared.image.Instance.{Instance}
 use Rattle.machine_rules.specs.declared.end.End.{End}
@@ -63,10 +64,10 @@ pub started_then : (image : Image) (can : CanRun image) (p p' : Prepared) (insta
     → p'.started.items ≡ slice_set p.started.items instance true → p'.globals.items ≡ p.globals.items
     → ((s : Stepped) (m : Store) → m.turns ≡ turns → Reaches image s (start image instance [] m)
     → LeadsTo image p'.stack.layout p'.stack.region.items p'.stack.rows.items s (record m { started = set_of m.started instance true; turns = turns' }) sequel)
-    → (bound : ℕ) (control : List ℕ) (begun : ℕ) (ahead : Option Coming) (told left held holds : Option (List ℕ))
-    → SoFar image bound p (instance ∷ control) turns begun ahead told left held holds (At image p Empty) → SoFar image bound p' control turns' begun ahead told left held holds (At image p' sequel)
-started_then image can p p' instance turns turns' sequel within unmarked marks globals leads bound control begun ahead told left held holds so =
-    onward image can bound told left held holds ahead p p' control control turns turns' begun begun (λ s m. Reaches image s (start image instance [] m)) (At image p' sequel)
+    → (bound : ℕ) (control : List ℕ) (begun : ℕ) (ahead : Option Coming) (first feed : Feed) (held stream : Stream)
+    → SoFar image bound p (instance ∷ control) turns begun ahead first feed held stream (At image p Empty) → SoFar image bound p' control turns' begun ahead first feed held stream (At image p' sequel)
+started_then image can p p' instance turns turns' sequel within unmarked marks globals leads bound control begun ahead first feed held stream so =
+    onward image can bound first feed held stream ahead p p' control control turns turns' begun begun (λ s m. Reaches image s (start image instance [] m)) (At image p' sequel)
     (λ s m output input faulty free b reaches. record {
       store = record m { started = set_of m.started instance true; turns = turns' };
       beside = record {
@@ -80,31 +81,31 @@ started_then image can p p' instance turns turns' sequel within unmarked marks g
         its_fault = b.its_fault;
       };
       leads = leads s m b.its_turns reaches;
-    }) (starting image can bound told left held holds ahead p instance control turns begun unmarked so)
+    }) (starting image can bound first feed held stream ahead p instance control turns begun unmarked so)
 
 -- The run of an instance.
 
-module _ (image : Image) (p : Prepared) (instance turns : ℕ) (ahead : Option Coming) (left holds : Option (List ℕ)) where
-  pub begun_then : (p' : Prepared) (turns' : ℕ) (sequel : Sequel) → CanStart image p instance turns ahead left holds
-      → ((bound : ℕ) (control : List ℕ) (begun : ℕ) (ahead : Option Coming) (told left held holds : Option (List ℕ))
-      → SoFar image bound p (instance ∷ control) turns begun ahead told left held holds (At image p Empty) → SoFar image bound p' control turns' begun ahead told left held holds (At image p' sequel))
-      → CanGoOn image p' turns' ahead left holds (At image p' sequel)
+module _ (image : Image) (p : Prepared) (instance turns : ℕ) (ahead : Option Coming) (feed : Feed) (stream : Stream) where
+  pub begun_then : (p' : Prepared) (turns' : ℕ) (sequel : Sequel) → CanStart image p instance turns ahead feed stream
+      → ((bound : ℕ) (control : List ℕ) (begun : ℕ) (ahead : Option Coming) (first feed : Feed) (held stream : Stream)
+      → SoFar image bound p (instance ∷ control) turns begun ahead first feed held stream (At image p Empty) → SoFar image bound p' control turns' begun ahead first feed held stream (At image p' sequel))
+      → CanGoOn image p' turns' ahead feed stream (At image p' sequel)
   begun_then p' turns' sequel c f = record {
     bound = c.bound;
     few = c.few;
     control = c.control;
     short = let s = c.short in omega (arith, s);
     begun = c.begun;
-    told = c.told;
+    first = c.first;
     held = c.held;
-    so = f c.bound c.control c.begun ahead c.told left c.held holds c.so;
+    so = f c.bound c.control c.begun ahead c.first feed c.held stream c.so;
   }
 
-  pub passes : (can : CanRun image) → slice_get p.started.items instance ≡ Some true → (bound : ℕ) (control : List ℕ) (begun begun' steps : ℕ) (told held : Option (List ℕ)) → begun' ≡ begun + (steps - steps)
-      → SoFar image bound p (instance ∷ control) turns begun ahead told left held holds (At image p Empty) → SoFar image bound p control turns begun' ahead told left held holds (At image p Empty)
-  passes can mark bound control begun begun' steps told held e so =
-      subst (λ n. SoFar image bound p control turns n ahead told left held holds (At image p Empty)) (let k : begun ≡ begun' = omega (arith, e) in k)
-      (passed image can bound told left held holds ahead p instance control turns begun mark so)
+  pub passes : (can : CanRun image) → slice_get p.started.items instance ≡ Some true → (bound : ℕ) (control : List ℕ) (begun begun' steps : ℕ) (first : Feed) (held : Stream) → begun' ≡ begun + (steps - steps)
+      → SoFar image bound p (instance ∷ control) turns begun ahead first feed held stream (At image p Empty) → SoFar image bound p control turns begun' ahead first feed held stream (At image p Empty)
+  passes can mark bound control begun begun' steps first held e so =
+      subst (λ n. SoFar image bound p control turns n ahead first feed held stream (At image p Empty)) (let k : begun ≡ begun' = omega (arith, e) in k)
+      (passed image can bound first feed held stream ahead p instance control turns begun mark so)
 
 -- CONTROL.
 
@@ -133,53 +134,53 @@ module _ (image : Image) (items : List ℕ) (same : items ≡ image.control) (i 
   pub short_so : suc (length (drop (i + 1) image.control)) ≤ length image.control
   short_so = let l = length-drop (i + 1) image.control in let k = less_there in omega (arith, l, k)
 
-  module _ (bound : ℕ) (p : Prepared) (turns begun : ℕ) (ahead : Option Coming) (told left held holds : Option (List ℕ))
-      (so : SoFar image bound p (drop i image.control) turns begun ahead told left held holds (At image p Empty)) where
-    pub next_so : SoFar image bound p (get_or items i 0 ∷ drop (i + 1) image.control) turns begun ahead told left held holds (At image p Empty)
+  module _ (bound : ℕ) (p : Prepared) (turns begun : ℕ) (ahead : Option Coming) (first feed : Feed) (held stream : Stream)
+      (so : SoFar image bound p (drop i image.control) turns begun ahead first feed held stream (At image p Empty)) where
+    pub next_so : SoFar image bound p (get_or items i 0 ∷ drop (i + 1) image.control) turns begun ahead first feed held stream (At image p Empty)
     next_so =
-        subst (λ (c : List ℕ). SoFar image bound p c turns begun ahead told left held holds (At image p Empty))
+        subst (λ (c : List ℕ). SoFar image bound p c turns begun ahead first feed held stream (At image p Empty))
         (next_of_control image.control i (get_or items i 0) less_there (ap (λ (xs : List ℕ). get_or xs i 0) same)) so
 
-    pub can_start : bound < 18446744073709551616 → CanStart image p (get_or items i 0) turns ahead left holds
+    pub can_start : bound < 18446744073709551616 → CanStart image p (get_or items i 0) turns ahead feed stream
     can_start few = record {
       bound = bound;
       few = few;
       control = drop (i + 1) image.control;
       short = short_so;
       begun = begun;
-      told = told;
+      first = first;
       held = held;
       so = next_so;
     }
 
-module _ (image : Image) (bound : ℕ) (p : Prepared) (turns begun : ℕ) (ahead : Option Coming) (told left held holds : Option (List ℕ)) where
-  pub done_so : (i : ℕ) → length image.control ≤ i → SoFar image bound p (drop i image.control) turns begun ahead told left held holds (At image p Empty)
-      → Completes image bound (record { end = Done; left = turns }) begun told left held holds
+module _ (image : Image) (bound : ℕ) (p : Prepared) (turns begun : ℕ) (ahead : Option Coming) (first feed : Feed) (held stream : Stream) where
+  pub done_so : (i : ℕ) → length image.control ≤ i → SoFar image bound p (drop i image.control) turns begun ahead first feed held stream (At image p Empty)
+      → Completes image bound (record { end = Done; left = turns }) begun first feed held stream
   done_so i l so =
-      completes image bound p [] turns begun ahead told left held holds Done
-      (all_done image bound p [] turns begun ahead told left held holds
-      (subst (λ (c : List ℕ). SoFar image bound p c turns begun ahead told left held holds (At image p Empty)) (none_of_control image.control i l) so))
+      completes image bound p [] turns begun ahead first feed held stream Done
+      (all_done image bound p [] turns begun ahead first feed held stream
+      (subst (λ (c : List ℕ). SoFar image bound p c turns begun ahead first feed held stream (At image p Empty)) (none_of_control image.control i l) so))
 
-pub range_so : (image : Image) (p : Prepared) (turns : ℕ) (end : End) (left_turns count : ℕ) (told left held holds : Option (List ℕ)) → IsReady image p
-    → Completes image turns (record { end = end; left = left_turns }) count told left held holds → EndIsInRange image end
-range_so image p turns end left_turns count told left held holds ready c = ends_in_range image (ready_can_run image p ready) c.input false turns end c.runs.last c.runs.ends
+pub range_so : (image : Image) (p : Prepared) (turns : ℕ) (end : End) (left_turns count : ℕ) (first feed : Feed) (held stream : Stream) → IsReady image p
+    → Completes image turns (record { end = end; left = left_turns }) count first feed held stream → EndIsInRange image end
+range_so image p turns end left_turns count first feed held stream ready c = ends_in_range image (ready_can_run image p ready) c.input false turns end c.runs.last c.runs.ends
 
 -- where it breaks off
-module _ (image : Image) (bound : ℕ) (p : Prepared) (control : List ℕ) (turns begun : ℕ) (ahead : Option Coming) (told left held holds : Option (List ℕ)) (fault : RunFault)
-    (so : Then image bound p control turns begun ahead told left held holds (Err fault)) where
-  pub at_input : fault ≡ ReadFault → BreaksAtInput image bound begun told left held holds
-  at_input e = subst (λ (f : RunFault). Then image bound p control turns begun ahead told left held holds (Err f)) e so
+module _ (image : Image) (bound : ℕ) (p : Prepared) (control : List ℕ) (turns begun : ℕ) (ahead : Option Coming) (first feed : Feed) (held stream : Stream) (fault : RunFault)
+    (so : Then image bound p control turns begun ahead first feed held stream (Err fault)) where
+  pub at_input : fault ≡ ReadFault → BreaksAtInput image bound begun first feed held stream
+  at_input e = subst (λ (f : RunFault). Then image bound p control turns begun ahead first feed held stream (Err f)) e so
 
-  pub at_output : fault ≡ WriteFault → BreaksAtOutput image bound begun told left held holds × CutsOff image bound told left held holds
-  at_output e = subst (λ (f : RunFault). Then image bound p control turns begun ahead told left held holds (Err f)) e so
+  pub at_output : fault ≡ WriteFault → BreaksAtOutput image bound begun first feed held stream × CutsOff image bound first feed held stream
+  at_output e = subst (λ (f : RunFault). Then image bound p control turns begun ahead first feed held stream (Err f)) e so
 
--- where an instance's run ends, or no activation is left
-module _ (image : Image) (bound : ℕ) (p : Prepared) (control : List ℕ) (turns begun : ℕ) (ahead : Option Coming) (told left held holds : Option (List ℕ)) (last : Option End)
-    (so : Then image bound p control turns begun ahead told left held holds (last_sequel (Ok last))) where
-  pub ended_so : (end : End) → last ≡ Some end → Completes image bound (record { end = end; left = turns }) begun told left held holds
+-- where an instance's run ends, or no activation is feed
+module _ (image : Image) (bound : ℕ) (p : Prepared) (control : List ℕ) (turns begun : ℕ) (ahead : Option Coming) (first feed : Feed) (held stream : Stream) (last : Option End)
+    (so : Then image bound p control turns begun ahead first feed held stream (last_sequel (Ok last))) where
+  pub ended_so : (end : End) → last ≡ Some end → Completes image bound (record { end = end; left = turns }) begun first feed held stream
   ended_so end is =
-      completes image bound p control turns begun ahead told left held holds end
-      (subst (λ (o : Option End). Then image bound p control turns begun ahead told left held holds (last_sequel (Ok o))) is so)
+      completes image bound p control turns begun ahead first feed held stream end
+      (subst (λ (o : Option End). Then image bound p control turns begun ahead first feed held stream (last_sequel (Ok o))) is so)
 
-  pub empty_so : last ≡ None → SoFar image bound p control turns begun ahead told left held holds (At image p Empty)
-  empty_so is = subst (λ (o : Option End). Then image bound p control turns begun ahead told left held holds (last_sequel (Ok o))) is so
+  pub empty_so : last ≡ None → SoFar image bound p control turns begun ahead first feed held stream (At image p Empty)
+  empty_so is = subst (λ (o : Option End). Then image bound p control turns begun ahead first feed held stream (last_sequel (Ok o))) is so

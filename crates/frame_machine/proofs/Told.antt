@@ -5,7 +5,7 @@ use Rattle.std.proofs.lemmas.List.{take-append-le, length-append}
 use Rattle.std.proofs.lemmas.List.Elements.{All-nil, All-cons, All-append}
 use Rattle.std.proofs.lemmas.Option.{none-some, same_Some}
 use Rattle.std.proofs.Math.Seq.{take-append-add}
-use Rattle.mesa_base.specs.Outside.{AppendsPrefix}
+use Rattle.mesa_base.specs.Outside.{Feed, Stream, AppendsPrefix}
 use Rattle.object_files.specs.declared.image.Image.{Image}
 use Rattle.machine_rules.specs.declared.end.End.{End}
 use Rattle.machine_rules.specs.declared.end.End.TheVariants.{Done}
@@ -138,18 +138,18 @@ received_further (Some bytes) holds holds' output piece rest whole a b e =
 
 -- Ends.
 
-module _ (image : Image) (bound : ℕ) (p : Prepared) (control : List ℕ) (turns begun : ℕ) (ahead : Option Coming) (told left held holds : Option (List ℕ)) where
-  pub completes : (end : End) → SoFar image bound p control turns begun ahead told left held holds (At image p (EndsSo end))
-      → Completes image bound (record { end = end; left = turns }) begun told left held holds
+module _ (image : Image) (bound : ℕ) (p : Prepared) (control : List ℕ) (turns begun : ℕ) (ahead : Option Coming) (first feed : Feed) (held stream : Stream) where
+  pub completes : (end : End) → SoFar image bound p control turns begun ahead first feed held stream (At image p (EndsSo end))
+      → Completes image bound (record { end = end; left = turns }) begun first feed held stream
   unfolding LeadsTo
   completes end so =
-      let r = rest_of told left ahead so.got so.bytes so.byte so.took in
+      let r = rest_of first.left feed.left ahead so.got so.bytes so.byte so.took in
       let c = so.comes r.rest false r.known in
       record {
         input = so.got ++ r.rest;
         output = so.output;
         taken = length so.got;
-        is_input = input_of told left ahead so.got r;
+        is_input = input_of first.left feed.left ahead so.got r;
         runs = record {
           last = c.store;
           ends = c.leads;
@@ -158,12 +158,12 @@ module _ (image : Image) (bound : ℕ) (p : Prepared) (control : List ℕ) (turn
           its_input = ap (λ (i : List ℕ). length (so.got ++ r.rest) - length i) c.beside.its_input ∙ taken_so so.got r.rest;
           its_count = c.beside.its_count;
         };
-        rest = has_rest told left so.got r.left_so;
+        rest = has_rest first.left feed.left so.got r.left_so;
         appends = so.wrote;
       }
 
   -- all instances are started
-  pub all_done : SoFar image bound p [] turns begun ahead told left held holds (At image p Empty) → SoFar image bound p [] turns begun ahead told left held holds (At image p (EndsSo Done))
+  pub all_done : SoFar image bound p [] turns begun ahead first feed held stream (At image p Empty) → SoFar image bound p [] turns begun ahead first feed held stream (At image p (EndsSo Done))
   unfolding LeadsTo step run start_next
   all_done so = record {
     got = so.got;
@@ -183,13 +183,13 @@ module _ (image : Image) (bound : ℕ) (p : Prepared) (control : List ℕ) (turn
   }
 
   -- the sink failed at a piece, behind which the machine goes on
-  pub cut_off : HasValidCode image → length p.stack.rows.items ≡ 8192 → length control ≤ reach image → (r : Registers) (holds' : Option (List ℕ)) (got output piece : List ℕ)
-      → AreBytes got → IsByteAhead ahead → IfSome told (Took told left ahead got) → IfSome held (λ bytes. holds ≡ Some (bytes ++ output)) → IfSome holds (λ bytes. AppendsPrefix bytes piece holds')
+  pub cut_off : HasValidCode image → length p.stack.rows.items ≡ 8192 → length control ≤ reach image → (r : Registers) (stream' : Stream) (got output piece : List ℕ)
+      → AreBytes got → IsByteAhead ahead → IfSome first.left (Took first.left feed.left ahead got) → IfSome held.holds (λ bytes. stream.holds ≡ Some (bytes ++ output)) → IfSome stream.holds (λ bytes. AppendsPrefix bytes piece stream'.holds)
       → ((rest : List ℕ) (faulty : Bool) → Known ahead rest faulty → ComesTo (begins image (got ++ rest) faulty bound) p control turns begun (output ++ piece) rest faulty (At image p (GoesOn r)))
-      → CutsOff image bound told left held holds'
+      → CutsOff image bound first feed held stream'
   unfolding LeadsTo
-  cut_off valid long short r holds' got output piece bytes byte took wrote partly comes =
-      let t = rest_of told left ahead got bytes byte took in
+  cut_off valid long short r stream' got output piece bytes byte took wrote partly comes =
+      let t = rest_of first.left feed.left ahead got bytes byte took in
       let c = comes t.rest false t.known in
       let shown : Shown image p.stack.layout p.stack.region.items p.stack.rows.items r (begins image (got ++ t.rest) false bound) c.store = c.leads in
       let g = goes_on image valid p.stack.layout p.stack.region.items p.stack.rows.items r shown.procedure shown.top shown.rest shown.shows long c.store (subst (λ (l : List ℕ). length l ≤ reach image) (sym c.beside.its_control) short) in
@@ -201,8 +201,8 @@ module _ (image : Image) (bound : ℕ) (p : Prepared) (control : List ℕ) (turn
         turns_left = g.last.turns;
         taken = length (got ++ t.rest) - length g.last.input;
         count = g.last.begun;
-        is_input = input_of told left ahead got t;
+        is_input = input_of first.left feed.left ahead got t;
         runs = record { last = g.last; ends = ends_alike image _ _ shown.reaches g.end g.last g.ends; its_output = refl; its_turns = refl; its_input = refl; its_count = refl };
-        rest = left_later told left got _ (let l = length-append got t.rest in let k = ap (λ (x : List ℕ). length x) split in let n = length-append g.so.taken g.last.input in omega (arith, l, k, n)) t.left_so;
-        appends = received_further held holds holds' output piece g.so.written g.last.output wrote partly (g.so.output ∙ ap (λ o. o ++ g.so.written) c.beside.its_output);
+        rest = left_later first.left feed.left got _ (let l = length-append got t.rest in let k = ap (λ (x : List ℕ). length x) split in let n = length-append g.so.taken g.last.input in omega (arith, l, k, n)) t.left_so;
+        appends = received_further held.holds stream.holds stream'.holds output piece g.so.written g.last.output wrote partly (g.so.output ∙ ap (λ o. o ++ g.so.written) c.beside.its_output);
       }

@@ -1,7 +1,7 @@
 -- Where the sink fails, the machine stands at a call that writes.
 use Rattle.std.proofs.Common.{◌≡◌, ℕ, ◌≤◌, List, [], ◌++◌, length, false, Option, Some, None, sym, subst, ◌∙◌, arith}
 use Rattle.std.specs.Prelude.{◌≢◌, IfSome, Err}
-use Rattle.mesa_base.specs.Outside.{AppendsPrefix}
+use Rattle.mesa_base.specs.Outside.{Feed, Stream, AppendsPrefix}
 use Rattle.object_files.specs.declared.image.Image.{Image}
 use Rattle.machine_rules.specs.Laws.{CanRun}
 use Rattle.machine_topmost.specs.declared.registers.Registers.{Registers}
@@ -25,13 +25,13 @@ received_prefix : (held holds holds' : Option (List ℕ)) (output piece : List �
 received_prefix None holds holds' output piece a b = tt
 received_prefix (Some bytes) holds holds' output piece a b = subst (λ h. IfSome h (λ bytes. AppendsPrefix bytes piece holds')) a b
 
-pub breaks_at_write : (image : Image) (bound : ℕ) (p : Prepared) (control : List ℕ) (turns begun : ℕ) (ahead : Option Coming) (told left held holds holds' : Option (List ℕ)) (r : Registers) (writing : Writing)
+pub breaks_at_write : (image : Image) (bound : ℕ) (p : Prepared) (control : List ℕ) (turns begun : ℕ) (ahead : Option Coming) (first feed : Feed) (held stream stream' : Stream) (r : Registers) (writing : Writing)
     → IsPrepared image p.stack.layout → IsAmple p.stack.layout p.stack.region.items p.stack.rows.items r.top → text_written image p.stack.region.items r writing ≢ []
-    → IfSome holds (λ bytes. AppendsPrefix bytes (text_written image p.stack.region.items r writing) holds')
-    → SoFar image bound p control turns begun ahead told left held holds (AtHost image p r (Write writing)) → BreaksAtOutput image bound begun told left held holds'
+    → IfSome stream.holds (λ bytes. AppendsPrefix bytes (text_written image p.stack.region.items r writing) stream'.holds)
+    → SoFar image bound p control turns begun ahead first feed held stream (AtHost image p r (Write writing)) → BreaksAtOutput image bound begun first feed held stream'
 unfolding LinkLeads
-breaks_at_write image bound p control turns begun ahead told left held holds holds' r writing prepared ample some partly so =
-    let t = rest_of told left ahead so.got so.bytes so.byte so.took in
+breaks_at_write image bound p control turns begun ahead first feed held stream stream' r writing prepared ample some partly so =
+    let t = rest_of first.left feed.left ahead so.got so.bytes so.byte so.took in
     let c = so.comes t.rest false t.known in
     record {
       input = so.got ++ t.rest;
@@ -39,7 +39,7 @@ breaks_at_write image bound p control turns begun ahead told left held holds hol
       piece = text_written image p.stack.region.items r writing;
       turns_left = turns;
       taken = length so.got;
-      is_input = input_of told left ahead so.got t;
+      is_input = input_of first.left feed.left ahead so.got t;
       comes = record {
         procedure = host_is (Write writing);
         caller = c.leads.0.top;
@@ -53,18 +53,18 @@ breaks_at_write image bound p control turns begun ahead told left held holds hol
         some = some;
         writes = (_, writes image p.stack.layout prepared p.stack.region.items p.stack.rows.items r ample writing c.leads.0 c.store);
       };
-      rest = has_rest told left so.got t.left_so;
-      appends = received_prefix held holds holds' so.output (text_written image p.stack.region.items r writing) so.wrote partly;
+      rest = has_rest first.left feed.left so.got t.left_so;
+      appends = received_prefix held.holds stream.holds stream'.holds so.output (text_written image p.stack.region.items r writing) so.wrote partly;
     }
 
-pub write_breaks : (image : Image) (can : CanRun image) (bound : ℕ) (p : Prepared) (control : List ℕ) (turns begun : ℕ) (ahead : Option Coming) (told left held holds holds' : Option (List ℕ)) (r : Registers)
+pub write_breaks : (image : Image) (can : CanRun image) (bound : ℕ) (p : Prepared) (control : List ℕ) (turns begun : ℕ) (ahead : Option Coming) (first feed : Feed) (held stream stream' : Stream) (r : Registers)
     (writing : Writing) → IsPrepared image p.stack.layout → IsAmple p.stack.layout p.stack.region.items p.stack.rows.items r.top → length control ≤ length image.control → text_written image p.stack.region.items r writing ≢ []
-    → IfSome holds (λ bytes. AppendsPrefix bytes (text_written image p.stack.region.items r writing) holds')
-    → SoFar image bound p control turns begun ahead told left held holds (AtHost image p r (Write writing)) → Then image bound p control turns begun ahead told left held holds' (Err WriteFault)
-write_breaks image can bound p control turns begun ahead told left held holds holds' r writing prepared ample short some partly so =
+    → IfSome stream.holds (λ bytes. AppendsPrefix bytes (text_written image p.stack.region.items r writing) stream'.holds)
+    → SoFar image bound p control turns begun ahead first feed held stream (AtHost image p r (Write writing)) → Then image bound p control turns begun ahead first feed held stream' (Err WriteFault)
+write_breaks image can bound p control turns begun ahead first feed held stream stream' r writing prepared ample short some partly so =
     let behind : Registers = behind_call (Write writing) r in
     let piece : List ℕ = text_written image p.stack.region.items r writing in (
-      breaks_at_write image bound p control turns begun ahead told left held holds holds' r writing prepared ample some partly so,
-      cut_off image bound p control turns begun ahead told left held holds prepared.valid ample.long (omega (arith, short)) behind holds' so.got so.output piece so.bytes so.byte so.took so.wrote partly
-          (wrote_on image can bound told left held holds ahead p control turns begun r behind writing piece prepared ample (writes_on image p.stack.region.items r writing) so),
+      breaks_at_write image bound p control turns begun ahead first feed held stream stream' r writing prepared ample some partly so,
+      cut_off image bound p control turns begun ahead first feed held stream prepared.valid ample.long (omega (arith, short)) behind stream' so.got so.output piece so.bytes so.byte so.took so.wrote partly
+          (wrote_on image can bound first feed held stream ahead p control turns begun r behind writing piece prepared ample (writes_on image p.stack.region.items r writing) so),
     )

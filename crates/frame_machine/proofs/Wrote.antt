@@ -1,6 +1,7 @@
 -- What the topmost activation has written by and by.
 use Rattle.std.proofs.Common.{◌≡◌, ℕ, suc, ◌+◌, ◌-◌, List, [], ◌++◌, Option, Some, None, refl, sym, ap, subst, ◌∙◌, arith, append_assoc, append-nil}
 use Rattle.std.specs.Prelude.{IfSome}
+use Rattle.mesa_base.specs.Outside.{Stream}
 use Rattle.object_files.specs.declared.image.Image.{Image}
 use Rattle.machine_rules.specs.State.{Store, Stepped}
 use Rattle.machine_topmost.specs.declared.registers.Pause.{Pause}
@@ -27,23 +28,23 @@ pub received_more : (held old new : Option (List ℕ)) (output piece : List ℕ)
 received_more None old new output piece a b = tt
 received_more (Some bytes) old new output piece a b = subst (λ h. IfSome h (λ bytes. new ≡ Some (bytes ++ piece))) a b ∙ ap Some (append_assoc bytes output piece)
 
-module _ (held : Option (List ℕ)) (From : Stepped → Store → Type 0) where
+module _ (held : Stream) (From : Stepped → Store → Type 0) where
   pub wrote_nothing : (Place : Stepped → Store → Type 0) → ((s : Stepped) (m : Store) → From s m → Place s m) → Wrote held held From Place
   wrote_nothing Place f = record {
     output = [];
-    given = received_nothing held;
+    given = received_nothing held.holds;
     leads = λ s m from. subst (λ o. Place s (record m { output = o })) (sym (append-nil m.output)) (f s m from);
   }
 
-  module _ (old : Option (List ℕ)) (P : Stepped → Store → Type 0) (w : Wrote held old From P) where
+  module _ (old : Stream) (P : Stepped → Store → Type 0) (w : Wrote held old From P) where
     pub wrote_then : (Q : Stepped → Store → Type 0) → ((s : Stepped) (m : Store) → P s m → Q s m) → Wrote held old From Q
     wrote_then Q f = record { output = w.output; given = w.given; leads = λ s m from. f s (record m { output = m.output ++ w.output }) (w.leads s m from) }
 
-    pub wrote_more : (new : Option (List ℕ)) (piece : List ℕ) → IfSome old (λ bytes. new ≡ Some (bytes ++ piece)) → (Q : Stepped → Store → Type 0)
+    pub wrote_more : (new : Stream) (piece : List ℕ) → IfSome old.holds (λ bytes. new.holds ≡ Some (bytes ++ piece)) → (Q : Stepped → Store → Type 0)
         → ((s : Stepped) (m : Store) → P s m → Q s (record m { output = m.output ++ piece })) → Wrote held new From Q
     wrote_more new piece given Q f = record {
       output = w.output ++ piece;
-      given = received_more held old new w.output piece w.given given;
+      given = received_more held.holds old.holds new.holds w.output piece w.given given;
       leads = λ s m from. subst (λ o. Q s (record m { output = o })) (append_assoc m.output w.output piece) (f s (record m { output = m.output ++ w.output }) (w.leads s m from));
     }
 

@@ -1,6 +1,6 @@
 -- What a round of the run's loop stands on, and what it leads to (rule of this project).
 use Rattle.std.specs.Prelude.{◌≡◌, ℕ, suc, ◌+◌, ◌-◌, ◌<◌, ◌≤◌, List, ◌∷◌, length, Option, Some, None, Result, Ok, Err, IfOk, IsErrOf}
-use Rattle.mesa_base.specs.Outside.{Rose}
+use Rattle.mesa_base.specs.Outside.{Feed, Stream, Rose}
 use Rattle.object_files.specs.declared.image.Image.{Image}
 use Rattle.machine_rules.specs.declared.end.End.{End}
 use Rattle.machine_rules.specs.State.{Store, Stepped}
@@ -18,26 +18,26 @@ use Rattle.frame_machine.specs.Longest.{most}
 use Rattle.frame_machine.specs.SoFar.{At, SoFar, Then}
 
 -- some run comes to this place, of a bound that a u64 can have
-pub record CanGoOn (image : Image) (p : Prepared) (turns : ℕ) (ahead : Option Coming) (left holds : Option (List ℕ)) (Place : Stepped → Store → Type 0) : Type 0 where
+pub record CanGoOn (image : Image) (p : Prepared) (turns : ℕ) (ahead : Option Coming) (feed : Feed) (stream : Stream) (Place : Stepped → Store → Type 0) : Type 0 where
   pub bound : ℕ
   pub few : bound < 18446744073709551616
   pub control : List ℕ
   pub short : length control ≤ length image.control
   pub begun : ℕ
-  pub told : Option (List ℕ)
-  pub held : Option (List ℕ)
-  pub so : SoFar image bound p control turns begun ahead told left held holds Place
+  pub first : Feed
+  pub held : Stream
+  pub so : SoFar image bound p control turns begun ahead first feed held stream Place
 
 -- some run comes to where no activation stands, and this instance is the next of CONTROL
-pub record CanStart (image : Image) (p : Prepared) (instance turns : ℕ) (ahead : Option Coming) (left holds : Option (List ℕ)) : Type 0 where
+pub record CanStart (image : Image) (p : Prepared) (instance turns : ℕ) (ahead : Option Coming) (feed : Feed) (stream : Stream) : Type 0 where
   pub bound : ℕ
   pub few : bound < 18446744073709551616
   pub control : List ℕ
   pub short : suc (length control) ≤ length image.control
   pub begun : ℕ
-  pub told : Option (List ℕ)
-  pub held : Option (List ℕ)
-  pub so : SoFar image bound p (instance ∷ control) turns begun ahead told left held holds (At image p Empty)
+  pub first : Feed
+  pub held : Stream
+  pub so : SoFar image bound p (instance ∷ control) turns begun ahead first feed held stream (At image p Empty)
 
 -- some run comes to where a call has read, or raises NoInput
 pub record HasRead (image : Image) (p : Prepared) (r : Registers) (sequel : ReadSequel) : Type 0 where
@@ -46,17 +46,17 @@ pub record HasRead (image : Image) (p : Prepared) (r : Registers) (sequel : Read
   pub reads : on p.stack (ReadLeads image) r start store sequel
 
 -- a run that comes to a place comes so many instructions later to what comes next, or breaks off
-abbrev pub Follows : (image : Image) → (p p' : Prepared) → (turns turns' count : ℕ) → (ahead ahead' : Option Coming) → (left left' holds holds' : Option (List ℕ))
+abbrev pub Follows : (image : Image) → (p p' : Prepared) → (turns turns' count : ℕ) → (ahead ahead' : Option Coming) → (feed feed' : Feed) → (stream stream' : Stream)
     → (Stepped → Store → Type 0) → Result Sequel RunFault → Type 0
-Follows image p p' turns turns' count ahead ahead' left left' holds holds' Place result =
-    (bound : ℕ) (control : List ℕ) (begun begun' : ℕ) (told held : Option (List ℕ)) → length control ≤ length image.control → begun' ≡ begun + count
-    → SoFar image bound p control turns begun ahead told left held holds Place → Then image bound p' control turns' begun' ahead' told left' held holds' result
+Follows image p p' turns turns' count ahead ahead' feed feed' stream stream' Place result =
+    (bound : ℕ) (control : List ℕ) (begun begun' : ℕ) (first : Feed) (held : Stream) → length control ≤ length image.control → begun' ≡ begun + count
+    → SoFar image bound p control turns begun ahead first feed held stream Place → Then image bound p' control turns' begun' ahead' first feed' held stream' result
 
 -- so many instructions later no run has begun more than any does
-abbrev pub BeginsFew : (image : Image) → Prepared → (turns count : ℕ) → Option Coming → (left holds : Option (List ℕ)) → (Stepped → Store → Type 0) → Type 0
-BeginsFew image p turns count ahead left holds Place =
-    (bound : ℕ) (control : List ℕ) (begun : ℕ) (told held : Option (List ℕ)) → length control ≤ length image.control
-    → SoFar image bound p control turns begun ahead told left held holds Place → begun + count ≤ most image bound
+abbrev pub BeginsFew : (image : Image) → Prepared → (turns count : ℕ) → Option Coming → Feed → Stream → (Stepped → Store → Type 0) → Type 0
+BeginsFew image p turns count ahead feed stream Place =
+    (bound : ℕ) (control : List ℕ) (begun : ℕ) (first : Feed) (held : Stream) → length control ≤ length image.control
+    → SoFar image bound p control turns begun ahead first feed held stream Place → begun + count ≤ most image bound
 
 -- whether a call waits that a start was made for
 abbrev pub waits : Sequel → ℕ
@@ -66,11 +66,11 @@ waits (Pending r) = 1
 waits (Ends end) = 0
 
 -- where the topmost activation goes on it begins an instruction; a call that waited is done, and does not wait again
-abbrev pub Advances : (image : Image) → Prepared → (turns : ℕ) → Option Coming → (left holds : Option (List ℕ)) → Sequel → (steps steps' : ℕ) → Result Sequel RunFault → Type 0
-Advances image p turns ahead left holds (Goes r) steps steps' result = (steps < steps') × BeginsFew image p turns (steps' - steps) ahead left holds (At image p (Goes r))
-Advances image p turns ahead left holds (Pending r) steps steps' result = (steps' ≡ steps) × IfOk result (λ sequel. waits sequel ≡ 0)
-Advances image p turns ahead left holds Empty steps steps' result = Unit {0}
-Advances image p turns ahead left holds (Ends end) steps steps' result = Unit {0}
+abbrev pub Advances : (image : Image) → Prepared → (turns : ℕ) → Option Coming → Feed → Stream → Sequel → (steps steps' : ℕ) → Result Sequel RunFault → Type 0
+Advances image p turns ahead feed stream (Goes r) steps steps' result = (steps < steps') × BeginsFew image p turns (steps' - steps) ahead feed stream (At image p (Goes r))
+Advances image p turns ahead feed stream (Pending r) steps steps' result = (steps' ≡ steps) × IfOk result (λ sequel. waits sequel ≡ 0)
+Advances image p turns ahead feed stream Empty steps steps' result = Unit {0}
+Advances image p turns ahead feed stream (Ends end) steps steps' result = Unit {0}
 
 -- the end of the run, or that no activation is left
 abbrev pub last_sequel : Result (Option End) RunFault → Result Sequel RunFault
@@ -85,11 +85,11 @@ onward_or (Ok (Some sequel)) r = Ok sequel
 onward_or (Err fault) r = Err fault
 
 -- where a run breaks off, the source or the sink has failed once more; their counts of faults never fall
-pub record CountsFaults {A : Type 0} (result : Result A RunFault) (read read' written written' : ℕ) : Type 0 where
-  pub of_source : IsErrOf result ReadFault → Rose read read'
-  pub of_sink : IsErrOf result WriteFault → Rose written written'
-  pub source_stays : read ≤ read'
-  pub sink_stays : written ≤ written'
+pub record CountsFaults {A : Type 0} (result : Result A RunFault) (feed feed' : Feed) (stream stream' : Stream) : Type 0 where
+  pub of_source : IsErrOf result ReadFault → Rose feed.faults feed'.faults
+  pub of_sink : IsErrOf result WriteFault → Rose stream.faults stream'.faults
+  pub source_stays : feed.faults ≤ feed'.faults
+  pub sink_stays : stream.faults ≤ stream'.faults
 
 -- how often the source was asked in vain by then: once where it failed, which it does only where its end is not known
 abbrev pub vain_of : RunFault → (ahead : Option Coming) → ℕ

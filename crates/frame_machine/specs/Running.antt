@@ -1,6 +1,6 @@
 -- What a run over a source and a sink tells its caller (rule of this project).
 use Rattle.std.specs.Prelude.{◌≡◌, ◌≢◌, ◌⊎◌, ℕ, ◌+◌, ◌<◌, ◌≤◌, List, [], ◌++◌, length, drop, All, Option, Some, IsSome, IfSome, true, false}
-use Rattle.mesa_base.specs.Outside.{AppendsPrefix}
+use Rattle.mesa_base.specs.Outside.{Feed, Stream, AppendsPrefix}
 use Rattle.object_files.specs.declared.image.Image.{Image}
 use Rattle.signaller.specs.declared.signal_id.SignalId.{SignalId}
 use Rattle.signaller.specs.declared.signal_id.SignalId.TheVariants.{Own, BoundsFault, ZeroDivisor, NoInput, Unnamed}
@@ -27,24 +27,24 @@ HasRest taken all left = (left ≡ Some (drop taken all)) ⊎ (left ≡ Some (dr
 
 -- the machine's run comes to this end with so many turns left and so many instructions begun. A source that tells its bytes has what the
 -- program did not take, or one byte fewer; a sink that tells its bytes holds what it held and the whole output
-pub record Completes (image : Image) (turns : ℕ) (outcome : Outcome) (count : ℕ) (told left held holds : Option (List ℕ)) : Type 0 where
+pub record Completes (image : Image) (turns : ℕ) (outcome : Outcome) (count : ℕ) (feed feed' : Feed) (stream stream' : Stream) : Type 0 where
   pub input : List ℕ
   pub output : List ℕ
   pub taken : ℕ
-  pub is_input : IsInput told input
+  pub is_input : IsInput feed.left input
   pub runs : Steps image input false turns output (Ended outcome.end) outcome.left taken count
-  pub rest : IfSome told (λ all. HasRest taken all left)
-  pub appends : IfSome held (λ bytes. holds ≡ Some (bytes ++ output))
+  pub rest : IfSome feed.left (λ all. HasRest taken all feed'.left)
+  pub appends : IfSome stream.holds (λ bytes. stream'.holds ≡ Some (bytes ++ output))
 
 -- the machine's run over the bytes that were taken, after which a fault follows, breaks there; the sink holds its whole output more
-pub record BreaksAtInput (image : Image) (turns count : ℕ) (told left held holds : Option (List ℕ)) : Type 0 where
+pub record BreaksAtInput (image : Image) (turns count : ℕ) (feed feed' : Feed) (stream stream' : Stream) : Type 0 where
   pub input : List ℕ
   pub output : List ℕ
   pub turns_left : ℕ
   pub bytes : AreBytes input
   pub runs : Steps image input true turns output Broken turns_left (length input) count
-  pub rest : IfSome told (λ all. (more : List ℕ) × (all ≡ input ++ more) × (left ≡ Some more))
-  pub appends : IfSome held (λ bytes. holds ≡ Some (bytes ++ output))
+  pub rest : IfSome feed.left (λ all. (more : List ℕ) × (all ≡ input ++ more) × (feed'.left ≡ Some more))
+  pub appends : IfSome stream.holds (λ bytes. stream'.holds ≡ Some (bytes ++ output))
 
 -- the machine comes to a call of the host that writes a piece, of a byte or more, behind this output, with so many turns left, so many instructions
 -- begun, that of the call included, and this input not taken
@@ -63,29 +63,29 @@ pub record ComesToWrite (image : Image) (s : Stepped) (turns count : ℕ) (outpu
 
 -- the machine's run comes to a call that writes, so many instructions begun; the sink holds all of the output up to there and a prefix of the
 -- piece more. A source that tells its bytes has what the program did not take, or one byte fewer
-pub record BreaksAtOutput (image : Image) (turns count : ℕ) (told left held holds : Option (List ℕ)) : Type 0 where
+pub record BreaksAtOutput (image : Image) (turns count : ℕ) (feed feed' : Feed) (stream stream' : Stream) : Type 0 where
   pub input : List ℕ
   pub output : List ℕ
   pub piece : List ℕ
   pub turns_left : ℕ
   pub taken : ℕ
-  pub is_input : IsInput told input
+  pub is_input : IsInput feed.left input
   pub comes : ComesToWrite image (begins image input false turns) turns_left count output piece (drop taken input)
-  pub rest : IfSome told (λ all. HasRest taken all left)
-  pub appends : IfSome held (λ bytes. AppendsPrefix (bytes ++ output) piece holds)
+  pub rest : IfSome feed.left (λ all. HasRest taken all feed'.left)
+  pub appends : IfSome stream.holds (λ bytes. AppendsPrefix (bytes ++ output) piece stream'.holds)
 
 -- the machine has a run, and the sink holds a prefix of its whole output more; the source has some of its bytes no more
-pub record CutsOff (image : Image) (turns : ℕ) (told left held holds : Option (List ℕ)) : Type 0 where
+pub record CutsOff (image : Image) (turns : ℕ) (feed feed' : Feed) (stream stream' : Stream) : Type 0 where
   pub input : List ℕ
   pub output : List ℕ
   pub end : Ending
   pub turns_left : ℕ
   pub taken : ℕ
   pub count : ℕ
-  pub is_input : IsInput told input
+  pub is_input : IsInput feed.left input
   pub runs : Steps image input false turns output end turns_left taken count
-  pub rest : IfSome told (λ all. (n : ℕ) × (n ≤ taken + 1) × (left ≡ Some (drop n all)))
-  pub appends : IfSome held (λ bytes. AppendsPrefix bytes output holds)
+  pub rest : IfSome feed.left (λ all. (n : ℕ) × (n ≤ taken + 1) × (feed'.left ≡ Some (drop n all)))
+  pub appends : IfSome stream.holds (λ bytes. AppendsPrefix bytes output stream'.holds)
 
 -- a signal of an instance is one that its module has
 abbrev pub SignalIsInRange : Image → SignalId → Type 0

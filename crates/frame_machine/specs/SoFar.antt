@@ -1,5 +1,6 @@
 -- What a run has come to (rule of this project).
 use Rattle.std.specs.Prelude.{◌≡◌, ℕ, suc, ◌+◌, ◌<◌, List, [], ◌∷◌, ◌++◌, Bool, Option, Some, None, IfSome, Result, Ok, Err, slice_get}
+use Rattle.mesa_base.specs.Outside.{Feed, Stream}
 use Rattle.code_forms.specs.declared.instruction.Instruction.{Instruction}
 use Rattle.code_forms.specs.declared.module_code.CodeEntry.{CodeEntry}
 use Rattle.code_forms.specs.declared.module_code.CodeProcedure.{CodeProcedure}
@@ -75,13 +76,13 @@ pub record Took (told left : Option (List ℕ)) (ahead : Option Coming) (got all
 
 -- Whatever follows what the program has taken of the input, as far as it is not known, the machine comes to this place.
 pub record SoFar (image : Image) (bound : ℕ) (p : Prepared) (control : List ℕ) (turns begun : ℕ) (ahead : Option Coming)
-    (told left held holds : Option (List ℕ)) (Place : Stepped → Store → Type 0) : Type 0 where
+    (feed feed' : Feed) (stream stream' : Stream) (Place : Stepped → Store → Type 0) : Type 0 where
   pub got : List ℕ
   pub output : List ℕ
   pub bytes : AreBytes got
   pub byte : (b : ℕ) → ahead ≡ Some (Byte b) → b < 256
-  pub took : IfSome told (Took told left ahead got)
-  pub wrote : IfSome held (λ bytes. holds ≡ Some (bytes ++ output))
+  pub took : IfSome feed.left (Took feed.left feed'.left ahead got)
+  pub wrote : IfSome stream.holds (λ bytes. stream'.holds ≡ Some (bytes ++ output))
   pub comes : (rest : List ℕ) (faulty : Bool) → Known ahead rest faulty
       → ComesTo (begins image (got ++ rest) faulty bound) p control turns begun output rest faulty Place
 
@@ -93,11 +94,11 @@ pub record Carries (image : Image) (p : Prepared) (sequel : Sequel) : Type 0 whe
 
 -- where a run comes to, or that it breaks off
 abbrev pub Then : Image → (bound : ℕ) → Prepared → (control : List ℕ) → (turns begun : ℕ) → Option Coming
-    → (told left held holds : Option (List ℕ)) → Result Sequel RunFault → Type 0
-Then image bound p control turns begun ahead told left held holds (Ok sequel) = SoFar image bound p control turns begun ahead told left held holds (At image p sequel)
-Then image bound p control turns begun ahead told left held holds (Err ReadFault) = BreaksAtInput image bound begun told left held holds
-Then image bound p control turns begun ahead told left held holds (Err WriteFault) =
-    BreaksAtOutput image bound begun told left held holds × CutsOff image bound told left held holds
+    → (feed feed' : Feed) → (stream stream' : Stream) → Result Sequel RunFault → Type 0
+Then image bound p control turns begun ahead feed feed' stream stream' (Ok sequel) = SoFar image bound p control turns begun ahead feed feed' stream stream' (At image p sequel)
+Then image bound p control turns begun ahead feed feed' stream stream' (Err ReadFault) = BreaksAtInput image bound begun feed feed' stream stream'
+Then image bound p control turns begun ahead feed feed' stream stream' (Err WriteFault) =
+    BreaksAtOutput image bound begun feed feed' stream stream' × CutsOff image bound feed feed' stream stream'
 
 -- The run of the topmost activation.
 

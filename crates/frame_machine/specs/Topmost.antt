@@ -1,6 +1,6 @@
 -- On what the run of the topmost activation stands, and what it writes (rule of this project).
-use Rattle.std.specs.Prelude.{◌≡◌, ◌≢◌, ℕ, ◌<◌, List, [], ◌++◌, Option, Some, IfSome, slice_get}
-use Rattle.mesa_base.specs.Outside.{AppendsPrefix}
+use Rattle.std.specs.Prelude.{◌≡◌, ◌≢◌, ℕ, ◌<◌, List, [], ◌++◌, Some, IfSome, slice_get}
+use Rattle.mesa_base.specs.Outside.{Stream, AppendsPrefix}
 use Rattle.object_files.specs.declared.image.Image.{Image}
 use Rattle.machine_rules.specs.LookUps.{code_of, module_number}
 use Rattle.machine_rules.specs.State.{Store, Stepped}
@@ -58,19 +58,19 @@ pub record TopLater (image : Image) (layout : Layout) (region : List ℕ) (table
   pub shown : Shown image layout region table r s store
 
 -- from each state that is so the machine comes to another place, and the sink has been given what it has written by then
-pub record Wrote (held holds : Option (List ℕ)) (From Place : Stepped → Store → Type 0) : Type 0 where
+pub record Wrote (stream stream' : Stream) (From Place : Stepped → Store → Type 0) : Type 0 where
   pub output : List ℕ
-  pub given : IfSome held (λ bytes. holds ≡ Some (bytes ++ output))
+  pub given : IfSome stream.holds (λ bytes. stream'.holds ≡ Some (bytes ++ output))
   pub leads : (s : Stepped) (m : Store) → From s m → Place s (record m { output = m.output ++ output })
 
 -- it comes so to a pause at a call that writes, and there the sink fails
-pub record FailsAtWrite (image : Image) (layout : Layout) (region : List ℕ) (table : List Row) (top : ℕ) (held holds : Option (List ℕ))
+pub record FailsAtWrite (image : Image) (layout : Layout) (region : List ℕ) (table : List Row) (top : ℕ) (stream stream' : Stream)
     (From : Stepped → Store → Type 0) (Place : Pause → Stepped → Store → Type 0) : Type 0 where
   pub pause : Pause
   pub same_top : pause.registers.top ≡ top
-  pub between : Option (List ℕ)
-  pub comes : Wrote held between From (Place pause)
+  pub between : Stream
+  pub comes : Wrote stream between From (Place pause)
   pub writing : Writing
   pub calls : CallsWriting image layout region table pause.registers pause.turns writing
   pub some : text_written image region pause.registers writing ≢ []
-  pub partly : IfSome between (λ bytes. AppendsPrefix bytes (text_written image region pause.registers writing) holds)
+  pub partly : IfSome between.holds (λ bytes. AppendsPrefix bytes (text_written image region pause.registers writing) stream'.holds)

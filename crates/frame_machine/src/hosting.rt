@@ -1,6 +1,7 @@
 //! Calls of the host's procedures.
 
 ghost use Rattle.std.specs.Prelude.{◌≡◌, ℕ, ◌≤◌, List, Option, length, IfOk};
+ghost use Rattle.mesa_base.specs.Outside.{Feed, Stream};
 ghost use Rattle.machine_rules.specs.State.{Stepped, Store};
 ghost use Rattle.machine_activations.specs.declared.calling.Sequel.TheVariants.{Goes};
 ghost use Rattle.machine_activations.specs.Calling.{LeadsTo};
@@ -40,11 +41,11 @@ fn write_out<K: Sink>(
     requires ample { on parts.now.stack IsAmple r.old.top }
     requires calls { on parts.now.stack (CallsHost image.now) r.old (host_is (Write writing)) }
     ensures goes { IfOk (onward_or result r.new) (λ sequel. sequel ≡ Goes (behind_call (Write writing) r.old)) }
-    ensures follows { (bound : ℕ) (control : List ℕ) (turns begun : ℕ) (ahead : Option Coming) (told left held : Option (List ℕ))
+    ensures follows { (bound : ℕ) (control : List ℕ) (turns begun : ℕ) (ahead : Option Coming) (first feed : Feed) (held : Stream)
         → length control ≤ length image.now.control
-        → SoFar image.now bound parts.now control turns begun ahead told left held (K.written out.old) (AtHost image.now parts.now r.old (Write writing))
-        → Then image.now bound parts.now control turns begun ahead told left held (K.written out.new) (onward_or result r.new) }
-    ensures faults { (read : ℕ) → CountsFaults (onward_or result r.new) read read (K.faults out.old) (K.faults out.new) }
+        → SoFar image.now bound parts.now control turns begun ahead first feed held (K.stream out.old) (AtHost image.now parts.now r.old (Write writing))
+        → Then image.now bound parts.now control turns begun ahead first feed held (K.stream out.new) (onward_or result r.new) }
+    ensures faults { (feed : Feed) → CountsFaults (onward_or result r.new) feed feed (K.stream out.old) (K.stream out.new) }
     ensures asks_not { (ahead : Option Coming) → vain_then (onward_or result r.new) ahead ≡ vain_by ahead }
 {
     match write(writing, image, parts.stack.region.as_slice(), *r, out) {
@@ -100,16 +101,16 @@ fn read_in<S: Source>(
     requires ready { IsReady image.now parts.old }
     requires ample { on parts.old.stack IsAmple r.top }
     requires arms { ArmsHold image.now parts.old.stack.rows.items r.top }
-    requires run { (holds : Option (List ℕ))
-        × CanGoOn image.now parts.old turns.old ahead.old (S.left input.old) holds (AtHost image.now parts.old r (Read reading)) }
+    requires run { (stream : Stream)
+        × CanGoOn image.now parts.old turns.old ahead.old (S.feed input.old) stream (AtHost image.now parts.old r (Read reading)) }
     ensures ready { IsReady image.now parts.new }
     ensures carries { IfOk result (Carries image.now parts.new) }
     ensures waits_not { IfOk result (λ sequel. waits sequel ≡ 0) }
-    ensures follows { (holds : Option (List ℕ))
-        → Follows image.now parts.old parts.new turns.old turns.new 0 ahead.old ahead.new (S.left input.old) (S.left input.new) holds holds
+    ensures follows { (stream : Stream)
+        → Follows image.now parts.old parts.new turns.old turns.new 0 ahead.old ahead.new (S.feed input.old) (S.feed input.new) stream stream
         (AtHost image.now parts.old r (Read reading)) result }
-    ensures faults { (written : ℕ) → CountsFaults result (S.faults input.old) (S.faults input.new) written written }
-    ensures asks { AsksOn ahead.old (S.left input.old) (S.left input.new) (S.calls input.old) (S.calls input.new) (vain_then result ahead.new) }
+    ensures faults { (stream : Stream) → CountsFaults result (S.feed input.old) (S.feed input.new) stream stream }
+    ensures asks { AsksOn ahead.old (S.feed input.old) (S.feed input.new) (vain_then result ahead.new) }
 {
     match read(reading, parts.stack.region.as_mut_slice(), r, ahead, input) {
         Ok(sequel) => Ok(read_then(sequel, image, parts, r, turns)),
@@ -151,16 +152,16 @@ fn read_settled<S: Source>(
     requires ready { IsReady image.now parts.old }
     requires ample { on parts.old.stack IsAmple r.old.top }
     requires arms { ArmsHold image.now parts.old.stack.rows.items r.old.top }
-    requires run { (holds : Option (List ℕ))
-        × CanGoOn image.now parts.old turns.old ahead.old (S.left input.old) holds (AtHost image.now parts.old r.old (Read reading)) }
+    requires run { (stream : Stream)
+        × CanGoOn image.now parts.old turns.old ahead.old (S.feed input.old) stream (AtHost image.now parts.old r.old (Read reading)) }
     ensures ready { IsReady image.now parts.new }
     ensures carries { IfOk (onward_or result r.new) (Carries image.now parts.new) }
     ensures waits_not { IfOk (onward_or result r.new) (λ sequel. waits sequel ≡ 0) }
-    ensures follows { (holds : Option (List ℕ))
-        → Follows image.now parts.old parts.new turns.old turns.new 0 ahead.old ahead.new (S.left input.old) (S.left input.new) holds holds
+    ensures follows { (stream : Stream)
+        → Follows image.now parts.old parts.new turns.old turns.new 0 ahead.old ahead.new (S.feed input.old) (S.feed input.new) stream stream
         (AtHost image.now parts.old r.old (Read reading)) (onward_or result r.new) }
-    ensures faults { (written : ℕ) → CountsFaults (onward_or result r.new) (S.faults input.old) (S.faults input.new) written written }
-    ensures asks { AsksOn ahead.old (S.left input.old) (S.left input.new) (S.calls input.old) (S.calls input.new) (vain_then (onward_or result r.new) ahead.new) }
+    ensures faults { (stream : Stream) → CountsFaults (onward_or result r.new) (S.feed input.old) (S.feed input.new) stream stream }
+    ensures asks { AsksOn ahead.old (S.feed input.old) (S.feed input.new) (vain_then (onward_or result r.new) ahead.new) }
 {
     let told = read_in(reading, image, parts, *r, ahead, turns, input);
     settle_told(told, r)
@@ -181,14 +182,14 @@ pub(crate) fn call_host<S: Source, K: Sink>(
     requires ready { IsReady image.now parts.old }
     requires ample { on parts.old.stack IsAmple r.old.top }
     requires arms { ArmsHold image.now parts.old.stack.rows.items r.old.top }
-    requires run { CanGoOn image.now parts.old remaining.old.turns remaining.old.ahead (S.left input.old) (K.written out.old) (AtHost image.now parts.old r.old host) }
+    requires run { CanGoOn image.now parts.old remaining.old.turns remaining.old.ahead (S.feed input.old) (K.stream out.old) (AtHost image.now parts.old r.old host) }
     ensures ready { IsReady image.now parts.new }
     ensures carries { IfOk (onward_or result r.new) (Carries image.now parts.new) }
     ensures waits_not { IfOk (onward_or result r.new) (λ sequel. waits sequel ≡ 0) }
-    ensures follows { Follows image.now parts.old parts.new remaining.old.turns remaining.new.turns 0 remaining.old.ahead remaining.new.ahead (S.left input.old) (S.left input.new)
-        (K.written out.old) (K.written out.new) (AtHost image.now parts.old r.old host) (onward_or result r.new) }
-    ensures faults { CountsFaults (onward_or result r.new) (S.faults input.old) (S.faults input.new) (K.faults out.old) (K.faults out.new) }
-    ensures asks { AsksOn remaining.old.ahead (S.left input.old) (S.left input.new) (S.calls input.old) (S.calls input.new) (vain_then (onward_or result r.new) remaining.new.ahead) }
+    ensures follows { Follows image.now parts.old parts.new remaining.old.turns remaining.new.turns 0 remaining.old.ahead remaining.new.ahead (S.feed input.old) (S.feed input.new)
+        (K.stream out.old) (K.stream out.new) (AtHost image.now parts.old r.old host) (onward_or result r.new) }
+    ensures faults { CountsFaults (onward_or result r.new) (S.feed input.old) (S.feed input.new) (K.stream out.old) (K.stream out.new) }
+    ensures asks { AsksOn remaining.old.ahead (S.feed input.old) (S.feed input.new) (vain_then (onward_or result r.new) remaining.new.ahead) }
 {
     match host {
         HostProcedure::Write(writing) => write_out(writing, image, parts, r, out),

@@ -46,16 +46,16 @@ fn go_on<S: Source, K: Sink, L: Ledger>(
     steps: &mut Steps<L>,
 ) -> Result<Option<Sequel>, RunFault>
     requires carries { Carries image.now parts.old (Goes r.old) }
-    requires run { CanGoOn image.now parts.old remaining.old.turns remaining.old.ahead (S.left input.old) (K.written out.old) (At image.now parts.old (Goes r.old)) }
+    requires run { CanGoOn image.now parts.old remaining.old.turns remaining.old.ahead (S.feed input.old) (K.stream out.old) (At image.now parts.old (Goes r.old)) }
     ensures ready { IsReady image.now parts.new }
     ensures carries { IfOk (onward_or result r.new) (Carries image.now parts.new) }
     ensures follows { Follows image.now parts.old parts.new remaining.old.turns remaining.new.turns (steps.new - steps.old) remaining.old.ahead remaining.new.ahead
-        (S.left input.old) (S.left input.new) (K.written out.old) (K.written out.new) (At image.now parts.old (Goes r.old)) (onward_or result r.new) }
+        (S.feed input.old) (S.feed input.new) (K.stream out.old) (K.stream out.new) (At image.now parts.old (Goes r.old)) (onward_or result r.new) }
     ensures counted { steps.old < steps.new }
-    ensures few { BeginsFew image.now parts.old remaining.old.turns (steps.new - steps.old) remaining.old.ahead (S.left input.old) (K.written out.old)
+    ensures few { BeginsFew image.now parts.old remaining.old.turns (steps.new - steps.old) remaining.old.ahead (S.feed input.old) (K.stream out.old)
         (At image.now parts.old (Goes r.old)) }
-    ensures faults { CountsFaults result (S.faults input.old) (S.faults input.new) (K.faults out.old) (K.faults out.new) }
-    ensures asks { AsksOn remaining.old.ahead (S.left input.old) (S.left input.new) (S.calls input.old) (S.calls input.new) (vain_then result remaining.new.ahead) }
+    ensures faults { CountsFaults result (S.feed input.old) (S.feed input.new) (K.stream out.old) (K.stream out.new) }
+    ensures asks { AsksOn remaining.old.ahead (S.feed input.old) (S.feed input.new) (vain_then result remaining.new.ahead) }
 {
     let pause = match run_top(image, parts, *r, remaining.turns, out, steps) {
         Ok(pause) => pause,
@@ -94,16 +94,16 @@ fn run_frames<S: Source, K: Sink, L: Ledger>(
     steps: &mut Steps<L>,
 ) -> Result<Sequel, RunFault>
     requires carries { Carries image.now parts.old (Goes first) }
-    requires run { CanGoOn image.now parts.old remaining.old.turns remaining.old.ahead (S.left input.old) (K.written out.old) (At image.now parts.old (Goes first)) }
+    requires run { CanGoOn image.now parts.old remaining.old.turns remaining.old.ahead (S.feed input.old) (K.stream out.old) (At image.now parts.old (Goes first)) }
     ensures ready { IsReady image.now parts.new }
     ensures carries { IfOk result (Carries image.now parts.new) }
     ensures follows { Follows image.now parts.old parts.new remaining.old.turns remaining.new.turns (steps.new - steps.old) remaining.old.ahead remaining.new.ahead
-        (S.left input.old) (S.left input.new) (K.written out.old) (K.written out.new) (At image.now parts.old (Goes first)) result }
+        (S.feed input.old) (S.feed input.new) (K.stream out.old) (K.stream out.new) (At image.now parts.old (Goes first)) result }
     ensures counted { steps.old < steps.new }
-    ensures few { BeginsFew image.now parts.old remaining.old.turns (steps.new - steps.old) remaining.old.ahead (S.left input.old) (K.written out.old)
+    ensures few { BeginsFew image.now parts.old remaining.old.turns (steps.new - steps.old) remaining.old.ahead (S.feed input.old) (K.stream out.old)
         (At image.now parts.old (Goes first)) }
-    ensures faults { CountsFaults result (S.faults input.old) (S.faults input.new) (K.faults out.old) (K.faults out.new) }
-    ensures asks { AsksOn remaining.old.ahead (S.left input.old) (S.left input.new) (S.calls input.old) (S.calls input.new) (vain_then result remaining.new.ahead) }
+    ensures faults { CountsFaults result (S.feed input.old) (S.feed input.new) (K.stream out.old) (K.stream out.new) }
+    ensures asks { AsksOn remaining.old.ahead (S.feed input.old) (S.feed input.new) (vain_then result remaining.new.ahead) }
 {
     let mut r = first;
     let mut left = *remaining;
@@ -134,14 +134,14 @@ fn call_then<S: Source, K: Sink>(
     out: &mut K,
 ) -> Result<Sequel, RunFault>
     requires carries { Carries image.now parts.old (Pending r) }
-    requires run { CanGoOn image.now parts.old remaining.old.turns remaining.old.ahead (S.left input.old) (K.written out.old) (At image.now parts.old (Pending r)) }
+    requires run { CanGoOn image.now parts.old remaining.old.turns remaining.old.ahead (S.feed input.old) (K.stream out.old) (At image.now parts.old (Pending r)) }
     ensures ready { IsReady image.now parts.new }
     ensures carries { IfOk result (Carries image.now parts.new) }
-    ensures follows { Follows image.now parts.old parts.new remaining.old.turns remaining.new.turns 0 remaining.old.ahead remaining.new.ahead (S.left input.old) (S.left input.new)
-        (K.written out.old) (K.written out.new) (At image.now parts.old (Pending r)) result }
+    ensures follows { Follows image.now parts.old parts.new remaining.old.turns remaining.new.turns 0 remaining.old.ahead remaining.new.ahead (S.feed input.old) (S.feed input.new)
+        (K.stream out.old) (K.stream out.new) (At image.now parts.old (Pending r)) result }
     ensures waits_not { IfOk result (λ sequel. waits sequel ≡ 0) }
-    ensures faults { CountsFaults result (S.faults input.old) (S.faults input.new) (K.faults out.old) (K.faults out.new) }
-    ensures asks { AsksOn remaining.old.ahead (S.left input.old) (S.left input.new) (S.calls input.old) (S.calls input.new) (vain_then result remaining.new.ahead) }
+    ensures faults { CountsFaults result (S.feed input.old) (S.feed input.new) (K.stream out.old) (K.stream out.new) }
+    ensures asks { AsksOn remaining.old.ahead (S.feed input.old) (S.feed input.new) (vain_then result remaining.new.ahead) }
 {
     let started = parts.started.as_mut_slice();
     let turns = &mut remaining.turns;
@@ -166,15 +166,15 @@ pub(crate) fn advance<S: Source, K: Sink, L: Ledger>(
     steps: &mut Steps<L>,
 ) -> Result<Sequel, RunFault>
     requires carries { Carries image.now parts.old sequel }
-    requires run { CanGoOn image.now parts.old remaining.old.turns remaining.old.ahead (S.left input.old) (K.written out.old) (At image.now parts.old sequel) }
+    requires run { CanGoOn image.now parts.old remaining.old.turns remaining.old.ahead (S.feed input.old) (K.stream out.old) (At image.now parts.old sequel) }
     ensures ready { IsReady image.now parts.new }
     ensures carries { IfOk result (Carries image.now parts.new) }
     ensures follows { Follows image.now parts.old parts.new remaining.old.turns remaining.new.turns (steps.new - steps.old) remaining.old.ahead remaining.new.ahead
-        (S.left input.old) (S.left input.new) (K.written out.old) (K.written out.new) (At image.now parts.old sequel) result }
+        (S.feed input.old) (S.feed input.new) (K.stream out.old) (K.stream out.new) (At image.now parts.old sequel) result }
     ensures counted { steps.old ≤ steps.new }
-    ensures advances { Advances image.now parts.old remaining.old.turns remaining.old.ahead (S.left input.old) (K.written out.old) sequel steps.old steps.new result }
-    ensures faults { CountsFaults result (S.faults input.old) (S.faults input.new) (K.faults out.old) (K.faults out.new) }
-    ensures asks { AsksOn remaining.old.ahead (S.left input.old) (S.left input.new) (S.calls input.old) (S.calls input.new) (vain_then result remaining.new.ahead) }
+    ensures advances { Advances image.now parts.old remaining.old.turns remaining.old.ahead (S.feed input.old) (K.stream out.old) sequel steps.old steps.new result }
+    ensures faults { CountsFaults result (S.feed input.old) (S.feed input.new) (K.stream out.old) (K.stream out.new) }
+    ensures asks { AsksOn remaining.old.ahead (S.feed input.old) (S.feed input.new) (vain_then result remaining.new.ahead) }
 {
     match sequel {
         Sequel::Goes(r) => run_frames(r, image, parts, remaining, input, out, steps),

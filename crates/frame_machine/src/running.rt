@@ -2,6 +2,7 @@
 
 ghost use Rattle.std.specs.Prelude.{◌≡◌, ℕ, ◌+◌, ◌-◌, ◌<◌, ◌≤◌, List, ◌∷◌, length, Option, false, Some, suc, IfOk, IsErrOf, slice_get};
 ghost use Rattle.mesa_base.specs.Asked.{AskedOnce};
+ghost use Rattle.mesa_base.specs.Outside.{Feed, Stream};
 ghost use Rattle.machine_rules.specs.LookUps.{code_of};
 ghost use Rattle.machine_rules.specs.Steps.{globals_in};
 ghost use Rattle.machine_rules.specs.Words.{zeros};
@@ -36,13 +37,13 @@ fn run_on<S: Source, K: Sink, L: Ledger>(
     steps: &mut Steps<L>,
 ) -> Result<Option<End>, RunFault>
     requires carries { Carries image.now parts.old first }
-    requires run { CanGoOn image.now parts.old remaining.old.turns remaining.old.ahead (S.left input.old) (K.written out.old) (At image.now parts.old first) }
+    requires run { CanGoOn image.now parts.old remaining.old.turns remaining.old.ahead (S.feed input.old) (K.stream out.old) (At image.now parts.old first) }
     ensures ready { IsReady image.now parts.new }
     ensures follows { Follows image.now parts.old parts.new remaining.old.turns remaining.new.turns (steps.new - steps.old) remaining.old.ahead remaining.new.ahead
-        (S.left input.old) (S.left input.new) (K.written out.old) (K.written out.new) (At image.now parts.old first) (last_sequel result) }
+        (S.feed input.old) (S.feed input.new) (K.stream out.old) (K.stream out.new) (At image.now parts.old first) (last_sequel result) }
     ensures counted { steps.old ≤ steps.new }
-    ensures faults { CountsFaults result (S.faults input.old) (S.faults input.new) (K.faults out.old) (K.faults out.new) }
-    ensures asks { AsksOn remaining.old.ahead (S.left input.old) (S.left input.new) (S.calls input.old) (S.calls input.new) (vain_then result remaining.new.ahead) }
+    ensures faults { CountsFaults result (S.feed input.old) (S.feed input.new) (K.stream out.old) (K.stream out.new) }
+    ensures asks { AsksOn remaining.old.ahead (S.feed input.old) (S.feed input.new) (vain_then result remaining.new.ahead) }
 {
     let mut sequel = first;
     'running: loop {
@@ -61,9 +62,9 @@ fn start(image: &Image, parts: &mut Prepared, instance: u32, turns: &mut u64) ->
     requires there { instance < length image.now.instances }
     requires unmarked { slice_get parts.old.started.items instance ≡ Some false }
     ensures carries { Carries image.now parts.new result }
-    ensures starts { (bound : ℕ) (control : List ℕ) (begun : ℕ) (ahead : Option Coming) (told left held holds : Option (List ℕ))
-        → SoFar image.now bound parts.old (instance ∷ control) turns.old begun ahead told left held holds (At image.now parts.old Empty)
-        → SoFar image.now bound parts.new control turns.new begun ahead told left held holds (At image.now parts.new result) }
+    ensures starts { (bound : ℕ) (control : List ℕ) (begun : ℕ) (ahead : Option Coming) (first feed : Feed) (held stream : Stream)
+        → SoFar image.now bound parts.old (instance ∷ control) turns.old begun ahead first feed held stream (At image.now parts.old Empty)
+        → SoFar image.now bound parts.new control turns.new begun ahead first feed held stream (At image.now parts.new result) }
 {
     parts.started[instance as usize] = true;
     let code = code_of(image, instance);
@@ -82,16 +83,16 @@ fn run_instance<S: Source, K: Sink, L: Ledger>(
 ) -> Result<Option<End>, RunFault>
     requires ready { IsReady image.now parts.old }
     requires there { instance < length image.now.instances }
-    requires run { CanStart image.now parts.old instance remaining.old.turns remaining.old.ahead (S.left input.old) (K.written out.old) }
+    requires run { CanStart image.now parts.old instance remaining.old.turns remaining.old.ahead (S.feed input.old) (K.stream out.old) }
     ensures ready { IsReady image.now parts.new }
-    ensures follows { (bound : ℕ) (control : List ℕ) (begun begun' : ℕ) (told held : Option (List ℕ))
+    ensures follows { (bound : ℕ) (control : List ℕ) (begun begun' : ℕ) (first : Feed) (held : Stream)
         → suc (length control) ≤ length image.now.control → begun' ≡ begun + (steps.new - steps.old)
-        → SoFar image.now bound parts.old (instance ∷ control) remaining.old.turns begun remaining.old.ahead told (S.left input.old) held (K.written out.old)
+        → SoFar image.now bound parts.old (instance ∷ control) remaining.old.turns begun remaining.old.ahead first (S.feed input.old) held (K.stream out.old)
         (At image.now parts.old Empty)
-        → Then image.now bound parts.new control remaining.new.turns begun' remaining.new.ahead told (S.left input.new) held (K.written out.new) (last_sequel result) }
+        → Then image.now bound parts.new control remaining.new.turns begun' remaining.new.ahead first (S.feed input.new) held (K.stream out.new) (last_sequel result) }
     ensures counted { steps.old ≤ steps.new }
-    ensures faults { CountsFaults result (S.faults input.old) (S.faults input.new) (K.faults out.old) (K.faults out.new) }
-    ensures asks { AsksOn remaining.old.ahead (S.left input.old) (S.left input.new) (S.calls input.old) (S.calls input.new) (vain_then result remaining.new.ahead) }
+    ensures faults { CountsFaults result (S.feed input.old) (S.feed input.new) (K.stream out.old) (K.stream out.new) }
+    ensures asks { AsksOn remaining.old.ahead (S.feed input.old) (S.feed input.new) (vain_then result remaining.new.ahead) }
 {
     if parts.started[instance as usize] {
         return Ok(None);
@@ -114,16 +115,16 @@ pub(crate) fn run_control<S: Source, K: Sink, L: Ledger>(
     requires none { ShowsStarted parts.old.started.items (λ j. false) }
     ensures ready { IsReady image.now parts.new }
     ensures completes { IfOk result (λ outcome.
-        Completes image.now turns outcome (steps.new - steps.old) (S.left input.old) (S.left input.new) (K.written out.old) (K.written out.new)) }
+        Completes image.now turns outcome (steps.new - steps.old) (S.feed input.old) (S.feed input.new) (K.stream out.old) (K.stream out.new)) }
     ensures in_range { IfOk result (λ outcome. EndIsInRange image.now outcome.end) }
     ensures breaks_at_input { IsErrOf result RunFault.ReadFault
-        → BreaksAtInput image.now turns (steps.new - steps.old) (S.left input.old) (S.left input.new) (K.written out.old) (K.written out.new) }
+        → BreaksAtInput image.now turns (steps.new - steps.old) (S.feed input.old) (S.feed input.new) (K.stream out.old) (K.stream out.new) }
     ensures breaks_at_output { IsErrOf result RunFault.WriteFault
-        → BreaksAtOutput image.now turns (steps.new - steps.old) (S.left input.old) (S.left input.new) (K.written out.old) (K.written out.new)
-        × CutsOff image.now turns (S.left input.old) (S.left input.new) (K.written out.old) (K.written out.new) }
+        → BreaksAtOutput image.now turns (steps.new - steps.old) (S.feed input.old) (S.feed input.new) (K.stream out.old) (K.stream out.new)
+        × CutsOff image.now turns (S.feed input.old) (S.feed input.new) (K.stream out.old) (K.stream out.new) }
     ensures counted { steps.old ≤ steps.new }
-    ensures faults { CountsFaults result (S.faults input.old) (S.faults input.new) (K.faults out.old) (K.faults out.new) }
-    ensures asked { AskedOnce (S.left input.old) (S.left input.new) (S.calls input.old) (S.calls input.new) }
+    ensures faults { CountsFaults result (S.feed input.old) (S.feed input.new) (K.stream out.old) (K.stream out.new) }
+    ensures asked { AskedOnce (S.feed input.old) (S.feed input.new) }
 {
     let ahead = None;
     let mut remaining = Remaining { turns, ahead };

@@ -46,14 +46,14 @@ fn run_code<K: Sink, L: Ledger>(
     ensures at { IfOk result (λ pause. StandsAt routine.now.image.now stack.old.rows.items pause.registers pause.instruction) }
     ensures turns_fall { IfOk result (λ pause. pause.turns ≤ turns) }
     ensures counted { steps.old < steps.new }
-    ensures wrote { IfOk result (λ pause. Wrote (K.written out.old) (K.written out.new)
+    ensures wrote { IfOk result (λ pause. Wrote (K.stream out.old) (K.stream out.new)
         (on stack.old (TopAt routine.now.image.now) r (row_at stack.old.rows.items r.top).instance globals.old turns)
         (on stack.new (TopRuns routine.now.image.now) (row_at stack.old.rows.items r.top).instance globals.new pause (steps.new - steps.old))) }
-    ensures fails { OnErr result (on stack.new (FailsAtWrite routine.now.image.now) r.top (K.written out.old) (K.written out.new)
+    ensures fails { OnErr result (on stack.new (FailsAtWrite routine.now.image.now) r.top (K.stream out.old) (K.stream out.new)
         (on stack.old (TopAt routine.now.image.now) r (row_at stack.old.rows.items r.top).instance globals.old turns)
         (λ pause. on stack.new (TopRuns routine.now.image.now) (row_at stack.old.rows.items r.top).instance globals.new pause (steps.new - steps.old))) }
-    ensures fault { OnErr result (Rose (K.faults out.old) (K.faults out.new)) }
-    ensures faults_stay { K.faults out.old ≤ K.faults out.new }
+    ensures fault { OnErr result (Rose (K.stream out.old).faults (K.stream out.new).faults) }
+    ensures faults_stay { (K.stream out.old).faults ≤ (K.stream out.new).faults }
 {
     let image = routine.image;
     let instance = row_of(stack, r.top).instance;
@@ -95,13 +95,13 @@ pub(crate) fn run_top<K: Sink, L: Ledger>(
     ensures at { IfOk result (λ pause. StandsAt image.now parts.new.stack.rows.items pause.registers pause.instruction) }
     ensures turns_fall { IfOk result (λ pause. pause.turns ≤ turns) }
     ensures counted { steps.old < steps.new }
-    ensures wrote { IfOk result (λ pause. Wrote (K.written out.old) (K.written out.new) (GoesAt image.now parts.old r turns)
+    ensures wrote { IfOk result (λ pause. Wrote (K.stream out.old) (K.stream out.new) (GoesAt image.now parts.old r turns)
         (Paused image.now parts.new pause (steps.new - steps.old))) }
     ensures fails { OnErr result (on parts.new.stack (FailsAtWrite image.now) r.top
-        (K.written out.old) (K.written out.new) (GoesAt image.now parts.old r turns)
+        (K.stream out.old) (K.stream out.new) (GoesAt image.now parts.old r turns)
         (λ pause. Paused image.now parts.new pause (steps.new - steps.old))) }
-    ensures fault { OnErr result (Rose (K.faults out.old) (K.faults out.new)) }
-    ensures faults_stay { K.faults out.old ≤ K.faults out.new }
+    ensures fault { OnErr result (Rose (K.stream out.old).faults (K.stream out.new).faults) }
+    ensures faults_stay { (K.stream out.old).faults ≤ (K.stream out.new).faults }
 {
     let row = row_of(&parts.stack, r.top);
     let module = module_of(image, row.instance);

@@ -2,8 +2,8 @@
 use Rattle.std.proofs.Common.{◌≡◌, ℕ, Bool, true, false, refl, ◌+◌, ◌≤◌, List, ◌++◌, length, take, Option, Some, None, IfSome, inl, inr, append_assoc, arith, sym, subst, ◌∙◌, ap, length-append, append-nil, []}
 use Rattle.std.proofs.Math.Seq.{take-append-add}
 use Rattle.std.proofs.lemmas.List.{take-append-le}
-use Rattle.mesa_base.specs.Outside.{AppendsPrefix, Rose}
-use Rattle.line_pieces.specs.Outputs.{Stream, PrintsAll, PrintsPrefix, HasFaulted, Receives}
+use Rattle.mesa_base.specs.Outside.{Stream, AppendsPrefix, Rose}
+use Rattle.line_pieces.specs.Outputs.{PrintsAll, PrintsPrefix, HasFaulted, Receives}
 
 pub rose-after : (n k m : ℕ) → n ≤ k → Rose k m → Rose n m
 rose-after n k m stays rose = elim rose as (λ _. Rose n m) [ inl more ↦ inl (omega arith) | inr last ↦ inr last ]

@@ -1,15 +1,7 @@
 -- What a call leaves in a stream that it writes to (rule of this project). Where a stream doesn't tell what it holds,
 -- nothing is said of that.
-use Rattle.std.specs.Prelude.{◌≡◌, ℕ, ◌⊎◌, List, ◌++◌, Option, Some, IfSome}
-use Rattle.mesa_base.specs.Outside.{Rose, AppendsPrefix}
-
--- what a stream holds where it tells it, and how many calls on it failed
-pub record Stream : Type 0 where
-  pub holds : Option (List ℕ)
-  pub faults : ℕ
-
-abbrev pub stream : Option (List ℕ) → ℕ → Stream
-stream holds faults = record { holds = holds; faults = faults }
+use Rattle.std.specs.Prelude.{◌≡◌, ℕ, ◌⊎◌, List, ◌++◌, Some, IfSome}
+use Rattle.mesa_base.specs.Outside.{Stream, Rose, AppendsPrefix}
 
 -- the whole text was appended
 abbrev pub PrintsAll : List ℕ → Stream → Stream → Type 0

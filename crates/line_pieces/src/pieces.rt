@@ -1,7 +1,7 @@
 //! The pieces of a line.
 
 ghost use Rattle.std.specs.Prelude.{◌≡◌, ◌≤◌, IsTrue, false};
-ghost use Rattle.line_pieces.specs.Outputs.{stream, PrintsAll, PrintsPrefix, HasFaulted, Receives};
+ghost use Rattle.line_pieces.specs.Outputs.{PrintsAll, PrintsPrefix, HasFaulted, Receives};
 ghost use Rattle.line_pieces.specs.Joined.{bytes_of, joined};
 
 use crate::sending::{send, send_dotted, send_path, send_spaced};
@@ -26,10 +26,10 @@ pub enum Piece<'a> {
 
 /// The pieces in order, each only where those before were taken; whether all were.
 pub fn print_all<E: Sink>(pieces: &[Piece<'_>], out: &mut E) -> bool
-    ensures whole { IsTrue result → PrintsAll (joined pieces.now) (stream (E.written out.old) (E.faults out.old)) (stream (E.written out.new) (E.faults out.new)) }
-    ensures cut { result ≡ false → PrintsPrefix (joined pieces.now) (stream (E.written out.old) (E.faults out.old)) (stream (E.written out.new) (E.faults out.new)) }
-    ensures fault { result ≡ false → HasFaulted (stream (E.written out.old) (E.faults out.old)) (stream (E.written out.new) (E.faults out.new)) }
-    ensures faults_stay { E.faults out.old ≤ E.faults out.new }
+    ensures whole { IsTrue result → PrintsAll (joined pieces.now) (E.stream out.old) (E.stream out.new) }
+    ensures cut { result ≡ false → PrintsPrefix (joined pieces.now) (E.stream out.old) (E.stream out.new) }
+    ensures fault { result ≡ false → HasFaulted (E.stream out.old) (E.stream out.new) }
+    ensures faults_stay { (E.stream out.old).faults ≤ (E.stream out.new).faults }
 {
     for piece in pieces {
         if !send_piece(*piece, out) {
@@ -41,16 +41,16 @@ pub fn print_all<E: Sink>(pieces: &[Piece<'_>], out: &mut E) -> bool
 
 /// The pieces of a line, of which no one asks whether they were taken.
 pub fn say_all<E: Sink>(pieces: &[Piece<'_>], err: &mut E)
-    ensures { Receives (joined pieces.now) (stream (E.written err.old) (E.faults err.old)) (stream (E.written err.new) (E.faults err.new)) }
+    ensures { Receives (joined pieces.now) (E.stream err.old) (E.stream err.new) }
 {
     print_all(pieces, err);
 }
 
 fn send_piece<E: Sink>(piece: Piece<'_>, err: &mut E) -> bool
-    ensures whole { IsTrue result → PrintsAll (bytes_of piece.entry) (stream (E.written err.old) (E.faults err.old)) (stream (E.written err.new) (E.faults err.new)) }
-    ensures cut { result ≡ false → PrintsPrefix (bytes_of piece.entry) (stream (E.written err.old) (E.faults err.old)) (stream (E.written err.new) (E.faults err.new)) }
-    ensures fault { result ≡ false → HasFaulted (stream (E.written err.old) (E.faults err.old)) (stream (E.written err.new) (E.faults err.new)) }
-    ensures faults_stay { E.faults err.old ≤ E.faults err.new }
+    ensures whole { IsTrue result → PrintsAll (bytes_of piece.entry) (E.stream err.old) (E.stream err.new) }
+    ensures cut { result ≡ false → PrintsPrefix (bytes_of piece.entry) (E.stream err.old) (E.stream err.new) }
+    ensures fault { result ≡ false → HasFaulted (E.stream err.old) (E.stream err.new) }
+    ensures faults_stay { (E.stream err.old).faults ≤ (E.stream err.new).faults }
 {
     match piece {
         Piece::Text(text) => send(text.as_bytes(), err),

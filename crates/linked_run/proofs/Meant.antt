@@ -1,6 +1,7 @@
 -- What a run of the machine tells of what its source means.
-use Rattle.std.proofs.Common.{◌≡◌, ℕ, List, length, Option, refl, sym, subst}
+use Rattle.std.proofs.Common.{◌≡◌, ℕ, length, refl, sym, subst}
 use Rattle.std.specs.Prelude.{IfSome}
+use Rattle.mesa_base.specs.Outside.{Feed, Stream}
 use Rattle.source_meaning.specs.Program.{Program}
 use Rattle.source_meaning.specs.Means.{Means}
 use Rattle.source_meaning.specs.State.{Answer, End, Fault, Normal, Gives, Go, Resumed, Rejected, Retried, Continued, Uncaught, Spent, FrameLimit, Broken}
@@ -35,9 +36,9 @@ breaks_as Spent h = absurd (subst (λ x. IsEnded x) (sym h) tt)
 breaks_as FrameLimit h = absurd (subst (λ x. IsEnded x) (sym h) tt)
 breaks_as Broken h = refl
 
-module _ (image : Image) (turns : ℕ) (told left held holds : Option (List ℕ)) where
-  pub ran : (outcome : Outcome) (count : ℕ) → Completes image turns outcome count told left held holds
-      → (P : Program) → IsImageOf P image → IfSome told AreBytes → Ran P turns outcome told left held holds
+module _ (image : Image) (turns : ℕ) (feed feed' : Feed) (stream stream' : Stream) where
+  pub ran : (outcome : Outcome) (count : ℕ) → Completes image turns outcome count feed feed' stream stream'
+      → (P : Program) → IsImageOf P image → IfSome feed.left AreBytes → Ran P turns outcome feed feed' stream stream'
   unfolding is_faulty
   ran outcome count c P of bytes =
       let m : MeansAlike P c.input End turns c.output (Ended outcome.end) outcome.left c.taken =
@@ -54,7 +55,7 @@ module _ (image : Image) (turns : ℕ) (told left held holds : Option (List ℕ)
         appends = c.appends;
       }
 
-  pub broken_off : (count : ℕ) → BreaksAtInput image turns count told left held holds → (P : Program) → IsImageOf P image → BrokenOff P turns told left held holds
+  pub broken_off : (count : ℕ) → BreaksAtInput image turns count feed feed' stream stream' → (P : Program) → IsImageOf P image → BrokenOff P turns feed feed' stream stream'
   unfolding is_faulty
   broken_off count b P of =
       let m : MeansAlike P b.input Fault turns b.output machine.Broken b.turns_left (length b.input) =
@@ -68,7 +69,7 @@ module _ (image : Image) (turns : ℕ) (told left held holds : Option (List ℕ)
         appends = b.appends;
       }
 
-  pub cut_off : (count : ℕ) → BreaksAtOutput image turns count told left held holds × CutsOff image turns told left held holds → (P : Program) → IsImageOf P image → IfSome told AreBytes → CutOff P turns told left held holds
+  pub cut_off : (count : ℕ) → BreaksAtOutput image turns count feed feed' stream stream' × CutsOff image turns feed feed' stream stream' → (P : Program) → IsImageOf P image → IfSome feed.left AreBytes → CutOff P turns feed feed' stream stream'
   unfolding is_faulty
   cut_off count (_, b) P of bytes =
       let m : MeansAlike P b.input End turns b.output b.end b.turns_left b.taken =

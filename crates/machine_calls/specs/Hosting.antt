@@ -1,6 +1,7 @@
 -- What the procedures of the host write and read (rule of this project), and where they lead.
 use Rattle.std.specs.Prelude.{◌≡◌, ℕ, zero, suc, ◌+◌, ◌-◌, ◌%◌, ◌<◌, List, [], ◌∷◌, ◌++◌, Bool, true, false, Option, Some, None, IfSome, option_and_then, option_map, slice_index}
 use Rattle.mesa_base.specs.Asked.{Asked}
+use Rattle.mesa_base.specs.Outside.{Feed}
 use Rattle.mesa_base.specs.Decimal.{signed_word}
 use Rattle.code_forms.specs.declared.instruction.Instruction.{Instruction}
 use Rattle.code_forms.specs.declared.instruction.Instruction.TheVariants.{CallLink}
@@ -148,9 +149,8 @@ vain_by (Some End) = 1
 
 -- from where it was asked once for each byte that it gave, and in vain only where the input is known to be at its end, it is asked so to here, and so
 -- often in vain
-abbrev pub AsksOn : Option Coming → (left left' : Option (List ℕ)) → (calls calls' vain : ℕ) → Type 0
-AsksOn ahead left left' calls calls' vain =
-    (told : Option (List ℕ)) (first : ℕ) → Asked told left first calls (vain_by ahead) → Asked told left' first calls' vain
+abbrev pub AsksOn : Option Coming → (feed feed' : Feed) → (vain : ℕ) → Type 0
+AsksOn ahead feed feed' vain = (first : Feed) → Asked first feed (vain_by ahead) → Asked first feed' vain
 
 -- Which call writes.
 

@@ -15,13 +15,13 @@ pub enum Coming {
 
 /// Asks the source for the next byte of the input, unless it is known what comes. Where that fails it was not known.
 pub fn look<S: Source>(ahead: Option<Coming>, input: &mut S) -> Result<Coming, Failed>
-    ensures looks { IfOk result (λ coming. Looks ahead coming (S.left input.old) (S.left input.new)) }
-    ensures kept { OnErr result (S.left input.new ≡ S.left input.old) }
+    ensures looks { IfOk result (λ coming. Looks ahead coming (S.feed input.old).left (S.feed input.new).left) }
+    ensures kept { OnErr result ((S.feed input.new).left ≡ (S.feed input.old).left) }
     ensures unknown { OnErr result (ahead ≡ None) }
-    ensures asks { IfOk result (λ coming. AsksOn ahead (S.left input.old) (S.left input.new) (S.calls input.old) (S.calls input.new) (vain_by (Some coming))) }
-    ensures asks_in_vain { OnErr result (AsksOn ahead (S.left input.old) (S.left input.new) (S.calls input.old) (S.calls input.new) 1) }
-    ensures fault { OnErr result (Rose (S.faults input.old) (S.faults input.new)) }
-    ensures faults_stay { S.faults input.old ≤ S.faults input.new }
+    ensures asks { IfOk result (λ coming. AsksOn ahead (S.feed input.old) (S.feed input.new) (vain_by (Some coming))) }
+    ensures asks_in_vain { OnErr result (AsksOn ahead (S.feed input.old) (S.feed input.new) 1) }
+    ensures fault { OnErr result (Rose (S.feed input.old).faults (S.feed input.new).faults) }
+    ensures faults_stay { (S.feed input.old).faults ≤ (S.feed input.new).faults }
 {
     if let Some(coming) = ahead {
         return Ok(coming);

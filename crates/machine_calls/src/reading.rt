@@ -64,16 +64,16 @@ pub fn read<S: Source>(
     input: &mut S,
 ) -> Result<ReadSequel, Failed>
     requires can { CanCall region.old r (Read reading) }
-    ensures reads { IfOk result (λ sequel. Reads reading ahead.old ahead.new (S.left input.old) (S.left input.new) region.old region.new r sequel) }
-    ensures kept { OnErr result (S.left input.new ≡ S.left input.old) }
+    ensures reads { IfOk result (λ sequel. Reads reading ahead.old ahead.new (S.feed input.old).left (S.feed input.new).left region.old region.new r sequel) }
+    ensures kept { OnErr result ((S.feed input.new).left ≡ (S.feed input.old).left) }
     ensures unknown { OnErr result (ahead.old ≡ None) }
     ensures ahead_stays { OnErr result (ahead.new ≡ ahead.old) }
     ensures region_stays { OnErr result (region.new ≡ region.old) }
-    ensures asks { OnOk result (AsksOn ahead.old (S.left input.old) (S.left input.new) (S.calls input.old) (S.calls input.new) (vain_by ahead.new)) }
-    ensures asks_in_vain { OnErr result (AsksOn ahead.old (S.left input.old) (S.left input.new) (S.calls input.old) (S.calls input.new) 1) }
+    ensures asks { OnOk result (AsksOn ahead.old (S.feed input.old) (S.feed input.new) (vain_by ahead.new)) }
+    ensures asks_in_vain { OnErr result (AsksOn ahead.old (S.feed input.old) (S.feed input.new) 1) }
     ensures breaks { Breaks region.old r reading }
-    ensures fault { OnErr result (Rose (S.faults input.old) (S.faults input.new)) }
-    ensures faults_stay { S.faults input.old ≤ S.faults input.new }
+    ensures fault { OnErr result (Rose (S.feed input.old).faults (S.feed input.new).faults) }
+    ensures faults_stay { (S.feed input.old).faults ≤ (S.feed input.new).faults }
 {
     let coming = look(*ahead, input)?;
     *ahead = match coming {

@@ -15,12 +15,12 @@ use object_files::Image;
 // Puts a number. Its digits are made apart, so that a call that writes a character has no room to make for them.
 #[inline(never)]
 fn put_decimal<K: Sink>(word: u16, out: &mut K) -> Result<(), Failed>
-    ensures wrote { OnOk result (IfSome (K.written out.old) (λ bytes. K.written out.new ≡ Some (bytes ++ signed_word word))) }
-    ensures partly { OnErr result (IfSome (K.written out.old) (λ bytes. AppendsPrefix bytes (signed_word word) (K.written out.new))) }
+    ensures wrote { OnOk result (IfSome (K.stream out.old).holds (λ bytes. (K.stream out.new).holds ≡ Some (bytes ++ signed_word word))) }
+    ensures partly { OnErr result (IfSome (K.stream out.old).holds (λ bytes. AppendsPrefix bytes (signed_word word) (K.stream out.new).holds)) }
     ensures some { OnErr result (signed_word word ≢ []) }
-    ensures one_put { K.puts out.new ≡ with_put (signed_word word) (K.puts out.old) }
-    ensures fault { OnErr result (Rose (K.faults out.old) (K.faults out.new)) }
-    ensures faults_stay { K.faults out.old ≤ K.faults out.new }
+    ensures one_put { (K.stream out.new).puts ≡ with_put (signed_word word) (K.stream out.old).puts }
+    ensures fault { OnErr result (Rose (K.stream out.old).faults (K.stream out.new).faults) }
+    ensures faults_stay { (K.stream out.old).faults ≤ (K.stream out.new).faults }
 {
     out.put(Decimal::signed(word).as_bytes())
 }
@@ -35,14 +35,14 @@ fn put_operands<K: Sink>(
     out: &mut K,
 ) -> Result<(), Failed>
     requires can { CanCall region.now r (Write writing) }
-    ensures wrote { OnOk result (IfSome (K.written out.old) (λ bytes.
-        K.written out.new ≡ Some (bytes ++ text_written image.now region.now r writing))) }
-    ensures partly { OnErr result (IfSome (K.written out.old) (λ bytes.
-        AppendsPrefix bytes (text_written image.now region.now r writing) (K.written out.new))) }
+    ensures wrote { OnOk result (IfSome (K.stream out.old).holds (λ bytes.
+        (K.stream out.new).holds ≡ Some (bytes ++ text_written image.now region.now r writing))) }
+    ensures partly { OnErr result (IfSome (K.stream out.old).holds (λ bytes.
+        AppendsPrefix bytes (text_written image.now region.now r writing) (K.stream out.new).holds)) }
     ensures some { OnErr result (text_written image.now region.now r writing ≢ []) }
-    ensures one_put { K.puts out.new ≡ with_put (text_written image.now region.now r writing) (K.puts out.old) }
-    ensures fault { OnErr result (Rose (K.faults out.old) (K.faults out.new)) }
-    ensures faults_stay { K.faults out.old ≤ K.faults out.new }
+    ensures one_put { (K.stream out.new).puts ≡ with_put (text_written image.now region.now r writing) (K.stream out.old).puts }
+    ensures fault { OnErr result (Rose (K.stream out.old).faults (K.stream out.new).faults) }
+    ensures faults_stay { (K.stream out.old).faults ≤ (K.stream out.new).faults }
 {
     let top = region[r.sp - 1];
     match writing {
@@ -63,16 +63,16 @@ pub fn write<K: Sink>(
     out: &mut K,
 ) -> Result<Registers, Failed>
     requires can { CanCall region.now r (Write writing) }
-    ensures wrote { OnOk result (IfSome (K.written out.old) (λ bytes.
-        K.written out.new ≡ Some (bytes ++ text_written image.now region.now r writing))) }
-    ensures partly { OnErr result (IfSome (K.written out.old) (λ bytes.
-        AppendsPrefix bytes (text_written image.now region.now r writing) (K.written out.new))) }
+    ensures wrote { OnOk result (IfSome (K.stream out.old).holds (λ bytes.
+        (K.stream out.new).holds ≡ Some (bytes ++ text_written image.now region.now r writing))) }
+    ensures partly { OnErr result (IfSome (K.stream out.old).holds (λ bytes.
+        AppendsPrefix bytes (text_written image.now region.now r writing) (K.stream out.new).holds)) }
     ensures some { OnErr result (text_written image.now region.now r writing ≢ []) }
-    ensures one_put { K.puts out.new ≡ with_put (text_written image.now region.now r writing) (K.puts out.old) }
+    ensures one_put { (K.stream out.new).puts ≡ with_put (text_written image.now region.now r writing) (K.stream out.old).puts }
     ensures behind { IfOk result (λ after. after ≡ behind_call (Write writing) r) }
     ensures leads { WritesOn image.now region.now r writing (text_written image.now region.now r writing) (behind_call (Write writing) r) }
-    ensures fault { OnErr result (Rose (K.faults out.old) (K.faults out.new)) }
-    ensures faults_stay { K.faults out.old ≤ K.faults out.new }
+    ensures fault { OnErr result (Rose (K.stream out.old).faults (K.stream out.new).faults) }
+    ensures faults_stay { (K.stream out.old).faults ≤ (K.stream out.new).faults }
 {
     put_operands(writing, image, region, r, out)?;
     let takes = match writing {

@@ -3,6 +3,7 @@ use Rattle.std.proofs.Common.{◌≡◌, ℕ, List, length, Ok, Err, refl, sym, 
 use Rattle.std.specs.Prelude.{Result}
 use Rattle.std.proofs.lemmas.List.{length-map}
 use Rattle.std.proofs.lemmas.Slice.Zip.{AllZip-long}
+use Rattle.mesa_base.specs.Outside.{Shelf}
 use Rattle.mesa_types.specs.Plain.{plain}
 use Rattle.object_files.specs.declared.image.Image.{Image}
 use Rattle.object_rules.specs.ObjectFiles.{IsObjectFile}
@@ -17,7 +18,7 @@ use Rattle.command_rules.specs.Passes.{Trail}
 use Rattle.command_rules.specs.Passing.{Fails, Gives}
 use Rattle.command_rules.specs.Passing as passing
 use Rattle.command_rules.specs.Reading.{Asked, Onward}
-use Rattle.command_rules.specs.Worlds.{Shelf, Scene}
+use Rattle.command_rules.specs.Worlds.{Scene}
 use Rattle.command_rules.specs.Writing.{Stored, NotStored}
 use Rattle.command_rules.proofs.Passing.{onward_same}
 use Rattle.command_lines.specs.command_passes.specs.Stops.{stop_case}

@@ -61,10 +61,10 @@ module _ (image : Image) (turns : ℕ) (old new : Scene) where
   risen stay = omega (arith, stay)
 
   pub runs : (r : Result Outcome RunFault) →
-      IfOk r (λ o. Completes image turns o (new.steps - old.steps) old.input.left new.input.left old.out.holds new.out.holds) →
-      (IsErrOf r fault.ReadFault → BreaksAtInput image turns (new.steps - old.steps) old.input.left new.input.left old.out.holds new.out.holds) →
-      (IsErrOf r fault.WriteFault → BreaksAtOutput image turns (new.steps - old.steps) old.input.left new.input.left old.out.holds new.out.holds
-      × CutsOff image turns old.input.left new.input.left old.out.holds new.out.holds) →
+      IfOk r (λ o. Completes image turns o (new.steps - old.steps) old.input new.input old.out new.out) →
+      (IsErrOf r fault.ReadFault → BreaksAtInput image turns (new.steps - old.steps) old.input new.input old.out new.out) →
+      (IsErrOf r fault.WriteFault → BreaksAtOutput image turns (new.steps - old.steps) old.input new.input old.out new.out
+      × CutsOff image turns old.input new.input old.out new.out) →
       (IsErrOf r fault.ReadFault → Rose old.input.faults new.input.faults) → (IsErrOf r fault.WriteFault → HasFaulted old.out new.out) →
       old.steps ≤ new.steps → Runs image turns old new r
   runs (Ok o) counts breaks cuts reads writes stay = ended o (new.steps - old.steps, risen stay, counts)
@@ -72,10 +72,10 @@ module _ (image : Image) (turns : ℕ) (old new : Scene) where
   runs (Err fault.WriteFault) counts breaks cuts reads writes stay = write_fault (writes refl) (new.steps - old.steps, risen stay, (cuts refl).0)
 
   pub run_ends : (r : Result Outcome RunFault) →
-      IfOk r (λ o. Completes image turns o (new.steps - old.steps) old.input.left new.input.left old.out.holds new.out.holds) →
-      (IsErrOf r fault.ReadFault → BreaksAtInput image turns (new.steps - old.steps) old.input.left new.input.left old.out.holds new.out.holds) →
-      (IsErrOf r fault.WriteFault → BreaksAtOutput image turns (new.steps - old.steps) old.input.left new.input.left old.out.holds new.out.holds
-      × CutsOff image turns old.input.left new.input.left old.out.holds new.out.holds) →
+      IfOk r (λ o. Completes image turns o (new.steps - old.steps) old.input new.input old.out new.out) →
+      (IsErrOf r fault.ReadFault → BreaksAtInput image turns (new.steps - old.steps) old.input new.input old.out new.out) →
+      (IsErrOf r fault.WriteFault → BreaksAtOutput image turns (new.steps - old.steps) old.input new.input old.out new.out
+      × CutsOff image turns old.input new.input old.out new.out) →
       (IsErrOf r fault.ReadFault → Rose old.input.faults new.input.faults) → (IsErrOf r fault.WriteFault → HasFaulted old.out new.out) →
       old.steps ≤ new.steps → RunsTo (image_names image) image turns old new (case_of_run (image_names image) r)
   run_ends r counts breaks cuts reads writes stay = record { end = r; runs = runs r counts breaks cuts reads writes stay; is_case = refl }

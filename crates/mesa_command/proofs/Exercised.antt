@@ -1,10 +1,11 @@
 -- What comes of an exercise, from what is built within it and from its run.
 use Rattle.std.proofs.Common.{◌≡◌, ℕ, ◌≤◌, List, ◌++◌, length, codes, decimal, Result, Ok, Err, refl, sym, ap, subst}
+use Rattle.mesa_base.specs.Outside.{Shelf, Stream}
 use Rattle.object_files.specs.declared.image.Image.{Image}
 use Rattle.frame_machine.specs.declared.outcome.Outcome.{Outcome}
 use Rattle.frame_machine.specs.declared.outcome.RunFault.{RunFault}
 use Rattle.frame_machine.specs.declared.outcome.RunFault.TheVariants as fault
-use Rattle.line_pieces.specs.Outputs.{Stream, PrintsAll, PrintsPrefix}
+use Rattle.line_pieces.specs.Outputs.{PrintsAll, PrintsPrefix}
 use Rattle.command_laws.specs.Laws.{RunsAreMeant}
 use Rattle.command_rules.specs.Case.{Case, Memory, status_of, IsBeforeRun}
 use Rattle.command_rules.specs.Comes as rules
@@ -15,7 +16,7 @@ use Rattle.command_rules.specs.Exercise.{IsNoEnd, chain, end_word, exercise_shel
 use Rattle.command_rules.specs.Forms.{OfConfig}
 use Rattle.command_rules.specs.Passing as passing
 use Rattle.command_rules.specs.Shown.{Names, case_of_end, case_of_run, image_names}
-use Rattle.command_rules.specs.Worlds.{Shelf, Scene}
+use Rattle.command_rules.specs.Worlds.{Scene}
 use Rattle.command_rules.proofs.Passing.{onward_same, rose_from}
 use Rattle.command_lines.specs.command_passes.specs.Stops.{stop_case}
 use Rattle.command_lines.specs.command_passes.specs.declared.stop.Stop.{Stop}

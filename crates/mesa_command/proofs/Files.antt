@@ -1,5 +1,6 @@
 -- What comes of a file that is listed or upgraded.
 use Rattle.std.proofs.Common.{◌≡◌, ℕ, List, [], ◌∷◌, Result, Ok, Err, sym, subst}
+use Rattle.mesa_base.specs.Outside.{Shelf}
 use Rattle.command_rules.specs.Case.{Case, Memory}
 use Rattle.command_rules.specs.Comes.{Upgrades, not_held, stored, not_stored}
 use Rattle.command_rules.specs.Comes as rules
@@ -9,7 +10,6 @@ use Rattle.command_rules.specs.Passes.{Has}
 use Rattle.command_rules.specs.Passing.{Fails, Gives}
 use Rattle.command_rules.specs.Passing as passing
 use Rattle.command_rules.specs.Reading.{Onward}
-use Rattle.command_rules.specs.Worlds.{Shelf}
 use Rattle.command_rules.specs.Writing.{Value, holding}
 use Rattle.command_rules.proofs.Passing.{onward_same}
 use Rattle.command_lines.specs.command_passes.specs.Stops.{stop_case}

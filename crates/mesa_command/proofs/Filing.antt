@@ -3,6 +3,7 @@ use Rattle.std.proofs.Common.{◌≡◌, ℕ, ◌<◌, List, [], ◌∷◌, leng
 use Rattle.std.specs.Prelude.{Result, IfOk, slice_get, ◌≢◌, ◌↔◌}
 use Rattle.std.proofs.lemmas.List.Elements.{All-nil, All-cons, All-weaker}
 use Rattle.std.proofs.lemmas.Option.{slice_get_read}
+use Rattle.mesa_base.specs.Outside.{Shelf}
 use Rattle.mesa_base.specs.declared.file_fault.WriteFault.{WriteFault}
 use Rattle.mesa_base.specs.declared.file_fault.WriteFault.TheVariants as write
 use Rattle.mesa_base.specs.declared.limits.TheConstants.{FILE_BYTES}
@@ -22,7 +23,6 @@ use Rattle.command_rules.specs.Passes.{Has, Trail}
 use Rattle.command_rules.specs.Passing.{Fails, Gives}
 use Rattle.command_rules.specs.Passing as passing
 use Rattle.command_rules.specs.Reading.{Asked, Onward}
-use Rattle.command_rules.specs.Worlds.{Shelf}
 use Rattle.command_rules.specs.Writing.{Value, OfInterface, OfObject, OfImage, IsFileOf, IsSmall, size_of, holding, Written, too_large, no_memory, stored, not_stored}
 use Rattle.command_rules.proofs.Passing.{onward_same}
 use Rattle.command_lines.specs.command_passes.specs.Stops.{stop_case}

@@ -2,6 +2,7 @@
 use Rattle.std.proofs.Common.{◌≡◌, ℕ, Bool, true, false, ◌&&◌, ◌==◌, cond, List, length, Some, None, refl, sym, subst, arith}
 use Rattle.std.proofs.lemmas.Bool.Decides.{nat_tests}
 use Rattle.std.specs.Str.Parse.{digits_value}
+use Rattle.mesa_base.specs.Outside.{Shelf}
 use Rattle.mesa_base.specs.Stamp.{all_hexadecimal, stamp_of}
 use Rattle.mesa_base.proofs.Hexadecimal.{whole_stamp_fits}
 use Rattle.interface_records.specs.Spelled.{InSixBytes}
@@ -10,7 +11,7 @@ use Rattle.command_laws.specs.Laws.{WordsHaveOneForm}
 use Rattle.command_rules.specs.Case.{Case}
 use Rattle.command_rules.specs.Comes.{Comes, compiles, defines, binds, loads, goes, shows, upgrades, exercises, plans, surveys}
 use Rattle.command_rules.specs.Forms.{Form, Compile, Define, Bind, Run, Go, Show, Upgrade, Exercise, Plan, Survey, HasForm, compile, define, bind, run, go, list, upgrade, exercise, plan, survey}
-use Rattle.command_rules.specs.Worlds.{Shelf, Scene}
+use Rattle.command_rules.specs.Worlds.{Scene}
 use Rattle.mesa_command.specs.Forms.{ComesOfForm, IsWellFormed}
 
 chosen : (b : Bool) (v stamp : ℕ) → cond b (Some v) None ≡ Some stamp → (b ≡ true) × (v ≡ stamp)

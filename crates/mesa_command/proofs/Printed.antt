@@ -1,12 +1,13 @@
 -- What comes of a report that is printed.
 use Rattle.std.proofs.Common.{◌≡◌, ℕ, List, [], Result, Ok, Err, refl, sym, subst, arith}
-use Rattle.line_pieces.specs.Outputs.{Stream, PrintsAll, PrintsPrefix}
+use Rattle.mesa_base.specs.Outside.{Shelf, Feed, Stream}
+use Rattle.line_pieces.specs.Outputs.{PrintsAll, PrintsPrefix}
 use Rattle.command_rules.specs.Case.{Case}
 use Rattle.command_rules.specs.Passes.{Pass}
 use Rattle.command_rules.specs.Passing.{Fails, memory}
 use Rattle.command_rules.specs.Printing.{Report, text_alone, AreMissed, Prints, not_read, printed, not_printed}
 use Rattle.command_rules.specs.Reading.{Onward}
-use Rattle.command_rules.specs.Worlds.{Shelf, Feed, scene}
+use Rattle.command_rules.specs.Worlds.{scene}
 use Rattle.command_lines.specs.command_passes.specs.Shelves.{Passes}
 use Rattle.command_lines.specs.command_passes.specs.Stops.{stop_case}
 use Rattle.command_lines.specs.command_passes.specs.declared.stop.Stop.{Stop}

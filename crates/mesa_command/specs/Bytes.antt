@@ -1,5 +1,6 @@
 -- The bytes of a value's file, or why there are none.
 use Rattle.std.specs.Prelude.{ℕ, ◌<◌, List, [], ◌∷◌, Result, Ok, Err}
+use Rattle.mesa_base.specs.Outside.{Shelf}
 use Rattle.mesa_base.specs.declared.file_fault.WriteFault.{WriteFault}
 use Rattle.mesa_base.specs.declared.file_fault.WriteFault.TheVariants.{TooLarge, Memory}
 use Rattle.mesa_base.specs.declared.limits.TheConstants.{FILE_BYTES}
@@ -9,7 +10,6 @@ use Rattle.command_rules.specs.linked_programs.specs.Objects.{IsObjectOf}
 use Rattle.command_rules.specs.Case.{Case, Memory as NoMemory}
 use Rattle.command_rules.specs.Passes.{Trail}
 use Rattle.command_rules.specs.Reading.{Asked}
-use Rattle.command_rules.specs.Worlds.{Shelf}
 use Rattle.command_rules.specs.Writing.{Value, OfObject, IsFileOf, size_of, holding, Written}
 
 -- of want of memory nothing is said

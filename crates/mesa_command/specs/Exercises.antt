@@ -1,15 +1,16 @@
 -- What is built within an exercise, and what comes of its run and of the summary.
 use Rattle.std.specs.Prelude.{◌≡◌, ℕ, ◌≤◌, List, length, Result, Ok, Err}
+use Rattle.mesa_base.specs.Outside.{Shelf, Stream}
 use Rattle.object_files.specs.declared.image.Image.{Image}
 use Rattle.frame_machine.specs.declared.outcome.Outcome.{Outcome}
 use Rattle.frame_machine.specs.declared.outcome.RunFault.{RunFault}
-use Rattle.line_pieces.specs.Outputs.{Stream, HasFaulted, PrintsAll, PrintsPrefix}
+use Rattle.line_pieces.specs.Outputs.{HasFaulted, PrintsAll, PrintsPrefix}
 use Rattle.command_rules.specs.Case.{Case, WriteFault}
 use Rattle.command_rules.specs.Ends.{Runs}
 use Rattle.command_rules.specs.Exercise.{chain, exercise_shelf, summary}
 use Rattle.command_rules.specs.Forms.{OfConfig}
 use Rattle.command_rules.specs.Shown.{case_of_end, case_of_run, image_names}
-use Rattle.command_rules.specs.Worlds.{Shelf, Scene}
+use Rattle.command_rules.specs.Worlds.{Scene}
 use Rattle.command_lines.specs.command_passes.specs.Stops.{stop_case}
 use Rattle.command_lines.specs.command_passes.specs.declared.stop.Stop.{Stop}
 use Rattle.mesa_command.specs.Machines.{GoesTo}

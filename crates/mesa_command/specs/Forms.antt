@@ -1,11 +1,12 @@
 -- What comes of a form of the words (rule of this project).
 use Rattle.std.specs.Prelude.{◌≡◌, ◌≤◌, ℕ, List, length, All, true}
+use Rattle.mesa_base.specs.Outside.{Shelf}
 use Rattle.interface_records.specs.Spelled.{InSixBytes}
 use Rattle.config_rules.specs.Components.{is_file_base}
 use Rattle.command_rules.specs.Case.{Case}
 use Rattle.command_rules.specs.Comes.{Compiles, Defines, Binds, Loads, Goes, Shows, Plans, ShowsEscapes, Upgrades, Exercises}
 use Rattle.command_rules.specs.Forms.{Form, Compile, Define, Bind, Run, Go, Show, Upgrade, Exercise, Plan, Survey}
-use Rattle.command_rules.specs.Worlds.{Shelf, Scene}
+use Rattle.command_rules.specs.Worlds.{Scene}
 use Rattle.include_rules.specs.Plans.{most_texts}
 use Rattle.loader_rules.specs.declared.limits.TheConstants.{MOST_IMAGES}
 

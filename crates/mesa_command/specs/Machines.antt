@@ -1,5 +1,6 @@
 -- From the files of a folder to a machine that is ready to run, or what ends the call before; and what comes of its run.
 use Rattle.std.specs.Prelude.{◌≡◌, ℕ, List, All, Result, Ok, Err}
+use Rattle.mesa_base.specs.Outside.{Shelf}
 use Rattle.interface_records.specs.Hosts.{IsHostItem}
 use Rattle.object_files.specs.declared.image.Image.{Image}
 use Rattle.object_files.specs.declared.object.Object.{Object}
@@ -13,7 +14,7 @@ use Rattle.command_rules.specs.Forms.{Source}
 use Rattle.command_rules.specs.Passes.{Trail}
 use Rattle.command_rules.specs.Reading.{Asked}
 use Rattle.command_rules.specs.Shown.{image_names}
-use Rattle.command_rules.specs.Worlds.{Shelf, Scene}
+use Rattle.command_rules.specs.Worlds.{Scene}
 use Rattle.command_rules.specs.Writing.{IsSmall, Stored, NotStored}
 use Rattle.command_lines.specs.command_passes.specs.Stops.{stop_case}
 use Rattle.command_lines.specs.command_passes.specs.declared.stop.Stop.{Stop}

@@ -1,11 +1,11 @@
 -- What comes of a text that is printed.
 use Rattle.std.specs.Prelude.{◌≡◌, ℕ, List, Result, Ok, Err}
-use Rattle.line_pieces.specs.Outputs.{Stream, HasFaulted, PrintsAll, PrintsPrefix}
+use Rattle.mesa_base.specs.Outside.{Shelf, Stream}
+use Rattle.line_pieces.specs.Outputs.{HasFaulted, PrintsAll, PrintsPrefix}
 use Rattle.command_rules.specs.Case.{Case, Done, WriteFault}
 use Rattle.command_rules.specs.Passes.{Pass}
 use Rattle.command_rules.specs.Passing.{Fails, Gives}
 use Rattle.command_rules.specs.Printing.{Report, AreMissed}
-use Rattle.command_rules.specs.Worlds.{Shelf}
 use Rattle.command_lines.specs.command_passes.specs.Stops.{stop_case}
 use Rattle.command_lines.specs.command_passes.specs.declared.stop.Stop.{Stop}
 

@@ -2,7 +2,6 @@
 
 ghost use Rattle.link_tables.specs.Linked.{image_of};
 ghost use Rattle.command_rules.specs.Comes.{Binds};
-ghost use Rattle.command_rules.specs.Worlds.{shelf};
 ghost use Rattle.command_rules.specs.Writing.{OfImage};
 ghost use Rattle.command_sources.specs.Objects.{CanBeLinked};
 ghost use Rattle.command_sources.specs.Stops.{stored_case};
@@ -38,8 +37,8 @@ fn image_bytes(alloc: Global, bound: BoundObjects) -> Result<Bytes, WriteFault>
 pub(crate) fn bound<F: Folder>(alloc: Global, folder: &mut F, base: &[u8]) -> Result<(), Stop>
     requires { IsBase base.now }
     ensures { Binds base.now
-        (shelf (F.files folder.old) (F.calls folder.old) (F.faults folder.old) (F.misses folder.old))
-        (shelf (F.files folder.new) (F.calls folder.new) (F.faults folder.new) (F.misses folder.new)) (stored_case result) }
+        (F.shelf folder.old)
+        (F.shelf folder.new) (stored_case result) }
 {
     let file = file_named(alloc, base, ".mim")?;
     match bound_of_config(alloc, folder, base) {

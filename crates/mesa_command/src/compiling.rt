@@ -1,6 +1,7 @@
 //! `compile NAME` and `compile NAME STAMP`.
 
 ghost use Rattle.std.specs.Prelude.{[], ◌∷◌, IfOk};
+ghost use Rattle.mesa_base.specs.Outside.{Shelf};
 ghost use Rattle.mesa_types.specs.Plain.{plain};
 ghost use Rattle.interface_records.specs.Spelled.{InSixBytes};
 ghost use Rattle.face_rules.specs.InterfaceForms as form;
@@ -9,7 +10,6 @@ ghost use Rattle.command_rules.specs.linked_programs.specs.Objects.{AreObjectsOf
 ghost use Rattle.command_rules.specs.Comes.{Compiles, Defines};
 ghost use Rattle.command_rules.specs.Passes.{Trail};
 ghost use Rattle.command_rules.specs.Reading.{Asked};
-ghost use Rattle.command_rules.specs.Worlds.{Shelf, shelf};
 ghost use Rattle.command_rules.specs.Writing.{OfInterface};
 ghost use Rattle.command_sources.specs.Stops.{stored_case};
 ghost use Rattle.mesa_command.specs.Bytes.{AreBytesOf, ObjectWritten};
@@ -49,9 +49,9 @@ fn object_stored<F: Folder>(
 ) -> Result<(), Stop>
     requires { CanBeKept (plain «module») }
     ensures { (trail : Trail) (before : Shelf)
-        → Asked trail before (shelf (F.files folder.old) (F.calls folder.old) (F.faults folder.old) (F.misses folder.old))
+        → Asked trail before (F.shelf folder.old)
         → ObjectWritten (plain «module») file trail before
-        (shelf (F.files folder.new) (F.calls folder.new) (F.faults folder.new) (F.misses folder.new)) (stored_case result) }
+        (F.shelf folder.new) (stored_case result) }
 {
     let objects = objects_of_module(alloc, module)?;
     let bytes = object_file(alloc, &objects.as_slice()[0]);
@@ -63,8 +63,8 @@ fn object_stored<F: Folder>(
 pub(crate) fn compiled<F: Folder>(alloc: Global, folder: &mut F, base: &[u8]) -> Result<(), Stop>
     requires { IsBase base.now }
     ensures { Compiles base.now
-        (shelf (F.files folder.old) (F.calls folder.old) (F.faults folder.old) (F.misses folder.old))
-        (shelf (F.files folder.new) (F.calls folder.new) (F.faults folder.new) (F.misses folder.new)) (stored_case result) }
+        (F.shelf folder.old)
+        (F.shelf folder.new) (stored_case result) }
 {
     let text = file_named(alloc, base, ".mesa")?;
     let file = file_named(alloc, base, ".mob")?;
@@ -95,8 +95,8 @@ pub(crate) fn defined<F: Folder>(
     requires named { IsBase base.now }
     requires six { InSixBytes stamp }
     ensures { Defines base.now stamp
-        (shelf (F.files folder.old) (F.calls folder.old) (F.faults folder.old) (F.misses folder.old))
-        (shelf (F.files folder.new) (F.calls folder.new) (F.faults folder.new) (F.misses folder.new)) (stored_case result) }
+        (F.shelf folder.old)
+        (F.shelf folder.new) (stored_case result) }
 {
     let text = file_named(alloc, base, ".mesa")?;
     let file = file_named(alloc, base, ".mif")?;

@@ -6,9 +6,9 @@ ghost use Rattle.command_rules.specs.Case.{Case, IsBeforeRun};
 ghost use Rattle.command_rules.specs.Complete.{Tells};
 ghost use Rattle.command_rules.specs.Exercise as rules;
 ghost use Rattle.command_rules.specs.Shown.{Names, case_of_end, image_names};
-ghost use Rattle.command_rules.specs.Worlds.{feed, scene};
+ghost use Rattle.command_rules.specs.Worlds.{scene};
 ghost use Rattle.command_lines.specs.Endings.{ending_case};
-ghost use Rattle.line_pieces.specs.Outputs.{stream, HasFaulted, PrintsAll, PrintsPrefix};
+ghost use Rattle.line_pieces.specs.Outputs.{HasFaulted, PrintsAll, PrintsPrefix};
 ghost use Rattle.mesa_command.specs.Exercises.{BuildsWithin, ExerciseEnds, SumEnds, SummedRun, Sums};
 
 use crate::going::built;
@@ -48,10 +48,10 @@ fn end_word(end: End) -> &'static str
 /// Writes the summary of a run to `out`; whether all of it was taken.
 fn print_summary<K: Sink>(instances: u64, outcome: Outcome, out: &mut K) -> bool
     ensures whole { (names : Names) → IsTrue result → PrintsAll (rules.summary instances (case_of_end names outcome.end) outcome.left)
-        (stream (K.written out.old) (K.faults out.old)) (stream (K.written out.new) (K.faults out.new)) }
+        (K.stream out.old) (K.stream out.new) }
     ensures cut { (names : Names) → result ≡ false → PrintsPrefix (rules.summary instances (case_of_end names outcome.end) outcome.left)
-        (stream (K.written out.old) (K.faults out.old)) (stream (K.written out.new) (K.faults out.new)) }
-    ensures fault { result ≡ false → HasFaulted (stream (K.written out.old) (K.faults out.old)) (stream (K.written out.new) (K.faults out.new)) }
+        (K.stream out.old) (K.stream out.new) }
+    ensures fault { result ≡ false → HasFaulted (K.stream out.old) (K.stream out.new) }
 {
     let word = end_word(outcome.end);
     let pieces = [
@@ -70,7 +70,7 @@ fn print_summary<K: Sink>(instances: u64, outcome: Outcome, out: &mut K) -> bool
 fn summed<'a, K: Sink>(machine: &'a Machine, outcome: Outcome, out: &mut K) -> Ending<'a>
     requires { EndIsInRange machine.now outcome.end }
     ensures { Sums machine.entry.now outcome
-        (stream (K.written out.old) (K.faults out.old)) (stream (K.written out.new) (K.faults out.new)) (ending_case result) }
+        (K.stream out.old) (K.stream out.new) (ending_case result) }
 {
     let instances = machine.image.instances.len() as u64;
     if print_summary(instances, outcome, out) {
@@ -87,7 +87,7 @@ fn sum_of<'a, K: Sink>(
 ) -> Ending<'a>
     requires { IfOk ended (λ outcome. EndIsInRange machine.now outcome.end) }
     ensures { SumEnds machine.entry.now ended
-        (stream (K.written out.old) (K.faults out.old)) (stream (K.written out.new) (K.faults out.new)) (ending_case result) }
+        (K.stream out.old) (K.stream out.new) (ending_case result) }
 {
     match ended {
         Ok(outcome) => summed(machine, outcome, out),
@@ -104,9 +104,9 @@ fn run_summed<K: Sink, E: Sink, L: Ledger>(
     steps: &mut Steps<L>,
 ) -> Status
     ensures ends { (case : Case)
-        × SummedRun machine turns (scene (feed (Some []) 0) (stream (K.written out.old) (K.faults out.old)) steps.old)
-        (stream (K.written out.new) (K.faults out.new)) steps.new case
-        × Tells case (stream (E.written err.old) (E.faults err.old)) (stream (E.written err.new) (E.faults err.new)) result }
+        × SummedRun machine turns (scene rules.no_input (K.stream out.old) steps.old)
+        (K.stream out.new) steps.new case
+        × Tells case (E.stream err.old) (E.stream err.new) result }
     ensures has_run { IsBeforeRun result → ⊥ }
 {
     let mut input = EmptyInput::new();
@@ -126,9 +126,9 @@ pub(crate) fn sum_or_tell<K: Sink, E: Sink, L: Ledger>(
     steps: &mut Steps<L>,
 ) -> Status
     ensures ends { (case : Case)
-        × ExerciseEnds machine turns (scene (feed (Some []) 0) (stream (K.written out.old) (K.faults out.old)) steps.old)
-        (stream (K.written out.new) (K.faults out.new)) steps.new case
-        × Tells case (stream (E.written err.old) (E.faults err.old)) (stream (E.written err.new) (E.faults err.new)) result }
+        × ExerciseEnds machine turns (scene rules.no_input (K.stream out.old) steps.old)
+        (K.stream out.new) steps.new case
+        × Tells case (E.stream err.old) (E.stream err.new) result }
     ensures before_run_output { IsBeforeRun result → out.new ≡ out.old }
     ensures before_run_steps { IsBeforeRun result → steps.new ≡ steps.old }
 {

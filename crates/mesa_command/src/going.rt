@@ -1,10 +1,10 @@
 //! `go NAME.mesa TURNS` and `go NAME.config TURNS`, up to the run.
 
 ghost use Rattle.std.specs.Prelude.{IfOk};
+ghost use Rattle.mesa_base.specs.Outside.{Shelf};
 ghost use Rattle.command_rules.specs.Configurations.{source_in};
 ghost use Rattle.command_rules.specs.Passes.{Trail};
 ghost use Rattle.command_rules.specs.Reading.{Asked, Onward};
-ghost use Rattle.command_rules.specs.Worlds.{Shelf, shelf};
 ghost use Rattle.command_lines.specs.command_passes.specs.Shelves.{Passes};
 ghost use Rattle.command_sources.specs.Bound.{IsBound, configured};
 ghost use Rattle.command_sources.specs.Made.{IsMadeOf};
@@ -30,10 +30,10 @@ fn source_of<F: Folder>(
     requires { IsBase base.now }
     ensures bound { IfOk result IsBound }
     ensures passes { Passes configured (source_in (form_source source) base.now)
-        (shelf (F.files folder.old) (F.calls folder.old) (F.faults folder.old) (F.misses folder.old))
-        (shelf (F.files folder.new) (F.calls folder.new) (F.faults folder.new) (F.misses folder.new)) result }
-    ensures onward { Onward (shelf (F.files folder.old) (F.calls folder.old) (F.faults folder.old) (F.misses folder.old))
-        (shelf (F.files folder.new) (F.calls folder.new) (F.faults folder.new) (F.misses folder.new)) }
+        (F.shelf folder.old)
+        (F.shelf folder.new) result }
+    ensures onward { Onward (F.shelf folder.old)
+        (F.shelf folder.new) }
 {
     match source {
         Source::OfModule => source_of_module(alloc, folder, base),
@@ -53,9 +53,9 @@ fn machine_written<F: Folder>(
     requires bound { IsBound source.now }
     requires made { IsMadeOf (configured source.now) base.now program }
     ensures { (trail : Trail) (before : Shelf)
-        → Asked trail before (shelf (F.files folder.old) (F.calls folder.old) (F.faults folder.old) (F.misses folder.old))
+        → Asked trail before (F.shelf folder.old)
         → WritesTo (configured source.now) base.now trail before
-        (shelf (F.files folder.new) (F.calls folder.new) (F.faults folder.new) (F.misses folder.new)) result }
+        (F.shelf folder.new) result }
 {
     let MadeProgram {
         objects,
@@ -88,9 +88,9 @@ fn source_written<F: Folder>(
     requires base { IsBase base.now }
     requires bound { IsBound source.now }
     ensures { (trail : Trail) (before : Shelf)
-        → Asked trail before (shelf (F.files folder.old) (F.calls folder.old) (F.faults folder.old) (F.misses folder.old))
+        → Asked trail before (F.shelf folder.old)
         → WritesTo (configured source.now) base.now trail before
-        (shelf (F.files folder.new) (F.calls folder.new) (F.faults folder.new) (F.misses folder.new)) result }
+        (F.shelf folder.new) result }
 {
     match made(alloc, source, base) {
         Ok(program) => machine_written(alloc, folder, source, base, program),
@@ -107,8 +107,8 @@ pub(crate) fn built<F: Folder>(
 ) -> Result<Machine, Stop>
     requires { IsBase base.now }
     ensures { GoesTo (form_source source) base.now
-        (shelf (F.files folder.old) (F.calls folder.old) (F.faults folder.old) (F.misses folder.old))
-        (shelf (F.files folder.new) (F.calls folder.new) (F.faults folder.new) (F.misses folder.new)) result }
+        (F.shelf folder.old)
+        (F.shelf folder.new) result }
 {
     match source_of(alloc, folder, source, base) {
         Ok(bound) => {

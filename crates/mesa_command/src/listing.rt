@@ -3,7 +3,6 @@
 ghost use Rattle.command_rules.specs.Forms.{kind_file};
 ghost use Rattle.command_rules.specs.Listing.{listing_in};
 ghost use Rattle.command_rules.specs.Reading.{Onward};
-ghost use Rattle.command_rules.specs.Worlds.{shelf};
 ghost use Rattle.command_lines.specs.command_passes.specs.Kinds.{kind_in};
 ghost use Rattle.mesa_command.specs.Forms.{IsBase};
 ghost use Rattle.mesa_command.specs.Printing.{ReportPasses};
@@ -23,10 +22,10 @@ pub(crate) fn listing<F: Folder>(
 ) -> Result<Bytes, Stop>
     requires { IsBase base.now }
     ensures passes { ReportPasses (listing_in (kind_in kind) (kind_file (kind_in kind) base.now))
-        (shelf (F.files folder.old) (F.calls folder.old) (F.faults folder.old) (F.misses folder.old))
-        (shelf (F.files folder.new) (F.calls folder.new) (F.faults folder.new) (F.misses folder.new)) result }
-    ensures onward { Onward (shelf (F.files folder.old) (F.calls folder.old) (F.faults folder.old) (F.misses folder.old))
-        (shelf (F.files folder.new) (F.calls folder.new) (F.faults folder.new) (F.misses folder.new)) }
+        (F.shelf folder.old)
+        (F.shelf folder.new) result }
+    ensures onward { Onward (F.shelf folder.old)
+        (F.shelf folder.new) }
 {
     let file = file_of_kind(alloc, base, kind)?;
     listing_of_file(alloc, folder, file, kind)

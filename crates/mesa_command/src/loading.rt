@@ -3,7 +3,6 @@
 ghost use Rattle.std.specs.Prelude.{◌≡◌};
 ghost use Rattle.command_loads.specs.Loaded.{LoadsTo};
 ghost use Rattle.command_lines.specs.Words.{between};
-ghost use Rattle.command_rules.specs.Worlds.{shelf};
 ghost use Rattle.mesa_command.specs.Forms.{AreRun};
 
 use crate::words::words_between;
@@ -16,9 +15,9 @@ use std::alloc::Global;
 fn machine_of<F: Folder>(alloc: Global, folder: &mut F, bases: &[Bytes]) -> Result<Machine, Stop>
     requires { AreRun bases.now }
     ensures loads { LoadsTo bases.now
-        (shelf (F.files folder.old) (F.calls folder.old) (F.faults folder.old) (F.misses folder.old))
-        (shelf (F.files folder.new) (F.calls folder.new) (F.faults folder.new) (F.misses folder.new)) result }
-    ensures files { F.files folder.new ≡ F.files folder.old }
+        (F.shelf folder.old)
+        (F.shelf folder.new) result }
+    ensures files { (F.shelf folder.new).files ≡ (F.shelf folder.old).files }
 {
     command_loads::loaded(alloc, folder, bases)
 }
@@ -31,9 +30,9 @@ pub(crate) fn loaded<F: Folder>(
 ) -> Result<Machine, Stop>
     requires { AreRun (between words.now) }
     ensures loads { LoadsTo (between words.now)
-        (shelf (F.files folder.old) (F.calls folder.old) (F.faults folder.old) (F.misses folder.old))
-        (shelf (F.files folder.new) (F.calls folder.new) (F.faults folder.new) (F.misses folder.new)) result }
-    ensures files { F.files folder.new ≡ F.files folder.old }
+        (F.shelf folder.old)
+        (F.shelf folder.new) result }
+    ensures files { (F.shelf folder.new).files ≡ (F.shelf folder.old).files }
 {
     let bases = words_between(alloc, words)?;
     machine_of(alloc, folder, bases.as_slice())

@@ -3,7 +3,6 @@
 ghost use Rattle.command_lines.specs.Words.{behind_first};
 ghost use Rattle.command_rules.specs.Planning.{plan_in};
 ghost use Rattle.command_rules.specs.Reading.{Onward};
-ghost use Rattle.command_rules.specs.Worlds.{shelf};
 ghost use Rattle.mesa_command.specs.Forms.{ArePlanned};
 ghost use Rattle.mesa_command.specs.Printing.{ReportPasses};
 
@@ -17,10 +16,10 @@ use std::alloc::Global;
 fn report_of<F: Folder>(alloc: Global, folder: &mut F, bases: &[Bytes]) -> Result<Bytes, Stop>
     requires { ArePlanned bases.now }
     ensures passes { ReportPasses (plan_in bases.now)
-        (shelf (F.files folder.old) (F.calls folder.old) (F.faults folder.old) (F.misses folder.old))
-        (shelf (F.files folder.new) (F.calls folder.new) (F.faults folder.new) (F.misses folder.new)) result }
-    ensures onward { Onward (shelf (F.files folder.old) (F.calls folder.old) (F.faults folder.old) (F.misses folder.old))
-        (shelf (F.files folder.new) (F.calls folder.new) (F.faults folder.new) (F.misses folder.new)) }
+        (F.shelf folder.old)
+        (F.shelf folder.new) result }
+    ensures onward { Onward (F.shelf folder.old)
+        (F.shelf folder.new) }
 {
     match plan_of_files(alloc, folder, bases) {
         Ok(PlanReport { text, missing: _ }) => Ok(text),
@@ -32,10 +31,10 @@ fn report_of<F: Folder>(alloc: Global, folder: &mut F, bases: &[Bytes]) -> Resul
 pub(crate) fn report<F: Folder>(alloc: Global, folder: &mut F, words: &Words) -> Result<Bytes, Stop>
     requires { ArePlanned (behind_first words.now) }
     ensures passes { ReportPasses (plan_in (behind_first words.now))
-        (shelf (F.files folder.old) (F.calls folder.old) (F.faults folder.old) (F.misses folder.old))
-        (shelf (F.files folder.new) (F.calls folder.new) (F.faults folder.new) (F.misses folder.new)) result }
-    ensures onward { Onward (shelf (F.files folder.old) (F.calls folder.old) (F.faults folder.old) (F.misses folder.old))
-        (shelf (F.files folder.new) (F.calls folder.new) (F.faults folder.new) (F.misses folder.new)) }
+        (F.shelf folder.old)
+        (F.shelf folder.new) result }
+    ensures onward { Onward (F.shelf folder.old)
+        (F.shelf folder.new) }
 {
     let bases = words_behind(alloc, words)?;
     report_of(alloc, folder, bases.as_slice())

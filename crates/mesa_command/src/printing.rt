@@ -4,7 +4,6 @@ ghost use Rattle.std.specs.Prelude.{◌≡◌};
 ghost use Rattle.command_rules.specs.Case.{Case, IsBeforeRun};
 ghost use Rattle.command_rules.specs.Complete.{Tells};
 ghost use Rattle.command_lines.specs.Endings.{ending_case};
-ghost use Rattle.line_pieces.specs.Outputs.{stream};
 ghost use Rattle.mesa_command.specs.Printing.{PrintsTo, TextEnds};
 
 use command_lines::command_passes::Stop;
@@ -13,7 +12,7 @@ use mesa_base::{Bytes, Sink, Status};
 
 /// Writes the text to `out`, and says how that ends.
 fn printed<'a, K: Sink>(text: &[u8], out: &mut K) -> Ending<'a>
-    ensures { PrintsTo text.now (stream (K.written out.old) (K.faults out.old)) (stream (K.written out.new) (K.faults out.new)) (ending_case result) }
+    ensures { PrintsTo text.now (K.stream out.old) (K.stream out.new) (ending_case result) }
 {
     match out.put(text) {
         Ok(()) => Ending::Done,
@@ -28,8 +27,8 @@ pub(crate) fn print_or_tell<K: Sink, E: Sink>(
     err: &mut E,
 ) -> Status
     ensures ends { (case : Case)
-        × TextEnds text (stream (K.written out.old) (K.faults out.old)) (stream (K.written out.new) (K.faults out.new)) case
-        × Tells case (stream (E.written err.old) (E.faults err.old)) (stream (E.written err.new) (E.faults err.new)) result }
+        × TextEnds text (K.stream out.old) (K.stream out.new) case
+        × Tells case (E.stream err.old) (E.stream err.new) result }
     ensures before_run_output { IsBeforeRun result → out.new ≡ out.old }
 {
     match text {

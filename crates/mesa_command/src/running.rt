@@ -7,9 +7,8 @@ ghost use Rattle.command_rules.specs.Case.{Case, IsBeforeRun};
 ghost use Rattle.command_rules.specs.Complete.{Tells};
 ghost use Rattle.command_rules.specs.Ends.{RunsTo};
 ghost use Rattle.command_rules.specs.Shown.{case_of_end, case_of_run, image_names, shown, signal_of};
-ghost use Rattle.command_rules.specs.Worlds.{feed, scene};
+ghost use Rattle.command_rules.specs.Worlds.{scene};
 ghost use Rattle.command_lines.specs.Endings.{called, ending_case};
-ghost use Rattle.line_pieces.specs.Outputs.{stream};
 ghost use Rattle.mesa_command.specs.Machines.{RunEnds};
 
 use command_lines::command_passes::Stop;
@@ -73,10 +72,10 @@ fn run_machine<S: Source, K: Sink, E: Sink, L: Ledger>(
 ) -> Status
     ensures ends { (case : Case)
         × RunsTo (image_names machine) machine turns
-        (scene (feed (S.left input.old) (S.faults input.old)) (stream (K.written out.old) (K.faults out.old)) steps.old)
-        (scene (feed (S.left input.new) (S.faults input.new)) (stream (K.written out.new) (K.faults out.new)) steps.new) case
-        × Tells case (stream (E.written err.old) (E.faults err.old)) (stream (E.written err.new) (E.faults err.new)) result }
-    ensures asked { AskedOnce (S.left input.old) (S.left input.new) (S.calls input.old) (S.calls input.new) }
+        (scene (S.feed input.old) (K.stream out.old) steps.old)
+        (scene (S.feed input.new) (K.stream out.new) steps.new) case
+        × Tells case (E.stream err.old) (E.stream err.new) result }
+    ensures asked { AskedOnce (S.feed input.old) (S.feed input.new) }
     ensures has_run { IsBeforeRun result → ⊥ }
 {
     let ended = run(&mut machine, turns, input, out, steps);
@@ -98,10 +97,10 @@ pub(crate) fn run_or_tell<S: Source, K: Sink, E: Sink, L: Ledger>(
 ) -> Status
     ensures ends { (case : Case)
         × RunEnds machine turns
-        (scene (feed (S.left input.old) (S.faults input.old)) (stream (K.written out.old) (K.faults out.old)) steps.old)
-        (scene (feed (S.left input.new) (S.faults input.new)) (stream (K.written out.new) (K.faults out.new)) steps.new) case
-        × Tells case (stream (E.written err.old) (E.faults err.old)) (stream (E.written err.new) (E.faults err.new)) result }
-    ensures asked { AskedOnce (S.left input.old) (S.left input.new) (S.calls input.old) (S.calls input.new) }
+        (scene (S.feed input.old) (K.stream out.old) steps.old)
+        (scene (S.feed input.new) (K.stream out.new) steps.new) case
+        × Tells case (E.stream err.old) (E.stream err.new) result }
+    ensures asked { AskedOnce (S.feed input.old) (S.feed input.new) }
     ensures before_run_input { IsBeforeRun result → input.new ≡ input.old }
     ensures before_run_output { IsBeforeRun result → out.new ≡ out.old }
     ensures before_run_steps { IsBeforeRun result → steps.new ≡ steps.old }

@@ -1,13 +1,12 @@
 //! One file that is written, and the line that says so.
 
 ghost use Rattle.std.specs.Prelude.{[], ◌∷◌};
+ghost use Rattle.mesa_base.specs.Outside.{Shelf};
 ghost use Rattle.command_rules.specs.Complete.{Tells};
 ghost use Rattle.command_rules.specs.Passes.{Trail};
 ghost use Rattle.command_rules.specs.Reading.{Asked};
-ghost use Rattle.command_rules.specs.Worlds.{Shelf, shelf};
 ghost use Rattle.command_rules.specs.Writing.{Value, Written, holding};
 ghost use Rattle.command_sources.specs.Stops.{stored_case};
-ghost use Rattle.line_pieces.specs.Outputs.{stream};
 ghost use Rattle.mesa_command.specs.Bytes.{AreBytesOf};
 
 use command_lines::command_passes::{FileName, Stop};
@@ -26,9 +25,9 @@ pub(crate) fn stored<F: Folder>(
     bytes: Result<Bytes, WriteFault>,
 ) -> Result<(), Stop>
     ensures { (value : Value) (trail : Trail) (before : Shelf) → AreBytesOf value bytes
-        → Asked trail before (shelf (F.files folder.old) (F.calls folder.old) (F.faults folder.old) (F.misses folder.old))
+        → Asked trail before (F.shelf folder.old)
         → Written (holding file value ∷ []) trail before
-        (shelf (F.files folder.new) (F.calls folder.new) (F.faults folder.new) (F.misses folder.new)) (stored_case result) }
+        (F.shelf folder.new) (stored_case result) }
 {
     match bytes {
         Ok(bytes) => file_written(alloc, folder, file, bytes.as_slice()),
@@ -38,7 +37,7 @@ pub(crate) fn stored<F: Folder>(
 
 /// Writes the line of what ended a call that writes one file, and gives its status.
 pub(crate) fn told<E: Sink>(stored: Result<(), Stop>, err: &mut E) -> Status
-    ensures { Tells (stored_case stored) (stream (E.written err.old) (E.faults err.old)) (stream (E.written err.new) (E.faults err.new)) result }
+    ensures { Tells (stored_case stored) (E.stream err.old) (E.stream err.new) result }
 {
     match stored {
         Ok(()) => told_ending(Ending::Done, err),

@@ -2,7 +2,6 @@
 
 ghost use Rattle.command_rules.specs.Reading.{Onward};
 ghost use Rattle.command_rules.specs.Surveying.{survey_in};
-ghost use Rattle.command_rules.specs.Worlds.{shelf};
 ghost use Rattle.mesa_command.specs.Forms.{IsBase};
 ghost use Rattle.mesa_command.specs.Printing.{ReportPasses};
 
@@ -15,10 +14,10 @@ use std::alloc::Global;
 pub(crate) fn surveyed<F: Folder>(alloc: Global, folder: &mut F, base: &[u8]) -> Result<Bytes, Stop>
     requires { IsBase base.now }
     ensures passes { ReportPasses (survey_in base.now)
-        (shelf (F.files folder.old) (F.calls folder.old) (F.faults folder.old) (F.misses folder.old))
-        (shelf (F.files folder.new) (F.calls folder.new) (F.faults folder.new) (F.misses folder.new)) result }
-    ensures onward { Onward (shelf (F.files folder.old) (F.calls folder.old) (F.faults folder.old) (F.misses folder.old))
-        (shelf (F.files folder.new) (F.calls folder.new) (F.faults folder.new) (F.misses folder.new)) }
+        (F.shelf folder.old)
+        (F.shelf folder.new) result }
+    ensures onward { Onward (F.shelf folder.old)
+        (F.shelf folder.new) }
 {
     survey_of_file(alloc, folder, base)
 }

@@ -6,10 +6,9 @@ ghost use Rattle.command_rules.specs.Case.{Case, IsBeforeRun, IsBeforeWrite};
 ghost use Rattle.command_rules.specs.Comes.{Comes};
 ghost use Rattle.command_rules.specs.Complete.{Answered, Tells};
 ghost use Rattle.command_rules.specs.Forms.{Form as AskedForm, HasForm, HasNoForm, WritesAlone, KeepsFiles, KeepsFolder, KeepsInput, KeepsSteps};
-ghost use Rattle.command_rules.specs.Worlds.{feed, scene, shelf, world};
+ghost use Rattle.command_rules.specs.Worlds.{scene, world};
 ghost use Rattle.command_lines.specs.Words.{form_in};
 ghost use Rattle.mesa_command.specs.Forms.{ComesOfForm, IsWellFormed};
-ghost use Rattle.line_pieces.specs.Outputs.{stream};
 
 use crate::binding::bound;
 use crate::compiling::{compiled, defined};
@@ -58,15 +57,15 @@ pub fn mesa<F: Folder, S: Source, K: Sink, E: Sink, L: Ledger>(
     // The status is that of a case that comes of the words, the folder, the input and `out`, and `err` receives its line; which case
     // must come is said beside it. What a run does is told in the words of its source where it has one and the input tells bytes.
     ensures answered { Answered words.now
-        (world (shelf (F.files folder.old) (F.calls folder.old) (F.faults folder.old) (F.misses folder.old))
-        (scene (feed (S.left input.old) (S.faults input.old)) (stream (K.written out.old) (K.faults out.old)) steps.old)
-        (stream (E.written err.old) (E.faults err.old)))
-        (world (shelf (F.files folder.new) (F.calls folder.new) (F.faults folder.new) (F.misses folder.new))
-        (scene (feed (S.left input.new) (S.faults input.new)) (stream (K.written out.new) (K.faults out.new)) steps.new)
-        (stream (E.written err.new) (E.faults err.new)))
+        (world (F.shelf folder.old)
+        (scene (S.feed input.old) (K.stream out.old) steps.old)
+        (E.stream err.old))
+        (world (F.shelf folder.new)
+        (scene (S.feed input.new) (K.stream out.new) steps.new)
+        (E.stream err.new))
         result }
     // The input was asked once for each byte that it gave, and at most once more: where it was at its end, or failed.
-    ensures asked { AskedOnce (S.left input.old) (S.left input.new) (S.calls input.old) (S.calls input.new) }
+    ensures asked { AskedOnce (S.feed input.old) (S.feed input.new) }
     // Nothing was read, written or counted where nothing was run.
     ensures before_run_input { IsBeforeRun result → input.new ≡ input.old }
     ensures before_run_output { IsBeforeRun result → out.new ≡ out.old }
@@ -76,10 +75,10 @@ pub fn mesa<F: Folder, S: Source, K: Sink, E: Sink, L: Ledger>(
     ensures kept_input { (form : AskedForm) → HasForm words.now form → KeepsInput form → input.new ≡ input.old }
     ensures kept_output { (form : AskedForm) → HasForm words.now form → WritesAlone form → out.new ≡ out.old }
     ensures kept_steps { (form : AskedForm) → HasForm words.now form → KeepsSteps form → steps.new ≡ steps.old }
-    ensures kept_files { (form : AskedForm) → HasForm words.now form → KeepsFiles form → F.files folder.new ≡ F.files folder.old }
+    ensures kept_files { (form : AskedForm) → HasForm words.now form → KeepsFiles form → (F.shelf folder.new).files ≡ (F.shelf folder.old).files }
     ensures kept_folder { (form : AskedForm) → HasForm words.now form → KeepsFolder form → folder.new ≡ folder.old }
     // What is refused, or reads a file that is not there, changes no file.
-    ensures before_write_files { IsBeforeWrite result → F.files folder.new ≡ F.files folder.old }
+    ensures before_write_files { IsBeforeWrite result → (F.shelf folder.new).files ≡ (F.shelf folder.old).files }
     // No file was asked for where the words have no form.
     ensures usage_folder { result ≡ Status.Usage → folder.new ≡ folder.old }
 {
@@ -100,19 +99,19 @@ fn answer<F: Folder, S: Source, K: Sink, E: Sink, L: Ledger>(
     steps: &mut Steps<L>,
 ) -> Status
     ensures comes { (case : Case)
-        × Comes words.now (shelf (F.files folder.old) (F.calls folder.old) (F.faults folder.old) (F.misses folder.old))
-        (shelf (F.files folder.new) (F.calls folder.new) (F.faults folder.new) (F.misses folder.new))
-        (scene (feed (S.left input.old) (S.faults input.old)) (stream (K.written out.old) (K.faults out.old)) steps.old)
-        (scene (feed (S.left input.new) (S.faults input.new)) (stream (K.written out.new) (K.faults out.new)) steps.new) case
-        × Tells case (stream (E.written err.old) (E.faults err.old)) (stream (E.written err.new) (E.faults err.new)) result }
-    ensures asked { AskedOnce (S.left input.old) (S.left input.new) (S.calls input.old) (S.calls input.new) }
+        × Comes words.now (F.shelf folder.old)
+        (F.shelf folder.new)
+        (scene (S.feed input.old) (K.stream out.old) steps.old)
+        (scene (S.feed input.new) (K.stream out.new) steps.new) case
+        × Tells case (E.stream err.old) (E.stream err.new) result }
+    ensures asked { AskedOnce (S.feed input.old) (S.feed input.new) }
     ensures before_run_input { IsBeforeRun result → input.new ≡ input.old }
     ensures before_run_output { IsBeforeRun result → out.new ≡ out.old }
     ensures before_run_steps { IsBeforeRun result → steps.new ≡ steps.old }
     ensures kept_input { (form : AskedForm) → HasForm words.now form → KeepsInput form → input.new ≡ input.old }
     ensures kept_output { (form : AskedForm) → HasForm words.now form → WritesAlone form → out.new ≡ out.old }
     ensures kept_steps { (form : AskedForm) → HasForm words.now form → KeepsSteps form → steps.new ≡ steps.old }
-    ensures kept_files { (form : AskedForm) → HasForm words.now form → KeepsFiles form → F.files folder.new ≡ F.files folder.old }
+    ensures kept_files { (form : AskedForm) → HasForm words.now form → KeepsFiles form → (F.shelf folder.new).files ≡ (F.shelf folder.old).files }
     ensures kept_folder { (form : AskedForm) → HasForm words.now form → KeepsFolder form → folder.new ≡ folder.old }
     ensures formless_folder { HasNoForm words.now → folder.new ≡ folder.old }
 {
@@ -136,19 +135,19 @@ fn to_form<F: Folder, S: Source, K: Sink, E: Sink, L: Ledger>(
 ) -> Status
     requires { IsWellFormed (form_in form) }
     ensures comes { (case : Case)
-        × ComesOfForm (form_in form.entry) (shelf (F.files folder.old) (F.calls folder.old) (F.faults folder.old) (F.misses folder.old))
-        (shelf (F.files folder.new) (F.calls folder.new) (F.faults folder.new) (F.misses folder.new))
-        (scene (feed (S.left input.old) (S.faults input.old)) (stream (K.written out.old) (K.faults out.old)) steps.old)
-        (scene (feed (S.left input.new) (S.faults input.new)) (stream (K.written out.new) (K.faults out.new)) steps.new) case
-        × Tells case (stream (E.written err.old) (E.faults err.old)) (stream (E.written err.new) (E.faults err.new)) result }
-    ensures asked { AskedOnce (S.left input.old) (S.left input.new) (S.calls input.old) (S.calls input.new) }
+        × ComesOfForm (form_in form.entry) (F.shelf folder.old)
+        (F.shelf folder.new)
+        (scene (S.feed input.old) (K.stream out.old) steps.old)
+        (scene (S.feed input.new) (K.stream out.new) steps.new) case
+        × Tells case (E.stream err.old) (E.stream err.new) result }
+    ensures asked { AskedOnce (S.feed input.old) (S.feed input.new) }
     ensures before_run_input { IsBeforeRun result → input.new ≡ input.old }
     ensures before_run_output { IsBeforeRun result → out.new ≡ out.old }
     ensures before_run_steps { IsBeforeRun result → steps.new ≡ steps.old }
     ensures kept_input { KeepsInput (form_in form.entry) → input.new ≡ input.old }
     ensures kept_output { WritesAlone (form_in form.entry) → out.new ≡ out.old }
     ensures kept_steps { KeepsSteps (form_in form.entry) → steps.new ≡ steps.old }
-    ensures kept_files { KeepsFiles (form_in form.entry) → F.files folder.new ≡ F.files folder.old }
+    ensures kept_files { KeepsFiles (form_in form.entry) → (F.shelf folder.new).files ≡ (F.shelf folder.old).files }
     ensures kept_folder { KeepsFolder (form_in form.entry) → folder.new ≡ folder.old }
 {
     runs_are_meant();

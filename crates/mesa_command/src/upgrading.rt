@@ -1,7 +1,6 @@
 //! `upgrade FILE`.
 
 ghost use Rattle.command_rules.specs.Comes.{Upgrades};
-ghost use Rattle.command_rules.specs.Worlds.{shelf};
 ghost use Rattle.command_lines.specs.command_passes.specs.Kinds.{kind_in};
 ghost use Rattle.command_sources.specs.Stops.{stored_case};
 ghost use Rattle.mesa_command.specs.Forms.{IsBase};
@@ -22,8 +21,8 @@ pub(crate) fn upgraded<F: Folder>(
 ) -> Result<(), Stop>
     requires { IsBase base.now }
     ensures { Upgrades (kind_in kind) base.now
-        (shelf (F.files folder.old) (F.calls folder.old) (F.faults folder.old) (F.misses folder.old))
-        (shelf (F.files folder.new) (F.calls folder.new) (F.faults folder.new) (F.misses folder.new)) (stored_case result) }
+        (F.shelf folder.old)
+        (F.shelf folder.new) (stored_case result) }
 {
     let file = file_of_kind(alloc, base, kind)?;
     let target = file_of_kind(alloc, base, kind)?;

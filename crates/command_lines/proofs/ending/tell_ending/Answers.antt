@@ -2,7 +2,7 @@ use Rattle.command_lines.proofs.Ended.{nothing_told}
 use Rattle.command_lines.proofs.ending.tell_ending.Goals as goal
 
 pub returns-in-Done : goal.returns-in-Done
-returns-in-Done g c = rw c.in-Done.is (nothing_told (g.E.Sink.written c.args.err.now) (g.E.Sink.faults c.args.err.now))
+returns-in-Done g c = rw c.in-Done.is (nothing_told (g.E.Sink.stream c.args.err.now))
 
 pub returns-in-Spent : goal.returns-in-Spent
 returns-in-Spent g c = rw c.in-Spent.is c.tell_text.ensures

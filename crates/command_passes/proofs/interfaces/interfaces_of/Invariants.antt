@@ -5,12 +5,11 @@ use Rattle.command_rules.specs.checked_texts.specs.Asked.{asks}
 use Rattle.command_rules.specs.Modules.{interface_for}
 use Rattle.command_rules.specs.Passes.{each}
 use Rattle.command_rules.specs.Passing.{Gives}
-use Rattle.command_rules.specs.Worlds.{shelf}
 use Rattle.command_passes.proofs.interfaces.interfaces_of.Given as goal
 
 abbrev pub invariant-items : goal.invariant-items
 invariant-items g l =
     Gives (each interface_for (take l.number (asks (syntax l.tree))))
-    (shelf (g.F.Folder.files l.initial.folder) (g.F.Folder.calls l.initial.folder) (g.F.Folder.faults l.initial.folder) (g.F.Folder.misses l.initial.folder))
-    (shelf (g.F.Folder.files l.folder) (g.F.Folder.calls l.folder) (g.F.Folder.faults l.folder) (g.F.Folder.misses l.folder))
+    (g.F.Folder.shelf l.initial.folder)
+    (g.F.Folder.shelf l.folder)
     l.all.items

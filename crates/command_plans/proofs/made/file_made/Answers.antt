@@ -15,7 +15,7 @@ returns-in-Interface-clause-passes g c =
 pub returns-in-Interface-clause-missing : goal.returns-in-Interface-clause-missing
 unfolding kind_made
 returns-in-Interface-clause-missing g c =
-    tells_missing c.args.text.now (g.F.Folder.misses c.args.folder.now) (g.F.Folder.misses c.interface_made.new.folder) c.interface_made.result InterfaceFile (ap kind_made c.in-Interface.is)
+    tells_missing c.args.text.now (g.F.Folder.shelf c.args.folder.now).misses (g.F.Folder.shelf c.interface_made.new.folder).misses c.interface_made.result InterfaceFile (ap kind_made c.in-Interface.is)
     (rw c.as_slice-base.ensures at c.interface_made.ensures.missing)
 
 pub returns-in_err-file-in-Program-clause-passes : goal.returns-in_err-file-in-Program-clause-passes
@@ -32,5 +32,5 @@ returns-in_ok-file-in-Program-clause-passes g c =
 pub returns-in_ok-file-in-Program-clause-missing : goal.returns-in_ok-file-in-Program-clause-missing
 unfolding kind_made
 returns-in_ok-file-in-Program-clause-missing g c =
-    tells_missing c.args.text.now (g.F.Folder.misses c.args.folder.now) (g.F.Folder.misses c.object_made.new.folder) c.object_made.result ObjectFile (ap kind_made c.in-Program.is)
+    tells_missing c.args.text.now (g.F.Folder.shelf c.args.folder.now).misses (g.F.Folder.shelf c.object_made.new.folder).misses c.object_made.result ObjectFile (ap kind_made c.in-Program.is)
     (rw c.as_slice-base.ensures at (rw c.in_ok-file-in-Program.ensures at c.object_made.ensures.missing))

@@ -16,17 +16,17 @@ pub returns-clause-waits_not : goal.returns-clause-waits_not
 returns-clause-waits_not g c = subst (λ (q : Result Sequel RunFault). IfOk q (λ sequel. waits sequel ≡ 0)) (sym c.settle_told.ensures) c.read_in-told.ensures.waits_not
 
 pub returns-clause-follows : goal.returns-clause-follows
-returns-clause-follows g c holds =
+returns-clause-follows g c stream =
     subst (λ (q : Result Sequel RunFault). Follows c.args.image.now c.args.parts.now c.read_in-told.new.parts c.args.turns.now c.read_in-told.new.turns 0 c.args.ahead.now c.read_in-told.new.ahead
-    (g.S.Source.left c.args.input.now) (g.S.Source.left c.read_in-told.new.input) holds holds (AtHost c.args.image.now c.args.parts.now c.args.r.now (Read c.args.reading)) q)
-    (sym c.settle_told.ensures) (c.read_in-told.ensures.follows holds)
+    (g.S.Source.feed c.args.input.now) (g.S.Source.feed c.read_in-told.new.input) stream stream (AtHost c.args.image.now c.args.parts.now c.args.r.now (Read c.args.reading)) q)
+    (sym c.settle_told.ensures) (c.read_in-told.ensures.follows stream)
 
 pub returns-clause-faults : goal.returns-clause-faults
-returns-clause-faults g c written =
-    subst (λ (q : Result Sequel RunFault). CountsFaults q (g.S.Source.faults c.args.input.now) (g.S.Source.faults c.read_in-told.new.input) written written) (sym c.settle_told.ensures)
-    (c.read_in-told.ensures.faults written)
+returns-clause-faults g c stream =
+    subst (λ (q : Result Sequel RunFault). CountsFaults q (g.S.Source.feed c.args.input.now) (g.S.Source.feed c.read_in-told.new.input) stream stream) (sym c.settle_told.ensures)
+    (c.read_in-told.ensures.faults stream)
 
 pub returns-clause-asks : goal.returns-clause-asks
 returns-clause-asks g c =
-    subst (λ (q : Result Sequel RunFault). AsksOn c.args.ahead.now (g.S.Source.left c.args.input.now) (g.S.Source.left c.read_in-told.new.input)
-    (g.S.Source.calls c.args.input.now) (g.S.Source.calls c.read_in-told.new.input) (vain_then q c.read_in-told.new.ahead)) (sym c.settle_told.ensures) c.read_in-told.ensures.asks
+    subst (λ (q : Result Sequel RunFault). AsksOn c.args.ahead.now (g.S.Source.feed c.args.input.now) (g.S.Source.feed c.read_in-told.new.input)
+    (vain_then q c.read_in-told.new.ahead)) (sym c.settle_told.ensures) c.read_in-told.ensures.asks

@@ -24,27 +24,27 @@ write-requires g c = record {
 }
 
 pub returns-in-Ok-clause-follows : goal.returns-in-Ok-clause-follows
-returns-in-Ok-clause-follows g c bound control turns begun ahead told left held short so =
+returns-in-Ok-clause-follows g c bound control turns begun ahead first left held short so =
     let piece : List ℕ = text_written c.args.image.now c.as_slice.result.now c.args.r.now c.args.writing in
     let leads : WritesOn c.args.image.now c.args.parts.now.stack.region.items c.args.r.now c.args.writing piece c.in-Ok.after =
     subst (λ (q : Registers). WritesOn c.args.image.now c.args.parts.now.stack.region.items c.args.r.now c.args.writing piece q) (sym c.in-Ok.ensures.behind)
     (subst (λ (x : List ℕ). WritesOn c.args.image.now x c.args.r.now c.args.writing piece (behind_call (Write c.args.writing) c.args.r.now)) c.as_slice.ensures.value c.in-Ok.ensures.leads) in
-    written c.args.image.now (ready_can_run c.args.image.now c.args.parts.now c.requires.ready) bound told left held (g.K.Sink.written c.args.out.now) ahead c.args.parts.now control turns begun
-    c.args.r.now c.in-Ok.after c.args.writing piece (g.K.Sink.written c.write.new.out) (ready_is_prepared c.args.image.now c.args.parts.now c.requires.ready) c.requires.ample leads c.in-Ok.ensures.wrote so
+    written c.args.image.now (ready_can_run c.args.image.now c.args.parts.now c.requires.ready) bound first left held (g.K.Sink.stream c.args.out.now) ahead c.args.parts.now control turns begun
+    c.args.r.now c.in-Ok.after c.args.writing piece (g.K.Sink.stream c.write.new.out) (ready_is_prepared c.args.image.now c.args.parts.now c.requires.ready) c.requires.ample leads c.in-Ok.ensures.wrote so
 
 pub returns-in-Err-clause-follows : goal.returns-in-Err-clause-follows
-returns-in-Err-clause-follows g c bound control turns begun ahead told left held short so =
-    write_breaks c.args.image.now (ready_can_run c.args.image.now c.args.parts.now c.requires.ready) bound c.args.parts.now control turns begun ahead told left held (g.K.Sink.written c.args.out.now)
-    (g.K.Sink.written c.write.new.out) c.args.r.now c.args.writing (ready_is_prepared c.args.image.now c.args.parts.now c.requires.ready) c.requires.ample short
+returns-in-Err-clause-follows g c bound control turns begun ahead first left held short so =
+    write_breaks c.args.image.now (ready_can_run c.args.image.now c.args.parts.now c.requires.ready) bound c.args.parts.now control turns begun ahead first left held (g.K.Sink.stream c.args.out.now)
+    (g.K.Sink.stream c.write.new.out) c.args.r.now c.args.writing (ready_is_prepared c.args.image.now c.args.parts.now c.requires.ready) c.requires.ample short
     (subst (λ (x : List ℕ). text_written c.args.image.now x c.args.r.now c.args.writing ≢ []) c.as_slice.ensures.value c.in-Err.ensures.some)
-    (subst (λ (x : List ℕ). IfSome (g.K.Sink.written c.args.out.now) (λ bytes. AppendsPrefix bytes (text_written c.args.image.now x c.args.r.now c.args.writing) (g.K.Sink.written c.write.new.out)))
+    (subst (λ (x : List ℕ). IfSome (g.K.Sink.stream c.args.out.now).holds (λ bytes. AppendsPrefix bytes (text_written c.args.image.now x c.args.r.now c.args.writing) (g.K.Sink.stream c.write.new.out).holds))
     c.as_slice.ensures.value c.in-Err.ensures.partly) so
 
 pub returns-in-Ok-clause-faults : goal.returns-in-Ok-clause-faults
-returns-in-Ok-clause-faults g c read = none_failed _ read read _ _ (omega arith) c.in-Ok.ensures.faults_stay
+returns-in-Ok-clause-faults g c feed = none_failed _ feed feed _ _ (omega arith) c.in-Ok.ensures.faults_stay
 
 pub returns-in-Err-clause-faults : goal.returns-in-Err-clause-faults
-returns-in-Err-clause-faults g c read = sink_failed read _ _ c.in-Err.ensures.fault c.in-Err.ensures.faults_stay
+returns-in-Err-clause-faults g c feed = sink_failed feed _ _ c.in-Err.ensures.fault c.in-Err.ensures.faults_stay
 
 pub returns-in-Ok-clause-asks_not : goal.returns-in-Ok-clause-asks_not
 returns-in-Ok-clause-asks_not g c ahead = refl

@@ -32,27 +32,27 @@ call_host-other-requires-clause-ready g c =
 
 pub call_again-requires-clause-waits : goal.call_again-requires-clause-waits
 call_again-requires-clause-waits g c =
-    waits_so c.args.image.now (ready_can_run c.args.image.now c.args.parts.now c.requires.carries.ready) c.args.parts.now c.args.remaining.now.turns c.args.remaining.now.ahead (g.S.Source.left c.args.input.now)
-    (g.K.Sink.written c.args.out.now) c.args.r c.requires.run
+    waits_so c.args.image.now (ready_can_run c.args.image.now c.args.parts.now c.requires.carries.ready) c.args.parts.now c.args.remaining.now.turns c.args.remaining.now.ahead (g.S.Source.feed c.args.input.now)
+    (g.K.Sink.stream c.args.out.now) c.args.r c.requires.run
 
 pub call_host-other-requires-clause-arms : goal.call_host-other-requires-clause-arms
 call_host-other-requires-clause-arms g c = subst (λ (x : List Row). ArmsHold c.args.image.now x c.args.r.top) (sym c.in-Host.ensures.adds) c.requires.carries.arms
 
 pub call_host-other-requires-clause-run : goal.call_host-other-requires-clause-run
 call_host-other-requires-clause-run g c =
-    along c.args.image.now c.args.parts.now (record c.args.parts.now { started = with_items c.args.parts.now.started c.call_again.new.started; stack = c.call_again.new.stack }) c.args.remaining.now.turns c.call_again.new.turns c.args.remaining.now.ahead c.args.remaining.now.ahead (g.S.Source.left c.args.input.now) (g.S.Source.left c.args.input.now)
-    (g.K.Sink.written c.args.out.now) (g.K.Sink.written c.args.out.now) (At c.args.image.now c.args.parts.now (Pending c.args.r))
+    along c.args.image.now c.args.parts.now (record c.args.parts.now { started = with_items c.args.parts.now.started c.call_again.new.started; stack = c.call_again.new.stack }) c.args.remaining.now.turns c.call_again.new.turns c.args.remaining.now.ahead c.args.remaining.now.ahead (g.S.Source.feed c.args.input.now) (g.S.Source.feed c.args.input.now)
+    (g.K.Sink.stream c.args.out.now) (g.K.Sink.stream c.args.out.now) (At c.args.image.now c.args.parts.now (Pending c.args.r))
     (AtLink c.args.image.now (record c.args.parts.now { started = with_items c.args.parts.now.started c.call_again.new.started; stack = c.call_again.new.stack }) c.args.r (Host c.in-Host.host)) 0 c.requires.run
     (pend_moves c.args.image.now (ready_can_run c.args.image.now c.args.parts.now c.requires.carries.ready) c.args.parts.now (record c.args.parts.now { started = with_items c.args.parts.now.started c.call_again.new.started; stack = c.call_again.new.stack }) c.args.remaining.now.turns c.args.remaining.now.ahead
-    (g.S.Source.left c.args.input.now) (g.K.Sink.written c.args.out.now) c.args.r c.call_again.new.turns (Host c.in-Host.host) refl (λ s m turns marks free calls.
+    (g.S.Source.feed c.args.input.now) (g.K.Sink.stream c.args.out.now) c.args.r c.call_again.new.turns (Host c.in-Host.host) refl (λ s m turns marks free calls.
     subst (λ (x : List Bool). LinkedTo c.args.image.now c.call_again.new.stack.layout c.call_again.new.stack.region.items c.call_again.new.stack.rows.items c.args.r x s (record m { turns = c.call_again.new.turns }) (Host c.in-Host.host)) (sym (words_then c.args.parts.now.started c.call_again.new.started (let a = c.call_again.auto.started in let v = ap (λ (l : List Bool). length l) c.as_mut_slice-started.ensures.value in omega (arith, a, v))))
     (c.in-Host.ensures.leads s m turns (subst (λ (x : List Bool). ShowsStarted x m.started) (sym c.as_mut_slice-started.ensures.value) marks) free calls)))
 
 pub returns-in-Done-clause-carries : goal.returns-in-Done-clause-carries
 returns-in-Done-clause-carries g c =
     let waits : WaitsToCall c.args.image.now c.args.parts.now.stack.layout c.args.parts.now.stack.region.items c.args.parts.now.stack.rows.items c.args.r =
-    waits_so c.args.image.now (ready_can_run c.args.image.now c.args.parts.now c.requires.carries.ready) c.args.parts.now c.args.remaining.now.turns c.args.remaining.now.ahead (g.S.Source.left c.args.input.now)
-    (g.K.Sink.written c.args.out.now) c.args.r c.requires.run in
+    waits_so c.args.image.now (ready_can_run c.args.image.now c.args.parts.now c.requires.carries.ready) c.args.parts.now c.args.remaining.now.turns c.args.remaining.now.ahead (g.S.Source.feed c.args.input.now)
+    (g.K.Sink.stream c.args.out.now) c.args.r c.requires.run in
     record {
       ready = ready_linked c.args.image.now c.args.parts.now c.requires.carries.ready (with_items c.args.parts.now.started c.call_again.new.started) (same_length c.args.parts.now.started c.call_again.new.started)
           c.call_again.new.stack c.args.r (Done c.in-Done.sequel) c.in-Done.ensures.room;
@@ -68,10 +68,10 @@ returns-in-Done-clause-waits_not g c =
 pub returns-in-Done-clause-follows : goal.returns-in-Done-clause-follows
 returns-in-Done-clause-follows g c =
     done_there c.args.image.now c.args.parts.now (record c.args.parts.now { started = with_items c.args.parts.now.started c.call_again.new.started; stack = c.call_again.new.stack }) c.args.remaining.now.turns c.call_again.new.turns 0 c.args.remaining.now.ahead c.args.remaining.now.ahead
-    (g.S.Source.left c.args.input.now) (g.S.Source.left c.args.input.now) (g.K.Sink.written c.args.out.now) (g.K.Sink.written c.args.out.now) (At c.args.image.now c.args.parts.now (Pending c.args.r))
+    (g.S.Source.feed c.args.input.now) (g.S.Source.feed c.args.input.now) (g.K.Sink.stream c.args.out.now) (g.K.Sink.stream c.args.out.now) (At c.args.image.now c.args.parts.now (Pending c.args.r))
     c.args.r c.in-Done.sequel
     (pend_moves c.args.image.now (ready_can_run c.args.image.now c.args.parts.now c.requires.carries.ready) c.args.parts.now (record c.args.parts.now { started = with_items c.args.parts.now.started c.call_again.new.started; stack = c.call_again.new.stack }) c.args.remaining.now.turns c.args.remaining.now.ahead
-    (g.S.Source.left c.args.input.now) (g.K.Sink.written c.args.out.now) c.args.r c.call_again.new.turns (Done c.in-Done.sequel) refl (λ s m turns marks free calls.
+    (g.S.Source.feed c.args.input.now) (g.K.Sink.stream c.args.out.now) c.args.r c.call_again.new.turns (Done c.in-Done.sequel) refl (λ s m turns marks free calls.
     subst (λ (x : List Bool). LinkedTo c.args.image.now c.call_again.new.stack.layout c.call_again.new.stack.region.items c.call_again.new.stack.rows.items c.args.r x s (record m { turns = c.call_again.new.turns }) (Done c.in-Done.sequel)) (sym (words_then c.args.parts.now.started c.call_again.new.started (let a = c.call_again.auto.started in let v = ap (λ (l : List Bool). length l) c.as_mut_slice-started.ensures.value in omega (arith, a, v))))
     (c.in-Done.ensures.leads s m turns (subst (λ (x : List Bool). ShowsStarted x m.started) (sym c.as_mut_slice-started.ensures.value) marks) free calls)))
 
@@ -88,27 +88,27 @@ returns-in-Host-clause-waits_not g c =
 
 pub returns-in-Host-clause-faults : goal.returns-in-Host-clause-faults
 returns-in-Host-clause-faults g c =
-    subst (λ (q : Result Sequel RunFault). CountsFaults q (g.S.Source.faults c.args.input.now) (g.S.Source.faults c.call_host-other.new.input) (g.K.Sink.faults c.args.out.now) (g.K.Sink.faults c.call_host-other.new.out))
+    subst (λ (q : Result Sequel RunFault). CountsFaults q (g.S.Source.feed c.args.input.now) (g.S.Source.feed c.call_host-other.new.input) (g.K.Sink.stream c.args.out.now) (g.K.Sink.stream c.call_host-other.new.out))
     (sym c.told_of.ensures) c.call_host-other.ensures.faults
 
 pub returns-in-Host-clause-follows : goal.returns-in-Host-clause-follows
 returns-in-Host-clause-follows g c =
     subst (λ (q : Result Sequel RunFault). Follows c.args.image.now c.args.parts.now c.call_host-other.new.parts c.args.remaining.now.turns c.call_host-other.new.remaining.turns 0 c.args.remaining.now.ahead c.call_host-other.new.remaining.ahead
-    (g.S.Source.left c.args.input.now) (g.S.Source.left c.call_host-other.new.input) (g.K.Sink.written c.args.out.now) (g.K.Sink.written c.call_host-other.new.out)
+    (g.S.Source.feed c.args.input.now) (g.S.Source.feed c.call_host-other.new.input) (g.K.Sink.stream c.args.out.now) (g.K.Sink.stream c.call_host-other.new.out)
     (At c.args.image.now c.args.parts.now (Pending c.args.r)) q) (sym c.told_of.ensures)
-    (after c.args.image.now c.args.parts.now (record c.args.parts.now { started = with_items c.args.parts.now.started c.call_again.new.started; stack = c.call_again.new.stack }) c.args.remaining.now.turns c.call_again.new.turns c.args.remaining.now.ahead c.args.remaining.now.ahead (g.S.Source.left c.args.input.now) (g.S.Source.left c.args.input.now)
-    (g.K.Sink.written c.args.out.now) (g.K.Sink.written c.args.out.now) c.call_host-other.new.parts c.call_host-other.new.remaining.turns c.call_host-other.new.remaining.ahead (g.S.Source.left c.call_host-other.new.input) (g.K.Sink.written c.call_host-other.new.out)
+    (after c.args.image.now c.args.parts.now (record c.args.parts.now { started = with_items c.args.parts.now.started c.call_again.new.started; stack = c.call_again.new.stack }) c.args.remaining.now.turns c.call_again.new.turns c.args.remaining.now.ahead c.args.remaining.now.ahead (g.S.Source.feed c.args.input.now) (g.S.Source.feed c.args.input.now)
+    (g.K.Sink.stream c.args.out.now) (g.K.Sink.stream c.args.out.now) c.call_host-other.new.parts c.call_host-other.new.remaining.turns c.call_host-other.new.remaining.ahead (g.S.Source.feed c.call_host-other.new.input) (g.K.Sink.stream c.call_host-other.new.out)
     (At c.args.image.now c.args.parts.now (Pending c.args.r)) (AtLink c.args.image.now (record c.args.parts.now { started = with_items c.args.parts.now.started c.call_again.new.started; stack = c.call_again.new.stack }) c.args.r (Host c.in-Host.host)) (onward_or c.call_host-other.result c.call_host-other.new.r) 0 0 0
     (pend_moves c.args.image.now (ready_can_run c.args.image.now c.args.parts.now c.requires.carries.ready) c.args.parts.now (record c.args.parts.now { started = with_items c.args.parts.now.started c.call_again.new.started; stack = c.call_again.new.stack }) c.args.remaining.now.turns c.args.remaining.now.ahead
-    (g.S.Source.left c.args.input.now) (g.K.Sink.written c.args.out.now) c.args.r c.call_again.new.turns (Host c.in-Host.host) refl (λ s m turns marks free calls.
+    (g.S.Source.feed c.args.input.now) (g.K.Sink.stream c.args.out.now) c.args.r c.call_again.new.turns (Host c.in-Host.host) refl (λ s m turns marks free calls.
     subst (λ (x : List Bool). LinkedTo c.args.image.now c.call_again.new.stack.layout c.call_again.new.stack.region.items c.call_again.new.stack.rows.items c.args.r x s (record m { turns = c.call_again.new.turns }) (Host c.in-Host.host)) (sym (words_then c.args.parts.now.started c.call_again.new.started (let a = c.call_again.auto.started in let v = ap (λ (l : List Bool). length l) c.as_mut_slice-started.ensures.value in omega (arith, a, v))))
     (c.in-Host.ensures.leads s m turns (subst (λ (x : List Bool). ShowsStarted x m.started) (sym c.as_mut_slice-started.ensures.value) marks) free calls)))
     c.call_host-other.ensures.follows (omega arith))
 
 pub returns-in-Done-clause-asks : goal.returns-in-Done-clause-asks
-returns-in-Done-clause-asks g c = asks_not c.args.remaining.now.ahead (g.S.Source.left c.args.input.now) (g.S.Source.calls c.args.input.now)
+returns-in-Done-clause-asks g c = asks_not c.args.remaining.now.ahead (g.S.Source.feed c.args.input.now)
 
 pub returns-in-Host-clause-asks : goal.returns-in-Host-clause-asks
 returns-in-Host-clause-asks g c =
-    subst (λ (q : Result Sequel RunFault). AsksOn c.args.remaining.now.ahead (g.S.Source.left c.args.input.now) (g.S.Source.left c.call_host-other.new.input)
-    (g.S.Source.calls c.args.input.now) (g.S.Source.calls c.call_host-other.new.input) (vain_then q c.call_host-other.new.remaining.ahead)) (sym c.told_of.ensures) c.call_host-other.ensures.asks
+    subst (λ (q : Result Sequel RunFault). AsksOn c.args.remaining.now.ahead (g.S.Source.feed c.args.input.now) (g.S.Source.feed c.call_host-other.new.input)
+    (vain_then q c.call_host-other.new.remaining.ahead)) (sym c.told_of.ensures) c.call_host-other.ensures.asks

@@ -18,8 +18,8 @@ use Rattle.frame_machine.proofs.onward.go_on.Goals as goal
 
 pub run_top-requires-clause-stands : goal.run_top-requires-clause-stands
 run_top-requires-clause-stands g c =
-    stands_so c.args.image.now (ready_can_run c.args.image.now c.args.parts.now c.requires.carries.ready) c.args.parts.now c.args.remaining.now.turns c.args.remaining.now.ahead (g.S.Source.left c.args.input.now)
-    (g.K.Sink.written c.args.out.now) c.args.r.now c.requires.run
+    stands_so c.args.image.now (ready_can_run c.args.image.now c.args.parts.now c.requires.carries.ready) c.args.parts.now c.args.remaining.now.turns c.args.remaining.now.ahead (g.S.Source.feed c.args.input.now)
+    (g.K.Sink.stream c.args.out.now) c.args.r.now c.requires.run
 
 pub happen-requires-clause-ample : goal.happen-requires-clause-ample
 happen-requires-clause-ample g c =
@@ -34,7 +34,7 @@ pub happen-requires-clause-pauses : goal.happen-requires-clause-pauses
 happen-requires-clause-pauses g c =
     let some : 0 < c.run_top.new.steps - c.args.steps.now = let k = c.in-Ok.ensures.counted in omega (arith, k) in
     pauses_then c.args.image.now (ready_can_run c.args.image.now c.args.parts.now c.requires.carries.ready) c.args.parts.now c.run_top.new.parts c.args.remaining.now.turns c.args.remaining.now.ahead
-    (g.S.Source.left c.args.input.now) (g.K.Sink.written c.args.out.now) (g.K.Sink.written c.run_top.new.out) c.args.r.now c.in-Ok.pause (c.run_top.new.steps - c.args.steps.now)
+    (g.S.Source.feed c.args.input.now) (g.K.Sink.stream c.args.out.now) (g.K.Sink.stream c.run_top.new.out) c.args.r.now c.in-Ok.pause (c.run_top.new.steps - c.args.steps.now)
     c.in-Ok.ensures.marks some c.in-Ok.ensures.wrote c.requires.run
 
 pub call_host-requires-clause-ample : goal.call_host-requires-clause-ample
@@ -51,14 +51,14 @@ pub call_host-requires-clause-run : goal.call_host-requires-clause-run
 call_host-requires-clause-run g c =
     let some : 0 < c.run_top.new.steps - c.args.steps.now = let k = c.in-Ok.ensures.counted in omega (arith, k) in
     let is = ap (λ (o : Option LinkSequel). linked_or o c.happen.new.r) c.in-Some.is ∙ c.in-Host.is in
-    along c.args.image.now c.args.parts.now c.happen.new.parts c.args.remaining.now.turns c.happen.new.turns c.args.remaining.now.ahead c.args.remaining.now.ahead (g.S.Source.left c.args.input.now) (g.S.Source.left c.args.input.now)
-    (g.K.Sink.written c.args.out.now) (g.K.Sink.written c.run_top.new.out) (At c.args.image.now c.args.parts.now (Goes c.args.r.now))
+    along c.args.image.now c.args.parts.now c.happen.new.parts c.args.remaining.now.turns c.happen.new.turns c.args.remaining.now.ahead c.args.remaining.now.ahead (g.S.Source.feed c.args.input.now) (g.S.Source.feed c.args.input.now)
+    (g.K.Sink.stream c.args.out.now) (g.K.Sink.stream c.run_top.new.out) (At c.args.image.now c.args.parts.now (Goes c.args.r.now))
     (AtLink c.args.image.now c.happen.new.parts c.in-Ok.pause.registers (Host c.in-Host.host)) (c.run_top.new.steps - c.args.steps.now) c.requires.run
     (subst (λ (l : LinkSequel). Moves c.args.image.now c.args.parts.now c.happen.new.parts c.args.remaining.now.turns c.happen.new.turns (c.run_top.new.steps - c.args.steps.now)
-    c.args.remaining.now.ahead c.args.remaining.now.ahead (g.S.Source.left c.args.input.now) (g.S.Source.left c.args.input.now) (g.K.Sink.written c.args.out.now) (g.K.Sink.written c.run_top.new.out)
+    c.args.remaining.now.ahead c.args.remaining.now.ahead (g.S.Source.feed c.args.input.now) (g.S.Source.feed c.args.input.now) (g.K.Sink.stream c.args.out.now) (g.K.Sink.stream c.run_top.new.out)
     (At c.args.image.now c.args.parts.now (Goes c.args.r.now)) (AtLink c.args.image.now c.happen.new.parts c.in-Ok.pause.registers l)) is
     (links_then c.args.image.now (ready_can_run c.args.image.now c.args.parts.now c.requires.carries.ready) c.args.parts.now c.run_top.new.parts c.happen.new.parts c.args.remaining.now.turns c.happen.new.turns
-    c.args.remaining.now.ahead (g.S.Source.left c.args.input.now) (g.K.Sink.written c.args.out.now) (g.K.Sink.written c.run_top.new.out) c.args.r.now c.in-Ok.pause (c.run_top.new.steps - c.args.steps.now) (linked_or c.happen.result c.happen.new.r)
+    c.args.remaining.now.ahead (g.S.Source.feed c.args.input.now) (g.K.Sink.stream c.args.out.now) (g.K.Sink.stream c.run_top.new.out) c.args.r.now c.in-Ok.pause (c.run_top.new.steps - c.args.steps.now) (linked_or c.happen.result c.happen.new.r)
     c.in-Ok.ensures.marks some c.in-Ok.ensures.wrote c.happen.ensures.globals c.happen.ensures.leads))
 
 pub returns-in-None-clause-carries : goal.returns-in-None-clause-carries
@@ -75,13 +75,13 @@ returns-in-None-clause-follows g c =
     let some : 0 < c.run_top.new.steps - c.args.steps.now = let k = c.in-Ok.ensures.counted in omega (arith, k) in
     let is = ap (λ (o : Option LinkSequel). linked_or o c.happen.new.r) c.in-None.is in
     done_there c.args.image.now c.args.parts.now c.happen.new.parts c.args.remaining.now.turns c.happen.new.turns (c.run_top.new.steps - c.args.steps.now) c.args.remaining.now.ahead c.args.remaining.now.ahead
-    (g.S.Source.left c.args.input.now) (g.S.Source.left c.args.input.now) (g.K.Sink.written c.args.out.now) (g.K.Sink.written c.run_top.new.out) (At c.args.image.now c.args.parts.now (Goes c.args.r.now))
+    (g.S.Source.feed c.args.input.now) (g.S.Source.feed c.args.input.now) (g.K.Sink.stream c.args.out.now) (g.K.Sink.stream c.run_top.new.out) (At c.args.image.now c.args.parts.now (Goes c.args.r.now))
     c.in-Ok.pause.registers (Goes c.happen.new.r)
     (subst (λ (l : LinkSequel). Moves c.args.image.now c.args.parts.now c.happen.new.parts c.args.remaining.now.turns c.happen.new.turns (c.run_top.new.steps - c.args.steps.now)
-    c.args.remaining.now.ahead c.args.remaining.now.ahead (g.S.Source.left c.args.input.now) (g.S.Source.left c.args.input.now) (g.K.Sink.written c.args.out.now) (g.K.Sink.written c.run_top.new.out)
+    c.args.remaining.now.ahead c.args.remaining.now.ahead (g.S.Source.feed c.args.input.now) (g.S.Source.feed c.args.input.now) (g.K.Sink.stream c.args.out.now) (g.K.Sink.stream c.run_top.new.out)
     (At c.args.image.now c.args.parts.now (Goes c.args.r.now)) (AtLink c.args.image.now c.happen.new.parts c.in-Ok.pause.registers l)) is
     (links_then c.args.image.now (ready_can_run c.args.image.now c.args.parts.now c.requires.carries.ready) c.args.parts.now c.run_top.new.parts c.happen.new.parts c.args.remaining.now.turns c.happen.new.turns
-    c.args.remaining.now.ahead (g.S.Source.left c.args.input.now) (g.K.Sink.written c.args.out.now) (g.K.Sink.written c.run_top.new.out) c.args.r.now c.in-Ok.pause (c.run_top.new.steps - c.args.steps.now) (linked_or c.happen.result c.happen.new.r)
+    c.args.remaining.now.ahead (g.S.Source.feed c.args.input.now) (g.K.Sink.stream c.args.out.now) (g.K.Sink.stream c.run_top.new.out) c.args.r.now c.in-Ok.pause (c.run_top.new.steps - c.args.steps.now) (linked_or c.happen.result c.happen.new.r)
     c.in-Ok.ensures.marks some c.in-Ok.ensures.wrote c.happen.ensures.globals c.happen.ensures.leads))
 
 pub returns-in-Done-clause-carries : goal.returns-in-Done-clause-carries
@@ -98,34 +98,34 @@ returns-in-Done-clause-follows g c =
     let some : 0 < c.run_top.new.steps - c.args.steps.now = let k = c.in-Ok.ensures.counted in omega (arith, k) in
     let is = ap (λ (o : Option LinkSequel). linked_or o c.happen.new.r) c.in-Some.is ∙ c.in-Done.is in
     done_there c.args.image.now c.args.parts.now c.happen.new.parts c.args.remaining.now.turns c.happen.new.turns (c.run_top.new.steps - c.args.steps.now) c.args.remaining.now.ahead c.args.remaining.now.ahead
-    (g.S.Source.left c.args.input.now) (g.S.Source.left c.args.input.now) (g.K.Sink.written c.args.out.now) (g.K.Sink.written c.run_top.new.out) (At c.args.image.now c.args.parts.now (Goes c.args.r.now))
+    (g.S.Source.feed c.args.input.now) (g.S.Source.feed c.args.input.now) (g.K.Sink.stream c.args.out.now) (g.K.Sink.stream c.run_top.new.out) (At c.args.image.now c.args.parts.now (Goes c.args.r.now))
     c.in-Ok.pause.registers c.in-Done.sequel
     (subst (λ (l : LinkSequel). Moves c.args.image.now c.args.parts.now c.happen.new.parts c.args.remaining.now.turns c.happen.new.turns (c.run_top.new.steps - c.args.steps.now)
-    c.args.remaining.now.ahead c.args.remaining.now.ahead (g.S.Source.left c.args.input.now) (g.S.Source.left c.args.input.now) (g.K.Sink.written c.args.out.now) (g.K.Sink.written c.run_top.new.out)
+    c.args.remaining.now.ahead c.args.remaining.now.ahead (g.S.Source.feed c.args.input.now) (g.S.Source.feed c.args.input.now) (g.K.Sink.stream c.args.out.now) (g.K.Sink.stream c.run_top.new.out)
     (At c.args.image.now c.args.parts.now (Goes c.args.r.now)) (AtLink c.args.image.now c.happen.new.parts c.in-Ok.pause.registers l)) is
     (links_then c.args.image.now (ready_can_run c.args.image.now c.args.parts.now c.requires.carries.ready) c.args.parts.now c.run_top.new.parts c.happen.new.parts c.args.remaining.now.turns c.happen.new.turns
-    c.args.remaining.now.ahead (g.S.Source.left c.args.input.now) (g.K.Sink.written c.args.out.now) (g.K.Sink.written c.run_top.new.out) c.args.r.now c.in-Ok.pause (c.run_top.new.steps - c.args.steps.now) (linked_or c.happen.result c.happen.new.r)
+    c.args.remaining.now.ahead (g.S.Source.feed c.args.input.now) (g.K.Sink.stream c.args.out.now) (g.K.Sink.stream c.run_top.new.out) c.args.r.now c.in-Ok.pause (c.run_top.new.steps - c.args.steps.now) (linked_or c.happen.result c.happen.new.r)
     c.in-Ok.ensures.marks some c.in-Ok.ensures.wrote c.happen.ensures.globals c.happen.ensures.leads))
 
 pub returns-in-None-clause-few : goal.returns-in-None-clause-few
 returns-in-None-clause-few g c =
     let some : 0 < c.run_top.new.steps - c.args.steps.now = let k = c.in-Ok.ensures.counted in omega (arith, k) in
     few_begun c.args.image.now (ready_can_run c.args.image.now c.args.parts.now c.requires.carries.ready) c.args.parts.now c.run_top.new.parts c.args.remaining.now.turns c.args.remaining.now.ahead
-    (g.S.Source.left c.args.input.now) (g.K.Sink.written c.args.out.now) (g.K.Sink.written c.run_top.new.out) c.args.r.now c.in-Ok.pause (c.run_top.new.steps - c.args.steps.now)
+    (g.S.Source.feed c.args.input.now) (g.K.Sink.stream c.args.out.now) (g.K.Sink.stream c.run_top.new.out) c.args.r.now c.in-Ok.pause (c.run_top.new.steps - c.args.steps.now)
     c.in-Ok.ensures.marks some c.in-Ok.ensures.wrote (ready_is_prepared c.args.image.now c.run_top.new.parts c.in-Ok.ensures.ready) c.in-Ok.ensures.ample.long
 
 pub returns-in-Done-clause-few : goal.returns-in-Done-clause-few
 returns-in-Done-clause-few g c =
     let some : 0 < c.run_top.new.steps - c.args.steps.now = let k = c.in-Ok.ensures.counted in omega (arith, k) in
     few_begun c.args.image.now (ready_can_run c.args.image.now c.args.parts.now c.requires.carries.ready) c.args.parts.now c.run_top.new.parts c.args.remaining.now.turns c.args.remaining.now.ahead
-    (g.S.Source.left c.args.input.now) (g.K.Sink.written c.args.out.now) (g.K.Sink.written c.run_top.new.out) c.args.r.now c.in-Ok.pause (c.run_top.new.steps - c.args.steps.now)
+    (g.S.Source.feed c.args.input.now) (g.K.Sink.stream c.args.out.now) (g.K.Sink.stream c.run_top.new.out) c.args.r.now c.in-Ok.pause (c.run_top.new.steps - c.args.steps.now)
     c.in-Ok.ensures.marks some c.in-Ok.ensures.wrote (ready_is_prepared c.args.image.now c.run_top.new.parts c.in-Ok.ensures.ready) c.in-Ok.ensures.ample.long
 
 pub returns-in-Host-clause-few : goal.returns-in-Host-clause-few
 returns-in-Host-clause-few g c =
     let some : 0 < c.run_top.new.steps - c.args.steps.now = let k = c.in-Ok.ensures.counted in omega (arith, k) in
     few_begun c.args.image.now (ready_can_run c.args.image.now c.args.parts.now c.requires.carries.ready) c.args.parts.now c.run_top.new.parts c.args.remaining.now.turns c.args.remaining.now.ahead
-    (g.S.Source.left c.args.input.now) (g.K.Sink.written c.args.out.now) (g.K.Sink.written c.run_top.new.out) c.args.r.now c.in-Ok.pause (c.run_top.new.steps - c.args.steps.now)
+    (g.S.Source.feed c.args.input.now) (g.K.Sink.stream c.args.out.now) (g.K.Sink.stream c.run_top.new.out) c.args.r.now c.in-Ok.pause (c.run_top.new.steps - c.args.steps.now)
     c.in-Ok.ensures.marks some c.in-Ok.ensures.wrote (ready_is_prepared c.args.image.now c.run_top.new.parts c.in-Ok.ensures.ready) c.in-Ok.ensures.ample.long
 
 pub returns-in-None-clause-faults : goal.returns-in-None-clause-faults
@@ -143,22 +143,22 @@ pub returns-in-Host-clause-follows : goal.returns-in-Host-clause-follows
 returns-in-Host-clause-follows g c =
     let some : 0 < c.run_top.new.steps - c.args.steps.now = let k = c.in-Ok.ensures.counted in omega (arith, k) in
     let is = ap (λ (o : Option LinkSequel). linked_or o c.happen.new.r) c.in-Some.is ∙ c.in-Host.is in
-    after c.args.image.now c.args.parts.now c.happen.new.parts c.args.remaining.now.turns c.happen.new.turns c.args.remaining.now.ahead c.args.remaining.now.ahead (g.S.Source.left c.args.input.now) (g.S.Source.left c.args.input.now)
-    (g.K.Sink.written c.args.out.now) (g.K.Sink.written c.run_top.new.out) c.call_host.new.parts c.call_host.new.remaining.turns c.call_host.new.remaining.ahead (g.S.Source.left c.call_host.new.input) (g.K.Sink.written c.call_host.new.out)
+    after c.args.image.now c.args.parts.now c.happen.new.parts c.args.remaining.now.turns c.happen.new.turns c.args.remaining.now.ahead c.args.remaining.now.ahead (g.S.Source.feed c.args.input.now) (g.S.Source.feed c.args.input.now)
+    (g.K.Sink.stream c.args.out.now) (g.K.Sink.stream c.run_top.new.out) c.call_host.new.parts c.call_host.new.remaining.turns c.call_host.new.remaining.ahead (g.S.Source.feed c.call_host.new.input) (g.K.Sink.stream c.call_host.new.out)
     (At c.args.image.now c.args.parts.now (Goes c.args.r.now)) (AtLink c.args.image.now c.happen.new.parts c.in-Ok.pause.registers (Host c.in-Host.host)) (onward_or c.call_host.result c.call_host.new.r)
     (c.run_top.new.steps - c.args.steps.now) 0 (c.run_top.new.steps - c.args.steps.now)
     (subst (λ (l : LinkSequel). Moves c.args.image.now c.args.parts.now c.happen.new.parts c.args.remaining.now.turns c.happen.new.turns (c.run_top.new.steps - c.args.steps.now)
-    c.args.remaining.now.ahead c.args.remaining.now.ahead (g.S.Source.left c.args.input.now) (g.S.Source.left c.args.input.now) (g.K.Sink.written c.args.out.now) (g.K.Sink.written c.run_top.new.out)
+    c.args.remaining.now.ahead c.args.remaining.now.ahead (g.S.Source.feed c.args.input.now) (g.S.Source.feed c.args.input.now) (g.K.Sink.stream c.args.out.now) (g.K.Sink.stream c.run_top.new.out)
     (At c.args.image.now c.args.parts.now (Goes c.args.r.now)) (AtLink c.args.image.now c.happen.new.parts c.in-Ok.pause.registers l)) is
     (links_then c.args.image.now (ready_can_run c.args.image.now c.args.parts.now c.requires.carries.ready) c.args.parts.now c.run_top.new.parts c.happen.new.parts c.args.remaining.now.turns c.happen.new.turns
-    c.args.remaining.now.ahead (g.S.Source.left c.args.input.now) (g.K.Sink.written c.args.out.now) (g.K.Sink.written c.run_top.new.out) c.args.r.now c.in-Ok.pause (c.run_top.new.steps - c.args.steps.now) (linked_or c.happen.result c.happen.new.r)
+    c.args.remaining.now.ahead (g.S.Source.feed c.args.input.now) (g.K.Sink.stream c.args.out.now) (g.K.Sink.stream c.run_top.new.out) c.args.r.now c.in-Ok.pause (c.run_top.new.steps - c.args.steps.now) (linked_or c.happen.result c.happen.new.r)
     c.in-Ok.ensures.marks some c.in-Ok.ensures.wrote c.happen.ensures.globals c.happen.ensures.leads))
     c.call_host.ensures.follows (omega arith)
 
 pub returns-in-Host-clause-faults : goal.returns-in-Host-clause-faults
 returns-in-Host-clause-faults g c =
-    later_counted c.call_host.result _ _ (g.S.Source.faults c.call_host.new.input) _ _ (g.K.Sink.faults c.call_host.new.out) (omega arith) c.in-Ok.ensures.faults_stay
-    (settled_faults c.call_host.result c.call_host.new.r (g.S.Source.faults c.args.input.now) (g.S.Source.faults c.call_host.new.input) (g.K.Sink.faults c.run_top.new.out) (g.K.Sink.faults c.call_host.new.out)
+    later_counted c.call_host.result _ _ (g.S.Source.feed c.call_host.new.input).faults _ _ (g.K.Sink.stream c.call_host.new.out).faults (omega arith) c.in-Ok.ensures.faults_stay
+    (settled_faults c.call_host.result c.call_host.new.r (g.S.Source.feed c.args.input.now).faults (g.S.Source.feed c.call_host.new.input).faults (g.K.Sink.stream c.run_top.new.out).faults (g.K.Sink.stream c.call_host.new.out).faults
     c.call_host.ensures.faults)
 
 pub returns-in-Err-clause-follows : goal.returns-in-Err-clause-follows
@@ -166,32 +166,32 @@ returns-in-Err-clause-follows g c =
     let some : 0 < c.run_top.new.steps - c.args.steps.now = let k = c.in-Err.ensures.counted in omega (arith, k) in
     let f = c.in-Err.ensures.fails in
     write_fails c.args.image.now (ready_can_run c.args.image.now c.args.parts.now c.requires.carries.ready) c.args.parts.now c.run_top.new.parts c.args.remaining.now.turns c.args.remaining.now.ahead
-    (g.S.Source.left c.args.input.now) (g.K.Sink.written c.args.out.now) f.between c.args.r.now f.pause (c.run_top.new.steps - c.args.steps.now)
+    (g.S.Source.feed c.args.input.now) (g.K.Sink.stream c.args.out.now) f.between c.args.r.now f.pause (c.run_top.new.steps - c.args.steps.now)
     c.in-Err.ensures.marks some f.comes (ready_is_prepared c.args.image.now c.run_top.new.parts c.in-Err.ensures.ready)
     (subst (λ q. IsAmple c.run_top.new.parts.stack.layout c.run_top.new.parts.stack.region.items c.run_top.new.parts.stack.rows.items q) (sym f.same_top) c.in-Err.ensures.ample)
-    f.writing f.calls (g.K.Sink.written c.run_top.new.out) f.some f.partly c.args.remaining.now.turns
+    f.writing f.calls (g.K.Sink.stream c.run_top.new.out) f.some f.partly c.args.remaining.now.turns
 
 pub returns-in-Err-clause-few : goal.returns-in-Err-clause-few
 returns-in-Err-clause-few g c =
     let some : 0 < c.run_top.new.steps - c.args.steps.now = let k = c.in-Err.ensures.counted in omega (arith, k) in
     let f = c.in-Err.ensures.fails in
     few_begun c.args.image.now (ready_can_run c.args.image.now c.args.parts.now c.requires.carries.ready) c.args.parts.now c.run_top.new.parts c.args.remaining.now.turns c.args.remaining.now.ahead
-    (g.S.Source.left c.args.input.now) (g.K.Sink.written c.args.out.now) f.between c.args.r.now f.pause (c.run_top.new.steps - c.args.steps.now)
+    (g.S.Source.feed c.args.input.now) (g.K.Sink.stream c.args.out.now) f.between c.args.r.now f.pause (c.run_top.new.steps - c.args.steps.now)
     c.in-Err.ensures.marks some f.comes (ready_is_prepared c.args.image.now c.run_top.new.parts c.in-Err.ensures.ready) c.in-Err.ensures.ample.long
 
 pub returns-in-Err-clause-faults : goal.returns-in-Err-clause-faults
-returns-in-Err-clause-faults g c = sink_failed (g.S.Source.faults c.args.input.now) _ _ c.in-Err.ensures.fault c.in-Err.ensures.faults_stay
+returns-in-Err-clause-faults g c = sink_failed (g.S.Source.feed c.args.input.now).faults _ _ c.in-Err.ensures.fault c.in-Err.ensures.faults_stay
 
 pub returns-in-None-clause-asks : goal.returns-in-None-clause-asks
-returns-in-None-clause-asks g c = asks_not c.args.remaining.now.ahead (g.S.Source.left c.args.input.now) (g.S.Source.calls c.args.input.now)
+returns-in-None-clause-asks g c = asks_not c.args.remaining.now.ahead (g.S.Source.feed c.args.input.now)
 
 pub returns-in-Done-clause-asks : goal.returns-in-Done-clause-asks
-returns-in-Done-clause-asks g c = asks_not c.args.remaining.now.ahead (g.S.Source.left c.args.input.now) (g.S.Source.calls c.args.input.now)
+returns-in-Done-clause-asks g c = asks_not c.args.remaining.now.ahead (g.S.Source.feed c.args.input.now)
 
 pub returns-in-Host-clause-asks : goal.returns-in-Host-clause-asks
 returns-in-Host-clause-asks g c =
-    asks_settled c.call_host.result c.call_host.new.r c.args.remaining.now.ahead c.call_host.new.remaining.ahead (g.S.Source.left c.args.input.now) (g.S.Source.left c.call_host.new.input)
-    (g.S.Source.calls c.args.input.now) (g.S.Source.calls c.call_host.new.input) c.call_host.ensures.asks
+    asks_settled c.call_host.result c.call_host.new.r c.args.remaining.now.ahead c.call_host.new.remaining.ahead (g.S.Source.feed c.args.input.now) (g.S.Source.feed c.call_host.new.input)
+    c.call_host.ensures.asks
 
 pub returns-in-Err-clause-asks : goal.returns-in-Err-clause-asks
-returns-in-Err-clause-asks g c = asks_not c.args.remaining.now.ahead (g.S.Source.left c.args.input.now) (g.S.Source.calls c.args.input.now)
+returns-in-Err-clause-asks g c = asks_not c.args.remaining.now.ahead (g.S.Source.feed c.args.input.now)

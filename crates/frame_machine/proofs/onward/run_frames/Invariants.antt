@@ -10,11 +10,11 @@ abbrev pub invariant-running : goal.invariant-running
 invariant-running g l = record {
   counted : l.fn.steps ≤ l.steps;
   carries : Carries l.image l.parts (Goes l.r);
-  follows : Follows l.image l.fn.parts l.parts l.fn.remaining.turns l.left.turns (l.steps - l.fn.steps) l.fn.remaining.ahead l.left.ahead (g.S.Source.left l.fn.input) (g.S.Source.left l.input)
-      (g.K.Sink.written l.fn.out) (g.K.Sink.written l.out) (At l.image l.fn.parts (Goes l.fn.first)) (Ok (Goes l.r));
-  asks : AsksOn l.fn.remaining.ahead (g.S.Source.left l.fn.input) (g.S.Source.left l.input) (g.S.Source.calls l.fn.input) (g.S.Source.calls l.input) (vain_by l.left.ahead);
-  source_stays : g.S.Source.faults l.fn.input ≤ g.S.Source.faults l.input;
-  sink_stays : g.K.Sink.faults l.fn.out ≤ g.K.Sink.faults l.out;
+  follows : Follows l.image l.fn.parts l.parts l.fn.remaining.turns l.left.turns (l.steps - l.fn.steps) l.fn.remaining.ahead l.left.ahead (g.S.Source.feed l.fn.input) (g.S.Source.feed l.input)
+      (g.K.Sink.stream l.fn.out) (g.K.Sink.stream l.out) (At l.image l.fn.parts (Goes l.fn.first)) (Ok (Goes l.r));
+  asks : AsksOn l.fn.remaining.ahead (g.S.Source.feed l.fn.input) (g.S.Source.feed l.input) (vain_by l.left.ahead);
+  source_stays : (g.S.Source.feed l.fn.input).faults ≤ (g.S.Source.feed l.input).faults;
+  sink_stays : (g.K.Sink.stream l.fn.out).faults ≤ (g.K.Sink.stream l.out).faults;
 }
 
 abbrev pub decreases-running : goal.decreases-running

@@ -10,9 +10,9 @@ abbrev pub invariant-loop-instance : goal.invariant-loop-instance
 invariant-loop-instance g l = record {
   ready : IsReady l.image l.parts;
   counted : l.fn.steps ≤ l.steps;
-  so : SoFar l.image l.turns l.parts (drop l.instance-index l.image.control) l.remaining.turns (l.steps - l.fn.steps) l.remaining.ahead (g.S.Source.left l.fn.input) (g.S.Source.left l.input)
-      (g.K.Sink.written l.fn.out) (g.K.Sink.written l.out) (At l.image l.parts Empty);
-  asked : Asked (g.S.Source.left l.fn.input) (g.S.Source.left l.input) (g.S.Source.calls l.fn.input) (g.S.Source.calls l.input) (vain_by l.remaining.ahead);
-  source_stays : g.S.Source.faults l.fn.input ≤ g.S.Source.faults l.input;
-  sink_stays : g.K.Sink.faults l.fn.out ≤ g.K.Sink.faults l.out;
+  so : SoFar l.image l.turns l.parts (drop l.instance-index l.image.control) l.remaining.turns (l.steps - l.fn.steps) l.remaining.ahead (g.S.Source.feed l.fn.input) (g.S.Source.feed l.input)
+      (g.K.Sink.stream l.fn.out) (g.K.Sink.stream l.out) (At l.image l.parts Empty);
+  asked : Asked (g.S.Source.feed l.fn.input) (g.S.Source.feed l.input) (vain_by l.remaining.ahead);
+  source_stays : (g.S.Source.feed l.fn.input).faults ≤ (g.S.Source.feed l.input).faults;
+  sink_stays : (g.K.Sink.stream l.fn.out).faults ≤ (g.K.Sink.stream l.out).faults;
 }

@@ -35,7 +35,7 @@ running-init g c =
       top = refl;
       ample = subst (λ x. IsAmple c.args.stack.now.layout x c.args.stack.now.rows.items c.args.r.top) (sym same) c.requires.ample;
       globals = refl;
-      wrote = nothing_run c.args.routine.now.image.now c.args.stack.now.layout c.requires.prepared c.args.stack.now.rows.items (row_at c.args.stack.now.rows.items c.args.r.top).instance (g.K.Sink.written c.args.out.now)
+      wrote = nothing_run c.args.routine.now.image.now c.args.stack.now.layout c.requires.prepared c.args.stack.now.rows.items (row_at c.args.stack.now.rows.items c.args.r.top).instance (g.K.Sink.stream c.args.out.now)
           (TopAt c.args.routine.now.image.now c.args.stack.now.layout c.args.stack.now.region.items c.args.stack.now.rows.items c.args.r (row_at c.args.stack.now.rows.items c.args.r.top).instance c.args.globals.now c.args.turns)
           c.as_mut_slice-region.result.now c.args.r c.args.globals.now c.args.turns (c.args.steps.now - c.args.steps.now) (omega arith)
           (λ s m from. subst (λ x. TopAt c.args.routine.now.image.now c.args.stack.now.layout x c.args.stack.now.rows.items c.args.r (row_at c.args.stack.now.rows.items c.args.r.top).instance c.args.globals.now c.args.turns s m) (sym same) from);
@@ -59,8 +59,8 @@ quiet-pause-requires-clause-standing g c =
     subst (λ f. Standing c.args.routine.now.code.now c.args.routine.now.procedure.now (length c.running.region) (length c.running.globals) f c.running.at) (sym c.requires.code.floor)
     (standing_at c.args.routine.now.image.now c.args.stack.now.layout c.requires.prepared c.args.stack.now.rows.items c.args.r (row_at c.args.stack.now.rows.items c.args.r.top) refl c.args.routine.now.code.now c.requires.code.is_code c.args.routine.now.procedure.now c.requires.code.is_procedure
     c.running.region c.running.at c.running.invariant.top c.running.globals c.running.left
-    (goes_on c.args.routine.now.image.now c.args.stack.now.layout c.requires.prepared c.args.stack.now.rows.items (row_at c.args.stack.now.rows.items c.args.r.top).instance (g.K.Sink.written c.args.out.now)
-    (TopAt c.args.routine.now.image.now c.args.stack.now.layout c.args.stack.now.region.items c.args.stack.now.rows.items c.args.r (row_at c.args.stack.now.rows.items c.args.r.top).instance c.args.globals.now c.args.turns) c.requires.stands (g.K.Sink.written c.running.out)
+    (goes_on c.args.routine.now.image.now c.args.stack.now.layout c.requires.prepared c.args.stack.now.rows.items (row_at c.args.stack.now.rows.items c.args.r.top).instance (g.K.Sink.stream c.args.out.now)
+    (TopAt c.args.routine.now.image.now c.args.stack.now.layout c.args.stack.now.region.items c.args.stack.now.rows.items c.args.r (row_at c.args.stack.now.rows.items c.args.r.top).instance c.args.globals.now c.args.turns) c.requires.stands (g.K.Sink.stream c.running.out)
     c.running.region c.running.at c.running.globals c.running.left (c.running.steps - c.args.steps.now) c.running.invariant.wrote)
     c.running.invariant.ample (c.running.invariant.globals ∙ c.requires.all_globals))
 
@@ -72,17 +72,17 @@ writing_called-requires g c =
       table = c.args.stack.now.rows.items;
       r = c.quiet-pause.result.registers;
       prepared = c.requires.prepared;
-      stands = pause_stands c.args.routine.now.image.now c.args.stack.now.layout c.requires.prepared c.args.stack.now.rows.items (row_at c.args.stack.now.rows.items c.args.r.top).instance (g.K.Sink.written c.args.out.now)
-          (TopAt c.args.routine.now.image.now c.args.stack.now.layout c.args.stack.now.region.items c.args.stack.now.rows.items c.args.r (row_at c.args.stack.now.rows.items c.args.r.top).instance c.args.globals.now c.args.turns) c.requires.stands (g.K.Sink.written c.running.out)
+      stands = pause_stands c.args.routine.now.image.now c.args.stack.now.layout c.requires.prepared c.args.stack.now.rows.items (row_at c.args.stack.now.rows.items c.args.r.top).instance (g.K.Sink.stream c.args.out.now)
+          (TopAt c.args.routine.now.image.now c.args.stack.now.layout c.args.stack.now.region.items c.args.stack.now.rows.items c.args.r (row_at c.args.stack.now.rows.items c.args.r.top).instance c.args.globals.now c.args.turns) c.requires.stands (g.K.Sink.stream c.running.out)
           c.quiet-pause.new.region c.quiet-pause.new.globals (c.quiet-pause.new.steps - c.args.steps.now) c.quiet-pause.result
-          (runs_further c.args.routine.now.image.now c.args.stack.now.layout c.requires.prepared c.args.stack.now.rows.items (row_at c.args.stack.now.rows.items c.args.r.top).instance (g.K.Sink.written c.args.out.now)
-          (TopAt c.args.routine.now.image.now c.args.stack.now.layout c.args.stack.now.region.items c.args.stack.now.rows.items c.args.r (row_at c.args.stack.now.rows.items c.args.r.top).instance c.args.globals.now c.args.turns) c.requires.stands (g.K.Sink.written c.running.out)
+          (runs_further c.args.routine.now.image.now c.args.stack.now.layout c.requires.prepared c.args.stack.now.rows.items (row_at c.args.stack.now.rows.items c.args.r.top).instance (g.K.Sink.stream c.args.out.now)
+          (TopAt c.args.routine.now.image.now c.args.stack.now.layout c.args.stack.now.region.items c.args.stack.now.rows.items c.args.r (row_at c.args.stack.now.rows.items c.args.r.top).instance c.args.globals.now c.args.turns) c.requires.stands (g.K.Sink.stream c.running.out)
           c.running.region c.quiet-pause.new.region c.running.at c.running.globals c.quiet-pause.new.globals c.running.left (c.running.steps - c.args.steps.now) (c.quiet-pause.new.steps - c.running.steps) (c.quiet-pause.new.steps - c.args.steps.now) c.quiet-pause.result
           (let a = c.running.invariant.counted in let b = c.quiet-pause.ensures.counted in omega (arith, a, b)) c.running.invariant.wrote
           (runs_at c.args.routine.now.image.now c.args.stack.now.layout c.requires.prepared c.args.stack.now.rows.items c.args.r (row_at c.args.stack.now.rows.items c.args.r.top) refl c.args.routine.now.code.now c.requires.code.is_code c.args.routine.now.procedure.now c.requires.code.is_procedure
           c.running.region c.running.at c.running.invariant.top c.running.globals c.running.left
-          (goes_on c.args.routine.now.image.now c.args.stack.now.layout c.requires.prepared c.args.stack.now.rows.items (row_at c.args.stack.now.rows.items c.args.r.top).instance (g.K.Sink.written c.args.out.now)
-          (TopAt c.args.routine.now.image.now c.args.stack.now.layout c.args.stack.now.region.items c.args.stack.now.rows.items c.args.r (row_at c.args.stack.now.rows.items c.args.r.top).instance c.args.globals.now c.args.turns) c.requires.stands (g.K.Sink.written c.running.out)
+          (goes_on c.args.routine.now.image.now c.args.stack.now.layout c.requires.prepared c.args.stack.now.rows.items (row_at c.args.stack.now.rows.items c.args.r.top).instance (g.K.Sink.stream c.args.out.now)
+          (TopAt c.args.routine.now.image.now c.args.stack.now.layout c.args.stack.now.region.items c.args.stack.now.rows.items c.args.r (row_at c.args.stack.now.rows.items c.args.r.top).instance c.args.globals.now c.args.turns) c.requires.stands (g.K.Sink.stream c.running.out)
           c.running.region c.running.at c.running.globals c.running.left (c.running.steps - c.args.steps.now) c.running.invariant.wrote)
           c.running.invariant.ample (c.running.invariant.globals ∙ c.requires.all_globals)
           c.args.routine.now.number c.requires.code.numbered c.args.routine.now.targets.now c.requires.code.leads c.quiet-pause.new.globals c.quiet-pause.new.region (c.quiet-pause.new.steps - c.running.steps) c.quiet-pause.result c.quiet-pause.ensures.pauses));
@@ -99,17 +99,17 @@ write-requires g c =
       table = c.args.stack.now.rows.items;
       r = c.quiet-pause.result.registers;
       prepared = c.requires.prepared;
-      stands = pause_stands c.args.routine.now.image.now c.args.stack.now.layout c.requires.prepared c.args.stack.now.rows.items (row_at c.args.stack.now.rows.items c.args.r.top).instance (g.K.Sink.written c.args.out.now)
-          (TopAt c.args.routine.now.image.now c.args.stack.now.layout c.args.stack.now.region.items c.args.stack.now.rows.items c.args.r (row_at c.args.stack.now.rows.items c.args.r.top).instance c.args.globals.now c.args.turns) c.requires.stands (g.K.Sink.written c.running.out)
+      stands = pause_stands c.args.routine.now.image.now c.args.stack.now.layout c.requires.prepared c.args.stack.now.rows.items (row_at c.args.stack.now.rows.items c.args.r.top).instance (g.K.Sink.stream c.args.out.now)
+          (TopAt c.args.routine.now.image.now c.args.stack.now.layout c.args.stack.now.region.items c.args.stack.now.rows.items c.args.r (row_at c.args.stack.now.rows.items c.args.r.top).instance c.args.globals.now c.args.turns) c.requires.stands (g.K.Sink.stream c.running.out)
           c.quiet-pause.new.region c.quiet-pause.new.globals (c.quiet-pause.new.steps - c.args.steps.now) c.quiet-pause.result
-          (runs_further c.args.routine.now.image.now c.args.stack.now.layout c.requires.prepared c.args.stack.now.rows.items (row_at c.args.stack.now.rows.items c.args.r.top).instance (g.K.Sink.written c.args.out.now)
-          (TopAt c.args.routine.now.image.now c.args.stack.now.layout c.args.stack.now.region.items c.args.stack.now.rows.items c.args.r (row_at c.args.stack.now.rows.items c.args.r.top).instance c.args.globals.now c.args.turns) c.requires.stands (g.K.Sink.written c.running.out)
+          (runs_further c.args.routine.now.image.now c.args.stack.now.layout c.requires.prepared c.args.stack.now.rows.items (row_at c.args.stack.now.rows.items c.args.r.top).instance (g.K.Sink.stream c.args.out.now)
+          (TopAt c.args.routine.now.image.now c.args.stack.now.layout c.args.stack.now.region.items c.args.stack.now.rows.items c.args.r (row_at c.args.stack.now.rows.items c.args.r.top).instance c.args.globals.now c.args.turns) c.requires.stands (g.K.Sink.stream c.running.out)
           c.running.region c.quiet-pause.new.region c.running.at c.running.globals c.quiet-pause.new.globals c.running.left (c.running.steps - c.args.steps.now) (c.quiet-pause.new.steps - c.running.steps) (c.quiet-pause.new.steps - c.args.steps.now) c.quiet-pause.result
           (let a = c.running.invariant.counted in let b = c.quiet-pause.ensures.counted in omega (arith, a, b)) c.running.invariant.wrote
           (runs_at c.args.routine.now.image.now c.args.stack.now.layout c.requires.prepared c.args.stack.now.rows.items c.args.r (row_at c.args.stack.now.rows.items c.args.r.top) refl c.args.routine.now.code.now c.requires.code.is_code c.args.routine.now.procedure.now c.requires.code.is_procedure
           c.running.region c.running.at c.running.invariant.top c.running.globals c.running.left
-          (goes_on c.args.routine.now.image.now c.args.stack.now.layout c.requires.prepared c.args.stack.now.rows.items (row_at c.args.stack.now.rows.items c.args.r.top).instance (g.K.Sink.written c.args.out.now)
-          (TopAt c.args.routine.now.image.now c.args.stack.now.layout c.args.stack.now.region.items c.args.stack.now.rows.items c.args.r (row_at c.args.stack.now.rows.items c.args.r.top).instance c.args.globals.now c.args.turns) c.requires.stands (g.K.Sink.written c.running.out)
+          (goes_on c.args.routine.now.image.now c.args.stack.now.layout c.requires.prepared c.args.stack.now.rows.items (row_at c.args.stack.now.rows.items c.args.r.top).instance (g.K.Sink.stream c.args.out.now)
+          (TopAt c.args.routine.now.image.now c.args.stack.now.layout c.args.stack.now.region.items c.args.stack.now.rows.items c.args.r (row_at c.args.stack.now.rows.items c.args.r.top).instance c.args.globals.now c.args.turns) c.requires.stands (g.K.Sink.stream c.running.out)
           c.running.region c.running.at c.running.globals c.running.left (c.running.steps - c.args.steps.now) c.running.invariant.wrote)
           c.running.invariant.ample (c.running.invariant.globals ∙ c.requires.all_globals)
           c.args.routine.now.number c.requires.code.numbered c.args.routine.now.targets.now c.requires.code.leads c.quiet-pause.new.globals c.quiet-pause.new.region (c.quiet-pause.new.steps - c.running.steps) c.quiet-pause.result c.quiet-pause.ensures.pauses));
@@ -118,17 +118,17 @@ write-requires g c =
       own = ap (λ (x : Row). x.instance) c.row_of-instance.ensures ∙ ap (λ q. (row_at c.args.stack.now.rows.items q).instance) (sym (c.quiet-pause.ensures.stays.0 ∙ c.running.invariant.top));
     } in
     record {
-      can = can_write c.args.routine.now.image.now c.args.stack.now.layout c.requires.prepared c.args.stack.now.rows.items (row_at c.args.stack.now.rows.items c.args.r.top).instance (g.K.Sink.written c.args.out.now)
-          (TopAt c.args.routine.now.image.now c.args.stack.now.layout c.args.stack.now.region.items c.args.stack.now.rows.items c.args.r (row_at c.args.stack.now.rows.items c.args.r.top).instance c.args.globals.now c.args.turns) c.requires.stands (g.K.Sink.written c.running.out)
+      can = can_write c.args.routine.now.image.now c.args.stack.now.layout c.requires.prepared c.args.stack.now.rows.items (row_at c.args.stack.now.rows.items c.args.r.top).instance (g.K.Sink.stream c.args.out.now)
+          (TopAt c.args.routine.now.image.now c.args.stack.now.layout c.args.stack.now.region.items c.args.stack.now.rows.items c.args.r (row_at c.args.stack.now.rows.items c.args.r.top).instance c.args.globals.now c.args.turns) c.requires.stands (g.K.Sink.stream c.running.out)
           c.quiet-pause.new.region c.quiet-pause.new.globals (c.quiet-pause.new.steps - c.args.steps.now) c.quiet-pause.result
-          (runs_further c.args.routine.now.image.now c.args.stack.now.layout c.requires.prepared c.args.stack.now.rows.items (row_at c.args.stack.now.rows.items c.args.r.top).instance (g.K.Sink.written c.args.out.now)
-          (TopAt c.args.routine.now.image.now c.args.stack.now.layout c.args.stack.now.region.items c.args.stack.now.rows.items c.args.r (row_at c.args.stack.now.rows.items c.args.r.top).instance c.args.globals.now c.args.turns) c.requires.stands (g.K.Sink.written c.running.out)
+          (runs_further c.args.routine.now.image.now c.args.stack.now.layout c.requires.prepared c.args.stack.now.rows.items (row_at c.args.stack.now.rows.items c.args.r.top).instance (g.K.Sink.stream c.args.out.now)
+          (TopAt c.args.routine.now.image.now c.args.stack.now.layout c.args.stack.now.region.items c.args.stack.now.rows.items c.args.r (row_at c.args.stack.now.rows.items c.args.r.top).instance c.args.globals.now c.args.turns) c.requires.stands (g.K.Sink.stream c.running.out)
           c.running.region c.quiet-pause.new.region c.running.at c.running.globals c.quiet-pause.new.globals c.running.left (c.running.steps - c.args.steps.now) (c.quiet-pause.new.steps - c.running.steps) (c.quiet-pause.new.steps - c.args.steps.now) c.quiet-pause.result
           (let a = c.running.invariant.counted in let b = c.quiet-pause.ensures.counted in omega (arith, a, b)) c.running.invariant.wrote
           (runs_at c.args.routine.now.image.now c.args.stack.now.layout c.requires.prepared c.args.stack.now.rows.items c.args.r (row_at c.args.stack.now.rows.items c.args.r.top) refl c.args.routine.now.code.now c.requires.code.is_code c.args.routine.now.procedure.now c.requires.code.is_procedure
           c.running.region c.running.at c.running.invariant.top c.running.globals c.running.left
-          (goes_on c.args.routine.now.image.now c.args.stack.now.layout c.requires.prepared c.args.stack.now.rows.items (row_at c.args.stack.now.rows.items c.args.r.top).instance (g.K.Sink.written c.args.out.now)
-          (TopAt c.args.routine.now.image.now c.args.stack.now.layout c.args.stack.now.region.items c.args.stack.now.rows.items c.args.r (row_at c.args.stack.now.rows.items c.args.r.top).instance c.args.globals.now c.args.turns) c.requires.stands (g.K.Sink.written c.running.out)
+          (goes_on c.args.routine.now.image.now c.args.stack.now.layout c.requires.prepared c.args.stack.now.rows.items (row_at c.args.stack.now.rows.items c.args.r.top).instance (g.K.Sink.stream c.args.out.now)
+          (TopAt c.args.routine.now.image.now c.args.stack.now.layout c.args.stack.now.region.items c.args.stack.now.rows.items c.args.r (row_at c.args.stack.now.rows.items c.args.r.top).instance c.args.globals.now c.args.turns) c.requires.stands (g.K.Sink.stream c.running.out)
           c.running.region c.running.at c.running.globals c.running.left (c.running.steps - c.args.steps.now) c.running.invariant.wrote)
           c.running.invariant.ample (c.running.invariant.globals ∙ c.requires.all_globals)
           c.args.routine.now.number c.requires.code.numbered c.args.routine.now.targets.now c.requires.code.leads c.quiet-pause.new.globals c.quiet-pause.new.region (c.quiet-pause.new.steps - c.running.steps) c.quiet-pause.result c.quiet-pause.ensures.pauses))
@@ -143,17 +143,17 @@ running-preserved g c =
       table = c.args.stack.now.rows.items;
       r = c.quiet-pause.result.registers;
       prepared = c.requires.prepared;
-      stands = pause_stands c.args.routine.now.image.now c.args.stack.now.layout c.requires.prepared c.args.stack.now.rows.items (row_at c.args.stack.now.rows.items c.args.r.top).instance (g.K.Sink.written c.args.out.now)
-          (TopAt c.args.routine.now.image.now c.args.stack.now.layout c.args.stack.now.region.items c.args.stack.now.rows.items c.args.r (row_at c.args.stack.now.rows.items c.args.r.top).instance c.args.globals.now c.args.turns) c.requires.stands (g.K.Sink.written c.running.out)
+      stands = pause_stands c.args.routine.now.image.now c.args.stack.now.layout c.requires.prepared c.args.stack.now.rows.items (row_at c.args.stack.now.rows.items c.args.r.top).instance (g.K.Sink.stream c.args.out.now)
+          (TopAt c.args.routine.now.image.now c.args.stack.now.layout c.args.stack.now.region.items c.args.stack.now.rows.items c.args.r (row_at c.args.stack.now.rows.items c.args.r.top).instance c.args.globals.now c.args.turns) c.requires.stands (g.K.Sink.stream c.running.out)
           c.quiet-pause.new.region c.quiet-pause.new.globals (c.quiet-pause.new.steps - c.args.steps.now) c.quiet-pause.result
-          (runs_further c.args.routine.now.image.now c.args.stack.now.layout c.requires.prepared c.args.stack.now.rows.items (row_at c.args.stack.now.rows.items c.args.r.top).instance (g.K.Sink.written c.args.out.now)
-          (TopAt c.args.routine.now.image.now c.args.stack.now.layout c.args.stack.now.region.items c.args.stack.now.rows.items c.args.r (row_at c.args.stack.now.rows.items c.args.r.top).instance c.args.globals.now c.args.turns) c.requires.stands (g.K.Sink.written c.running.out)
+          (runs_further c.args.routine.now.image.now c.args.stack.now.layout c.requires.prepared c.args.stack.now.rows.items (row_at c.args.stack.now.rows.items c.args.r.top).instance (g.K.Sink.stream c.args.out.now)
+          (TopAt c.args.routine.now.image.now c.args.stack.now.layout c.args.stack.now.region.items c.args.stack.now.rows.items c.args.r (row_at c.args.stack.now.rows.items c.args.r.top).instance c.args.globals.now c.args.turns) c.requires.stands (g.K.Sink.stream c.running.out)
           c.running.region c.quiet-pause.new.region c.running.at c.running.globals c.quiet-pause.new.globals c.running.left (c.running.steps - c.args.steps.now) (c.quiet-pause.new.steps - c.running.steps) (c.quiet-pause.new.steps - c.args.steps.now) c.quiet-pause.result
           (let a = c.running.invariant.counted in let b = c.quiet-pause.ensures.counted in omega (arith, a, b)) c.running.invariant.wrote
           (runs_at c.args.routine.now.image.now c.args.stack.now.layout c.requires.prepared c.args.stack.now.rows.items c.args.r (row_at c.args.stack.now.rows.items c.args.r.top) refl c.args.routine.now.code.now c.requires.code.is_code c.args.routine.now.procedure.now c.requires.code.is_procedure
           c.running.region c.running.at c.running.invariant.top c.running.globals c.running.left
-          (goes_on c.args.routine.now.image.now c.args.stack.now.layout c.requires.prepared c.args.stack.now.rows.items (row_at c.args.stack.now.rows.items c.args.r.top).instance (g.K.Sink.written c.args.out.now)
-          (TopAt c.args.routine.now.image.now c.args.stack.now.layout c.args.stack.now.region.items c.args.stack.now.rows.items c.args.r (row_at c.args.stack.now.rows.items c.args.r.top).instance c.args.globals.now c.args.turns) c.requires.stands (g.K.Sink.written c.running.out)
+          (goes_on c.args.routine.now.image.now c.args.stack.now.layout c.requires.prepared c.args.stack.now.rows.items (row_at c.args.stack.now.rows.items c.args.r.top).instance (g.K.Sink.stream c.args.out.now)
+          (TopAt c.args.routine.now.image.now c.args.stack.now.layout c.args.stack.now.region.items c.args.stack.now.rows.items c.args.r (row_at c.args.stack.now.rows.items c.args.r.top).instance c.args.globals.now c.args.turns) c.requires.stands (g.K.Sink.stream c.running.out)
           c.running.region c.running.at c.running.globals c.running.left (c.running.steps - c.args.steps.now) c.running.invariant.wrote)
           c.running.invariant.ample (c.running.invariant.globals ∙ c.requires.all_globals)
           c.args.routine.now.number c.requires.code.numbered c.args.routine.now.targets.now c.requires.code.leads c.quiet-pause.new.globals c.quiet-pause.new.region (c.quiet-pause.new.steps - c.running.steps) c.quiet-pause.result c.quiet-pause.ensures.pauses));
@@ -167,21 +167,21 @@ running-preserved g c =
       top = ap (λ (q : Registers). q.top) c.in_ok-at-in-Some.ensures.behind ∙ (c.quiet-pause.ensures.stays.0 ∙ c.running.invariant.top);
       ample = ample_still c.args.stack.now.layout c.running.region c.quiet-pause.new.region c.args.stack.now.rows.items c.args.r.top c.quiet-pause.auto.region c.running.invariant.ample;
       globals = c.quiet-pause.auto.globals ∙ c.running.invariant.globals;
-      wrote = writes_further c.args.routine.now.image.now c.args.stack.now.layout c.requires.prepared c.args.stack.now.rows.items (row_at c.args.stack.now.rows.items c.args.r.top).instance (g.K.Sink.written c.args.out.now)
-          (TopAt c.args.routine.now.image.now c.args.stack.now.layout c.args.stack.now.region.items c.args.stack.now.rows.items c.args.r (row_at c.args.stack.now.rows.items c.args.r.top).instance c.args.globals.now c.args.turns) c.requires.stands (g.K.Sink.written c.running.out)
+      wrote = writes_further c.args.routine.now.image.now c.args.stack.now.layout c.requires.prepared c.args.stack.now.rows.items (row_at c.args.stack.now.rows.items c.args.r.top).instance (g.K.Sink.stream c.args.out.now)
+          (TopAt c.args.routine.now.image.now c.args.stack.now.layout c.args.stack.now.region.items c.args.stack.now.rows.items c.args.r (row_at c.args.stack.now.rows.items c.args.r.top).instance c.args.globals.now c.args.turns) c.requires.stands (g.K.Sink.stream c.running.out)
           c.quiet-pause.new.region c.quiet-pause.new.globals (c.quiet-pause.new.steps - c.args.steps.now) c.quiet-pause.result
-          (runs_further c.args.routine.now.image.now c.args.stack.now.layout c.requires.prepared c.args.stack.now.rows.items (row_at c.args.stack.now.rows.items c.args.r.top).instance (g.K.Sink.written c.args.out.now)
-          (TopAt c.args.routine.now.image.now c.args.stack.now.layout c.args.stack.now.region.items c.args.stack.now.rows.items c.args.r (row_at c.args.stack.now.rows.items c.args.r.top).instance c.args.globals.now c.args.turns) c.requires.stands (g.K.Sink.written c.running.out)
+          (runs_further c.args.routine.now.image.now c.args.stack.now.layout c.requires.prepared c.args.stack.now.rows.items (row_at c.args.stack.now.rows.items c.args.r.top).instance (g.K.Sink.stream c.args.out.now)
+          (TopAt c.args.routine.now.image.now c.args.stack.now.layout c.args.stack.now.region.items c.args.stack.now.rows.items c.args.r (row_at c.args.stack.now.rows.items c.args.r.top).instance c.args.globals.now c.args.turns) c.requires.stands (g.K.Sink.stream c.running.out)
           c.running.region c.quiet-pause.new.region c.running.at c.running.globals c.quiet-pause.new.globals c.running.left (c.running.steps - c.args.steps.now) (c.quiet-pause.new.steps - c.running.steps) (c.quiet-pause.new.steps - c.args.steps.now) c.quiet-pause.result
           (let a = c.running.invariant.counted in let b = c.quiet-pause.ensures.counted in omega (arith, a, b)) c.running.invariant.wrote
           (runs_at c.args.routine.now.image.now c.args.stack.now.layout c.requires.prepared c.args.stack.now.rows.items c.args.r (row_at c.args.stack.now.rows.items c.args.r.top) refl c.args.routine.now.code.now c.requires.code.is_code c.args.routine.now.procedure.now c.requires.code.is_procedure
           c.running.region c.running.at c.running.invariant.top c.running.globals c.running.left
-          (goes_on c.args.routine.now.image.now c.args.stack.now.layout c.requires.prepared c.args.stack.now.rows.items (row_at c.args.stack.now.rows.items c.args.r.top).instance (g.K.Sink.written c.args.out.now)
-          (TopAt c.args.routine.now.image.now c.args.stack.now.layout c.args.stack.now.region.items c.args.stack.now.rows.items c.args.r (row_at c.args.stack.now.rows.items c.args.r.top).instance c.args.globals.now c.args.turns) c.requires.stands (g.K.Sink.written c.running.out)
+          (goes_on c.args.routine.now.image.now c.args.stack.now.layout c.requires.prepared c.args.stack.now.rows.items (row_at c.args.stack.now.rows.items c.args.r.top).instance (g.K.Sink.stream c.args.out.now)
+          (TopAt c.args.routine.now.image.now c.args.stack.now.layout c.args.stack.now.region.items c.args.stack.now.rows.items c.args.r (row_at c.args.stack.now.rows.items c.args.r.top).instance c.args.globals.now c.args.turns) c.requires.stands (g.K.Sink.stream c.running.out)
           c.running.region c.running.at c.running.globals c.running.left (c.running.steps - c.args.steps.now) c.running.invariant.wrote)
           c.running.invariant.ample (c.running.invariant.globals ∙ c.requires.all_globals)
           c.args.routine.now.number c.requires.code.numbered c.args.routine.now.targets.now c.requires.code.leads c.quiet-pause.new.globals c.quiet-pause.new.region (c.quiet-pause.new.steps - c.running.steps) c.quiet-pause.result c.quiet-pause.ensures.pauses))
-          (subst (λ q. IsAmple c.args.stack.now.layout c.quiet-pause.new.region c.args.stack.now.rows.items q) (sym (c.quiet-pause.ensures.stays.0 ∙ c.running.invariant.top)) (ample_still c.args.stack.now.layout c.running.region c.quiet-pause.new.region c.args.stack.now.rows.items c.args.r.top c.quiet-pause.auto.region c.running.invariant.ample)) c.in-Some.writing (c.in-Some.ensures.calls there) (g.K.Sink.written c.write.new.out) (text_written c.args.routine.now.image.now c.quiet-pause.new.region c.quiet-pause.result.registers c.in-Some.writing) c.in_ok-at-in-Some.at
+          (subst (λ q. IsAmple c.args.stack.now.layout c.quiet-pause.new.region c.args.stack.now.rows.items q) (sym (c.quiet-pause.ensures.stays.0 ∙ c.running.invariant.top)) (ample_still c.args.stack.now.layout c.running.region c.quiet-pause.new.region c.args.stack.now.rows.items c.args.r.top c.quiet-pause.auto.region c.running.invariant.ample)) c.in-Some.writing (c.in-Some.ensures.calls there) (g.K.Sink.stream c.write.new.out) (text_written c.args.routine.now.image.now c.quiet-pause.new.region c.quiet-pause.result.registers c.in-Some.writing) c.in_ok-at-in-Some.at
           c.in_ok-at-in-Some.ensures.wrote (subst (λ (q : Registers). WritesOn c.args.routine.now.image.now c.quiet-pause.new.region c.quiet-pause.result.registers c.in-Some.writing (text_written c.args.routine.now.image.now c.quiet-pause.new.region c.quiet-pause.result.registers c.in-Some.writing) q)
           (sym c.in_ok-at-in-Some.ensures.behind) c.in_ok-at-in-Some.ensures.leads);
       sink_stays = let a = c.running.invariant.sink_stays in let b = c.in_ok-at-in-Some.ensures.faults_stay in omega (arith, a, b);
@@ -208,16 +208,16 @@ returns-in_err-at-in-Some-clause-ample g c =
 pub returns-in-None-clause-wrote : goal.returns-in-None-clause-wrote
 returns-in-None-clause-wrote g c =
     let back = words_then c.args.stack.now.region c.quiet-pause.new.region (c.quiet-pause.auto.region ∙ c.running.auto.region ∙ ap length c.as_mut_slice-region.ensures.value) in
-    subst (λ x. Wrote (g.K.Sink.written c.args.out.now) (g.K.Sink.written c.running.out) (TopAt c.args.routine.now.image.now c.args.stack.now.layout c.args.stack.now.region.items c.args.stack.now.rows.items c.args.r (row_at c.args.stack.now.rows.items c.args.r.top).instance c.args.globals.now c.args.turns)
+    subst (λ x. Wrote (g.K.Sink.stream c.args.out.now) (g.K.Sink.stream c.running.out) (TopAt c.args.routine.now.image.now c.args.stack.now.layout c.args.stack.now.region.items c.args.stack.now.rows.items c.args.r (row_at c.args.stack.now.rows.items c.args.r.top).instance c.args.globals.now c.args.turns)
     (TopRuns c.args.routine.now.image.now c.args.stack.now.layout x c.args.stack.now.rows.items (row_at c.args.stack.now.rows.items c.args.r.top).instance c.quiet-pause.new.globals c.quiet-pause.result (c.quiet-pause.new.steps - c.args.steps.now))) (sym back)
-    (runs_further c.args.routine.now.image.now c.args.stack.now.layout c.requires.prepared c.args.stack.now.rows.items (row_at c.args.stack.now.rows.items c.args.r.top).instance (g.K.Sink.written c.args.out.now)
-    (TopAt c.args.routine.now.image.now c.args.stack.now.layout c.args.stack.now.region.items c.args.stack.now.rows.items c.args.r (row_at c.args.stack.now.rows.items c.args.r.top).instance c.args.globals.now c.args.turns) c.requires.stands (g.K.Sink.written c.running.out)
+    (runs_further c.args.routine.now.image.now c.args.stack.now.layout c.requires.prepared c.args.stack.now.rows.items (row_at c.args.stack.now.rows.items c.args.r.top).instance (g.K.Sink.stream c.args.out.now)
+    (TopAt c.args.routine.now.image.now c.args.stack.now.layout c.args.stack.now.region.items c.args.stack.now.rows.items c.args.r (row_at c.args.stack.now.rows.items c.args.r.top).instance c.args.globals.now c.args.turns) c.requires.stands (g.K.Sink.stream c.running.out)
     c.running.region c.quiet-pause.new.region c.running.at c.running.globals c.quiet-pause.new.globals c.running.left (c.running.steps - c.args.steps.now) (c.quiet-pause.new.steps - c.running.steps) (c.quiet-pause.new.steps - c.args.steps.now) c.quiet-pause.result
     (let a = c.running.invariant.counted in let b = c.quiet-pause.ensures.counted in omega (arith, a, b)) c.running.invariant.wrote
     (runs_at c.args.routine.now.image.now c.args.stack.now.layout c.requires.prepared c.args.stack.now.rows.items c.args.r (row_at c.args.stack.now.rows.items c.args.r.top) refl c.args.routine.now.code.now c.requires.code.is_code c.args.routine.now.procedure.now c.requires.code.is_procedure
     c.running.region c.running.at c.running.invariant.top c.running.globals c.running.left
-    (goes_on c.args.routine.now.image.now c.args.stack.now.layout c.requires.prepared c.args.stack.now.rows.items (row_at c.args.stack.now.rows.items c.args.r.top).instance (g.K.Sink.written c.args.out.now)
-    (TopAt c.args.routine.now.image.now c.args.stack.now.layout c.args.stack.now.region.items c.args.stack.now.rows.items c.args.r (row_at c.args.stack.now.rows.items c.args.r.top).instance c.args.globals.now c.args.turns) c.requires.stands (g.K.Sink.written c.running.out)
+    (goes_on c.args.routine.now.image.now c.args.stack.now.layout c.requires.prepared c.args.stack.now.rows.items (row_at c.args.stack.now.rows.items c.args.r.top).instance (g.K.Sink.stream c.args.out.now)
+    (TopAt c.args.routine.now.image.now c.args.stack.now.layout c.args.stack.now.region.items c.args.stack.now.rows.items c.args.r (row_at c.args.stack.now.rows.items c.args.r.top).instance c.args.globals.now c.args.turns) c.requires.stands (g.K.Sink.stream c.running.out)
     c.running.region c.running.at c.running.globals c.running.left (c.running.steps - c.args.steps.now) c.running.invariant.wrote)
     c.running.invariant.ample (c.running.invariant.globals ∙ c.requires.all_globals)
     c.args.routine.now.number c.requires.code.numbered c.args.routine.now.targets.now c.requires.code.leads c.quiet-pause.new.globals c.quiet-pause.new.region (c.quiet-pause.new.steps - c.running.steps) c.quiet-pause.result c.quiet-pause.ensures.pauses))
@@ -230,17 +230,17 @@ returns-in_err-at-in-Some-clause-fails g c =
       table = c.args.stack.now.rows.items;
       r = c.quiet-pause.result.registers;
       prepared = c.requires.prepared;
-      stands = pause_stands c.args.routine.now.image.now c.args.stack.now.layout c.requires.prepared c.args.stack.now.rows.items (row_at c.args.stack.now.rows.items c.args.r.top).instance (g.K.Sink.written c.args.out.now)
-          (TopAt c.args.routine.now.image.now c.args.stack.now.layout c.args.stack.now.region.items c.args.stack.now.rows.items c.args.r (row_at c.args.stack.now.rows.items c.args.r.top).instance c.args.globals.now c.args.turns) c.requires.stands (g.K.Sink.written c.running.out)
+      stands = pause_stands c.args.routine.now.image.now c.args.stack.now.layout c.requires.prepared c.args.stack.now.rows.items (row_at c.args.stack.now.rows.items c.args.r.top).instance (g.K.Sink.stream c.args.out.now)
+          (TopAt c.args.routine.now.image.now c.args.stack.now.layout c.args.stack.now.region.items c.args.stack.now.rows.items c.args.r (row_at c.args.stack.now.rows.items c.args.r.top).instance c.args.globals.now c.args.turns) c.requires.stands (g.K.Sink.stream c.running.out)
           c.quiet-pause.new.region c.quiet-pause.new.globals (c.quiet-pause.new.steps - c.args.steps.now) c.quiet-pause.result
-          (runs_further c.args.routine.now.image.now c.args.stack.now.layout c.requires.prepared c.args.stack.now.rows.items (row_at c.args.stack.now.rows.items c.args.r.top).instance (g.K.Sink.written c.args.out.now)
-          (TopAt c.args.routine.now.image.now c.args.stack.now.layout c.args.stack.now.region.items c.args.stack.now.rows.items c.args.r (row_at c.args.stack.now.rows.items c.args.r.top).instance c.args.globals.now c.args.turns) c.requires.stands (g.K.Sink.written c.running.out)
+          (runs_further c.args.routine.now.image.now c.args.stack.now.layout c.requires.prepared c.args.stack.now.rows.items (row_at c.args.stack.now.rows.items c.args.r.top).instance (g.K.Sink.stream c.args.out.now)
+          (TopAt c.args.routine.now.image.now c.args.stack.now.layout c.args.stack.now.region.items c.args.stack.now.rows.items c.args.r (row_at c.args.stack.now.rows.items c.args.r.top).instance c.args.globals.now c.args.turns) c.requires.stands (g.K.Sink.stream c.running.out)
           c.running.region c.quiet-pause.new.region c.running.at c.running.globals c.quiet-pause.new.globals c.running.left (c.running.steps - c.args.steps.now) (c.quiet-pause.new.steps - c.running.steps) (c.quiet-pause.new.steps - c.args.steps.now) c.quiet-pause.result
           (let a = c.running.invariant.counted in let b = c.quiet-pause.ensures.counted in omega (arith, a, b)) c.running.invariant.wrote
           (runs_at c.args.routine.now.image.now c.args.stack.now.layout c.requires.prepared c.args.stack.now.rows.items c.args.r (row_at c.args.stack.now.rows.items c.args.r.top) refl c.args.routine.now.code.now c.requires.code.is_code c.args.routine.now.procedure.now c.requires.code.is_procedure
           c.running.region c.running.at c.running.invariant.top c.running.globals c.running.left
-          (goes_on c.args.routine.now.image.now c.args.stack.now.layout c.requires.prepared c.args.stack.now.rows.items (row_at c.args.stack.now.rows.items c.args.r.top).instance (g.K.Sink.written c.args.out.now)
-          (TopAt c.args.routine.now.image.now c.args.stack.now.layout c.args.stack.now.region.items c.args.stack.now.rows.items c.args.r (row_at c.args.stack.now.rows.items c.args.r.top).instance c.args.globals.now c.args.turns) c.requires.stands (g.K.Sink.written c.running.out)
+          (goes_on c.args.routine.now.image.now c.args.stack.now.layout c.requires.prepared c.args.stack.now.rows.items (row_at c.args.stack.now.rows.items c.args.r.top).instance (g.K.Sink.stream c.args.out.now)
+          (TopAt c.args.routine.now.image.now c.args.stack.now.layout c.args.stack.now.region.items c.args.stack.now.rows.items c.args.r (row_at c.args.stack.now.rows.items c.args.r.top).instance c.args.globals.now c.args.turns) c.requires.stands (g.K.Sink.stream c.running.out)
           c.running.region c.running.at c.running.globals c.running.left (c.running.steps - c.args.steps.now) c.running.invariant.wrote)
           c.running.invariant.ample (c.running.invariant.globals ∙ c.requires.all_globals)
           c.args.routine.now.number c.requires.code.numbered c.args.routine.now.targets.now c.requires.code.leads c.quiet-pause.new.globals c.quiet-pause.new.region (c.quiet-pause.new.steps - c.running.steps) c.quiet-pause.result c.quiet-pause.ensures.pauses));
@@ -250,24 +250,24 @@ returns-in_err-at-in-Some-clause-fails g c =
     } in
     let back = words_then c.args.stack.now.region c.quiet-pause.new.region (c.quiet-pause.auto.region ∙ c.running.auto.region ∙ ap length c.as_mut_slice-region.ensures.value) in
     let p = err_from_is_err_and c.from_residual.result c.from_residual.ensures.1 in
-    subst (λ (q : Result Pause Failed). OnErr q (FailsAtWrite c.args.routine.now.image.now c.args.stack.now.layout (with_items c.args.stack.now.region c.quiet-pause.new.region).items c.args.stack.now.rows.items c.args.r.top (g.K.Sink.written c.args.out.now) (g.K.Sink.written c.write.new.out)
+    subst (λ (q : Result Pause Failed). OnErr q (FailsAtWrite c.args.routine.now.image.now c.args.stack.now.layout (with_items c.args.stack.now.region c.quiet-pause.new.region).items c.args.stack.now.rows.items c.args.r.top (g.K.Sink.stream c.args.out.now) (g.K.Sink.stream c.write.new.out)
     (TopAt c.args.routine.now.image.now c.args.stack.now.layout c.args.stack.now.region.items c.args.stack.now.rows.items c.args.r (row_at c.args.stack.now.rows.items c.args.r.top).instance c.args.globals.now c.args.turns)
     (λ pause. TopRuns c.args.routine.now.image.now c.args.stack.now.layout (with_items c.args.stack.now.region c.quiet-pause.new.region).items c.args.stack.now.rows.items (row_at c.args.stack.now.rows.items c.args.r.top).instance c.quiet-pause.new.globals pause (c.quiet-pause.new.steps - c.args.steps.now)))) (sym p.1)
-    (subst (λ x. FailsAtWrite c.args.routine.now.image.now c.args.stack.now.layout x c.args.stack.now.rows.items c.args.r.top (g.K.Sink.written c.args.out.now) (g.K.Sink.written c.write.new.out)
+    (subst (λ x. FailsAtWrite c.args.routine.now.image.now c.args.stack.now.layout x c.args.stack.now.rows.items c.args.r.top (g.K.Sink.stream c.args.out.now) (g.K.Sink.stream c.write.new.out)
     (TopAt c.args.routine.now.image.now c.args.stack.now.layout c.args.stack.now.region.items c.args.stack.now.rows.items c.args.r (row_at c.args.stack.now.rows.items c.args.r.top).instance c.args.globals.now c.args.turns)
     (λ pause. TopRuns c.args.routine.now.image.now c.args.stack.now.layout x c.args.stack.now.rows.items (row_at c.args.stack.now.rows.items c.args.r.top).instance c.quiet-pause.new.globals pause (c.quiet-pause.new.steps - c.args.steps.now))) (sym back)
-    (fails_there c.args.routine.now.image.now c.args.stack.now.layout c.requires.prepared c.args.stack.now.rows.items (row_at c.args.stack.now.rows.items c.args.r.top).instance (g.K.Sink.written c.args.out.now)
-    (TopAt c.args.routine.now.image.now c.args.stack.now.layout c.args.stack.now.region.items c.args.stack.now.rows.items c.args.r (row_at c.args.stack.now.rows.items c.args.r.top).instance c.args.globals.now c.args.turns) c.requires.stands (g.K.Sink.written c.running.out)
+    (fails_there c.args.routine.now.image.now c.args.stack.now.layout c.requires.prepared c.args.stack.now.rows.items (row_at c.args.stack.now.rows.items c.args.r.top).instance (g.K.Sink.stream c.args.out.now)
+    (TopAt c.args.routine.now.image.now c.args.stack.now.layout c.args.stack.now.region.items c.args.stack.now.rows.items c.args.r (row_at c.args.stack.now.rows.items c.args.r.top).instance c.args.globals.now c.args.turns) c.requires.stands (g.K.Sink.stream c.running.out)
     c.quiet-pause.new.region c.quiet-pause.new.globals (c.quiet-pause.new.steps - c.args.steps.now) c.quiet-pause.result
-    (runs_further c.args.routine.now.image.now c.args.stack.now.layout c.requires.prepared c.args.stack.now.rows.items (row_at c.args.stack.now.rows.items c.args.r.top).instance (g.K.Sink.written c.args.out.now)
-    (TopAt c.args.routine.now.image.now c.args.stack.now.layout c.args.stack.now.region.items c.args.stack.now.rows.items c.args.r (row_at c.args.stack.now.rows.items c.args.r.top).instance c.args.globals.now c.args.turns) c.requires.stands (g.K.Sink.written c.running.out)
+    (runs_further c.args.routine.now.image.now c.args.stack.now.layout c.requires.prepared c.args.stack.now.rows.items (row_at c.args.stack.now.rows.items c.args.r.top).instance (g.K.Sink.stream c.args.out.now)
+    (TopAt c.args.routine.now.image.now c.args.stack.now.layout c.args.stack.now.region.items c.args.stack.now.rows.items c.args.r (row_at c.args.stack.now.rows.items c.args.r.top).instance c.args.globals.now c.args.turns) c.requires.stands (g.K.Sink.stream c.running.out)
     c.running.region c.quiet-pause.new.region c.running.at c.running.globals c.quiet-pause.new.globals c.running.left (c.running.steps - c.args.steps.now) (c.quiet-pause.new.steps - c.running.steps) (c.quiet-pause.new.steps - c.args.steps.now) c.quiet-pause.result
     (let a = c.running.invariant.counted in let b = c.quiet-pause.ensures.counted in omega (arith, a, b)) c.running.invariant.wrote
     (runs_at c.args.routine.now.image.now c.args.stack.now.layout c.requires.prepared c.args.stack.now.rows.items c.args.r (row_at c.args.stack.now.rows.items c.args.r.top) refl c.args.routine.now.code.now c.requires.code.is_code c.args.routine.now.procedure.now c.requires.code.is_procedure
     c.running.region c.running.at c.running.invariant.top c.running.globals c.running.left
-    (goes_on c.args.routine.now.image.now c.args.stack.now.layout c.requires.prepared c.args.stack.now.rows.items (row_at c.args.stack.now.rows.items c.args.r.top).instance (g.K.Sink.written c.args.out.now)
-    (TopAt c.args.routine.now.image.now c.args.stack.now.layout c.args.stack.now.region.items c.args.stack.now.rows.items c.args.r (row_at c.args.stack.now.rows.items c.args.r.top).instance c.args.globals.now c.args.turns) c.requires.stands (g.K.Sink.written c.running.out)
+    (goes_on c.args.routine.now.image.now c.args.stack.now.layout c.requires.prepared c.args.stack.now.rows.items (row_at c.args.stack.now.rows.items c.args.r.top).instance (g.K.Sink.stream c.args.out.now)
+    (TopAt c.args.routine.now.image.now c.args.stack.now.layout c.args.stack.now.region.items c.args.stack.now.rows.items c.args.r (row_at c.args.stack.now.rows.items c.args.r.top).instance c.args.globals.now c.args.turns) c.requires.stands (g.K.Sink.stream c.running.out)
     c.running.region c.running.at c.running.globals c.running.left (c.running.steps - c.args.steps.now) c.running.invariant.wrote)
     c.running.invariant.ample (c.running.invariant.globals ∙ c.requires.all_globals)
     c.args.routine.now.number c.requires.code.numbered c.args.routine.now.targets.now c.requires.code.leads c.quiet-pause.new.globals c.quiet-pause.new.region (c.quiet-pause.new.steps - c.running.steps) c.quiet-pause.result c.quiet-pause.ensures.pauses))
-    (subst (λ q. IsAmple c.args.stack.now.layout c.quiet-pause.new.region c.args.stack.now.rows.items q) (sym (c.quiet-pause.ensures.stays.0 ∙ c.running.invariant.top)) (ample_still c.args.stack.now.layout c.running.region c.quiet-pause.new.region c.args.stack.now.rows.items c.args.r.top c.quiet-pause.auto.region c.running.invariant.ample)) c.in-Some.writing (c.in-Some.ensures.calls there) (g.K.Sink.written c.write.new.out) c.args.r.top (c.quiet-pause.ensures.stays.0 ∙ c.running.invariant.top) c.in_err-at-in-Some.ensures.some c.in_err-at-in-Some.ensures.partly))
+    (subst (λ q. IsAmple c.args.stack.now.layout c.quiet-pause.new.region c.args.stack.now.rows.items q) (sym (c.quiet-pause.ensures.stays.0 ∙ c.running.invariant.top)) (ample_still c.args.stack.now.layout c.running.region c.quiet-pause.new.region c.args.stack.now.rows.items c.args.r.top c.quiet-pause.auto.region c.running.invariant.ample)) c.in-Some.writing (c.in-Some.ensures.calls there) (g.K.Sink.stream c.write.new.out) c.args.r.top (c.quiet-pause.ensures.stays.0 ∙ c.running.invariant.top) c.in_err-at-in-Some.ensures.some c.in_err-at-in-Some.ensures.partly))

@@ -99,7 +99,7 @@ returns-clause-wrote g c =
     c.index_mut.result.now c.index_mut.result.now c.index_mut.ensures.value c.args.parts.now.stack.region.items c.as_mut_slice-globals.result.now refl c.as_mut_slice-globals.ensures.value)
     (all_shown c.args.image.now c.args.parts.now c.requires.ready c.args.r c.args.turns c.requires.stands c.args.parts.now.stack.rows.items refl c.row_of-row.result c.row_of-row.ensures
     c.index_mut.result.now c.index_mut.result.now c.index_mut.ensures.value c.run_code.new.globals (c.run_code.ensures.globals ∙ ap (λ (l : List _). length l) c.as_mut_slice-globals.ensures.value))
-    (g.K.Sink.written c.args.out.now) (g.K.Sink.written c.run_code.new.out) pause) c.run_code.ensures.wrote
+    (g.K.Sink.stream c.args.out.now) (g.K.Sink.stream c.run_code.new.out) pause) c.run_code.ensures.wrote
 
 pub returns-clause-fails : goal.returns-clause-fails
 returns-clause-fails g c =
@@ -109,4 +109,4 @@ returns-clause-fails g c =
     c.index_mut.result.now c.index_mut.result.now c.index_mut.ensures.value c.args.parts.now.stack.region.items c.as_mut_slice-globals.result.now refl c.as_mut_slice-globals.ensures.value)
     (all_shown c.args.image.now c.args.parts.now c.requires.ready c.args.r c.args.turns c.requires.stands c.args.parts.now.stack.rows.items refl c.row_of-row.result c.row_of-row.ensures
     c.index_mut.result.now c.index_mut.result.now c.index_mut.ensures.value c.run_code.new.globals (c.run_code.ensures.globals ∙ ap (λ (l : List _). length l) c.as_mut_slice-globals.ensures.value))
-    (g.K.Sink.written c.args.out.now) (g.K.Sink.written c.run_code.new.out) c.args.r.top) c.run_code.ensures.fails
+    (g.K.Sink.stream c.args.out.now) (g.K.Sink.stream c.run_code.new.out) c.args.r.top) c.run_code.ensures.fails

@@ -1,9 +1,9 @@
 -- The line is that of how the run ended, or of the summary that was not written.
-use Rattle.std.proofs.Common.{[], Some, refl, subst}
+use Rattle.std.proofs.Common.{refl, subst}
 use Rattle.command_rules.specs.Case.{IsBeforeRun}
-use Rattle.command_rules.specs.Worlds.{feed, scene}
+use Rattle.command_rules.specs.Exercise.{no_input}
+use Rattle.command_rules.specs.Worlds.{scene}
 use Rattle.command_lines.specs.Endings.{ending_case}
-use Rattle.line_pieces.specs.Outputs.{stream}
 use Rattle.mesa_command.proofs.Ending.{runs}
 use Rattle.mesa_command.proofs.Exercised.{sum_in_run}
 use Rattle.mesa_command.proofs.exercising.run_summed.Goals as goal
@@ -12,8 +12,8 @@ pub returns-clause-ends : goal.returns-clause-ends
 returns-clause-ends g c =
     let ran = c.run-ended in
     let all = ran.ensures in
-    let before = scene (feed (Some []) 0) (stream (g.K.Sink.written c.args.out.now) (g.K.Sink.faults c.args.out.now)) c.args.steps.now in
-    let mid = scene (feed (Some []) 0) (stream (g.K.Sink.written ran.new.out) (g.K.Sink.faults ran.new.out)) ran.new.steps in (
+    let before = scene no_input (g.K.Sink.stream c.args.out.now) c.args.steps.now in
+    let mid = scene (record no_input { calls = ran.new.input.calls }) (g.K.Sink.stream ran.new.out) ran.new.steps in (
       ending_case c.sum_of.result,
       record {
         mid = mid;

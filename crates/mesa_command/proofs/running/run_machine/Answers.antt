@@ -2,8 +2,7 @@
 use Rattle.std.proofs.Common.{ap, subst, ◌∙◌}
 use Rattle.command_rules.specs.Case.{IsBeforeRun, status_of}
 use Rattle.command_rules.specs.Shown.{case_of_run, image_names}
-use Rattle.command_rules.specs.Worlds.{feed, scene}
-use Rattle.line_pieces.specs.Outputs.{stream}
+use Rattle.command_rules.specs.Worlds.{scene}
 use Rattle.mesa_command.proofs.Ending.{has_run, run_ends}
 use Rattle.mesa_command.proofs.running.run_machine.Goals as goal
 
@@ -14,10 +13,10 @@ returns-clause-ends g c =
     let shown = rw all.machine_stays at c.ending_of.ensures in (
       case_of_run (image_names c.args.machine) ran.result,
       run_ends c.args.machine c.args.turns
-          (scene (feed (g.S.Source.left c.args.input.now) (g.S.Source.faults c.args.input.now))
-          (stream (g.K.Sink.written c.args.out.now) (g.K.Sink.faults c.args.out.now)) c.args.steps.now)
-          (scene (feed (g.S.Source.left ran.new.input) (g.S.Source.faults ran.new.input))
-          (stream (g.K.Sink.written ran.new.out) (g.K.Sink.faults ran.new.out)) ran.new.steps)
+          (scene (g.S.Source.feed c.args.input.now)
+          (g.K.Sink.stream c.args.out.now) c.args.steps.now)
+          (scene (g.S.Source.feed ran.new.input)
+          (g.K.Sink.stream ran.new.out) ran.new.steps)
           ran.result all.completes all.breaks_at_input all.breaks_at_output all.read_fault all.write_fault all.steps_stay,
       rw shown at c.told_ending-status.ensures,
     )
