@@ -2,6 +2,7 @@ pub mod Answers
 pub mod Choosing
 pub mod DifferingFaces
 pub mod Entries
+pub mod Equivalences
 pub mod FirstFaults
 pub mod Made
 pub mod Members

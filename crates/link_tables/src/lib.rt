@@ -9,4 +9,5 @@ mod offers;
 mod wanting;
 
 pub use config_tree;
+pub use key::EntryKey;
 pub use linking::link;

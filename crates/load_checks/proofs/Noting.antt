@@ -9,7 +9,7 @@ use Rattle.config_rules.specs.Resolves.{given_for}
 use Rattle.loader_rules.specs.Exporters.{Offered, export_of, offered_as, offered_by, all_offered}
 use Rattle.loader_rules.specs.Parts.{Part, number, instances_before, parts_behind}
 use Rattle.loader_rules.proofs.Parting.{flat_parts}
-use Rattle.load_checks.specs.declared.key.EntryKey.{EntryKey}
+use Rattle.link_tables.specs.declared.key.EntryKey.{EntryKey}
 use Rattle.load_checks.specs.Givers.{Giver, Firsts, first_two, noted, giver_of, is_under, givers, offered_at}
 use Rattle.load_checks.specs.Index.{noted_in, giver_by, fits, noted_pairs, noted_offered, noted_offers}
 use Rattle.load_checks.specs.Turns.{after}

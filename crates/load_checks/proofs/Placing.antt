@@ -7,9 +7,10 @@ use Rattle.indexmap.specs.IndexMap.{insert_entry}
 use Rattle.interface_records.specs.declared.wanted.Wanted.{Wanted as Entry}
 use Rattle.object_rules.specs.ImageForms.{same_signature}
 use Rattle.loader_rules.specs.Wanted.{same_entry, has_entry, entry_number}
-use Rattle.load_checks.specs.declared.key.EntryKey.{EntryKey}
+use Rattle.link_tables.specs.declared.key.EntryKey.{EntryKey}
 use Rattle.load_checks.specs.declared.places.Numbered.{Numbered}
-use Rattle.load_checks.specs.Keys.{key_of, same_key, keys_same, key_equivalence}
+use Rattle.link_tables.specs.Keys.{same_key, keys_same, key_equivalence}
+use Rattle.load_checks.specs.Keys.{key_of}
 use Rattle.load_checks.specs.Places.{Places, Stand, put, listed_under, stand, stands_shown, stands, number_in, HoldsPlaces}
 use Rattle.load_checks.specs.Wanting.{place_of}
 use Rattle.load_checks.proofs.Wanteds.{is_new}

@@ -4,10 +4,10 @@ use Rattle.mesa_types.specs.declared.faces.Item.{Item}
 use Rattle.config_rules.specs.Exporters.{is_named}
 use Rattle.object_rules.proofs.SameTypes.{bytes_same}
 use Rattle.loader_rules.specs.Exporters.{Offered}
-use Rattle.load_checks.specs.declared.key.EntryKey.{EntryKey}
+use Rattle.link_tables.specs.declared.key.EntryKey.{EntryKey}
 use Rattle.load_checks.specs.Givers.{Firsts}
 use Rattle.load_checks.specs.Index.{noted_in, giver_by, fits, through}
-use Rattle.load_checks.specs.Keys.{same_key}
+use Rattle.link_tables.specs.Keys.{same_key}
 
 -- ---- under the key of an item
 

@@ -7,7 +7,7 @@ use Rattle.object_files.specs.declared.image.Offer.{Offer}
 use Rattle.config_rules.specs.Exporters.{is_given}
 use Rattle.config_rules.specs.Resolves.{given_for}
 use Rattle.loader_rules.specs.Exporters.{Offered, path_at}
-use Rattle.load_checks.specs.declared.key.EntryKey.{EntryKey}
+use Rattle.link_tables.specs.declared.key.EntryKey.{EntryKey}
 use Rattle.load_checks.specs.declared.exporters.Exporter.{Exporter}
 use Rattle.load_checks.specs.declared.exporters.Found.{Found}
 use Rattle.load_checks.specs.declared.offering.Offering.{Offering}

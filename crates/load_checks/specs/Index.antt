@@ -8,9 +8,9 @@ use Rattle.object_files.specs.declared.image.Offer.{Offer}
 use Rattle.config_rules.specs.Exporters.{is_named}
 use Rattle.loader_rules.specs.Exporters.{Offered, export_of}
 use Rattle.load_checks.specs.declared.exporters.Found.{Found}
-use Rattle.load_checks.specs.declared.key.EntryKey.{EntryKey}
+use Rattle.link_tables.specs.declared.key.EntryKey.{EntryKey}
 use Rattle.load_checks.specs.Givers.{Giver, Firsts, noted, offered_at, found_shown}
-use Rattle.load_checks.specs.Keys.{same_key}
+use Rattle.link_tables.specs.Keys.{same_key}
 
 abbrev pub Entries : Type 0
 Entries = List (EntryKey × Found)

@@ -2,9 +2,10 @@
 use Rattle.std.specs.Prelude.{◌≡◌, ℕ, suc, List, [], ◌∷◌, ◌++◌, map, Option, Some, None, if◌then◌else◌}
 use Rattle.interface_records.specs.declared.wanted.Wanted.{Wanted as Entry}
 use Rattle.object_rules.specs.ImageForms.{same_signature}
-use Rattle.load_checks.specs.declared.key.EntryKey.{EntryKey}
+use Rattle.link_tables.specs.declared.key.EntryKey.{EntryKey}
 use Rattle.load_checks.specs.declared.places.Numbered.{Numbered}
-use Rattle.load_checks.specs.Keys.{key_of, same_key}
+use Rattle.link_tables.specs.Keys.{same_key}
+use Rattle.load_checks.specs.Keys.{key_of}
 
 abbrev pub Places : Type 0
 Places = List (EntryKey × List Numbered)

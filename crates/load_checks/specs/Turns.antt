@@ -5,7 +5,7 @@ use Rattle.object_files.specs.declared.image.Image.{Image}
 use Rattle.object_rules.specs.declared.limits.TheConstants.{IMAGE_MODULES}
 use Rattle.loader_rules.specs.Exporters.{all_offered}
 use Rattle.loader_rules.specs.Parts.{Part, part, modules_of, instances_of}
-use Rattle.load_checks.specs.declared.key.EntryKey.{EntryKey}
+use Rattle.link_tables.specs.declared.key.EntryKey.{EntryKey}
 use Rattle.load_checks.specs.declared.turn.Seen.{Seen}
 use Rattle.load_checks.specs.declared.turn.Turn.{Turn}
 use Rattle.load_checks.specs.Givers.{first_two, givers}

@@ -6,15 +6,15 @@ ghost use Rattle.mesa_base.specs.declared.limits.TheConstants.{INSTANCES};
 ghost use Rattle.check_scopes.specs.Shows.{listed};
 ghost use Rattle.config_rules.specs.Exporters.{is_named};
 ghost use Rattle.loader_rules.specs.Exporters.{export_of};
-ghost use Rattle.load_checks.specs.declared.key.EntryKey.{EntryKey as Key};
+ghost use Rattle.link_tables.specs.declared.key.EntryKey.{EntryKey as Key};
 ghost use Rattle.load_checks.specs.Givers.{found_shown, giver_shown, noted, offered_at, offering_shown};
 ghost use Rattle.load_checks.specs.Index.{found_under, noted_offered, noted_offers, noted_pairs, through, noted_in};
-ghost use Rattle.load_checks.specs.Keys.{same_key};
+ghost use Rattle.link_tables.specs.Keys.{same_key};
 
-use crate::key::EntryKey;
 use crate::offering::{Offering, offering_of};
 use check_scopes::Index;
 use indexmap::IndexMap;
+use link_tables::EntryKey;
 use mesa_base::{OutOfMemory, Path};
 use mesa_types::{Face, Item, Pair};
 use object_files::{Image, Offer};

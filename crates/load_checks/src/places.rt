@@ -3,9 +3,9 @@
 ghost use Rattle.std.specs.Prelude.{◌≡◌, OnOk};
 ghost use Rattle.load_checks.specs.Places.{put};
 
-use crate::key::EntryKey;
 use indexmap::IndexMap;
 use interface_records::Wanted;
+use link_tables::EntryKey;
 use mesa_base::{List, OutOfMemory};
 use std::alloc::Global;
 

@@ -1,7 +1,7 @@
 -- What is noted so far, and then the rest, is all.
 use Rattle.std.proofs.Common.{◌≡◌, false, drop, is_some}
 use Rattle.check_scopes.specs.Shows.{listed}
-use Rattle.load_checks.specs.declared.key.EntryKey.{EntryKey}
+use Rattle.link_tables.specs.declared.key.EntryKey.{EntryKey}
 use Rattle.load_checks.specs.Givers.{offering_shown}
 use Rattle.load_checks.specs.Index.{found_under, noted_pairs}
 use Rattle.load_checks.proofs.exporters.note_given.Given as goal

@@ -1,6 +1,6 @@
 -- What is noted so far, and then the rest, is all.
 use Rattle.std.proofs.Common.{◌≡◌, drop}
-use Rattle.load_checks.specs.declared.key.EntryKey.{EntryKey}
+use Rattle.link_tables.specs.declared.key.EntryKey.{EntryKey}
 use Rattle.load_checks.specs.Index.{found_under, noted_offers}
 use Rattle.load_checks.proofs.exporters.note_image.Given as goal
 

@@ -2,7 +2,7 @@ use Rattle.std.proofs.Common.{List, sym, ap, ◌∙◌}
 use Rattle.std.specs.Map.{set_value}
 use Rattle.indexmap.specs.IndexMap.{insert_entry}
 use Rattle.load_checks.specs.declared.places.Numbered.{Numbered}
-use Rattle.load_checks.specs.Keys.{same_key}
+use Rattle.link_tables.specs.Keys.{same_key}
 use Rattle.load_checks.proofs.Placing.{put_present, put_absent}
 use Rattle.load_checks.proofs.places.put_place.Goals as goal
 
