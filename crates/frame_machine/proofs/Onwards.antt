@@ -299,28 +299,28 @@ waits_little (Pending r) = omega arith
 waits_little (EndsSo end) = omega arith
 
 -- it falls where the run is not at its end
-pub falls : (image : Image) (p0 p : Prepared) (turns0 turns first steps steps' : ℕ) (ahead0 ahead : Option Coming) (left0 feed holds0 stream : Option (List ℕ)) (begin sequel sequel' : Sequel)
+pub falls : (image : Image) (p0 p : Prepared) (turns0 turns first steps steps' : ℕ) (ahead0 ahead : Option Coming) (feed0 feed : Feed) (stream0 stream : Stream) (begin sequel sequel' : Sequel)
     → sequel ≢ Empty → ((end : End) → sequel ≢ EndsSo end) → first ≤ steps
-    → CanGoOn image p0 turns0 ahead0 left0 holds0 (At image p0 begin)
-    → Follows image p0 p turns0 turns (steps - first) ahead0 ahead left0 feed holds0 stream (At image p0 begin) (Ok sequel)
+    → CanGoOn image p0 turns0 ahead0 feed0 stream0 (At image p0 begin)
+    → Follows image p0 p turns0 turns (steps - first) ahead0 ahead feed0 feed stream0 stream (At image p0 begin) (Ok sequel)
     → Advances image p turns ahead feed stream sequel steps steps' (Ok sequel')
     → 2 * still_most image first steps' + waits sequel' < 2 * still_most image first steps + waits sequel
-falls image p0 p turns0 turns first steps steps' ahead0 ahead left0 feed holds0 stream begin Empty sequel' n e l c f a = absurd (n refl)
-falls image p0 p turns0 turns first steps steps' ahead0 ahead left0 feed holds0 stream begin (EndsSo end) sequel' n e l c f a = absurd (e end refl)
-falls image p0 p turns0 turns first steps steps' ahead0 ahead left0 feed holds0 stream begin (Pending r) sequel' n e l c f (same, none) =
+falls image p0 p turns0 turns first steps steps' ahead0 ahead feed0 feed stream0 stream begin Empty sequel' n e l c f a = absurd (n refl)
+falls image p0 p turns0 turns first steps steps' ahead0 ahead feed0 feed stream0 stream begin (EndsSo end) sequel' n e l c f a = absurd (e end refl)
+falls image p0 p turns0 turns first steps steps' ahead0 ahead feed0 feed stream0 stream begin (Pending r) sequel' n e l c f (same, none) =
     pend_by (most image 18446744073709551616) first steps steps' (waits sequel') same none
-falls image p0 p turns0 turns first steps steps' ahead0 ahead left0 feed holds0 stream begin (GoesOn r) sequel' n e l c f (more, few) =
+falls image p0 p turns0 turns first steps steps' ahead0 ahead feed0 feed stream0 stream begin (GoesOn r) sequel' n e l c f (more, few) =
     let k = few c.bound c.control (c.begun + (steps - first)) c.first c.held c.short (f c.bound c.control c.begun (c.begun + (steps - first)) c.first c.held c.short refl c.so) in
     let m = most_of_bound image c.bound c.few in
     falls_by (most image 18446744073709551616) first steps steps' (waits sequel') l more (omega (arith, k, m, l, more)) (waits_little sequel')
 
 -- the same of the loop in which an activation goes on
-pub frame_falls : (image : Image) (p0 p : Prepared) (turns0 turns first steps steps' : ℕ) (ahead0 ahead : Option Coming) (left0 feed holds0 stream : Option (List ℕ)) (begin : Sequel) (r : Registers)
-    → first ≤ steps → CanGoOn image p0 turns0 ahead0 left0 holds0 (At image p0 begin)
-    → Follows image p0 p turns0 turns (steps - first) ahead0 ahead left0 feed holds0 stream (At image p0 begin) (Ok (GoesOn r))
+pub frame_falls : (image : Image) (p0 p : Prepared) (turns0 turns first steps steps' : ℕ) (ahead0 ahead : Option Coming) (feed0 feed : Feed) (stream0 stream : Stream) (begin : Sequel) (r : Registers)
+    → first ≤ steps → CanGoOn image p0 turns0 ahead0 feed0 stream0 (At image p0 begin)
+    → Follows image p0 p turns0 turns (steps - first) ahead0 ahead feed0 feed stream0 stream (At image p0 begin) (Ok (GoesOn r))
     → steps < steps' → BeginsFew image p turns (steps' - steps) ahead feed stream (At image p (GoesOn r))
     → still_most image first steps' < still_most image first steps
-frame_falls image p0 p turns0 turns first steps steps' ahead0 ahead left0 feed holds0 stream begin r l c f more few =
+frame_falls image p0 p turns0 turns first steps steps' ahead0 ahead feed0 feed stream0 stream begin r l c f more few =
     let k = few c.bound c.control (c.begun + (steps - first)) c.first c.held c.short (f c.bound c.control c.begun (c.begun + (steps - first)) c.first c.held c.short refl c.so) in
     let m = most_of_bound image c.bound c.few in
     frame_falls_by (most image 18446744073709551616) first steps steps' l more (omega (arith, k, m, l, more))
@@ -329,9 +329,9 @@ frame_falls image p0 p turns0 turns first steps steps' ahead0 ahead left0 feed h
     frame_falls_by M first steps steps' a b c = omega (arith, a, b, c)
 
 -- what began few instructions after others did in all
-pub few_in_all : (image : Image) (p0 p : Prepared) (turns0 turns one two count : ℕ) (ahead0 ahead : Option Coming) (left0 feed holds0 stream : Option (List ℕ)) (begin : Sequel) (r : Registers)
-    → Follows image p0 p turns0 turns one ahead0 ahead left0 feed holds0 stream (At image p0 begin) (Ok (GoesOn r))
+pub few_in_all : (image : Image) (p0 p : Prepared) (turns0 turns one two count : ℕ) (ahead0 ahead : Option Coming) (feed0 feed : Feed) (stream0 stream : Stream) (begin : Sequel) (r : Registers)
+    → Follows image p0 p turns0 turns one ahead0 ahead feed0 feed stream0 stream (At image p0 begin) (Ok (GoesOn r))
     → BeginsFew image p turns two ahead feed stream (At image p (GoesOn r)) → count ≡ one + two
-    → BeginsFew image p0 turns0 count ahead0 left0 holds0 (At image p0 begin)
-few_in_all image p0 p turns0 turns one two count ahead0 ahead left0 feed holds0 stream begin r f few e bound control begun first held short so =
+    → BeginsFew image p0 turns0 count ahead0 feed0 stream0 (At image p0 begin)
+few_in_all image p0 p turns0 turns one two count ahead0 ahead feed0 feed stream0 stream begin r f few e bound control begun first held short so =
     let k = few bound control (begun + one) first held short (f bound control begun (begun + one) first held short refl so) in omega (arith, k, e)

@@ -157,8 +157,8 @@ returns-in-Host-clause-follows g c =
 
 pub returns-in-Host-clause-faults : goal.returns-in-Host-clause-faults
 returns-in-Host-clause-faults g c =
-    later_counted c.call_host.result _ _ (g.S.Source.feed c.call_host.new.input).faults _ _ (g.K.Sink.stream c.call_host.new.out).faults (omega arith) c.in-Ok.ensures.faults_stay
-    (settled_faults c.call_host.result c.call_host.new.r (g.S.Source.feed c.args.input.now).faults (g.S.Source.feed c.call_host.new.input).faults (g.K.Sink.stream c.run_top.new.out).faults (g.K.Sink.stream c.call_host.new.out).faults
+    later_counted c.call_host.result _ _ (g.S.Source.feed c.call_host.new.input) _ _ (g.K.Sink.stream c.call_host.new.out) (omega arith) c.in-Ok.ensures.faults_stay
+    (settled_faults c.call_host.result c.call_host.new.r (g.S.Source.feed c.args.input.now) (g.S.Source.feed c.call_host.new.input) (g.K.Sink.stream c.run_top.new.out) (g.K.Sink.stream c.call_host.new.out)
     c.call_host.ensures.faults)
 
 pub returns-in-Err-clause-follows : goal.returns-in-Err-clause-follows
@@ -180,7 +180,7 @@ returns-in-Err-clause-few g c =
     c.in-Err.ensures.marks some f.comes (ready_is_prepared c.args.image.now c.run_top.new.parts c.in-Err.ensures.ready) c.in-Err.ensures.ample.long
 
 pub returns-in-Err-clause-faults : goal.returns-in-Err-clause-faults
-returns-in-Err-clause-faults g c = sink_failed (g.S.Source.feed c.args.input.now).faults _ _ c.in-Err.ensures.fault c.in-Err.ensures.faults_stay
+returns-in-Err-clause-faults g c = sink_failed (g.S.Source.feed c.args.input.now) _ _ c.in-Err.ensures.fault c.in-Err.ensures.faults_stay
 
 pub returns-in-None-clause-asks : goal.returns-in-None-clause-asks
 returns-in-None-clause-asks g c = asks_not c.args.remaining.now.ahead (g.S.Source.feed c.args.input.now)
